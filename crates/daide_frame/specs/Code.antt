@@ -1,0 +1,21 @@
+-- The protocol's error codes.
+use Rattle.std.specs.Prelude.{ℕ}
+use Rattle.daide_frame.specs.declared.code.Code.{Code}
+use Rattle.daide_frame.specs.declared.code.Code.TheVariants.{ImTimeout, ImNotFirst, WrongEndian, WrongMagic, WrongVersion, SecondIm, ImFromServer, UnknownMessage, WrongLength, DmBeforeRm, RmNotFirst, SecondRm, RmFromClient, InvalidToken}
+
+-- the number that an error message tells, by the protocol's table of errors
+abbrev pub code_number : Code → ℕ
+code_number ImTimeout = 0x01
+code_number ImNotFirst = 0x02
+code_number WrongEndian = 0x03
+code_number WrongMagic = 0x04
+code_number WrongVersion = 0x05
+code_number SecondIm = 0x06
+code_number ImFromServer = 0x07
+code_number UnknownMessage = 0x08
+code_number WrongLength = 0x09
+code_number DmBeforeRm = 0x0A
+code_number RmNotFirst = 0x0B
+code_number SecondRm = 0x0C
+code_number RmFromClient = 0x0D
+code_number InvalidToken = 0x0E

@@ -1,0 +1,64 @@
+//! The error codes of the protocol.
+//!
+//! A code says what the peer did wrong, and an error message (EM) tells it to the peer. The variants
+//! stand in the order of their numbers.
+
+ghost use Rattle.std.specs.Prelude.{◌≡◌};
+ghost use Rattle.daide_frame.specs.Code.{code_number};
+
+/// What was wrong of a frame, or of a missing one.
+#[derive(Clone, Copy, Debug, PartialEq, Eq)]
+pub enum Code {
+    /// 01: the initial message did not come in time.
+    ImTimeout,
+    /// 02: the client's first frame is no initial message.
+    ImNotFirst,
+    /// 03: an initial message is in the other byte order.
+    WrongEndian,
+    /// 04: an initial message has another magic number.
+    WrongMagic,
+    /// 05: an initial message is of another version of the protocol.
+    WrongVersion,
+    /// 06: the client sent more than one initial message.
+    SecondIm,
+    /// 07: the server sent an initial message.
+    ImFromServer,
+    /// 08: a frame of a type that is not known; also one that is longer than the cap.
+    UnknownMessage,
+    /// 09: a frame's length is wrong for its type.
+    WrongLength,
+    /// 0A: a diplomacy message came before the representation message.
+    DmBeforeRm,
+    /// 0B: the server's first frame is no representation message.
+    RmNotFirst,
+    /// 0C: the server sent more than one representation message.
+    SecondRm,
+    /// 0D: the client sent a representation message.
+    RmFromClient,
+    /// 0E: a diplomacy message has a token of a category that is not known.
+    InvalidToken,
+}
+
+impl Code {
+    /// The number that an error message tells, from 0x01 to 0x0E.
+    pub fn number(self) -> u8
+        ensures { result ≡ code_number self }
+    {
+        match self {
+            Code::ImTimeout => 0x01,
+            Code::ImNotFirst => 0x02,
+            Code::WrongEndian => 0x03,
+            Code::WrongMagic => 0x04,
+            Code::WrongVersion => 0x05,
+            Code::SecondIm => 0x06,
+            Code::ImFromServer => 0x07,
+            Code::UnknownMessage => 0x08,
+            Code::WrongLength => 0x09,
+            Code::DmBeforeRm => 0x0A,
+            Code::RmNotFirst => 0x0B,
+            Code::SecondRm => 0x0C,
+            Code::RmFromClient => 0x0D,
+            Code::InvalidToken => 0x0E,
+        }
+    }
+}
