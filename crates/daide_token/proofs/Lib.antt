@@ -1,0 +1,5 @@
+pub mod TableLemmas
+pub mod NameLaws
+pub mod TokenLemmas
+pub mod WholeText
+mod StandardFacts

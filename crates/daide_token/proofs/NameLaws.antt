@@ -1,0 +1,44 @@
+-- Names and tokens give each other back: each row of the table is found from both sides.
+use Rattle.std.proofs.Common.{◌≡◌, ◌==◌, ℕ, Bool, true, false, List, Option, Some, None, bytes_eq, refl, sym, ap, ◌∙◌}
+use Rattle.std.proofs.lemmas.Bool.{eqb-true}
+use Rattle.std.proofs.lemmas.Slice.Eq.{bytes_eq-Decides}
+use Rattle.std.specs.List.{list_all}
+use Rattle.daide_token.proofs.TableLemmas.{found_passes}
+use Rattle.daide_token.specs.Names.{Named, name_of, names, token_named}
+
+-- whether an answer is this token, or this name
+abbrev is_token : Option ℕ → ℕ → Bool
+is_token None t = false
+is_token (Some u) t = u == t
+
+abbrev is_name : Option (List ℕ) → List ℕ → Bool
+is_name None name = false
+is_name (Some other) name = bytes_eq other name
+
+is_token-same : (o : Option ℕ) (t : ℕ) → is_token o t ≡ true → o ≡ Some t
+is_token-same None t e = absurd (cc)
+is_token-same (Some u) t e = ap Some (eqb-true u t e)
+
+is_name-same : (o : Option (List ℕ)) (name : List ℕ) → is_name o name ≡ true → o ≡ Some name
+is_name-same None name e = absurd (cc)
+is_name-same (Some other) name e = ap Some ((bytes_eq-Decides other name).0 e)
+
+each_token_back : list_all (λ (row : Named). is_token (token_named row.1) row.0) names ≡ true
+unfolding names token_named
+each_token_back = refl
+
+each_name_back : list_all (λ (row : Named). is_name (name_of row.0) row.1) names ≡ true
+unfolding names name_of
+each_name_back = refl
+
+pub token_named-name_of : (t : ℕ) (name : List ℕ) → name_of t ≡ Some name → token_named name ≡ Some t
+unfolding name_of
+token_named-name_of t name e =
+    found_passes (λ (row : Named). row.1) (λ row. row.0 == t) (λ row. is_token (token_named row.1) row.0) names name each_token_back e
+    (λ row same back here. ap token_named (sym here) ∙ is_token-same _ _ back ∙ ap Some (eqb-true _ _ same))
+
+pub name_of-token_named : (name : List ℕ) (t : ℕ) → token_named name ≡ Some t → name_of t ≡ Some name
+unfolding token_named
+name_of-token_named name t e =
+    found_passes (λ (row : Named). row.0) (λ row. bytes_eq row.1 name) (λ row. is_name (name_of row.0) row.1) names t each_name_back e
+    (λ row same back here. ap name_of (sym here) ∙ is_name-same _ _ back ∙ ap Some ((bytes_eq-Decides row.1 name).0 same))

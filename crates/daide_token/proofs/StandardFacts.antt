@@ -1,0 +1,196 @@
+-- Worked examples, computed from the definitions: a wrong table does not check.
+use Rattle.std.proofs.Common.{◌≡◌, codes, None, Some, [], ◌∷◌, false, negsuc, pos, refl, true}
+use Rattle.std.specs.Fmt.{digits}
+use Rattle.daide_token.specs.declared.class.Class.TheVariants as class
+use Rattle.daide_token.specs.Class.{class_of, has_known_category}
+use Rattle.daide_token.specs.Names.{name_of, names, token_named}
+use Rattle.daide_token.specs.Text.{text_of}
+use Rattle.daide_token.specs.Token.{bra, err, hlo, huh, ket, lvl, number_of, prn, token_of_number, tokens_of}
+
+-- each listed token has its class and its name
+listed-bra : (class_of 0x4000 ≡ class.Bra) × (name_of 0x4000 ≡ Some (codes "BRA"))
+unfolding class_of name_of names
+listed-bra = (refl, refl)
+
+listed-ket : (class_of 0x4001 ≡ class.Ket) × (name_of 0x4001 ≡ Some (codes "KET"))
+unfolding class_of name_of names
+listed-ket = (refl, refl)
+
+listed-ger : (class_of 0x4103 ≡ class.Power) × (name_of 0x4103 ≡ Some (codes "GER"))
+unfolding class_of name_of names
+listed-ger = (refl, refl)
+
+listed-flt : (class_of 0x4201 ≡ class.Flt) × (name_of 0x4201 ≡ Some (codes "FLT"))
+unfolding class_of name_of names
+listed-flt = (refl, refl)
+
+listed-via : (class_of 0x4325 ≡ class.Via) × (name_of 0x4325 ≡ Some (codes "VIA"))
+unfolding class_of name_of names
+listed-via = (refl, refl)
+
+listed-rto : (class_of 0x4341 ≡ class.Rto) × (name_of 0x4341 ≡ Some (codes "RTO"))
+unfolding class_of name_of names
+listed-rto = (refl, refl)
+
+listed-wve : (class_of 0x4382 ≡ class.Wve) × (name_of 0x4382 ≡ Some (codes "WVE"))
+unfolding class_of name_of names
+listed-wve = (refl, refl)
+
+listed-nsp : (class_of 0x440E ≡ class.Note) × (name_of 0x440E ≡ Some (codes "NSP"))
+unfolding class_of name_of names
+listed-nsp = (refl, refl)
+
+listed-ysc : (class_of 0x4413 ≡ class.Note) × (name_of 0x4413 ≡ Some (codes "YSC"))
+unfolding class_of name_of names
+listed-ysc = (refl, refl)
+
+listed-ret : (class_of 0x4506 ≡ class.Outcome) × (name_of 0x4506 ≡ Some (codes "RET"))
+unfolding class_of name_of names
+listed-ret = (refl, refl)
+
+listed-swc : (class_of 0x460A ≡ class.Coast) × (name_of 0x460A ≡ Some (codes "SWC"))
+unfolding class_of name_of names
+listed-swc = (refl, refl)
+
+listed-win : (class_of 0x4704 ≡ class.Season) × (name_of 0x4704 ≡ Some (codes "WIN"))
+unfolding class_of name_of names
+listed-win = (refl, refl)
+
+listed-gof : (class_of 0x4803 ≡ class.Gof) × (name_of 0x4803 ≡ Some (codes "GOF"))
+unfolding class_of name_of names
+listed-gof = (refl, refl)
+
+listed-prn : (class_of 0x4813 ≡ class.Prn) × (name_of 0x4813 ≡ Some (codes "PRN"))
+unfolding class_of name_of names
+listed-prn = (refl, refl)
+
+listed-smr : (class_of 0x481E ≡ class.Smr) × (name_of 0x481E ≡ Some (codes "SMR"))
+unfolding class_of name_of names
+listed-smr = (refl, refl)
+
+listed-err : (class_of 0x4902 ≡ class.Param) × (name_of 0x4902 ≡ Some (codes "ERR"))
+unfolding class_of name_of names
+listed-err = (refl, refl)
+
+listed-lvl : (class_of 0x4903 ≡ class.Lvl) × (name_of 0x4903 ≡ Some (codes "LVL"))
+unfolding class_of name_of names
+listed-lvl = (refl, refl)
+
+listed-dsd : (class_of 0x490D ≡ class.Param) × (name_of 0x490D ≡ Some (codes "DSD"))
+unfolding class_of name_of names
+listed-dsd = (refl, refl)
+
+listed-idk : (class_of 0x4A0A ≡ class.Idk) × (name_of 0x4A0A ≡ Some (codes "IDK"))
+unfolding class_of name_of names
+listed-idk = (refl, refl)
+
+listed-xdo : (class_of 0x4A1F ≡ class.Xdo) × (name_of 0x4A1F ≡ Some (codes "XDO"))
+unfolding class_of name_of names
+listed-xdo = (refl, refl)
+
+listed-ukr : (class_of 0x5006 ≡ class.Province) × (name_of 0x5006 ≡ Some (codes "UKR"))
+unfolding class_of name_of names
+listed-ukr = (refl, refl)
+
+listed-war : (class_of 0x510D ≡ class.Province) × (name_of 0x510D ≡ Some (codes "WAR"))
+unfolding class_of name_of names
+listed-war = (refl, refl)
+
+listed-wes : (class_of 0x5220 ≡ class.Province) × (name_of 0x5220 ≡ Some (codes "WES"))
+unfolding class_of name_of names
+listed-wes = (refl, refl)
+
+listed-yor : (class_of 0x542F ≡ class.Province) × (name_of 0x542F ≡ Some (codes "YOR"))
+unfolding class_of name_of names
+listed-yor = (refl, refl)
+
+listed-ven : (class_of 0x5547 ≡ class.Province) × (name_of 0x5547 ≡ Some (codes "VEN"))
+unfolding class_of name_of names
+listed-ven = (refl, refl)
+
+listed-stp : (class_of 0x574A ≡ class.Province) × (name_of 0x574A ≡ Some (codes "STP"))
+unfolding class_of name_of names
+listed-stp = (refl, refl)
+
+-- a token that no table lists has a class by its category, and no name
+unlisted-4002 : (class_of 0x4002 ≡ class.Other) × (name_of 0x4002 ≡ None)
+unfolding class_of name_of names
+unlisted-4002 = (refl, refl)
+
+unlisted-4401 : (class_of 0x4401 ≡ class.Note) × (name_of 0x4401 ≡ None)
+unfolding class_of name_of names
+unlisted-4401 = (refl, refl)
+
+unlisted-440f : (class_of 0x440F ≡ class.Note) × (name_of 0x440F ≡ None)
+unfolding class_of name_of names
+unlisted-440f = (refl, refl)
+
+unlisted-490c : (class_of 0x490C ≡ class.Param) × (name_of 0x490C ≡ None)
+unfolding class_of name_of names
+unlisted-490c = (refl, refl)
+
+unlisted-4a0d : (class_of 0x4A0D ≡ class.Other) × (name_of 0x4A0D ≡ None)
+unfolding class_of name_of names
+unlisted-4a0d = (refl, refl)
+
+unlisted-4a12 : (class_of 0x4A12 ≡ class.Other) × (name_of 0x4A12 ≡ None)
+unfolding class_of name_of names
+unlisted-4a12 = (refl, refl)
+
+unlisted-4b61 : (class_of 0x4B61 ≡ class.Text) × (name_of 0x4B61 ≡ None)
+unfolding class_of name_of names
+unlisted-4b61 = (refl, refl)
+
+unlisted-5300 : (class_of 0x5300 ≡ class.Province) × (name_of 0x5300 ≡ None)
+unfolding class_of name_of names
+unlisted-5300 = (refl, refl)
+
+unlisted-4c00 : (class_of 0x4C00 ≡ class.Alien) × (name_of 0x4C00 ≡ None)
+unfolding class_of name_of names
+unlisted-4c00 = (refl, refl)
+
+unlisted-4fff : (class_of 0x4FFF ≡ class.Alien) × (name_of 0x4FFF ≡ None)
+unfolding class_of name_of names
+unlisted-4fff = (refl, refl)
+
+unlisted-5800 : (class_of 0x5800 ≡ class.Alien) × (name_of 0x5800 ≡ None)
+unfolding class_of name_of names
+unlisted-5800 = (refl, refl)
+
+unlisted-ffff : (class_of 0xFFFF ≡ class.Alien) × (name_of 0xFFFF ≡ None)
+unfolding class_of name_of names
+unlisted-ffff = (refl, refl)
+
+unlisted-10000 : (class_of 0x10000 ≡ class.Alien) × (name_of 0x10000 ≡ None)
+unfolding class_of name_of names
+unlisted-10000 = (refl, refl)
+
+-- the categories that are known end at 4B and at 57
+categories : (has_known_category 0x4BFF ≡ true) × (has_known_category 0x4C00 ≡ false) × (has_known_category 0x4FFF ≡ false) × (has_known_category 0x5000 ≡ true) × (has_known_category 0x57FF ≡ true) × (has_known_category 0x5800 ≡ false)
+categories = (refl, refl, refl, refl, refl, refl)
+
+-- the tokens that other definitions name
+named-constants : (token_named (codes "BRA") ≡ Some bra) × (token_named (codes "KET") ≡ Some ket) × (token_named (codes "HLO") ≡ Some hlo) × (token_named (codes "HUH") ≡ Some huh) × (token_named (codes "PRN") ≡ Some prn) × (token_named (codes "ERR") ≡ Some err) × (token_named (codes "LVL") ≡ Some lvl)
+unfolding token_named names
+named-constants = (refl, refl, refl, refl, refl, refl, refl)
+
+-- numbers turn negative at 2000
+numbers : (number_of 0x1FFF ≡ Some (pos 8191)) × (number_of 0x2000 ≡ Some (negsuc 8191)) × (number_of 0x3FFF ≡ Some (negsuc 0)) × (number_of 0x4000 ≡ None) × (token_of_number (negsuc 8191) ≡ Some 0x2000) × (token_of_number (negsuc 8192) ≡ None)
+numbers = (refl, refl, refl, refl, refl, refl)
+
+-- text: numbers, runs of characters, names, brackets and digits
+text-numbers : text_of (tokens_of (0x1F ∷ 0xFF ∷ 0x20 ∷ 0x00 ∷ 0x3F ∷ 0xFF ∷ [])) ≡ codes "8191 -8192 -1"
+unfolding text_of name_of names digits
+text-numbers = refl
+
+text-runs : text_of (tokens_of (0x4B ∷ 0x49 ∷ 0x4B ∷ 0x27 ∷ 0x4B ∷ 0x6D ∷ [])) ≡ codes "'I' #4b27 'm'"
+unfolding text_of name_of names
+text-runs = refl
+
+text-words : text_of (tokens_of (0x48 ∷ 0x03 ∷ 0x40 ∷ 0x00 ∷ 0x4A ∷ 0x12 ∷ 0x40 ∷ 0x01 ∷ [])) ≡ codes "GOF ( #4a12 )"
+unfolding text_of name_of names
+text-words = refl
+
+text-nothing : text_of [] ≡ []
+unfolding text_of
+text-nothing = refl

@@ -1,0 +1,6 @@
+pub mod Token
+pub mod Class
+pub mod ClassLaws
+pub mod Names
+pub mod Text
+pub mod TextSteps

@@ -1,0 +1,51 @@
+-- The text form of tokens: items with single spaces between them. How a token prints is (own), but for the
+-- names, which are the protocol's.
+use Rattle.std.specs.Prelude.{ℕ, ◌/◌, ◌%◌, ◌==◌, ◌&&◌, nat_le, Bool, not, if◌then◌else◌, List, [], ◌∷◌, ◌++◌, map, slice_index, codes, option_map, unwrap_or}
+use Rattle.std.specs.List.{join_with_byte}
+use Rattle.std.specs.Fmt.{signed_decimal}
+use Rattle.daide_token.specs.Token.{bra, ket, number_of}
+use Rattle.daide_token.specs.Names.{name_of}
+
+-- a digit from 0 to 15, in lower case
+abbrev pub hex_digit_of : ℕ → ℕ
+hex_digit_of n = slice_index (codes "0123456789abcdef") n
+
+-- a token that is neither a number nor named: # and its four digits
+abbrev pub hex_text : ℕ → List ℕ
+hex_text t = 35 ∷ hex_digit_of (t / 4096) ∷ hex_digit_of (t / 256 % 16) ∷ hex_digit_of (t / 16 % 16) ∷ hex_digit_of (t % 16) ∷ []
+
+-- a token by itself: a bracket's sign, a number's decimal form, a name, or its digits
+abbrev pub word_of : ℕ → List ℕ
+word_of t =
+    if t == bra then codes "(" else
+    if t == ket then codes ")" else
+    unwrap_or (option_map signed_decimal (number_of t)) (unwrap_or (name_of t) (hex_text t))
+
+-- whether a token is a character that can stand in quotes: from space to tilde, and not the quote itself
+abbrev pub is_quotable : ℕ → Bool
+is_quotable t = nat_le 0x4B20 t && nat_le t 0x4B7E && not (t == 0x4B27)
+
+-- an item: a token by itself, or a run of characters
+pub data Item : Type 0 where
+  Word : ℕ → Item
+  Quote : List ℕ → Item
+
+-- a character before some items: a run that stands first takes it in
+abbrev pub before_items : ℕ → List Item → List Item
+before_items character [] = Quote (character ∷ []) ∷ []
+before_items character (Quote characters ∷ items) = Quote (character ∷ characters) ∷ items
+before_items character (Word t ∷ items) = Quote (character ∷ []) ∷ Word t ∷ items
+
+-- the items of some tokens: each longest run of characters is one
+abbrev pub items_of : List ℕ → List Item
+items_of [] = []
+items_of (t ∷ ts) = if is_quotable t then before_items (t % 256) (items_of ts) else Word t ∷ items_of ts
+
+-- an item's text: a run stands between quotes
+abbrev pub item_text : Item → List ℕ
+item_text (Word t) = word_of t
+item_text (Quote characters) = 39 ∷ characters ++ 39 ∷ []
+
+-- the text of some tokens, without a line end
+unfoldable pub text_of : List ℕ → List ℕ
+text_of ts = join_with_byte 32 (map item_text (items_of ts))

@@ -1,0 +1,32 @@
+-- The text in the order in which it is written: what a token adds depends on what was written last.
+use Rattle.std.specs.Prelude.{ℕ, ◌%◌, ◌++◌, if◌then◌else◌, List, [], ◌∷◌}
+use Rattle.daide_token.specs.Text.{is_quotable, word_of}
+use Rattle.daide_token.specs.declared.text.Place.{Place}
+use Rattle.daide_token.specs.declared.text.Place.TheVariants.{Start, Word, Quote}
+
+-- what ends an open run, and the space before the next item
+abbrev pub before_item : Place → List ℕ
+before_item Start = []
+before_item Word = 32 ∷ []
+before_item Quote = 39 ∷ 32 ∷ []
+
+-- what goes before a character: the quote that opens a run, unless one is open
+abbrev pub before_character : Place → List ℕ
+before_character Start = 39 ∷ []
+before_character Word = 32 ∷ 39 ∷ []
+before_character Quote = []
+
+-- what stands last once a token is written
+abbrev pub place_after : ℕ → Place
+place_after t = if is_quotable t then Quote else Word
+
+-- what a token adds
+abbrev pub token_text : Place → ℕ → List ℕ
+token_text place t = if is_quotable t then before_character place ++ (t % 256) ∷ [] else before_item place ++ word_of t
+
+-- what some tokens add, to the end
+abbrev pub rest_of_text : Place → List ℕ → List ℕ
+rest_of_text Start [] = []
+rest_of_text Word [] = []
+rest_of_text Quote [] = 39 ∷ []
+rest_of_text place (t ∷ ts) = token_text place t ++ rest_of_text (place_after t) ts

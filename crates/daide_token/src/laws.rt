@@ -1,0 +1,35 @@
+//! Laws of the definitions: the calls that turn tokens into bytes, numbers and names undo each other.
+
+ghost use Rattle.std.specs.Prelude.{[], true, ℕ, ℤ, List, ◌<◌, ◌∷◌, ◌≡◌};
+ghost use Rattle.daide_token.specs.Class.{class_of, has_one_token, is_standard, token_of};
+ghost use Rattle.daide_token.specs.declared.class.Class.{Class};
+ghost use Rattle.daide_token.specs.Names.{name_of, token_named};
+ghost use Rattle.daide_token.specs.Token.{bytes_of, bytes_of_tokens, number_of, token_of_bytes, token_of_number, tokens_of};
+
+/// The bytes of a token, and of a list of tokens, give it back, and so do two bytes' token its bytes.
+#[tactic(auto, using(crate::proofs::TokenLemmas::tokens_of_bytes_of_tokens))]
+pub fn bytes_come_back()
+    ensures token { (t : ℕ) → token_of_bytes (bytes_of t) ≡ t }
+    ensures bytes { (high low : ℕ) → low < 256 → bytes_of (token_of_bytes (high ∷ low ∷ [])) ≡ high ∷ low ∷ [] }
+    ensures tokens { (ts : List ℕ) → tokens_of (bytes_of_tokens ts) ≡ ts }
+{}
+
+/// A token that is a number is the token of this number, and the token of a number stands for it.
+pub fn numbers_come_back()
+    ensures token { (t : ℕ) (n : ℤ) → number_of t ≡ Some n → token_of_number n ≡ Some t }
+    ensures number { (n : ℤ) (t : ℕ) → token_of_number n ≡ Some t → number_of t ≡ Some n }
+{}
+
+/// A token that has a name is the token of this name, and no other token has it.
+pub fn names_come_back()
+    ensures token { (t : ℕ) (name : List ℕ) → name_of t ≡ Some name → token_named name ≡ Some t }
+    ensures name { (name : List ℕ) (t : ℕ) → token_named name ≡ Some t → name_of t ≡ Some name }
+{}
+
+/// A class that is one token's alone is no other token's. No token has an operator's word for its class, and
+/// each other class is some token's.
+pub fn single_tokens_stand_alone()
+    ensures alone { (t : ℕ) → has_one_token (class_of t) ≡ true → t ≡ token_of (class_of t) }
+    ensures standard { (t : ℕ) → is_standard (class_of t) ≡ true }
+    ensures own { (class : Class) → is_standard class ≡ true → class_of (token_of class) ≡ class }
+{}

@@ -1,0 +1,10 @@
+//! Tokens of the DAIDE protocol: their numbers, classes, names and printed text.
+#![tactic(auto)]
+
+pub mod class;
+pub mod laws;
+mod names;
+#[cfg(test)]
+mod tests;
+pub mod text;
+pub mod token;

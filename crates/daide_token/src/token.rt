@@ -1,0 +1,110 @@
+//! A token: two bytes, a category and a code in it, or a number of fourteen bits.
+
+ghost use Rattle.std.specs.Prelude.{◌≡◌, ℕ, option_map};
+ghost use Rattle.daide_token.specs.Token.{bytes_of, number_of, token_of_bytes, token_of_number};
+ghost use Rattle.daide_token.specs.Class.{class_of, has_known_category};
+ghost use Rattle.daide_token.specs.Names.{name_of, token_named};
+
+use crate::class::{Class, class_in};
+use crate::names;
+use std::marker::Model;
+
+/// A token. A contract sees it as a whole number, 0 to FFFF hexadecimal.
+#[derive(Clone, Copy, Debug, PartialEq, Eq, PartialOrd, Ord, Hash)]
+pub struct Token {
+    bits: u16,
+}
+
+impl Model for Token {
+    ghost Value = { ℕ };
+
+    ghost view = { λ t. t.bits };
+
+    ghost inverse = { λ n. record { bits = n } };
+}
+
+impl Token {
+    /// The token that is this whole number.
+    pub const fn from_code(code: u16) -> Token
+        ensures { result ≡ code }
+    {
+        Token { bits: code }
+    }
+
+    /// The token as a whole number.
+    pub const fn code(self) -> u16
+        ensures { result ≡ self }
+    {
+        self.bits
+    }
+
+    /// The token of two bytes, high byte first.
+    pub const fn from_be(bytes: [u8; 2]) -> Token
+        ensures { result ≡ token_of_bytes bytes }
+    {
+        Token {
+            bits: u16::from_be_bytes(bytes),
+        }
+    }
+
+    /// The token's two bytes, high byte first.
+    pub const fn to_be(self) -> [u8; 2]
+        ensures { result ≡ bytes_of self }
+    {
+        self.code().to_be_bytes()
+    }
+
+    /// The number that the token stands for: two's complement in fourteen bits, -8192 to 8191. None for every
+    /// token from 4000 on.
+    pub fn number(self) -> Option<i16>
+        ensures { result ≡ number_of self }
+    {
+        match self.code() {
+            0x0000..=0x1FFF => Some(self.code() as i16),
+            0x2000..=0x3FFF => Some(self.code() as i16 - 0x4000),
+            _ => None,
+        }
+    }
+
+    /// The token of a number. None outside -8192 to 8191.
+    pub fn of_number(number: i16) -> Option<Token>
+        ensures { result ≡ token_of_number number }
+    {
+        match number {
+            0..=8191 => Some(Token::from_code(number as u16)),
+            -8192..=-1 => Some(Token::from_code((number + 0x4000) as u16)),
+            _ => None,
+        }
+    }
+
+    /// The token's class, by its category and, where the category has classes of one token, by its code.
+    #[tactic(auto, unfolding(crate::specs::Class::class_of))]
+    pub fn class(self) -> Class
+        ensures { result ≡ class_of self }
+    {
+        let [category, code] = self.to_be();
+        class_in(category, code)
+    }
+
+    /// Whether the token is a number or of one of the categories 40 to 4B and 50 to 57.
+    pub fn has_known_category(self) -> bool
+        ensures { result ≡ has_known_category self }
+    {
+        let [category, _code] = self.to_be();
+        matches!(category, 0x00..=0x4B | 0x50..=0x57)
+    }
+
+    /// The token's name: three capital letters. None for numbers, characters and tokens that no table lists.
+    pub fn name(self) -> Option<&'static str>
+        ensures { option_map (λ name. name.now) result ≡ name_of self }
+    {
+        names::name_of(self.code())
+    }
+
+    /// The token of a name, which is written in capital letters. None where no token has it.
+    pub fn by_name(name: &str) -> Option<Token>
+        ensures { result ≡ token_named name.now }
+    {
+        names::token_named(name).map(Token::from_code)
+    }
+}
