@@ -1,0 +1,153 @@
+-- Every message's brackets balance, and `any` is every list whose brackets balance.
+use Rattle.std.proofs.Common.{◌≡◌, ◌≢◌, ℕ, Bool, true, false, not, ◌&&◌, List, [], ◌∷◌, ◌++◌, ◌↔◌, refl, sym, ◌∙◌, ap, subst, append_assoc, append-nil}
+use Rattle.std.proofs.lemmas.Bool.{eqb-true, eq-eqb}
+use Rattle.daide_token.specs.declared.class.Class.{Class}
+use Rattle.daide_token.specs.declared.class.Class.TheVariants.{Bra, Ket}
+use Rattle.daide_token.specs.Token.{bra, ket}
+use Rattle.daide_grammar.specs.declared.level.Level.{Level}
+use Rattle.daide_grammar.specs.declared.level.Level.TheVariants.{L60}
+use Rattle.daide_grammar.specs.declared.side.Side2.{Side2}
+use Rattle.daide_grammar.specs.declared.side.Side2.TheVariants.{Client, ServerEnd}
+use Rattle.daide_grammar.specs.Classes.{class_number, same_class}
+use Rattle.daide_grammar.specs.Forms.{is, any_word, accepts, Slot, Name, Request_name, Send_name, Press_name, Arrangement_name, Flat_name, Fact_name, Added, Form, one, never, empty, ◌·◌, ◌∣◌, many, group, named, Dialect}
+use Rattle.daide_grammar.specs.Message.Lists.{any, anything}
+use Rattle.daide_grammar.specs.Matches.{rule, Matches, token, nothing, both, first, second, no_more, one_more, bracketed, by_name}
+use Rattle.daide_grammar.specs.Balanced.{IsBalanced}
+use Rattle.daide_grammar.specs.Balanced as Rules
+use Rattle.daide_grammar.specs.Messages.{message_form}
+use Rattle.daide_grammar.specs.Proved.Alternatives.{both-pass}
+use Rattle.daide_grammar.specs.Proved.MovesAgree.{accepts-like, not-both}
+use Rattle.daide_grammar.specs.Proved.StacksInOrder.{number-Bra, number-Ket}
+
+-- a dialect in which a bracket is the only token of its class
+pub record KeepsBrackets (d : Dialect) : Type 0 where
+  pub bras : (t : ℕ) → (d.class_of t ≡ Bra) ↔ (t ≡ bra)
+  pub kets : (t : ℕ) → (d.class_of t ≡ Ket) ↔ (t ≡ ket)
+
+-- a form whose brackets stand in pairs: none of its single tokens is a bracket
+unfoldable pub paired : Form → Bool
+paired (one (is c)) = accepts any_word c
+paired (one any_word) = true
+paired never = true
+paired empty = true
+paired (f · g) = paired f && paired g
+paired (f ∣ g) = paired f && paired g
+paired (many f) = paired f
+paired (group f) = paired f
+paired (named n) = true
+
+-- a token that any word may be is no bracket
+no-bracket : (d : Dialect) → KeepsBrackets d → (t : ℕ) → accepts any_word (d.class_of t) ≡ true → (t ≢ bra) × (t ≢ ket)
+no-bracket d keeps t h =
+    let p = both-pass (not (same_class Bra (d.class_of t))) (not (same_class Ket (d.class_of t))) h in
+    (λ e. differs Bra p.0 ((keeps.bras t).1 e), λ e. differs Ket p.1 ((keeps.kets t).1 e))
+  where
+    differs : (c : Class) → not (same_class c (d.class_of t)) ≡ true → d.class_of t ≡ c → ⊥
+    differs c p e =
+        not-both (same_class c (d.class_of t)) (eq-eqb (class_number c) (class_number (d.class_of t)) (ap class_number (sym e))) p
+
+-- so it is a balanced list by itself
+word-balanced : (d : Dialect) → KeepsBrackets d → (t : ℕ) → accepts any_word (d.class_of t) ≡ true → IsBalanced (t ∷ [])
+word-balanced d keeps t h = let p = no-bracket d keeps t h in Rules.plain t p.0 p.1
+
+-- a token of a bracket's class is the bracket
+the-bra : (d : Dialect) → KeepsBrackets d → (t : ℕ) → accepts (is Bra) (d.class_of t) ≡ true → t ≡ bra
+the-bra d keeps t h = (keeps.bras t).0 (number-Bra (d.class_of t) (sym (eqb-true 1 (class_number (d.class_of t)) h)))
+
+-- and the same for KET
+the-ket : (d : Dialect) → KeepsBrackets d → (t : ℕ) → accepts (is Ket) (d.class_of t) ≡ true → t ≡ ket
+the-ket d keeps t h = (keeps.kets t).0 (number-Ket (d.class_of t) (sym (eqb-true 2 (class_number (d.class_of t)) h)))
+
+-- a balanced list between two tokens that are the brackets
+in-brackets : (b k : ℕ) (u : List ℕ) → b ≡ bra → k ≡ ket → IsBalanced u → IsBalanced (b ∷ (u ++ k ∷ []))
+in-brackets b k u e f h =
+    subst (λ (x : ℕ). IsBalanced (x ∷ (u ++ k ∷ []))) (sym e) (subst (λ (x : ℕ). IsBalanced (bra ∷ (u ++ x ∷ []))) (sym f) (Rules.bracketed u h))
+
+-- what matches a form whose brackets stand in pairs balances
+pub matches-balance : (d : Dialect) → KeepsBrackets d → ((n : Name) → paired (rule d n) ≡ true) → (f : Form) (w : List ℕ) →
+    paired f ≡ true → Matches d f w → IsBalanced w
+unfolding paired
+matches-balance d keeps all (one (is c)) w e (token {t = t} h) =
+    word-balanced d keeps t (sym (accepts-like any_word c (d.class_of t) (eqb-true (class_number c) (class_number (d.class_of t)) h)) ∙ e)
+matches-balance d keeps all (one any_word) w e (token {t = t} h) = word-balanced d keeps t h
+matches-balance d keeps all never w e m = elim m [ ]
+matches-balance d keeps all empty w e nothing = Rules.empty
+matches-balance d keeps all (f · g) w e (both {u = u} {v = v} m n) =
+    let p = both-pass (paired f) (paired g) e in Rules.joined u v (matches-balance d keeps all f u p.0 m) (matches-balance d keeps all g v p.1 n)
+matches-balance d keeps all (f ∣ g) w e (first m) = matches-balance d keeps all f w (both-pass (paired f) (paired g) e).0 m
+matches-balance d keeps all (f ∣ g) w e (second m) = matches-balance d keeps all g w (both-pass (paired f) (paired g) e).1 m
+matches-balance d keeps all (many f) w e no_more = Rules.empty
+matches-balance d keeps all (many f) w e (one_more {u = u} {v = v} m n) =
+    Rules.joined u v (matches-balance d keeps all f u e m) (matches-balance d keeps all (many f) v e n)
+matches-balance d keeps all (group f) w e (bracketed {u = u} b k h m i) =
+    in-brackets b k u (the-bra d keeps b h) (the-ket d keeps k i) (matches-balance d keeps all f u e m)
+matches-balance d keeps all (named n) w e (by_name m) = matches-balance d keeps all (rule d n) w (all n) m
+
+-- every rule's brackets stand in pairs, where those of the added words do
+pub rules_paired : (d : Dialect) → ((s : Slot) (l : Level) → paired (d.added s l) ≡ true) → (n : Name) → paired (rule d n) ≡ true
+unfolding paired
+rules_paired d h (Added s l) = h s l
+rules_paired d h (Arrangement_name L60) = refl
+rules_paired d h (Flat_name L60) = refl
+rules_paired d h (Fact_name L60) = refl
+rules_paired d h (Press_name L60) = refl
+rules_paired d h (Send_name L60) = refl
+rules_paired d h (Request_name L60) = refl
+rules_paired d h _ = refl
+
+-- and so are those of the messages
+messages_paired : (side : Side2) (l : Level) → paired (message_form side l) ≡ true
+unfolding paired
+messages_paired Client L60 = refl
+messages_paired ServerEnd L60 = refl
+messages_paired _ _ = refl
+
+-- the brackets of a message other than PRN's report balance
+pub message-balanced : (d : Dialect) → KeepsBrackets d → ((s : Slot) (l : Level) → paired (d.added s l) ≡ true) →
+    (side : Side2) (l : Level) (w : List ℕ) → Matches d (message_form side l) w → IsBalanced w
+message-balanced d keeps h side l w m = matches-balance d keeps (rules_paired d h) (message_form side l) w (messages_paired side l) m
+
+-- ---- `any` is every list whose brackets balance
+
+-- two lists of a repetition, one after the other, are one of it
+many-join : (d : Dialect) (f : Form) (u v : List ℕ) → Matches d (many f) u → Matches d (many f) v → Matches d (many f) (u ++ v)
+many-join d f u v no_more n = n
+many-join d f u v (one_more {u = a} {v = b} m r) n =
+    subst (Matches d (many f)) (sym (append_assoc a b v)) (one_more m (many-join d f b v r n))
+
+-- one list of a form is a repetition of it
+some-one : (d : Dialect) (f : Form) (u : List ℕ) → Matches d f u → Matches d (many f) u
+some-one d f u m = subst (Matches d (many f)) (append-nil u) (one_more m no_more)
+
+-- a token that is no bracket is a word
+any-word : (d : Dialect) → KeepsBrackets d → (t : ℕ) → t ≢ bra → t ≢ ket → accepts any_word (d.class_of t) ≡ true
+any-word d keeps t b k =
+    neither (same_class Bra (d.class_of t)) (same_class Ket (d.class_of t)) (λ e. b (the-bra d keeps t e)) (λ e. k (the-ket d keeps t e))
+  where
+    neither : (x y : Bool) → (x ≡ true → ⊥) → (y ≡ true → ⊥) → (not x && not y) ≡ true
+    neither true y f g = absurd (f refl)
+    neither false true f g = absurd (g refl)
+    neither false false f g = refl
+
+-- BRA is a token of its own class
+pub bra-accepted : (d : Dialect) → KeepsBrackets d → accepts (is Bra) (d.class_of bra) ≡ true
+bra-accepted d keeps = ap (accepts (is Bra)) ((keeps.bras bra).1 refl)
+
+-- and so is KET
+pub ket-accepted : (d : Dialect) → KeepsBrackets d → accepts (is Ket) (d.class_of ket) ≡ true
+ket-accepted d keeps = ap (accepts (is Ket)) ((keeps.kets ket).1 refl)
+
+-- a balanced list is words, and lists in brackets, in some order
+balanced-anything : (d : Dialect) → KeepsBrackets d → {w : List ℕ} → IsBalanced w → Matches d anything w
+balanced-anything d keeps Rules.empty = no_more
+balanced-anything d keeps (Rules.plain t b k) = some-one d (one any_word ∣ group any) (t ∷ []) (first (token (any-word d keeps t b k)))
+balanced-anything d keeps (Rules.joined u v x y) =
+    many-join d (one any_word ∣ group any) u v (balanced-anything d keeps x) (balanced-anything d keeps y)
+balanced-anything d keeps (Rules.bracketed u x) =
+    some-one d (one any_word ∣ group any) _ (second (bracketed bra ket (bra-accepted d keeps) (by_name (balanced-anything d keeps x)) (ket-accepted d keeps)))
+
+-- `any` is exactly the lists whose brackets balance
+pub any-balanced : (d : Dialect) → KeepsBrackets d → ((s : Slot) (l : Level) → paired (d.added s l) ≡ true) → (w : List ℕ) →
+    Matches d any w ↔ IsBalanced w
+unfolding paired
+any-balanced d keeps h w = (λ m. matches-balance d keeps (rules_paired d h) any w refl m, λ b. by_name (balanced-anything d keeps b))

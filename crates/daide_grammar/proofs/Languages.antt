@@ -1,0 +1,114 @@
+-- What an opening symbol stands for, and the messages by which a gateway answers.
+use Rattle.std.proofs.Common.{◌≡◌, ℕ, Bool, true, false, ◌==◌, List, [], ◌∷◌, ◌++◌, inl, inr, ◌↔◌, refl, sym, ◌∙◌, ap, subst, append-nil}
+use Rattle.std.proofs.lemmas.Bool.{eqb-true}
+use Rattle.daide_token.specs.declared.class.Class.TheVariants.{Prn, Huh}
+use Rattle.daide_token.specs.Token.{bra, ket, prn, huh}
+use Rattle.daide_token.specs.Class.{class_of}
+use Rattle.daide_grammar.specs.declared.level.Level.{Level}
+use Rattle.daide_grammar.specs.declared.level.Level.TheVariants.{L60}
+use Rattle.daide_grammar.specs.declared.side.Side2.{Side2}
+use Rattle.daide_grammar.specs.declared.side.Side2.TheVariants.{Client, ServerEnd}
+use Rattle.daide_grammar.specs.declared.symbol.Sym.TheVariants.{AnyGroup}
+use Rattle.daide_grammar.specs.Forms.{Form}
+use Rattle.daide_grammar.specs.Message.Lists.{any}
+use Rattle.daide_grammar.specs.Matches.{Matches, bracketed}
+use Rattle.daide_grammar.specs.Balanced.{IsBalanced}
+use Rattle.daide_grammar.specs.Paired.{begins_with_prn, IsPrnReport, IsPaired}
+use Rattle.daide_grammar.specs.Answers.{Take, Stop}
+use Rattle.daide_grammar.specs.Symbols.{form_of, entries, may_end_of, table_answer, opening_of}
+use Rattle.daide_grammar.specs.Messages.{standard, message_form, IsMessage, SymbolMatches}
+use Rattle.daide_grammar.specs.Proved.PlainLaws.{only_bra, only_ket, plain_laws}
+use Rattle.daide_grammar.proofs.Balance.{KeepsBrackets, message-balanced, any-balanced, paired, bra-accepted, ket-accepted}
+
+-- the standard's brackets are the only tokens of their classes
+pub standard-brackets : KeepsBrackets standard
+standard-brackets = record { bras = only_bra; kets = only_ket }
+
+-- an opening symbol's form is that of its side's messages
+opening-form : (side : Side2) (l : Level) → form_of (opening_of side l) ≡ message_form side l
+unfolding form_of
+opening-form Client l = refl
+opening-form ServerEnd l = refl
+
+-- PRN begins none of the forms: it is the reader's own case
+opening-stops : (side : Side2) (l : Level) → table_answer (opening_of side l) Prn ≡ Stop
+unfolding table_answer entries may_end_of
+opening-stops Client L60 = refl
+opening-stops ServerEnd L60 = refl
+opening-stops _ _ = refl
+
+-- the token PRN has the class PRN
+class-prn : (t : ℕ) → (t == prn) ≡ true → class_of t ≡ Prn
+unfolding class_of
+class-prn t e = ap class_of (eqb-true t prn e)
+
+-- a test that cannot pass fails
+begins-false : (b : Bool) → (b ≡ true → ⊥) → b ≡ false
+begins-false true f = absurd (f refl)
+begins-false false f = refl
+
+-- so no list of an opening symbol begins with PRN
+form-not-prn : (side : Side2) (l : Level) (m : List ℕ) → SymbolMatches (opening_of side l) m → begins_with_prn m ≡ false
+form-not-prn side l [] h = refl
+form-not-prn side l (t ∷ m) h =
+    begins-false (t == prn) (λ e. plain_laws.stops_none (opening_of side l) t (ap (table_answer (opening_of side l)) (class-prn t e) ∙ opening-stops side l) m h)
+
+-- a list of an opening symbol matches its side's form, and the other way round
+to-form : (side : Side2) (l : Level) (m : List ℕ) → SymbolMatches (opening_of side l) m → Matches standard (message_form side l) m
+to-form side l m h = subst (λ (f : Form). Matches standard f m) (opening-form side l) h
+
+from-form : (side : Side2) (l : Level) (m : List ℕ) → Matches standard (message_form side l) m → SymbolMatches (opening_of side l) m
+from-form side l m h = subst (λ (f : Form). Matches standard f m) (sym (opening-form side l)) h
+
+-- a report PRN begins with PRN
+report-begins : (m : List ℕ) → IsPrnReport m → begins_with_prn m ≡ false → ⊥
+report-begins m r e = let f : true ≡ false = sym (ap begins_with_prn r.1) ∙ e in cc
+
+-- an opening symbol stands for the messages that don't begin with PRN
+pub opening-language : (side : Side2) (l : Level) (m : List ℕ) →
+    SymbolMatches (opening_of side l) m ↔ (IsMessage side l m × (begins_with_prn m ≡ false))
+opening-language side l m = (
+  λ h. (inr (to-form side l m h), form-not-prn side l m h),
+  λ h. elim h.0 [
+    | inl r ↦ absurd (report-begins m r h.1)
+    | inr f ↦ from-form side l m f
+  ],
+)
+
+-- every message is paired
+pub message-paired : (side : Side2) (l : Level) (m : List ℕ) → IsMessage side l m → IsPaired m
+unfolding paired
+message-paired side l m (inl r) = inl r
+message-paired side l m (inr f) =
+    inr (form-not-prn side l m (from-form side l m f), message-balanced standard standard-brackets (λ s k. refl) side l m f)
+
+-- `any` is every list whose brackets balance
+pub any-is-balanced : (m : List ℕ) → Matches standard any m ↔ IsBalanced m
+unfolding paired
+any-is-balanced m = any-balanced standard standard-brackets (λ s k. refl) m
+
+-- HUH may come at every level from either side
+huh-taken : (side : Side2) (l : Level) → table_answer (opening_of side l) Huh ≡ Take (AnyGroup ∷ [])
+unfolding table_answer entries may_end_of
+huh-taken Client L60 = refl
+huh-taken ServerEnd L60 = refl
+huh-taken _ _ = refl
+
+-- a balanced list in brackets is one of the symbol for `any` in brackets
+any-grouped : (a : List ℕ) → IsBalanced a → SymbolMatches AnyGroup (bra ∷ (a ++ ket ∷ []))
+unfolding form_of
+any-grouped a h =
+    bracketed bra ket (bra-accepted standard standard-brackets) ((any-is-balanced a).1 h) (ket-accepted standard standard-brackets)
+
+-- the token HUH has the class HUH
+class-huh : class_of huh ≡ Huh
+unfolding class_of
+class-huh = refl
+
+-- HUH, and balanced tokens in brackets
+pub huh-answer : (side : Side2) (l : Level) (a : List ℕ) → IsBalanced a → IsMessage side l (huh ∷ bra ∷ (a ++ ket ∷ []))
+huh-answer side l a h =
+    let s = opening_of side l in
+    let rest = bra ∷ (a ++ ket ∷ []) in
+    let taken = plain_laws.takes s huh (AnyGroup ∷ []) (ap (table_answer s) class-huh ∙ huh-taken side l) rest in
+    inr (to-form side l (huh ∷ rest) (taken.1 (rest, [], sym (append-nil rest), any-grouped a h, refl)))

@@ -1,0 +1,9 @@
+use Rattle.daide_grammar.specs.Proved.PlainLaws.{plain_laws}
+use Rattle.daide_grammar.proofs.Prediction.{short-rest}
+use Rattle.daide_grammar.proofs.laws.stacks_are_short.Goals as goal
+
+pub returns-clause-entries : goal.returns-clause-entries
+returns-clause-entries c = plain_laws.few_entries
+
+pub returns-clause-rests : goal.returns-clause-rests
+returns-clause-rests c = short-rest

@@ -1,0 +1,11 @@
+-- Brackets that balance, whatever stands between them.
+use Rattle.std.specs.Prelude.{◌≢◌, ℕ, List, [], ◌∷◌, ◌++◌}
+use Rattle.daide_token.specs.Token.{bra, ket}
+
+-- the least set of lists that holds the empty list and every token but a bracket, and is closed
+-- under joining and under a pair of brackets round a member
+pub data IsBalanced : List ℕ → Type 0 where
+  empty : IsBalanced []
+  plain : (t : ℕ) → t ≢ bra → t ≢ ket → IsBalanced (t ∷ [])
+  joined : (a b : List ℕ) → IsBalanced a → IsBalanced b → IsBalanced (a ++ b)
+  bracketed : (a : List ℕ) → IsBalanced a → IsBalanced (bra ∷ a ++ ket ∷ [])

@@ -1,0 +1,37 @@
+-- How many brackets are open, and how many at most.
+use Rattle.std.specs.Prelude.{ℕ, ◌-◌, ◌==◌, ◌||◌, Bool, nat_lt, List, [], ◌∷◌, map, max, if◌then◌else◌}
+use Rattle.std.specs.List.{count_by, list_any}
+use Rattle.daide_token.specs.Token.{bra, ket}
+use Rattle.daide_grammar.specs.Paired.{begins_with_prn}
+
+-- how many BRA, how many KET
+abbrev pub bras : List ℕ → ℕ
+bras m = count_by (λ t. t == bra) m
+
+abbrev pub kets : List ℕ → ℕ
+kets m = count_by (λ t. t == ket) m
+
+-- how many more BRA than KET
+abbrev pub excess : List ℕ → ℕ
+excess m = bras m - kets m
+
+-- the fronts of a list, from the empty one to the whole
+abbrev pub prefixes : List ℕ → List (List ℕ)
+prefixes [] = [] ∷ []
+prefixes (t ∷ m) = [] ∷ map (λ p. t ∷ p) (prefixes m)
+
+-- some front has more KET than BRA
+abbrev pub closes_early : List ℕ → Bool
+closes_early m = list_any (λ p. nat_lt (bras p) (kets p)) (prefixes m)
+
+-- the brackets that are open after these tokens: none in a message that begins with PRN, and none once a KET came with nothing open
+abbrev pub open_brackets : List ℕ → ℕ
+open_brackets p = if begins_with_prn p || closes_early p then 0 else excess p
+
+abbrev pub greatest : List ℕ → ℕ
+greatest [] = 0
+greatest (n ∷ ns) = max n (greatest ns)
+
+-- the greatest excess of BRA over KET of all fronts; a message that begins with PRN has none
+abbrev pub depth_of : List ℕ → ℕ
+depth_of m = if begins_with_prn m then 0 else greatest (map excess (prefixes m))

@@ -1,0 +1,18 @@
+-- The stacks that can arise while a message is read, for any table of moves. The next symbol comes first.
+use Rattle.std.specs.Prelude.{◌≡◌, ◌≢◌, ℕ, suc, List, [], ◌∷◌, ◌++◌}
+use Rattle.daide_token.specs.declared.class.Class.{Class}
+use Rattle.daide_token.specs.declared.class.Class.TheVariants.{Bra, Ket}
+use Rattle.daide_grammar.specs.declared.level.Level.{Level}
+use Rattle.daide_grammar.specs.declared.side.Side2.{Side2}
+use Rattle.daide_grammar.specs.declared.symbol.Sym.{Sym}
+use Rattle.daide_grammar.specs.Answers.{Answer, Take, Skip}
+use Rattle.daide_grammar.specs.Symbols.{opening_of}
+
+-- The stacks, each with its class_number of open brackets: an opening symbol alone with none, and what an answer of the table makes
+-- of one. A token that is taken leaves its rest in the symbol's place; a skipped symbol is dropped.
+pub data IsLawful (moves : Sym → Class → Answer) : List Sym → ℕ → Type 0 where
+  opening : (side : Side2) (level : Level) → IsLawful moves (opening_of side level ∷ []) 0
+  word : {n : ℕ} {s : Sym} {rest below : List Sym} (c : Class) → c ≢ Bra → c ≢ Ket → moves s c ≡ Take rest → IsLawful moves (s ∷ below) n → IsLawful moves (rest ++ below) n
+  bra : {n : ℕ} {s : Sym} {rest below : List Sym} → moves s Bra ≡ Take rest → IsLawful moves (s ∷ below) n → IsLawful moves (rest ++ below) (suc n)
+  ket : {n : ℕ} {s : Sym} {rest below : List Sym} → moves s Ket ≡ Take rest → IsLawful moves (s ∷ below) (suc n) → IsLawful moves (rest ++ below) n
+  skip : {n : ℕ} {s : Sym} {below : List Sym} (c : Class) → moves s c ≡ Skip → IsLawful moves (s ∷ below) n → IsLawful moves below n

@@ -1,0 +1,17 @@
+pub mod Level
+pub mod Balanced
+pub mod Paired
+pub mod Depth
+pub mod Classes
+pub mod Forms
+pub mod Message
+pub mod Matches
+pub mod Answers
+pub mod Symbols
+pub mod Messages
+pub mod Words
+pub mod Stacks
+pub mod LawfulStack
+pub mod Laws
+pub mod Shapes
+pub mod Proved

@@ -1,0 +1,8 @@
+-- The messages of either side.
+pub mod Lists
+pub mod Places
+pub mod Orders
+pub mod Arrangements
+pub mod Press
+pub mod Client
+pub mod Server

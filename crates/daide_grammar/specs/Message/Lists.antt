@@ -1,0 +1,31 @@
+-- Kinds of one token, and lists of tokens.
+use Rattle.daide_token.specs.declared.class.Class.TheVariants.{Num, Power, Province, Season, Text}
+use Rattle.daide_grammar.specs.Forms.{any_word, Any_name, Form, one, ◌·◌, ◌∣◌, many, group, named, tok}
+
+-- one power
+abbrev pub power : Form
+power = tok Power
+
+-- one province
+abbrev pub province : Form
+province = tok Province
+
+-- a season and the number of its year
+abbrev pub turn : Form
+turn = tok Season · tok Num
+
+-- characters, none or more (that there may be none is our own leniency)
+abbrev pub text : Form
+text = many (tok Text)
+
+-- any tokens but the brackets, none or more
+abbrev pub words : Form
+words = many (one any_word)
+
+-- any list of tokens whose brackets balance
+abbrev pub any : Form
+any = named Any_name
+
+-- words, and lists in brackets, in any order
+abbrev pub anything : Form
+anything = many (one any_word ∣ group any)

@@ -1,0 +1,90 @@
+-- What a server says, and the report HUH. (The report PRN stands in Message.)
+use Rattle.daide_token.specs.declared.class.Class.TheVariants.{Adm, Ccd, Coast, Flt, Frm, Hlo, Lod, Lvl, Map, Mdf, Mis, Mrt, Not, Note, Now, Num, Off, Ord, Out, Outcome, Param, Rej, Sco, Slo, Smr, Sve, Thx, Tme, Uno, Yes}
+use Rattle.daide_grammar.specs.declared.level.Level.{Level}
+use Rattle.daide_grammar.specs.declared.level.Level.TheVariants.{L10}
+use Rattle.daide_grammar.specs.Forms.{Form, ◌·◌, ◌∣◌, many, group, tok, some, maybe, from}
+use Rattle.daide_grammar.specs.Message.Lists.{power, province, turn, text}
+use Rattle.daide_grammar.specs.Message.Places.{place, unit_type, unit}
+use Rattle.daide_grammar.specs.Message.Orders.{order}
+use Rattle.daide_grammar.specs.Message.Arrangements.{draw}
+use Rattle.daide_grammar.specs.Message.Press.{press, send}
+use Rattle.daide_grammar.specs.Message.Client.{request, report}
+
+-- whom the server greets: a power, or nobody
+abbrev pub who : Form
+who = power ∣ tok Uno
+
+-- an option of the game: one token of the parameters
+abbrev pub param : Form
+param = tok Lvl ∣ tok Mrt ∣ tok Uno ∣ tok Param
+
+-- who owns supply centres: a power, nobody, or several powers (each of them)
+abbrev pub owner : Form
+owner = power ∣ tok Uno ∣ group (some power)
+
+-- an owner and its supply centres
+abbrev pub owned : Form
+owned = owner · many province
+
+-- the places that armies, fleets, or fleets from one coast can go to
+abbrev pub kind_places : Form
+kind_places = (unit_type ∣ group (tok Flt · tok Coast)) · many place
+
+-- a province and where each kind of unit can go from it
+abbrev pub borders : Form
+borders = province · many (group kind_places)
+
+-- a unit where it stands, with the places to which it must retreat if it is dislodged
+abbrev pub stand : Form
+stand = unit ∣ unit · tok Mrt · group (many place)
+
+-- what became of an order
+abbrev pub outcome : Form
+outcome = tok Note ∣ tok Outcome
+
+-- a player in a summary: power, name, version, supply centres, and the year of elimination
+abbrev pub player : Form
+player = power · group text · group text · tok Num · maybe (tok Num)
+
+-- the map: its powers; the supply centres of each owner, and the provinces that are none; and all borders
+abbrev pub map_definition : Form
+map_definition =
+    group (some power)
+    · group (group (many (group owned)) · group (many province))
+    · group (many (group borders))
+
+-- the press that a power sent to powers; and a send that the server hands back, since a power is in civil disorder or
+-- out of the game (that it may stand there is our own leniency)
+abbrev pub press_message : Level → Form
+press_message l =
+    tok Frm · group power · group (some power) · group (press l)
+    ∣ tok Ccd · group power · group (send l)
+    ∣ tok Out · group power · group (send l)
+
+-- the server messages but for the report PRN, in the order of the protocol's table; press from level 10
+abbrev pub server : Level → Form
+server l =
+    tok Map · group text
+    ∣ tok Mdf · map_definition
+    ∣ tok Hlo · group who · group (tok Num) · group (many (group (param · maybe (tok Num))))
+    ∣ tok Sco · many (group owned)
+    ∣ tok Now · group turn · many (group stand)
+    ∣ tok Thx · group order · group (tok Note)
+    ∣ tok Mis · many (group stand)
+    ∣ tok Mis · group (tok Num)
+    ∣ tok Ord · group turn · group order · group (some outcome)
+    ∣ tok Tme · group (tok Num)
+    ∣ tok Yes · group (request l)
+    ∣ tok Rej · group (request l)
+    ∣ tok Ccd · group power
+    ∣ tok Not · group (tok Ccd · group power)
+    ∣ tok Out · group power
+    ∣ tok Slo · group power
+    ∣ draw
+    ∣ tok Off
+    ∣ tok Smr · group turn · many (group player)
+    ∣ tok Sve · group text
+    ∣ tok Lod · group text
+    ∣ tok Adm · group text · group text
+    ∣ from L10 l (press_message l)
+    ∣ report

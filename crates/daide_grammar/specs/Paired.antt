@@ -1,0 +1,17 @@
+-- Messages whose brackets are paired, a report of unpaired brackets among them. (own)
+use Rattle.std.specs.Prelude.{◌≡◌, ℕ, ◌==◌, Bool, false, List, [], ◌∷◌, ◌++◌, ◌⊎◌}
+use Rattle.daide_token.specs.Token.{bra, ket, prn}
+use Rattle.daide_grammar.specs.Balanced.{IsBalanced}
+
+-- the first token is PRN
+abbrev pub begins_with_prn : List ℕ → Bool
+begins_with_prn [] = false
+begins_with_prn (t ∷ m) = t == prn
+
+-- PRN, and any tokens at all in brackets
+abbrev pub IsPrnReport : List ℕ → Type 0
+IsPrnReport m = (x : List ℕ) × (m ≡ prn ∷ bra ∷ x ++ ket ∷ [])
+
+-- a message that begins with PRN is paired where it is a report, any other where its brackets balance
+abbrev pub IsPaired : List ℕ → Type 0
+IsPaired m = IsPrnReport m ⊎ ((begins_with_prn m ≡ false) × IsBalanced m)

@@ -1,0 +1,11 @@
+pub mod Reading
+pub mod Alternatives
+pub mod RightEntries
+pub mod MovesAgree
+pub mod Sizes
+pub mod StacksInOrder
+pub mod StacksStaySmall
+pub mod NoLanguageIsEmpty
+pub mod TableLaws
+pub mod StandardDialect
+pub mod PlainLaws

@@ -1,0 +1,31 @@
+-- The laws of prediction for the protocol's own grammar.
+use Rattle.std.proofs.Common.{◌≡◌, ℕ, [], ◌∷◌, ◌↔◌, ap}
+use Rattle.daide_token.specs.declared.class.Class.TheVariants.{Bra, Ket}
+use Rattle.daide_token.specs.Class.{class_of}
+use Rattle.daide_token.specs.Token.{bra, ket}
+use Rattle.daide_token.specs.ClassLaws.{class_bra, class_ket}
+use Rattle.daide_grammar.specs.declared.side.Side2.{Side2}
+use Rattle.daide_grammar.specs.declared.level.Level.{Level}
+use Rattle.daide_grammar.specs.Symbols.{slot_of, may_end_of, table_answer, opening_of}
+use Rattle.daide_grammar.specs.Messages.{standard, SymbolMatches}
+use Rattle.daide_grammar.specs.LawfulStack.{IsLawful, opening}
+use Rattle.daide_grammar.specs.Laws.{PredictLaws}
+use Rattle.daide_grammar.specs.Proved.StandardDialect.{standard-proper, standard-words}
+use Rattle.daide_grammar.specs.Proved.TableLaws.{table_laws}
+
+-- a bracket is the only token of its class
+pub only_bra : (t : ℕ) → (class_of t ≡ Bra) ↔ (t ≡ bra)
+unfolding class_of
+only_bra t = (class_bra t, λ e. ap class_of e)
+
+pub only_ket : (t : ℕ) → (class_of t ≡ Ket) ↔ (t ≡ ket)
+unfolding class_of
+only_ket t = (class_ket t, λ e. ap class_of e)
+
+-- the table keeps the laws of prediction
+pub plain_laws : PredictLaws class_of SymbolMatches table_answer may_end_of (IsLawful table_answer)
+plain_laws = table_laws standard standard-proper (λ s t. standard-words (slot_of s) t) only_bra only_ket
+
+-- the symbol of a side's messages alone is a stack that can arise
+pub plain_begins : (side : Side2) (level : Level) → IsLawful table_answer (opening_of side level ∷ []) 0
+plain_begins side level = opening side level

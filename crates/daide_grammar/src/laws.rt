@@ -1,0 +1,118 @@
+//! What holds of the grammar as a whole. Each law is a function whose contract says it; none has anything to do.
+
+ghost use Rattle.std.specs.Prelude.{◌≡◌, ◌≢◌, ◌↔◌, ℕ, ◌+◌, ◌*◌, ◌≤◌, List, [], ◌∷◌, ◌++◌, length, true, false};
+ghost use Rattle.std.specs.List.{count_by};
+ghost use Rattle.daide_token.specs.declared.class.Class.{Class};
+ghost use Rattle.daide_token.specs.declared.class.Class.TheVariants.{Bra, Ket};
+ghost use Rattle.daide_token.specs.Class.{class_of};
+ghost use Rattle.daide_token.specs.Token.{bra, ket, prn, huh};
+ghost use Rattle.daide_grammar.specs.declared.level.Level.{Level};
+ghost use Rattle.daide_grammar.specs.declared.side.Side2.{Side2};
+ghost use Rattle.daide_grammar.specs.declared.symbol.Sym.{Sym};
+ghost use Rattle.daide_grammar.specs.Message.Lists.{any};
+ghost use Rattle.daide_grammar.specs.Matches.{Matches};
+ghost use Rattle.daide_grammar.specs.Balanced.{IsBalanced};
+ghost use Rattle.daide_grammar.specs.Paired.{IsPaired, begins_with_prn};
+ghost use Rattle.daide_grammar.specs.Depth.{depth_of};
+ghost use Rattle.daide_grammar.specs.Forms.{accepts};
+ghost use Rattle.daide_grammar.specs.Answers.{Take, Skip, Stop};
+ghost use Rattle.daide_grammar.specs.Symbols.{entries, may_end_of, opening_of, table_answer};
+ghost use Rattle.daide_grammar.specs.Stacks.{StackMatches, skips_before, ends_asked};
+ghost use Rattle.daide_grammar.specs.LawfulStack.{IsLawful};
+ghost use Rattle.daide_grammar.specs.Messages.{IsMessage, SymbolMatches, standard};
+
+/// The symbol that a reader starts with stands for the messages of its side and level, but for the
+/// report PRN, which is the reader's own case.
+pub fn opening_stands_for_messages()
+    ensures { (side : Side2) (level : Level) (m : List ℕ) →
+        SymbolMatches (opening_of side level) m ↔ (IsMessage side level m × (begins_with_prn m ≡ false)) }
+{}
+
+/// The form `any` is every list whose brackets balance.
+pub fn any_is_balanced()
+    ensures { (m : List ℕ) → Matches standard any m ↔ IsBalanced m }
+{}
+
+/// Every message is paired: a report PRN, or a list that doesn't begin with PRN and whose brackets
+/// balance. So a message is never answered with PRN.
+pub fn messages_are_paired()
+    ensures { (side : Side2) (level : Level) (m : List ℕ) → IsMessage side level m → IsPaired m }
+{}
+
+/// `PRN ( m )` is a message of either side at every level, whatever m is, and it has no depth. So a
+/// gateway may answer with it at any time, and a gateway behind it relays the answer.
+pub fn prn_answer_is_a_message()
+    ensures message { (side : Side2) (level : Level) (m : List ℕ) → IsMessage side level (prn ∷ bra ∷ (m ++ ket ∷ [])) }
+    ensures depth { (m : List ℕ) → depth_of (prn ∷ bra ∷ (m ++ ket ∷ [])) ≡ 0 }
+{}
+
+/// `HUH ( a )` is a message of either side at every level where a's brackets balance, and it is one
+/// deeper than a, unless a begins with PRN and so has no depth.
+pub fn huh_answer_is_a_message()
+    ensures message { (side : Side2) (level : Level) (a : List ℕ) → IsBalanced a → IsMessage side level (huh ∷ bra ∷ (a ++ ket ∷ [])) }
+    ensures depth { (a : List ℕ) → IsBalanced a → begins_with_prn a ≡ false → depth_of (huh ∷ bra ∷ (a ++ ket ∷ [])) ≡ depth_of a + 1 }
+{}
+
+/// The table's moves agree with what its symbols stand for. At a Take a list goes on as a list of the
+/// rest; at a Skip the symbol may be empty and none of its lists begins with the token; at a Stop
+/// neither; and the symbols that may end are those with the empty list.
+pub fn moves_agree()
+    ensures takes { (sym : Sym) (rest : List Sym) (t : ℕ) (m : List ℕ) → table_answer sym (class_of t) ≡ Take rest →
+        SymbolMatches sym (t ∷ m) ↔ StackMatches SymbolMatches rest m }
+    ensures skips { (sym : Sym) (t : ℕ) (m : List ℕ) → table_answer sym (class_of t) ≡ Skip →
+        SymbolMatches sym [] × ¬ SymbolMatches sym (t ∷ m) }
+    ensures stops { (sym : Sym) (t : ℕ) (m : List ℕ) → table_answer sym (class_of t) ≡ Stop →
+        ¬ SymbolMatches sym [] × ¬ SymbolMatches sym (t ∷ m) }
+    ensures ends { (sym : Sym) → (may_end_of sym ≡ true) ↔ SymbolMatches sym [] }
+{}
+
+/// Each symbol stands for some list, so every stack of symbols can be completed.
+pub fn no_language_is_empty()
+    ensures { (sym : Sym) → (m : List ℕ) × SymbolMatches sym m }
+{}
+
+/// No two alternatives of a symbol begin with the same class.
+pub fn alternatives_differ()
+    ensures { (sym : Sym) (class : Class) → count_by (λ entry. accepts entry.kind class) (entries sym) ≤ 1 }
+{}
+
+/// On a stack that can arise, no token begins both a symbol that may be empty and what follows it.
+pub fn neighbours_differ()
+    ensures { (sym : Sym) (below : List Sym) (open_brackets t : ℕ) (m n : List ℕ) →
+        IsLawful table_answer (sym ∷ below) open_brackets → may_end_of sym ≡ true →
+        SymbolMatches sym (t ∷ m) → ¬ StackMatches SymbolMatches below (t ∷ n) }
+{}
+
+/// A message's symbol alone is a lawful stack with no open bracket, and an answer of the table makes
+/// another of one: BRA opens a bracket, KET closes one that is open, anything else leaves the count.
+pub fn stacks_stay_lawful()
+    ensures begins { (side : Side2) (level : Level) → IsLawful table_answer (opening_of side level ∷ []) 0 }
+    ensures skip { (sym : Sym) (below : List Sym) (open_brackets : ℕ) (class : Class) →
+        IsLawful table_answer (sym ∷ below) open_brackets → table_answer sym class ≡ Skip →
+        IsLawful table_answer below open_brackets }
+    ensures take { (sym : Sym) (rest below : List Sym) (open_brackets : ℕ) (class : Class) →
+        IsLawful table_answer (sym ∷ below) open_brackets → table_answer sym class ≡ Take rest → class ≢ Bra → class ≢ Ket →
+        IsLawful table_answer (rest ++ below) open_brackets }
+    ensures bra { (sym : Sym) (rest below : List Sym) (open_brackets : ℕ) →
+        IsLawful table_answer (sym ∷ below) open_brackets → table_answer sym Bra ≡ Take rest →
+        IsLawful table_answer (rest ++ below) (open_brackets + 1) }
+    ensures ket { (sym : Sym) (rest below : List Sym) (open_brackets : ℕ) →
+        IsLawful table_answer (sym ∷ below) open_brackets → table_answer sym Ket ≡ Take rest →
+        (fewer : ℕ) × (open_brackets ≡ fewer + 1) × IsLawful table_answer (rest ++ below) fewer }
+{}
+
+/// A lawful stack has at most eight entries for each open bracket, and sixteen; a rest has at most
+/// twelve symbols.
+pub fn stacks_are_short()
+    ensures entries { (stack : List Sym) (open_brackets : ℕ) → IsLawful table_answer stack open_brackets →
+        length stack ≤ 8 * open_brackets + 16 }
+    ensures rests { (sym : Sym) (class : Class) (rest : List Sym) → table_answer sym class ≡ Take rest → length rest ≤ 12 }
+{}
+
+/// On a lawful stack a token meets at most three symbols that are empty before one takes or stops
+/// it; where no bracket is open, at most four answers decide whether all that is left may be empty.
+pub fn few_questions()
+    ensures skips { (stack : List Sym) (open_brackets : ℕ) (class : Class) → IsLawful table_answer stack open_brackets →
+        skips_before table_answer class stack ≤ 3 }
+    ensures ends { (stack : List Sym) → IsLawful table_answer stack 0 → ends_asked may_end_of stack ≤ 4 }
+{}

@@ -1,0 +1,15 @@
+//! The grammar of messages at each level of press, and a table that predicts it with one token of
+//! look-ahead.
+//!
+//! What a message is stands in `specs/`, with no order of reading. `plain` has the table as code,
+//! `predict` what a reader may know of any table, and `laws` what holds of the grammar as a whole.
+#![tactic(auto)]
+
+pub mod laws;
+pub mod level;
+pub mod plain;
+pub mod predict;
+pub mod side;
+pub mod symbol;
+#[cfg(test)]
+mod tests;
