@@ -4,6 +4,7 @@ use Rattle.std.proofs.lemmas.Bool.{eqb-true}
 use Rattle.daide_token.specs.declared.class.Class.TheVariants.{Prn, Huh}
 use Rattle.daide_token.specs.Token.{bra, ket, prn, huh}
 use Rattle.daide_token.specs.Class.{class_of}
+use Rattle.daide_token.specs.ClassLaws.{class_of-prn}
 use Rattle.daide_grammar.specs.declared.level.Level.{Level}
 use Rattle.daide_grammar.specs.declared.level.Level.TheVariants.{L60}
 use Rattle.daide_grammar.specs.declared.side.Side2.{Side2}
@@ -39,8 +40,7 @@ opening-stops _ _ = refl
 
 -- the token PRN has the class PRN
 class-prn : (t : ℕ) → (t == prn) ≡ true → class_of t ≡ Prn
-unfolding class_of
-class-prn t e = ap class_of (eqb-true t prn e)
+class-prn t e = ap class_of (eqb-true t prn e) ∙ class_of-prn
 
 -- a test that cannot pass fails
 begins-false : (b : Bool) → (b ≡ true → ⊥) → b ≡ false

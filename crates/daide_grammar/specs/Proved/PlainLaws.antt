@@ -1,9 +1,9 @@
 -- The laws of prediction for the protocol's own grammar.
-use Rattle.std.proofs.Common.{◌≡◌, ℕ, [], ◌∷◌, ◌↔◌, ap}
+use Rattle.std.proofs.Common.{◌≡◌, ℕ, [], ◌∷◌, ◌↔◌, ◌∙◌, ap}
 use Rattle.daide_token.specs.declared.class.Class.TheVariants.{Bra, Ket}
 use Rattle.daide_token.specs.Class.{class_of}
 use Rattle.daide_token.specs.Token.{bra, ket}
-use Rattle.daide_token.specs.ClassLaws.{class_bra, class_ket}
+use Rattle.daide_token.specs.ClassLaws.{class_bra, class_ket, class_of-bra, class_of-ket}
 use Rattle.daide_grammar.specs.declared.side.Side2.{Side2}
 use Rattle.daide_grammar.specs.declared.level.Level.{Level}
 use Rattle.daide_grammar.specs.Symbols.{slot_of, may_end_of, table_answer, opening_of}
@@ -15,12 +15,10 @@ use Rattle.daide_grammar.specs.Proved.TableLaws.{table_laws}
 
 -- a bracket is the only token of its class
 pub only_bra : (t : ℕ) → (class_of t ≡ Bra) ↔ (t ≡ bra)
-unfolding class_of
-only_bra t = (class_bra t, λ e. ap class_of e)
+only_bra t = (class_bra t, λ e. ap class_of e ∙ class_of-bra)
 
 pub only_ket : (t : ℕ) → (class_of t ≡ Ket) ↔ (t ≡ ket)
-unfolding class_of
-only_ket t = (class_ket t, λ e. ap class_of e)
+only_ket t = (class_ket t, λ e. ap class_of e ∙ class_of-ket)
 
 -- the table keeps the laws of prediction
 pub plain_laws : PredictLaws class_of SymbolMatches table_answer may_end_of (IsLawful table_answer)
