@@ -11,7 +11,8 @@ abbrev pub from : ℕ → List ℕ → List Named
 from t (a ∷ b ∷ c ∷ space ∷ letters) = (t, a ∷ b ∷ c ∷ []) ∷ from (t + 1) letters
 from t letters = (t, letters) ∷ []
 
--- the table
+-- the table, by category: brackets, powers, units, orders, notes, results, coasts, seasons, commands, parameters,
+-- press, and the provinces of the standard map, inland, inland centres, sea, coastal, coastal centres, bicoastal centres
 unfoldable pub names : List Named
 names =
     from 0x4000 (codes "BRA KET") ++
@@ -62,10 +63,10 @@ names =
     from 0x5530 (codes "ANK BEL BER BRE CON DEN EDI GRE HOL KIE LON LVP MAR NAP NWY POR ROM RUM SEV SMY SWE TRI TUN VEN") ++
     from 0x5748 (codes "BUL SPA STP")
 
--- the name of a token
+-- the name of a token, its brackets too; a number, a character or an unlisted token has none
 unfoldable pub name_of : ℕ → Option (List ℕ)
 name_of t = option_map (λ row. row.1) (find (λ row. row.0 == t) names)
 
--- the token of a name
+-- the token of a name, letter for letter; none where no token has it
 unfoldable pub token_named : List ℕ → Option ℕ
 token_named name = option_map (λ row. row.0) (find (λ row. bytes_eq row.1 name) names)

@@ -1,24 +1,31 @@
--- Tokens as whole numbers, 0 to FFFF hexadecimal.
+-- Tokens as whole numbers, 0 to FFFF hexadecimal, as the protocol's token table has them.
 use Rattle.std.specs.Prelude.{ℕ, ℤ, pos, negsuc, ◌-ℤ◌, ◌-◌, nat_lt, if◌then◌else◌, Option, Some, None, ◌+◌, ◌*◌, ◌/◌, ◌%◌, List, [], ◌∷◌, ◌++◌, slice_index}
 
+-- BRA, the opening bracket
 abbrev pub bra : ℕ
 bra = 0x4000
 
+-- KET, the closing bracket
 abbrev pub ket : ℕ
 ket = 0x4001
 
+-- HLO, by which the server tells a game's variant
 abbrev pub hlo : ℕ
 hlo = 0x4804
 
+-- HUH, which hands a message back with its first fault marked
 abbrev pub huh : ℕ
 huh = 0x4806
 
+-- PRN, which hands back a message whose brackets do not match
 abbrev pub prn : ℕ
 prn = 0x4813
 
+-- ERR, which marks the fault in a HUH
 abbrev pub err : ℕ
 err = 0x4902
 
+-- LVL, the option of a variant that sets the level of press
 abbrev pub lvl : ℕ
 lvl = 0x4903
 

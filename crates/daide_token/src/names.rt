@@ -1,4 +1,4 @@
-//! The names of tokens: the standard map's, and those of all messages.
+//! The names of tokens, in one table that is read from both sides.
 
 ghost use Rattle.std.specs.Prelude.{◌≡◌, ◌==◌, ℕ, List, bytes_eq, map, option_map};
 ghost use Rattle.std.specs.List.{find};

@@ -59,9 +59,10 @@ impl Token {
     pub fn number(self) -> Option<i16>
         ensures { result ≡ number_of self }
     {
-        match self.code() {
-            0x0000..=0x1FFF => Some(self.code() as i16),
-            0x2000..=0x3FFF => Some(self.code() as i16 - 0x4000),
+        let code = self.code();
+        match code {
+            0x0000..=0x1FFF => Some(code as i16),
+            0x2000..=0x3FFF => Some(code as i16 - 0x4000),
             _ => None,
         }
     }
