@@ -19,7 +19,7 @@ use Rattle.daide_grammar.specs.Answers.{Take, Stop}
 use Rattle.daide_grammar.specs.Symbols.{form_of, entries, may_end_of, table_answer, opening_of}
 use Rattle.daide_grammar.specs.Messages.{standard, message_form, IsMessage, SymbolMatches}
 use Rattle.daide_grammar.specs.Proved.PlainLaws.{only_bra, only_ket, plain_laws}
-use Rattle.daide_grammar.proofs.Balance.{KeepsBrackets, message-balanced, any-balanced, paired, bra-accepted, ket-accepted}
+use Rattle.daide_grammar.proofs.BalancedLemmas.{KeepsBrackets, message-balanced, any-balanced, paired, bra-accepted, ket-accepted}
 
 -- the standard's brackets are the only tokens of their classes
 pub standard-brackets : KeepsBrackets standard

@@ -1,8 +1,8 @@
 pub mod Counting
-pub mod Depths
-pub mod Balance
+pub mod DepthLemmas
+pub mod BalancedLemmas
 pub mod Languages
-pub mod Prediction
+pub mod PredictionLemmas
 pub mod Walks
 pub mod FactRows
 pub mod StandardFacts

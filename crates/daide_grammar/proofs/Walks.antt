@@ -15,7 +15,7 @@ use Rattle.daide_grammar.specs.Proved.Alternatives.{both-pass}
 use Rattle.daide_grammar.specs.Proved.StacksInOrder.{number-Bra, number-Ket}
 use Rattle.daide_grammar.specs.Proved.MovesAgree.{no-yes}
 use Rattle.daide_grammar.specs.Proved.PlainLaws.{plain_laws}
-use Rattle.daide_grammar.proofs.Prediction.{none-begins}
+use Rattle.daide_grammar.proofs.PredictionLemmas.{none-begins}
 
 -- whether the table follows the whole list from the stack, and what is left may be empty
 abbrev pub follows : List Sym → List ℕ → Bool

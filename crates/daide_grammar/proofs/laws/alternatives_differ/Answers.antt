@@ -1,4 +1,4 @@
-use Rattle.daide_grammar.proofs.Prediction.{alternatives-differ}
+use Rattle.daide_grammar.proofs.PredictionLemmas.{alternatives-differ}
 use Rattle.daide_grammar.proofs.laws.alternatives_differ.Goals as goal
 
 pub returns : goal.returns

@@ -1,5 +1,5 @@
 use Rattle.daide_grammar.proofs.Languages.{huh-answer}
-use Rattle.daide_grammar.proofs.Depths.{huh_depth}
+use Rattle.daide_grammar.proofs.DepthLemmas.{huh_depth}
 use Rattle.daide_grammar.proofs.laws.huh_answer_is_a_message.Goals as goal
 
 pub returns-clause-message : goal.returns-clause-message

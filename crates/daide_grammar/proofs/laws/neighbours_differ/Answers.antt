@@ -1,4 +1,4 @@
-use Rattle.daide_grammar.proofs.Prediction.{neighbours-differ}
+use Rattle.daide_grammar.proofs.PredictionLemmas.{neighbours-differ}
 use Rattle.daide_grammar.proofs.laws.neighbours_differ.Goals as goal
 
 pub returns : goal.returns

@@ -1,5 +1,5 @@
 use Rattle.daide_grammar.specs.Proved.PlainLaws.{plain_laws}
-use Rattle.daide_grammar.proofs.Prediction.{short-rest}
+use Rattle.daide_grammar.proofs.PredictionLemmas.{short-rest}
 use Rattle.daide_grammar.proofs.laws.stacks_are_short.Goals as goal
 
 pub returns-clause-entries : goal.returns-clause-entries
