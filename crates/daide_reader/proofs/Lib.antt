@@ -1,0 +1,6 @@
+pub mod OutlineLemmas
+pub mod StackLemmas
+pub mod ErrorPlaceLemmas
+pub mod ReadingLemmas
+pub mod VerdictLemmas
+pub mod PlainVerdicts

@@ -1,0 +1,358 @@
+-- A reader after one more token.
+use Rattle.std.proofs.Common.{◌≡◌, ◌≢◌, ℕ, zero, suc, ◌+◌, ◌-◌, ◌*◌, ◌%◌, ◌^◌, ◌≤◌, ◌==◌, Bool, true, false, ◌||◌, List, [], ◌∷◌, ◌++◌, length, Option, None, Some, IfSome, IsTrue, is_some, refl, sym, ◌∙◌, ap, subst, arith, add-one, if◌then◌else◌, ◌⊎◌, ◌↔◌, inl, inr}
+use Rattle.std.proofs.lemmas.List.{length-append}
+use Rattle.std.proofs.lemmas.Bool.{eqb-true}
+use Rattle.daide_token.specs.declared.class.Class.{Class}
+use Rattle.daide_token.specs.Token.{bra, ket}
+use Rattle.daide_grammar.specs.declared.symbol.Sym.{Sym}
+use Rattle.daide_grammar.specs.Answers.{Answer}
+use Rattle.daide_grammar.specs.declared.predict.Predict.{Ghosts}
+use Rattle.daide_grammar.specs.Words.{Words}
+use Rattle.daide_grammar.specs.Stacks.{stack_after, ends_asked}
+use Rattle.daide_grammar.specs.Laws.{PredictLaws}
+use Rattle.daide_grammar.specs.Paired.{begins_with_prn}
+use Rattle.daide_grammar.specs.Depth.{excess, closes_early, open_brackets}
+use Rattle.std.specs.Option.{unwrap_or}
+use Rattle.daide_reader.specs.Brackets.{is_bra, is_ket, counted, count_one}
+use Rattle.daide_reader.specs.declared.outline.Outline.{Outline}
+use Rattle.daide_reader.specs.Stack.{IsRefused, steps_at}
+use Rattle.daide_reader.specs.Outline.{IsOutlineOf, with_token}
+use Rattle.daide_reader.specs.Reading.{Reading, StandsAfter, StackOrPlace, HasPlace, IsSteady, steps_since, brackets_open}
+use Rattle.daide_reader.proofs.StackLemmas.{after_plain, after_open, after_close, four_steps}
+use Rattle.daide_grammar.proofs.Counting.{counted-snoc}
+use Rattle.daide_reader.proofs.OutlineLemmas.{outline-snoc}
+use Rattle.daide_reader.proofs.ErrorPlaceLemmas.{expects_taken, wrong_here, place_kept}
+
+closes_one : (n less : ℕ) → n ≡ less + 1 → count_one false true (Some n) ≡ Some less
+closes_one n less e = rw (e, add-one) refl
+
+-- a token that is no bracket
+is_no_bra : (t : ℕ) → is_bra t ≡ false → t ≢ bra
+is_no_bra t h e = let yes : is_bra t ≡ true = ap is_bra e in let f : true ≡ false = sym yes ∙ h in cc
+
+is_no_ket : (t : ℕ) → is_ket t ≡ false → t ≢ ket
+is_no_ket t h e = let yes : is_ket t ≡ true = ap is_ket e in let f : true ≡ false = sym yes ∙ h in cc
+
+-- what a reader's count says, in a message that does not begin with PRN
+pub counted_now : (u : Option ℕ) (p : List ℕ) → begins_with_prn p ≡ false
+    → u ≡ (if begins_with_prn p then Some 0 else counted p) → u ≡ counted p
+counted_now u p not_prn e = e ∙ ap (λ (b : Bool). if b then Some 0 else counted p) not_prn
+
+-- what a reader's count says of open brackets
+count_open : (u : Option ℕ) (report early : Bool) (n : ℕ)
+    → u ≡ (if report then Some 0 else (if early then None else Some n))
+    → unwrap_or u 0 ≡ (if report || early then 0 else n)
+count_open u true early n e = rw e refl
+count_open u false true n e = rw e refl
+count_open u false false n e = rw e refl
+
+pub brackets_open-after : {T : Type 0} (table : Ghosts T) (words : Words) (first : Sym) (max_depth : ℕ) (v : Reading T) (p : List ℕ)
+    → StandsAfter table words first max_depth v p → brackets_open v ≡ open_brackets p
+brackets_open-after table words first max_depth v p h = count_open v.unclosed (begins_with_prn p) (closes_early p) (excess p) h.unclosed
+
+-- what holds of a reader's value holds of the value that it equals
+pub stands_along : {T : Type 0} (table : Ghosts T) (words : Words) (first : Sym) (max_depth : ℕ) (old new : Reading T) (p : List ℕ)
+    → new ≡ old → StandsAfter table words first max_depth old p → StandsAfter table words first max_depth new p
+stands_along {T = T} table words first max_depth old new p same h =
+    subst (λ (v : Reading T). StandsAfter {T = T} table words first max_depth v p) (sym same) h
+
+module _ {T : Type 0} (table : Ghosts T)
+    (laws : (w : Words) → PredictLaws (table.class_of w) (table.language w) (table.moves w) (table.ends w) (table.lawful w))
+    (words : Words) where
+  -- the stack after a token is lawful at the new count
+  pub lawful_more : (t n max_depth : ℕ) (stack after : List Sym) → table.lawful words stack n → n ≤ max_depth
+      → (is_bra t ≡ true → n ≢ max_depth) → stack_after (table.moves words) (table.class_of words t) stack ≡ Some after
+      → (k : ℕ) × (count_one (is_bra t) (is_ket t) (Some n) ≡ Some k) × (k ≤ max_depth) × table.lawful words after k
+  lawful_more t n max_depth stack after ok deep fits e = go (is_bra t) (is_ket t) refl refl
+    where
+      go : (opens closes : Bool) → is_bra t ≡ opens → is_ket t ≡ closes
+          → (k : ℕ) × (count_one (is_bra t) (is_ket t) (Some n) ≡ Some k) × (k ≤ max_depth) × table.lawful words after k
+      go true closes x y =
+          let apart = fits x in
+          let is_open = ((laws words).only_bra t).1 (eqb-true t bra x) in
+          (n + 1, rw x refl, omega arith, after_open _ _ _ _ _ (laws words) t stack after n ok e is_open)
+      go false true x y =
+          let is_close = ((laws words).only_ket t).1 (eqb-true t ket y) in
+          let less = after_close _ _ _ _ _ (laws words) t stack after n ok e is_close in
+          (less.0, rw (x, y) (closes_one n less.0 less.1), (let is = less.1 in omega arith), less.2)
+      go false false x y =
+          let not_open = is_no_bra t x in
+          let not_close = is_no_ket t y in
+          let next = after_plain _ _ _ _ _ (laws words) t stack after n ok e
+          (λ is. not_open (((laws words).only_bra t).0 is))
+          (λ is. not_close (((laws words).only_ket t).0 is)) in
+          (n, rw (x, y) refl, deep, next)
+
+  -- and has room
+  pub room_more : (size t n max_depth : ℕ) (stack : List Sym) → table.lawful words stack n → n ≤ max_depth
+      → 8 * max_depth + 16 ≤ size → (is_bra t ≡ true → n ≢ max_depth)
+      → IfSome (stack_after (table.moves words) (table.class_of words t) stack) (λ after. length after ≤ size)
+  room_more size t n max_depth stack ok deep few fits = go (stack_after (table.moves words) (table.class_of words t) stack) refl
+    where
+      go : (o : Option (List Sym)) → stack_after (table.moves words) (table.class_of words t) stack ≡ o
+          → IfSome o (λ after. length after ≤ size)
+      go None e = tt
+      go (Some after) e =
+          let next = lawful_more t n max_depth stack after ok deep fits e in
+          let few_entries = (laws words).few_entries after next.0 next.3 in
+          let below = next.2 in
+          omega arith
+
+  -- the answers for one token are four at most
+  pub few_steps : (c : Class) (stack : List Sym) (n asked : ℕ) → table.lawful words stack n → asked ≤ steps_at (table.moves words) c stack → asked ≤ 4
+  few_steps c stack n asked ok few = omega (arith, few, four_steps _ _ _ _ _ (laws words) c stack n ok)
+
+-- nothing is open in a message that begins with PRN
+report_count : (u : Option ℕ) (p : List ℕ) (t : ℕ) → begins_with_prn (p ++ t ∷ []) ≡ true
+    → u ≡ (if begins_with_prn p then Some 0 else counted p) → u ≡ Some 0
+report_count u [] t begins e = e
+report_count u (x ∷ p) t begins e = e ∙ ap (λ (b : Bool). if b then Some 0 else counted (x ∷ p)) begins
+
+-- no more brackets are open than tokens came
+pub counts_more : (u : Option ℕ) (m : ℕ) (opens closes : Bool) → IfSome u (λ n. n ≤ m)
+    → IfSome (count_one opens closes u) (λ n. n ≤ m + 1)
+counts_more None m opens closes h = tt
+counts_more (Some n) m true closes h = omega arith
+counts_more (Some zero) m false true h = tt
+counts_more (Some (suc n)) m false true h = omega arith
+counts_more (Some n) m false false h = omega arith
+
+pub none_from_test : (o : Option ℕ) → false ≡ is_some o → o ≡ None
+none_from_test None e = refl
+none_from_test (Some x) e = let f : false ≡ true = e in absurd cc
+
+-- fewer brackets are open than may be, where a token that opens one is not at the greatest depth_of
+pub below_deepest : (u : Option ℕ) (n max_depth t : ℕ) (deepest : Bool)
+    → (IsTrue deepest ↔ (u ≡ Some max_depth)) → u ≡ Some n → (is_bra t ≡ true → deepest ≡ false)
+    → is_bra t ≡ true → n ≢ max_depth
+below_deepest u n max_depth t deepest iff is fits opens same =
+    let yes : deepest ≡ true = iff.1 (is ∙ ap (λ (k : ℕ). Some k) same) in
+    let no = fits opens in
+    let f : true ≡ false = sym yes ∙ no in
+    cc
+
+-- why a token was refused, at the count
+pub refused_at : (class_of : ℕ → Class) (moves : Sym → Class → Answer) (u : Option ℕ) (n max_depth t : ℕ) (deepest : Bool) (stack : List Sym)
+    → (IsTrue deepest ↔ (u ≡ Some max_depth)) → u ≡ Some n → IsRefused class_of moves t deepest stack
+    → ((is_bra t ≡ true) × (n ≡ max_depth)) ⊎ (stack_after moves (class_of t) stack ≡ None)
+refused_at class_of moves u n max_depth t deepest stack iff is (inl (opens, deep)) = inl (opens, (let e = iff.0 deep in cc))
+refused_at class_of moves u n max_depth t deepest stack iff is (inr none) = inr none
+
+module _ {T : Type 0} (table : Ghosts T) (words : Words) (first : Sym) (max_depth : ℕ) where
+  -- a reader whose counts moved on by a token, and whose place or stack says the same of one token more
+  pub record Moves (old new : Reading T) (t : ℕ) : Type 0 where
+    pub words_same : table.words new.table ≡ table.words old.table
+    pub depth_same : new.max_depth ≡ old.max_depth
+    pub finished_same : new.finished ≡ old.finished
+    pub asked_same : new.asked_before ≡ old.asked_before
+    pub outline_more : new.outline ≡ with_token old.outline t
+    pub not_prn : new.outline.is_prn ≡ false
+    pub unclosed_more : new.unclosed ≡ count_one (is_bra t) (is_ket t) old.unclosed
+    pub steps_more : (n : ℕ) × (n ≤ 4) × (table.asked new.table % 2 ^ 64 ≡ (table.asked old.table + n) % 2 ^ 64)
+
+  prn_old : (p : List ℕ) (t : ℕ) → begins_with_prn (p ++ t ∷ []) ≡ false → begins_with_prn p ≡ false
+  prn_old [] t h = refl
+  prn_old (x ∷ p) t h = h
+
+  steps_within : (a b n m s : ℕ) → a % 2 ^ 64 ≡ (b + n) % 2 ^ 64 → n ≤ 4 → (b + s) % 2 ^ 64 ≤ m
+      → (a + s) % 2 ^ 64 ≤ m + 4
+  steps_within a b n m s e few le = omega arith
+
+  pub stands_more : (old new : Reading T) (t : ℕ) (p : List ℕ) → Moves old new t
+      → StandsAfter table words first max_depth old p
+      → (begins_with_prn (p ++ t ∷ []) ≡ false → old.unclosed ≡ counted p → StackOrPlace (table.language words) first max_depth old.stack old.place p
+      → StackOrPlace (table.language words) first max_depth new.stack new.place (p ++ t ∷ []))
+      → StandsAfter table words first max_depth new (p ++ t ∷ [])
+  stands_more old new t p moves h place = record {
+    words_kept = moves.words_same ∙ h.words_kept;
+    depth_kept = moves.depth_same ∙ h.depth_kept;
+    outline = outline;
+    unclosed = subst (λ (b : Bool). new.unclosed ≡ (if b then Some 0 else counted (p ++ t ∷ []))) (sym not_prn)
+        (moves.unclosed_more ∙ (ap (count_one (is_bra t) (is_ket t)) old_count ∙ sym (counted-snoc p t)));
+    place = λ _. place not_prn old_count (h.place (prn_old p t not_prn));
+    steps = steps;
+  }
+    where
+      outline : IsOutlineOf new.outline (p ++ t ∷ [])
+      outline = subst (λ (o : Outline). IsOutlineOf o (p ++ t ∷ [])) (sym moves.outline_more) (outline-snoc old.outline p t h.outline)
+
+      not_prn : begins_with_prn (p ++ t ∷ []) ≡ false
+      not_prn = sym outline.begins ∙ moves.not_prn
+
+      old_count : old.unclosed ≡ counted p
+      old_count = counted_now old.unclosed p (prn_old p t not_prn) h.unclosed
+
+      steps : steps_since table.asked new ≤ 4 * length (p ++ t ∷ []) + (if new.finished then 4 else 0)
+      steps =
+          let n = moves.steps_more in
+          let more : ℕ = if old.finished then 4 else 0 in
+          let before : (table.asked old.table + (2 ^ 64 - new.asked_before)) % 2 ^ 64 ≤ 4 * length p + more = rw moves.asked_same h.steps in
+          let all : steps_since table.asked new ≤ (4 * length p + more) + 4 =
+          steps_within (table.asked new.table) (table.asked old.table) n.0 (4 * length p + more) (2 ^ 64 - new.asked_before) n.2 n.1 before in
+          rw (moves.finished_same, length-append) (omega arith)
+
+  -- a message that begins with PRN
+  pub stands_report : (old new : Reading T) (t : ℕ) (p : List ℕ) → new.table ≡ old.table
+      → new.max_depth ≡ old.max_depth → new.finished ≡ old.finished → new.asked_before ≡ old.asked_before
+      → new.unclosed ≡ old.unclosed
+      → new.outline ≡ with_token old.outline t → new.outline.is_prn ≡ true → StandsAfter table words first max_depth old p → StandsAfter table words first max_depth new (p ++ t ∷ [])
+  stands_report old new t p same depth_same finished_same asked_same unclosed_same more is_report h = record {
+    words_kept = ap table.words same ∙ h.words_kept;
+    depth_kept = depth_same ∙ h.depth_kept;
+    outline = outline;
+    unclosed = subst (λ (b : Bool). new.unclosed ≡ (if b then Some 0 else counted (p ++ t ∷ []))) (sym begins)
+        (unclosed_same ∙ report_count old.unclosed p t begins h.unclosed);
+    place = λ not_prn. let f : true ≡ false = sym begins ∙ not_prn in absurd cc;
+    steps = rw (same, asked_same, finished_same, length-append) (let few = h.steps in omega arith);
+  }
+    where
+      outline : IsOutlineOf new.outline (p ++ t ∷ [])
+      outline = subst (λ (o : Outline). IsOutlineOf o (p ++ t ∷ [])) (sym more) (outline-snoc old.outline p t h.outline)
+
+      begins : begins_with_prn (p ++ t ∷ []) ≡ true
+      begins = sym outline.begins ∙ is_report
+
+  -- a place stays
+  pub stands_placed : (old new : Reading T) (t : ℕ) (p : List ℕ) → Moves old new t → true ≡ is_some old.place
+      → new.place ≡ old.place → StandsAfter table words first max_depth old p
+      → StandsAfter table words first max_depth new (p ++ t ∷ [])
+  stands_placed old new t p moves some same h = stands_more old new t p moves h (λ _ _ has.
+      subst (λ (o : Option ℕ). StackOrPlace (table.language words) first max_depth new.stack o (p ++ t ∷ [])) (sym same)
+      (go old.place some has))
+    where
+      go : (o : Option ℕ) → true ≡ is_some o → StackOrPlace (table.language words) first max_depth old.stack o p
+          → StackOrPlace (table.language words) first max_depth new.stack o (p ++ t ∷ [])
+      go None e has = let f : true ≡ false = e in absurd cc
+      go (Some i) e has = place_kept (table.language words first) max_depth p t i has
+
+module _ {T : Type 0} (table : Ghosts T)
+    (laws : (w : Words) → PredictLaws (table.class_of w) (table.language w) (table.moves w) (table.ends w) (table.lawful w))
+    (words : Words) (first : Sym) (max_depth : ℕ) where
+  -- the stack and the count of a reader with no place
+  pub record Ready (old : Reading T) (n : ℕ) : Type 0 where
+    pub no_place : false ≡ is_some old.place
+    pub unclosed : old.unclosed ≡ Some n
+    pub deep : n ≤ old.max_depth
+    pub lawful_stack : table.lawful (table.words old.table) old.stack n
+
+  -- a symbol took the token
+  pub stands_taken : (old new : Reading T) (t n : ℕ) (p : List ℕ) → Moves table words first max_depth old new t
+      → Ready old n → (is_bra t ≡ true → n ≢ old.max_depth)
+      → stack_after (table.moves (table.words old.table)) (table.class_of (table.words old.table) t) old.stack ≡ Some new.stack
+      → new.place ≡ old.place
+      → StandsAfter table words first max_depth old p → StandsAfter table words first max_depth new (p ++ t ∷ [])
+  stands_taken old new t n p moves ready fits e same h = stands_more table words first max_depth old new t p moves h (λ not_prn is_count has.
+      subst (λ (o : Option ℕ). StackOrPlace (table.language words) first max_depth new.stack o (p ++ t ∷ [])) (sym same)
+      (go old.place ready.no_place not_prn (sym is_count ∙ ready.unclosed) has))
+    where
+      go : (o : Option ℕ) → false ≡ is_some o → begins_with_prn (p ++ t ∷ []) ≡ false → counted p ≡ Some n
+          → StackOrPlace (table.language words) first max_depth old.stack o p
+          → StackOrPlace (table.language words) first max_depth new.stack o (p ++ t ∷ [])
+      go None _ not_prn is_count has =
+          expects_taken _ _ _ _ _ (laws words) first max_depth p t n old.stack new.stack not_prn is_count
+          (subst (λ (d : ℕ). n ≤ d) h.depth_kept ready.deep)
+          (λ opens. subst (λ (d : ℕ). n ≢ d) h.depth_kept (fits opens))
+          (subst (λ (w : Words). table.lawful w old.stack n) h.words_kept ready.lawful_stack)
+          has
+          (subst (λ (w : Words). stack_after (table.moves w) (table.class_of w t) old.stack ≡ Some new.stack) h.words_kept e)
+      go (Some i) e _ _ _ = let f : false ≡ true = e in absurd cc
+
+  -- no symbol took it
+  pub stands_refused : (old new : Reading T) (t n : ℕ) (p : List ℕ)
+      → Moves table words first max_depth old new t → Ready old n
+      → ((is_bra t ≡ true) × (n ≡ old.max_depth))
+      ⊎ (stack_after (table.moves (table.words old.table)) (table.class_of (table.words old.table) t) old.stack ≡ None)
+      → new.place ≡ Some old.outline.tokens
+      → StandsAfter table words first max_depth old p → StandsAfter table words first max_depth new (p ++ t ∷ [])
+  stands_refused old new t n p moves ready why place h = stands_more table words first max_depth old new t p moves h (λ not_prn is_count has.
+      subst (λ (o : Option ℕ). StackOrPlace (table.language words) first max_depth new.stack o (p ++ t ∷ []))
+      (sym (place ∙ ap (λ (k : ℕ). Some k) h.outline.tokens))
+      (go old.place ready.no_place not_prn (sym is_count ∙ ready.unclosed) has))
+    where
+      go : (o : Option ℕ) → false ≡ is_some o → begins_with_prn (p ++ t ∷ []) ≡ false → counted p ≡ Some n
+          → StackOrPlace (table.language words) first max_depth old.stack o p
+          → HasPlace (table.language words first) max_depth (p ++ t ∷ []) (length p)
+      go None _ not_prn is_count has =
+          wrong_here _ _ _ _ _ (laws words) first max_depth p t n old.stack not_prn is_count has (moved why)
+        where
+          moved : ((is_bra t ≡ true) × (n ≡ old.max_depth))
+              ⊎ (stack_after (table.moves (table.words old.table)) (table.class_of (table.words old.table) t) old.stack ≡ None)
+              → ((is_bra t ≡ true) × (n ≡ max_depth)) ⊎ (stack_after (table.moves words) (table.class_of words t) old.stack ≡ None)
+          moved (inl (opens, deepest)) = inl (opens, deepest ∙ h.depth_kept)
+          moved (inr none) = inr (subst (λ (w : Words). stack_after (table.moves w) (table.class_of w t) old.stack ≡ None) h.words_kept none)
+      go (Some i) e _ _ _ = let f : false ≡ true = e in absurd cc
+
+-- a message that goes on without PRN at its front had none
+pub old_not_prn : (o : Outline) (t : ℕ) → (o.tokens ≡ 0 → o.is_prn ≡ false) → (with_token o t).is_prn ≡ false
+    → o.is_prn ≡ false
+old_not_prn o t fresh now = go (o.tokens == 0) refl
+  where
+    go : (b : Bool) → (o.tokens == 0) ≡ b → o.is_prn ≡ false
+    go true is = fresh (eqb-true o.tokens 0 is)
+    go false is = rw is at now
+
+-- the count of a reader with no place
+pub count_here : (lawful : List Sym → ℕ → Type 0) (size max_depth : ℕ) (stack : List Sym) (o new : Outline) (u place : Option ℕ) (t : ℕ)
+    → IsSteady lawful size max_depth stack o u place → new ≡ with_token o t → new.is_prn ≡ false
+    → false ≡ is_some place
+    → (n : ℕ) × (u ≡ Some n) × (n ≤ max_depth) × lawful stack n
+count_here lawful size max_depth stack o new u place t steady more now none =
+    steady.lawful_stack (old_not_prn o t steady.fresh (ap (λ (o : Outline). o.is_prn) (sym more) ∙ now)) (none_from_test place none)
+
+-- a table that meets the laws is asked four times at most at the end
+pub four_ends : (may_end : Sym → Bool) (lawful : List Sym → ℕ → Type 0)
+    → ((stack : List Sym) → lawful stack 0 → ends_asked may_end stack ≤ 4)
+    → (size max_depth : ℕ) (stack : List Sym) (o : Outline) (u place : Option ℕ)
+    → IsSteady lawful size max_depth stack o u place → o.is_prn ≡ false → place ≡ None → u ≡ Some 0 → ends_asked may_end stack ≤ 4
+four_ends may_end lawful few size max_depth stack o u place steady not_prn none even =
+    let here = steady.lawful_stack not_prn none in
+    let nothing : here.0 ≡ 0 = (let f = sym here.1 ∙ even in cc) in
+    few stack (subst (λ (n : ℕ). lawful stack n) nothing here.3)
+
+-- no more entries than the open brackets allow
+pub entries_few : (lawful : List Sym → ℕ → Type 0)
+    → ((stack : List Sym) (k : ℕ) → lawful stack k → length stack ≤ 8 * k + 16)
+    → (size max_depth : ℕ) (stack : List Sym) (o : Outline) (u place : Option ℕ)
+    → IsSteady lawful size max_depth stack o u place → length stack ≤ 8 * unwrap_or u 0 + 16
+entries_few lawful few size max_depth stack o u place steady = go o.is_prn place refl refl
+  where
+    go : (b : Bool) (i : Option ℕ) → o.is_prn ≡ b → place ≡ i → length stack ≤ 8 * unwrap_or u 0 + 16
+    go true i is at = rw (steady.none_in_prn is) (omega arith)
+    go false (Some i) is at = rw (steady.none_left (rw at refl)) (omega arith)
+    go false None is at =
+        let here = steady.lawful_stack is at in
+        rw (here.1) (few stack here.0 here.3)
+
+module _ {T : Type 0} (table : Ghosts T) (words : Words) (first : Sym) (max_depth : ℕ) where
+  -- a reader that was finished: nothing changed but the table's count
+  pub record Finishes (old new : Reading T) : Type 0 where
+    pub words_same : table.words new.table ≡ table.words old.table
+    pub depth_same : new.max_depth ≡ old.max_depth
+    pub stack_same : new.stack ≡ old.stack
+    pub outline_same : new.outline ≡ old.outline
+    pub unclosed_same : new.unclosed ≡ old.unclosed
+    pub place_same : new.place ≡ old.place
+    pub asked_same : new.asked_before ≡ old.asked_before
+    pub unfinished : old.finished ≡ false
+    pub finished : new.finished ≡ true
+    pub steps_more : (n : ℕ) × (n ≤ 4) × (table.asked new.table % 2 ^ 64 ≡ (table.asked old.table + n) % 2 ^ 64)
+
+  pub stands_finished : (old new : Reading T) (p : List ℕ) → Finishes old new
+      → StandsAfter table words first max_depth old p → StandsAfter table words first max_depth new p
+  stands_finished old new p same h = record {
+    words_kept = same.words_same ∙ h.words_kept;
+    depth_kept = same.depth_same ∙ h.depth_kept;
+    outline = subst (λ (o : Outline). IsOutlineOf o p) (sym same.outline_same) h.outline;
+    unclosed = same.unclosed_same ∙ h.unclosed;
+    place = λ not_prn. rw (same.place_same, same.stack_same) (h.place not_prn);
+    steps = steps;
+  }
+    where
+      steps : steps_since table.asked new ≤ 4 * length p + (if new.finished then 4 else 0)
+      steps =
+          let n = same.steps_more in
+          let few = h.steps in
+          let none : ◌≡◌ {A = ℕ} (if old.finished then 4 else 0) 0 = ap (λ (b : Bool). if b then 4 else 0) same.unfinished in
+          let before : (table.asked old.table + (2 ^ 64 - old.asked_before)) % 2 ^ 64 ≤ 4 * length p = omega arith in
+          rw (same.finished, same.asked_same) (steps_within table words first max_depth
+          (table.asked new.table) (table.asked old.table) n.0 (4 * length p) (2 ^ 64 - old.asked_before) n.2 n.1 before)

@@ -1,0 +1,30 @@
+-- What is kept of a message's ends.
+use Rattle.std.specs.Prelude.{◌≡◌, ℕ, ◌+◌, ◌==◌, ◌&&◌, nat_le, Bool, false, List, [], ◌∷◌, length, reverse, drop, if◌then◌else◌}
+use Rattle.daide_grammar.specs.Paired.{begins_with_prn}
+use Rattle.daide_reader.specs.Brackets.{is_bra, is_ket, is_prn}
+use Rattle.daide_reader.specs.declared.outline.Outline.{Outline}
+
+-- the list has a first token, and it passes
+abbrev pub first_is : (ℕ → Bool) → List ℕ → Bool
+first_is test [] = false
+first_is test (t ∷ m) = test t
+
+-- the outline of these tokens
+pub record IsOutlineOf (o : Outline) (p : List ℕ) : Type 0 where
+  pub tokens : o.tokens ≡ length p
+  pub begins : o.is_prn ≡ begins_with_prn p
+  pub second : o.second_is_bra ≡ first_is is_bra (drop 1 p)
+  pub last : o.last_is_ket ≡ first_is is_ket (reverse p)
+
+-- the outline with one more token
+abbrev pub with_token : Outline → ℕ → Outline
+with_token o t = record {
+  tokens = o.tokens + 1;
+  is_prn = if o.tokens == 0 then is_prn t else o.is_prn;
+  second_is_bra = if o.tokens == 1 then is_bra t else o.second_is_bra;
+  last_is_ket = is_ket t;
+}
+
+-- a pair of brackets stands round everything after the first token
+abbrev pub has_outer_brackets : Outline → Bool
+has_outer_brackets o = nat_le 3 o.tokens && o.second_is_bra && o.last_is_ket

@@ -1,0 +1,81 @@
+-- What a contract sees of a reader, and what that says of the tokens since `start`.
+use Rattle.std.specs.Prelude.{◌≡◌, ℕ, ◌+◌, ◌-◌, ◌*◌, ◌%◌, ◌^◌, ◌≤◌, ◌<◌, List, [], ◌++◌, take, length, Bool, false, true, Option, None, Some, MatchOption, IsSome, IfSome, ◌↔◌, if◌then◌else◌}
+use Rattle.std.specs.Option.{unwrap_or}
+use Rattle.daide_grammar.specs.declared.symbol.Sym.{Sym}
+use Rattle.daide_grammar.specs.declared.predict.Predict.{Ghosts}
+use Rattle.daide_grammar.specs.Words.{Words}
+use Rattle.daide_grammar.specs.Stacks.{StackMatches}
+use Rattle.daide_grammar.specs.Paired.{begins_with_prn}
+use Rattle.daide_grammar.specs.Depth.{depth_of}
+use Rattle.daide_reader.specs.declared.outline.Outline.{Outline}
+use Rattle.daide_reader.specs.ViablePrefix.{IsMessageOf}
+use Rattle.daide_reader.specs.ErrorPlace.{IsAllowedPrefix, IsErrorPlace}
+use Rattle.daide_reader.specs.Brackets.{counted}
+use Rattle.daide_reader.specs.Outline.{IsOutlineOf}
+
+-- a reader over a table of type T
+pub record Reading (T : Type 0) : Type 0 where
+  pub table : T
+  pub max_depth : ℕ
+  -- the symbols that must follow, the next one first
+  pub stack : List Sym
+  pub outline : Outline
+  -- the open brackets, or None once a KET came with nothing open
+  pub unclosed : Option ℕ
+  -- the place of the first token that no message continues or that opens one bracket too many
+  pub place : Option ℕ
+  -- how many answers the table had given at the last `start`
+  pub asked_before : ℕ
+  pub finished : Bool
+
+-- how many tokens came since the last `start`
+abbrev pub tokens_read : {T : Type 0} → Reading T → ℕ
+tokens_read v = v.outline.tokens
+
+-- how many brackets are open
+abbrev pub brackets_open : {T : Type 0} → Reading T → ℕ
+brackets_open v = unwrap_or v.unclosed 0
+
+-- the table's answers since the last `start`
+abbrev pub steps_since : {T : Type 0} → (T → ℕ) → Reading T → ℕ
+steps_since asked v = (asked v.table + (2 ^ 64 - v.asked_before)) % 2 ^ 64
+
+-- no place was found in the tokens, and the stack's language is exactly what may follow them
+pub record Expects (language : Sym → List ℕ → Type 0) (first : Sym) (max_depth : ℕ) (stack : List Sym)
+    (p : List ℕ) : Type 0 where
+  pub allowed : (j : ℕ) → j < length p → IsAllowedPrefix (IsMessageOf (language first)) max_depth (take (j + 1) p)
+  pub shallow : depth_of p ≤ max_depth
+  pub follows : (r : List ℕ) → StackMatches language stack r ↔ language first (p ++ r)
+
+-- the error place lies within the tokens
+pub record HasPlace (language : List ℕ → Type 0) (max_depth : ℕ) (p : List ℕ) (i : ℕ) : Type 0 where
+  pub inside : i < length p
+  pub is_place : IsErrorPlace (IsMessageOf language) max_depth p i
+
+-- where the tokens have no place yet, the stack says what may follow; else the place is theirs
+abbrev pub StackOrPlace : (Sym → List ℕ → Type 0) → Sym → ℕ → List Sym → Option ℕ → List ℕ → Type 0
+StackOrPlace language first max_depth stack place p =
+    MatchOption place (Expects language first max_depth stack p) (HasPlace (language first) max_depth p)
+
+-- the tokens since `start` are p, of a message that the symbol `first` stands for
+pub record StandsAfter {T : Type 0} (table : Ghosts T) (words : Words) (first : Sym) (max_depth : ℕ)
+    (v : Reading T) (p : List ℕ) : Type 0 where
+  pub words_kept : table.words v.table ≡ words
+  pub depth_kept : v.max_depth ≡ max_depth
+  pub outline : IsOutlineOf v.outline p
+  pub unclosed : v.unclosed ≡ (if begins_with_prn p then Some 0 else counted p)
+  pub place : begins_with_prn p ≡ false → StackOrPlace (table.language words) first max_depth v.stack v.place p
+  pub steps : steps_since table.asked v ≤ 4 * length p + (if v.finished then 4 else 0)
+
+-- what holds of every reader with room for `size` symbols; `lawful` is its table's
+pub record IsSteady (lawful : List Sym → ℕ → Type 0) (size max_depth : ℕ) (stack : List Sym)
+    (outline : Outline) (unclosed place : Option ℕ) : Type 0 where
+  pub small : size ≤ 4096
+  pub deepest : 8 * max_depth + 16 ≤ size
+  pub counts : IfSome unclosed (λ n. n ≤ outline.tokens)
+  pub tokens : outline.tokens ≤ 32767
+  pub fresh : outline.tokens ≡ 0 → outline.is_prn ≡ false
+  -- with no place the stack is lawful at the open brackets
+  pub lawful_stack : outline.is_prn ≡ false → place ≡ None → (n : ℕ) × (unclosed ≡ Some n) × (n ≤ max_depth) × lawful stack n
+  pub none_left : IsSome place → stack ≡ []
+  pub none_in_prn : outline.is_prn ≡ true → stack ≡ []

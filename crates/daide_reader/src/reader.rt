@@ -1,0 +1,226 @@
+//! The reader of one side's messages, a token at a time.
+//!
+//! Where no message continues, the place is kept and the stack dropped; the brackets are counted to
+//! the end, since a message that is not paired is answered as such wherever it went wrong before.
+
+ghost use Rattle.std.specs.Prelude.{◌≡◌, ◌≤◌, ◌<◌, ◌+◌, ◌-◌, ◌*◌, ◌%◌, ◌^◌, ◌++◌, [], ◌∷◌, List, ℕ, Option, None, Some, IsSome, IsTrue, ◌↔◌, if◌then◌else◌, false, true, length};
+ghost use Rattle.daide_grammar.specs.declared.symbol.Sym.{Sym};
+ghost use Rattle.daide_grammar.specs.Depth.{open_brackets};
+ghost use Rattle.daide_grammar.specs.Words.{Words};
+ghost use Rattle.daide_reader.specs.ViablePrefix.{IsMessageOf};
+ghost use Rattle.daide_reader.specs.Verdict.{HasVerdict};
+ghost use Rattle.daide_reader.specs.Reading.{StandsAfter, tokens_read, brackets_open, steps_since};
+
+use crate::brackets::{are_open, count};
+use crate::outline::Outline;
+use crate::stack::{may_all_end, take};
+use crate::verdict::Verdict;
+use arrayvec::ArrayVec;
+use daide_grammar::level::Level;
+use daide_grammar::predict::Predict;
+use daide_grammar::side::Side2;
+use daide_grammar::symbol::Sym;
+use daide_token::token::Token;
+use std::marker::Model;
+
+/// Reads messages token by token, over a table `T` and with room for `N` symbols.
+///
+/// A message goes from `start` over `push`, once for each token, to `finish`; then the next one may
+/// start. A contract sees a reader as a `Reading`, and `StandsAfter` is what that says of the tokens
+/// since `start`. No call takes memory, and none refuses.
+#[derive(Drop)]
+pub struct Reader<T: Predict, const N: usize> {
+    table: T,
+    max_depth: u16,
+    stack: ArrayVec<Sym, N>,
+    outline: Outline,
+    unclosed: Option<u16>,
+    place: Option<u16>,
+    asked_before: u64,
+    finished: bool,
+}
+
+impl<T: Predict, const N: usize> Model for Reader<T, N> {
+    ghost use Rattle.std.specs.Prelude.{reverse};
+    ghost use Rattle.daide_reader.specs.Reading.{Reading, IsSteady};
+
+    ghost Value = { Reading T };
+
+    ghost view = { λ r. record {
+      table = r.table;
+      max_depth = r.max_depth;
+      stack = reverse r.stack.items;
+      outline = r.outline;
+      unclosed = r.unclosed;
+      place = r.place;
+      asked_before = r.asked_before;
+      finished = r.finished;
+    } };
+
+    ghost invariant = { λ r.
+        IsSteady (T.lawful (T.words r.table)) N r.max_depth (reverse r.stack.items) r.outline r.unclosed r.place };
+}
+
+impl<T: Predict, const N: usize> Reader<T, N> {
+    /// A reader that stands at the start of a client's message without press, as after
+    /// `start(Side2::Client, Level::L0)`. Messages deeper than `max_depth` brackets will be refused.
+    pub fn new(table: T, max_depth: u16) -> Reader<T, N>
+        requires low { 4 ≤ max_depth }
+        requires high { 8 * max_depth + 16 ≤ N }
+        requires size { N ≤ 4096 }
+        ensures stands_after { StandsAfter T.Predict (T.words table) (T.opening Side2.Client Level.L0) max_depth result [] }
+        ensures table { result.table ≡ table }
+        ensures base { result.asked_before ≡ T.asked table }
+        ensures unfinished { result.finished ≡ false }
+    {
+        let first = table.start(Side2::Client, Level::L0);
+        let asked_before = table.asked();
+        let mut stack = ArrayVec::new();
+        stack.push(first);
+        Reader {
+            table,
+            max_depth,
+            stack,
+            outline: Outline::empty(),
+            unclosed: Some(0),
+            place: None,
+            asked_before,
+            finished: false,
+        }
+    }
+
+    /// Begins a message of the side at the level. What was read before is forgotten; the table, its
+    /// words and its count stay.
+    pub fn start(&mut self, side: Side2, level: Level)
+        ensures stands_after { StandsAfter T.Predict (T.words self.old.table) (T.opening side level) self.old.max_depth self.new [] }
+        ensures table { self.new.table ≡ self.old.table }
+        ensures base { self.new.asked_before ≡ T.asked self.old.table }
+        ensures unfinished { self.new.finished ≡ false }
+    {
+        let first = self.table.start(side, level);
+        self.asked_before = self.total();
+        self.stack.clear();
+        self.stack.push(first);
+        self.outline = Outline::empty();
+        self.unclosed = Some(0);
+        self.place = None;
+        self.finished = false;
+    }
+
+    /// Reads a token. A message has at most 32,767; `is_full` is the test.
+    pub fn push(&mut self, token: Token)
+        requires room { tokens_read self.old < 32767 }
+        requires unfinished { self.old.finished ≡ false }
+        ensures stands_after { (words : Words) (first : Sym) (max_depth : ℕ) (p : List ℕ) →
+            StandsAfter T.Predict words first max_depth self.old p →
+            StandsAfter T.Predict words first max_depth self.new (p ++ token ∷ []) }
+        ensures tokens { tokens_read self.new ≡ tokens_read self.old + 1 }
+        ensures words { T.words self.new.table ≡ T.words self.old.table }
+        ensures depth { self.new.max_depth ≡ self.old.max_depth }
+        ensures base { self.new.asked_before ≡ self.old.asked_before }
+        ensures unfinished { self.new.finished ≡ false }
+    {
+        let index = self.outline.tokens;
+        self.outline.add(token);
+        if self.outline.is_prn {
+            self.stack.clear();
+            return;
+        }
+        let deepest = are_open(self.unclosed, self.max_depth);
+        self.unclosed = count(self.unclosed, token);
+        if self.place.is_some() {
+            return;
+        }
+        if take(&mut self.table, &mut self.stack, token, deepest) {
+            return;
+        }
+        self.place = Some(index);
+    }
+
+    /// Ends the message, and says what becomes of it. Unpaired brackets are answered first, then the
+    /// place of the first fault.
+    pub fn finish(&mut self) -> Verdict
+        requires { self.old.finished ≡ false }
+        ensures verdict { (words : Words) (first : Sym) (max_depth : ℕ) (m : List ℕ) →
+            StandsAfter T.Predict words first max_depth self.old m →
+            HasVerdict (IsMessageOf (T.language words first)) max_depth m result }
+        ensures stands_after { (words : Words) (first : Sym) (max_depth : ℕ) (m : List ℕ) →
+            StandsAfter T.Predict words first max_depth self.old m →
+            StandsAfter T.Predict words first max_depth self.new m }
+        ensures words { T.words self.new.table ≡ T.words self.old.table }
+        ensures depth { self.new.max_depth ≡ self.old.max_depth }
+        ensures base { self.new.asked_before ≡ self.old.asked_before }
+        ensures finished { self.new.finished ≡ true }
+    {
+        self.finished = true;
+        if self.outline.is_prn {
+            if self.outline.has_outer_brackets() {
+                return Verdict::Relay;
+            }
+            return Verdict::Prn;
+        }
+        if !are_open(self.unclosed, 0) {
+            return Verdict::Prn;
+        }
+        if let Some(place) = self.place {
+            return Verdict::Huh(place);
+        }
+        if !may_all_end(&mut self.table, &self.stack) {
+            return Verdict::Huh(self.outline.tokens);
+        }
+        Verdict::Relay
+    }
+
+    /// Whether as many tokens were read as a message may have.
+    pub fn is_full(&self) -> bool
+        ensures { IsTrue result ↔ (32767 ≤ tokens_read self.now) }
+    {
+        self.outline.tokens >= 32767
+    }
+
+    /// How many brackets are open: 0 in a message that begins with PRN, and 0 once a KET came with
+    /// nothing open.
+    pub fn open(&self) -> usize
+        ensures exact { result ≡ brackets_open self.now }
+        ensures open { (words : Words) (first : Sym) (max_depth : ℕ) (p : List ℕ) →
+            StandsAfter T.Predict words first max_depth self.now p → result ≡ open_brackets p }
+    {
+        self.unclosed.unwrap_or(0) as usize
+    }
+
+    /// How many symbols the stack holds: none once a place was found.
+    pub fn entries(&self) -> usize
+        ensures exact { result ≡ length self.now.stack }
+        ensures few { result ≤ 8 * brackets_open self.now + 16 }
+        ensures entries { (words : Words) (first : Sym) (max_depth : ℕ) (p : List ℕ) →
+            StandsAfter T.Predict words first max_depth self.now p → result ≤ 8 * open_brackets p + 16 }
+        ensures empty_once_placed { IsSome self.now.place → result ≡ 0 }
+    {
+        self.stack.len()
+    }
+
+    /// The table that was handed to `new`, the only one that the reader has.
+    pub fn table(&self) -> &T
+        ensures { result.now ≡ self.now.table }
+    {
+        &self.table
+    }
+
+    /// The table's answers so far, modulo 2^64. `push` and `finish` alone raise it.
+    pub fn total(&self) -> u64
+        ensures { result ≡ T.asked self.now.table }
+    {
+        self.table.asked()
+    }
+
+    /// The table's answers since the last `start`: at most four for each token, and four more once
+    /// the message is finished.
+    pub fn steps(&self) -> u64
+        ensures exact { result ≡ steps_since T.asked self.now }
+        ensures steps { (words : Words) (first : Sym) (max_depth : ℕ) (p : List ℕ) →
+            StandsAfter T.Predict words first max_depth self.now p →
+            result ≤ 4 * length p + (if self.now.finished then 4 else 0) }
+    {
+        self.total().wrapping_sub(self.asked_before)
+    }
+}
