@@ -1,13 +1,66 @@
--- What reading makes of a header that was written.
-use Rattle.std.proofs.Common.{◌≡◌, ℕ, ◌<◌, ◌≤◌, true, false, ltb, eqb, Option, Some, Ok, refl, ap, ◌∙◌, arith}
-use Rattle.std.specs.Prelude.{◌^◌, ◌&&◌}
+-- What reading makes of a header: what is known of a good one, and of one that was written.
+use Rattle.std.proofs.Common.{◌≡◌, ℕ, ◌<◌, ◌≤◌, true, false, ltb, eqb, Option, Some, Ok, refl, ap, ◌∙◌, arith, suc, inl, inr, Bool, cond, List, [], ◌∷◌, None, Result, Err, sym, subst, ◌⊎◌}
+use Rattle.std.specs.Prelude.{◌^◌, ◌&&◌, slice_index}
 use Rattle.std.specs.Int.{w16, from_be_bytes, to_be_bytes}
-use Rattle.std.proofs.lemmas.Bool.Decides.{nat_tests}
+use Rattle.std.proofs.lemmas.Bool.Decides.{nat_tests, leb_tells}
 use Rattle.std.proofs.lemmas.Nat.{from_be_bytes-to_be_bytes_2}
 use Rattle.daide_frame.specs.declared.head.Kind.{Kind}
 use Rattle.daide_frame.specs.declared.head.Kind.TheVariants.{Im, Rm, Dm, Fm, Em}
 use Rattle.daide_frame.specs.declared.head.Head.{Head}
 use Rattle.daide_frame.specs.Head.{kind_number, kind_of, has_right_length, is_im, judged, head_of, head_bytes}
+use Rattle.daide_frame.specs.declared.code.Code.{Code}
+use Rattle.daide_frame.specs.declared.code.Code.TheVariants.{WrongEndian, UnknownMessage, WrongLength}
+use Rattle.daide_frame.proofs.ListLemmas.{ltb_no}
+
+-- a good header
+
+record IsJudged (kind : Kind) (n : ℕ) (right long : Bool) (head : Head) : Type 0 where
+  pub right_is : right ≡ true
+  pub short : long ≡ false
+  pub same_kind : kind ≡ head.kind
+  pub same_len : n ≡ head.len
+
+kind_in : Kind → Result Head Code → Kind
+kind_in kind (Ok head) = head.kind
+kind_in kind (Err code) = kind
+
+len_in : Result Head Code → ℕ
+len_in (Ok head) = head.len
+len_in (Err code) = 0
+
+judged-ok : (kind : Kind) (n : ℕ) (head : Head) (swapped right long : Bool) → cond {A = Result Head Code} swapped (Err WrongEndian) (cond right (cond long (Err UnknownMessage) (Ok (record { kind = kind; len = n }))) (Err WrongLength)) ≡ Ok head → IsJudged kind n right long head
+unfolding kind_in len_in
+judged-ok kind n head true right long e = absurd (cc)
+judged-ok kind n head false false long e = absurd (cc)
+judged-ok kind n head false true true e = absurd (cc)
+judged-ok kind n head false true false e = record { right_is = refl; short = refl; same_kind = ap (kind_in kind) e; same_len = ap len_in e }
+
+not_above : (n limit : ℕ) → ltb limit n ≡ false → n ≤ limit
+not_above n limit e = by_order (leb_tells (suc limit) n)
+  where
+    by_order : ((ltb limit n ≡ true) × (suc limit ≤ n)) ⊎ ((ltb limit n ≡ false) × (n < suc limit)) → n ≤ limit
+    by_order (inl t) = absurd (let h : true ≡ false = sym t.0 ∙ e in cc)
+    by_order (inr t) = omega (arith, t.1)
+
+-- a good header has the right length for its kind, within the limit
+pub record IsGood (limit : ℕ) (head : Head) : Type 0 where
+  pub right : has_right_length head.kind head.len ≡ true
+  pub within : head.len ≤ limit
+
+judged-good : (o : Option Kind) (n limit : ℕ) (head : Head) → judged o n limit ≡ Ok head → IsGood limit head
+judged-good None n limit head e = absurd (cc)
+judged-good (Some kind) n limit head e =
+    let h = judged-ok kind n head (is_im kind && eqb n 1024) (has_right_length kind n) (ltb limit n) e in
+    record {
+      right = ap (λ (k : Kind). has_right_length k head.len) (sym h.same_kind) ∙ ap (has_right_length kind) (sym h.same_len) ∙ h.right_is;
+      within = subst (λ (m : ℕ). m ≤ limit) h.same_len (not_above n limit h.short);
+    }
+
+pub head_of-good : (b : List ℕ) (limit : ℕ) (head : Head) → head_of b limit ≡ Ok head → IsGood limit head
+unfolding head_of
+head_of-good b limit head e = judged-good (kind_of (slice_index b 0)) (from_be_bytes w16 (slice_index b 2 ∷ slice_index b 3 ∷ [])) limit head e
+
+-- a header that was written
 
 kind_of-kind_number : (kind : Kind) → kind_of (kind_number kind) ≡ Some kind
 kind_of-kind_number Im = refl
@@ -15,9 +68,6 @@ kind_of-kind_number Rm = refl
 kind_of-kind_number Dm = refl
 kind_of-kind_number Fm = refl
 kind_of-kind_number Em = refl
-
-ltb_no : (a b : ℕ) → b ≤ a → ltb a b ≡ false
-ltb_no a b h = grind (arith, nat_tests)
 
 -- a right length is not the one that tells the other byte order
 not_swapped : (kind : Kind) (n : ℕ) → has_right_length kind n ≡ true → (is_im kind && eqb n 0x0400) ≡ false

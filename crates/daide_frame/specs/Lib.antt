@@ -1,3 +1,5 @@
 pub mod Code
 pub mod Head
 pub mod InitialMessage
+pub mod Frames
+pub mod Cutter

@@ -1,7 +1,8 @@
 //! What holds of the definitions by themselves. Each law is a function with no parameters and an
 //! empty body; its `ensures` is the law.
 
-ghost use Rattle.std.specs.Prelude.{◌≡◌, ◌≤◌, ◌<◌, ◌^◌, ℕ, true, Ok};
+ghost use Rattle.std.specs.Prelude.{◌≡◌, ◌≤◌, ◌<◌, ◌^◌, ◌++◌, ℕ, List, [], length, drop, true, Ok};
+ghost use Rattle.daide_frame.specs.Frames.{first_items, items_of, fed, fed_items, missing, cut, items_by_byte, frame_end, moved, or_nothing};
 ghost use Rattle.daide_frame.specs.Head.{has_right_length, head_of, head_bytes};
 ghost use Rattle.daide_frame.specs.declared.head.Head.{Head};
 
@@ -9,4 +10,23 @@ ghost use Rattle.daide_frame.specs.declared.head.Head.{Head};
 pub fn head_comes_back()
     ensures { (head : Head) (cap : ℕ) → head.len < 2 ^ 16 → has_right_length head.kind head.len ≡ true → head.len ≤ cap
         → head_of (head_bytes head) cap ≡ Ok head }
+{}
+
+/// However a frame's bytes are cut into pieces, what is told of them is the items of the frame.
+pub fn however_cut()
+    ensures { (cap : ℕ) (bytes piece : List ℕ) → length piece ≤ missing cap bytes
+        → items_of (first_items cap (fed cap bytes piece)) ≡ items_of (first_items cap bytes) ++ fed_items cap bytes piece }
+{}
+
+/// The cut of some bytes is the items of their first frame, and then the cut of what follows that
+/// frame, if it is whole. So each list has one cut, and no frame is left out.
+pub fn frames_follow_one_another()
+    ensures { (cap : ℕ) (bytes : List ℕ) → cut cap bytes ≡ first_items cap bytes
+        ++ or_nothing (λ len. moved len (cut cap (drop len bytes))) (frame_end (first_items cap bytes)) }
+{}
+
+/// The items that are found byte by byte, the pending bytes emptied at each whole frame and nothing
+/// found after a fault, are those of the cut of all the bytes, place for place.
+pub fn frames_are_found_byte_by_byte()
+    ensures { (cap : ℕ) (bytes : List ℕ) → items_by_byte cap 0 [] bytes ≡ cut cap bytes }
 {}

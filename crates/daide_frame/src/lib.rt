@@ -1,8 +1,10 @@
-//! The frames of the client-server protocol: their headers, the error codes, and the check of an
-//! initial message.
+//! The frames of the client-server protocol: their headers, the error codes, the check of an
+//! initial message, and a cutter that finds the frames in one side's bytes, in whatever pieces
+//! those come.
 #![tactic(auto)]
 
 pub mod code;
+pub mod cutter;
 pub mod head;
 pub mod initial_message;
 pub mod laws;

@@ -1,0 +1,31 @@
+-- What a cutter keeps of a frame.
+use Rattle.std.specs.Prelude.{ℕ, ◌≡◌, ◌<◌, ◌≤◌, ◌⊎◌, Bool, false, List, [], ◌++◌, length, take, drop, Option, None, Some, is_some, MatchOption}
+use Rattle.daide_frame.specs.declared.head.Head.{Head}
+use Rattle.daide_frame.specs.declared.cutter.Step.{Step}
+use Rattle.daide_frame.specs.declared.cutter.Step.TheVariants.{Bodied}
+use Rattle.daide_frame.specs.Frames.{alien_in, head_in, missing, fed, fed_items, answer_to, told, IsFault, IsEnd, IsWholeBody}
+
+-- whether a body has an alien token
+abbrev pub has_alien : Option Head → List ℕ → Bool
+has_alien None body = false
+has_alien (Some head) body = is_some (alien_in head body)
+
+-- how the fields belong together: the header's bytes so far, what they were read as, whether there was
+-- a fault in the body, the body's bytes so far, and room for the longest body
+pub record IsConsistent (cap have : ℕ) (header : List ℕ) (head : Option Head) (is_faulty : Bool) (body : List ℕ) (capacity : ℕ) : Type 0 where
+  pub four : length header ≡ 4
+  pub in_header : have ≤ 4
+  pub no_body : have < 4 → body ≡ []
+  pub read : head ≡ head_in cap (take have header ++ body)
+  pub in_body : MatchOption head (body ≡ []) (λ h. length body ≤ h.len)
+  pub faulty : is_faulty ≡ has_alien head body
+  pub reserved : cap ≤ capacity
+
+-- what a step owes that takes a piece: the clauses of a cutter's feed, in its words
+pub record IsFed (cap : ℕ) (old piece : List ℕ) (step : Step) (new : List ℕ) : Type 0 where
+  pub bytes : new ≡ fed cap old piece
+  pub answer : step ≡ answer_to (fed_items cap old piece)
+  pub items : fed_items cap old piece ≡ told step (head_in cap new) (drop 4 new)
+  pub whole : IsFault step ⊎ (new ≡ old ++ piece)
+  pub full : step ≡ Bodied → IsWholeBody (head_in cap new) (drop 4 new)
+  pub closed : IsEnd step → missing cap new ≡ 0

@@ -1,0 +1,232 @@
+//! Finding one frame in the bytes of a side, in whatever pieces they come.
+//!
+//! A cutter holds one frame at a time, and never more of it than its cap allows: it says at each moment
+//! how many bytes it takes. Its memory is taken once, in `new`; no later call can want for any.
+
+ghost use Rattle.std.specs.Prelude.{◌≡◌, ◌+◌, ◌*◌, ◌<◌, ◌≤◌, [], ◌∷◌, ◌++◌, length, take, drop, ◌⊎◌, IfOk, None};
+ghost use Rattle.daide_frame.specs.Frames.{alien_in, last_items, fed, fed_items, answer_to, told, IsFault, IsEnd, IsWholeBody, head_in, missing, announced};
+ghost use Rattle.daide_frame.specs.Cutter.{IsFed};
+ghost use Rattle.daide_frame.specs.declared.cutter.Step.TheVariants.{More, Bodied};
+
+use crate::code::Code;
+use crate::head::{Head, Kind, read_head};
+use daide_token::token::Token;
+use std::alloc::{AllocError, Allocator, Global};
+use std::marker::Model;
+
+/// How many bytes a header has.
+const HEADER: usize = 4;
+
+/// What the last byte of a piece made of the frame.
+#[derive(Clone, Copy, Debug, PartialEq, Eq)]
+pub enum Step {
+    /// Neither the header nor the frame ended.
+    More,
+    /// The header is whole and good, and a body is to come.
+    Headed,
+    /// The frame is whole. For an empty body this is answered in place of `Headed`.
+    Bodied,
+    /// The header is refused, or a token of a diplomacy message is of a category that is not known.
+    Fault(Code),
+}
+
+/// Finds one frame in the bytes of one side. Contracts see its cap and the frame's bytes so far.
+///
+/// Feed it at most `room` bytes at a time. After `Bodied` or `Fault` its room is 0 until `reset`.
+#[derive(Drop)]
+pub struct Cutter<A: Allocator = Global> {
+    cap: u16,
+    header: [u8; 4],
+    have: usize,
+    head: Option<Head>,
+    is_faulty: bool,
+    body: Vec<u8, A>,
+}
+
+impl<A: Allocator> Model for Cutter<A> {
+    ghost use Rattle.std.specs.Prelude.{◌++◌, take, vec_capacity};
+    ghost use Rattle.daide_frame.specs.Frames.{Cut};
+    ghost use Rattle.daide_frame.specs.Cutter.{IsConsistent};
+
+    ghost Value = { Cut };
+
+    ghost view = { λ c. record { cap = c.cap; bytes = take c.have c.header ++ c.body.items } };
+
+    ghost invariant = { λ c. IsConsistent c.cap c.have c.header c.head c.is_faulty c.body.items (vec_capacity c.body) };
+}
+
+/// Where the first token of a category that is not known ends in a body, of which more may come. Only a
+/// diplomacy message is made of tokens. The first `known` tokens were looked at before.
+fn alien_end(head: Head, body: &[u8], known: usize) -> Option<usize>
+    requires within { length body.now ≤ head.len }
+    requires counted { 2 * known ≤ length body.now }
+    requires looked_at { alien_in head (take (2 * known) body.now) ≡ None }
+    ensures { result ≡ alien_in head body.now }
+{
+    let Kind::Dm = head.kind else {
+        return None;
+    };
+    for i in known..body.len() / 2 {
+        let token = Token::from_be([body[2 * i], body[2 * i + 1]]);
+        if !token.has_known_category() {
+            return Some(2 * i + 2);
+        }
+    }
+    None
+}
+
+impl<A: Allocator> Cutter<A> {
+    /// A cutter for frames whose bodies have at most `cap` bytes. Room for the longest is taken here.
+    pub fn new(alloc: A, cap: u16) -> Result<Cutter<A>, AllocError>
+        ensures cap { IfOk result (λ cutter. cutter.cap ≡ cap) }
+        ensures empty { IfOk result (λ cutter. cutter.bytes ≡ []) }
+    {
+        Ok(Cutter {
+            cap,
+            header: [0; HEADER],
+            have: 0,
+            head: None,
+            is_faulty: false,
+            body: Vec::with_capacity(alloc, usize::from(cap))?,
+        })
+    }
+
+    /// How many bytes are missing of the header or, once that is whole, of the body. None are after
+    /// `Bodied` or a fault.
+    pub fn room(&self) -> usize
+        ensures { result ≡ missing self.now.cap self.now.bytes }
+    {
+        if self.have < HEADER {
+            return HEADER - self.have;
+        }
+        match self.head {
+            Some(head) if !self.is_faulty => usize::from(head.len) - self.body.len(),
+            _ => 0,
+        }
+    }
+
+    /// The header, from the last byte of a good one on.
+    pub fn head(&self) -> Option<Head>
+        ensures { result ≡ head_in self.now.cap self.now.bytes }
+    {
+        self.head
+    }
+
+    /// The body's bytes so far; after a fault in it, up to the end of the wrong token.
+    pub fn body(&self) -> &[u8]
+        ensures value { result.now ≡ drop 4 self.now.bytes }
+        ensures within { length result.now ≤ announced self.now.cap self.now.bytes }
+        ensures capped { announced self.now.cap self.now.bytes ≤ self.now.cap }
+    {
+        self.body.as_slice()
+    }
+
+    /// Begins a frame, whatever came before.
+    pub fn reset(&mut self)
+        ensures cap { self.new.cap ≡ self.old.cap }
+        ensures empty { self.new.bytes ≡ [] }
+    {
+        self.have = 0;
+        self.head = None;
+        self.is_faulty = false;
+        self.body.clear();
+    }
+
+    /// Takes a byte of the header.
+    fn push_header(&mut self, byte: u8) -> Step
+        requires { length self.old.bytes < 4 }
+        ensures cap { self.new.cap ≡ self.old.cap }
+        ensures bytes { self.new.bytes ≡ self.old.bytes ++ byte ∷ [] }
+        ensures items { last_items self.new.cap self.new.bytes ≡ told result (head_in self.new.cap self.new.bytes) (drop 4 self.new.bytes) }
+        ensures step { result ≡ answer_to (last_items self.new.cap self.new.bytes) }
+        ensures last { (result ≡ More) ⊎ (missing self.old.cap self.old.bytes ≡ 1) }
+        ensures room { result ≡ More → missing self.new.cap self.new.bytes + 1 ≡ missing self.old.cap self.old.bytes }
+        ensures full { result ≡ Bodied → IsWholeBody (head_in self.new.cap self.new.bytes) (drop 4 self.new.bytes) }
+        ensures closed { IsEnd result → missing self.new.cap self.new.bytes ≡ 0 }
+    {
+        self.header[self.have] = byte;
+        self.have += 1;
+        if self.have < HEADER {
+            return Step::More;
+        }
+        match read_head(self.header, self.cap) {
+            Err(code) => Step::Fault(code),
+            Ok(head) => {
+                self.head = Some(head);
+                if head.len == 0 {
+                    Step::Bodied
+                } else {
+                    Step::Headed
+                }
+            }
+        }
+    }
+
+    /// Takes bytes of the header, one by one.
+    fn feed_header(&mut self, piece: &[u8]) -> Step
+        requires header { length self.old.bytes < 4 }
+        requires room { length piece.now ≤ missing self.old.cap self.old.bytes }
+        ensures cap { self.new.cap ≡ self.old.cap }
+        ensures fed { IsFed self.old.cap self.old.bytes piece.now result self.new.bytes }
+    {
+        for byte in piece {
+            match self.push_header(*byte) {
+                Step::More => {}
+                step => return step,
+            }
+        }
+        Step::More
+    }
+
+    /// Takes bytes of the body all at once, and then looks at the tokens that they end. After a fault
+    /// the bytes behind it are let go.
+    fn feed_body(&mut self, piece: &[u8]) -> Step
+        requires header { 4 ≤ length self.old.bytes }
+        requires room { length piece.now ≤ missing self.old.cap self.old.bytes }
+        ensures cap { self.new.cap ≡ self.old.cap }
+        ensures fed { IsFed self.old.cap self.old.bytes piece.now result self.new.bytes }
+    {
+        if piece.is_empty() {
+            return Step::More;
+        }
+        let Some(head) = self.head else {
+            unreachable!()
+        };
+        let known = self.body.len() / 2;
+        self.body.extend_from_slice(piece).unwrap();
+        if let Some(end) = alien_end(head, &self.body, known) {
+            self.body.truncate(end);
+            self.is_faulty = true;
+            return Step::Fault(Code::InvalidToken);
+        }
+        if self.body.len() == usize::from(head.len) {
+            Step::Bodied
+        } else {
+            Step::More
+        }
+    }
+
+    /// Takes the next bytes, at most as many as there is room for, and says what the last of them ended.
+    /// An empty piece changes nothing. After a fault the rest of the piece is ignored, and no byte of it
+    /// enters the body.
+    pub fn feed(&mut self, piece: &[u8]) -> Step
+        requires { length piece.now ≤ missing self.old.cap self.old.bytes }
+        ensures cap { self.new.cap ≡ self.old.cap }
+        ensures bytes { self.new.bytes ≡ fed self.old.cap self.old.bytes piece.now }
+        ensures step { result ≡ answer_to (fed_items self.old.cap self.old.bytes piece.now) }
+        ensures items { fed_items self.old.cap self.old.bytes piece.now ≡ told result (head_in self.new.cap self.new.bytes) (drop 4 self.new.bytes) }
+
+        // Without a fault the whole piece is taken.
+        ensures whole { IsFault result ⊎ (self.new.bytes ≡ self.old.bytes ++ piece.now) }
+
+        // A body is told when it has just the length that the header announces.
+        ensures full { result ≡ Bodied → IsWholeBody (head_in self.new.cap self.new.bytes) (drop 4 self.new.bytes) }
+        ensures closed { IsEnd result → missing self.new.cap self.new.bytes ≡ 0 }
+    {
+        if self.have < HEADER {
+            self.feed_header(piece)
+        } else {
+            self.feed_body(piece)
+        }
+    }
+}
