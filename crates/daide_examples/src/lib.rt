@@ -1,0 +1,12 @@
+//! Tests that cross crates: the worked examples of docs/EXAMPLES.md, and each rule of the grammar.
+//!
+//! There is nothing here to call. What a contract says is proved and not tested; these tests hold the
+//! definitions against verdicts and bytes that were worked out from the protocol.
+#![tactic(auto)]
+
+#[cfg(test)]
+mod messages;
+#[cfg(test)]
+mod rules;
+#[cfg(test)]
+mod verdicts;
