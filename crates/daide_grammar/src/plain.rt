@@ -122,6 +122,10 @@ fn may<const N: usize>(wanted: Class, class: Class, rest: [Sym; N]) -> Move
 }
 
 /// What a token of the class means to the symbol.
+//
+// It stays out of line: inlined into a reader's loop over the symbols, the comparisons of all arms
+// would be made before the first symbol is looked at.
+#[inline(never)]
 #[rattlefmt::skip]
 #[tactic(auto, unfolding(crate::specs::Symbols::table_answer, crate::specs::Symbols::entries, crate::specs::Symbols::may_end_of))]
 fn move_of(sym: Sym, class: Class) -> Move
