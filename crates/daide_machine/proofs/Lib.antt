@@ -1,0 +1,4 @@
+pub mod PieceRuns
+pub mod OneRun
+pub mod WireLemmas
+pub mod StandardFacts

@@ -1,0 +1,7 @@
+pub mod Events
+pub mod Answers
+pub mod HloLevel
+pub mod Machine
+pub mod Wires
+pub mod Weight
+pub mod Laws

@@ -1,0 +1,187 @@
+-- A session as its callers see it: its state, the frames that wait for each wire, and what it holds of
+-- each side; and what each call does to these.
+use Rattle.std.specs.Prelude.{◌≡◌, ℕ, ◌+◌, ◌-◌, ◌%◌, ◌^◌, ◌<◌, Bool, true, false, ◌||◌, ◌&&◌, nat_lt, List, [], ◌∷◌, ◌++◌, length, drop, Option, Some, None, if◌then◌else◌}
+use Rattle.daide_frame.specs.declared.side.Side.{Side}
+use Rattle.daide_frame.specs.declared.side.Side.TheVariants.{Bot, Server}
+use Rattle.daide_frame.specs.declared.head.Head.{Head}
+use Rattle.daide_frame.specs.Frames.{fed, head_in, missing}
+use Rattle.daide_machine.specs.declared.note.Deed.TheVariants as Deeds
+use Rattle.daide_machine.specs.declared.note.Note.{Note}
+use Rattle.daide_machine.specs.declared.note.Note.TheVariants as Notes
+use Rattle.daide_machine.specs.Events.{Event, Loses, other}
+use Rattle.daide_machine.specs.Machine.{Sent, Effect, SessionState, Limits, Runs, coming, is_dm, is_over, opening}
+
+abbrev pub same_side : Side → Side → Bool
+same_side Bot Bot = true
+same_side Bot Server = false
+same_side Server Bot = false
+same_side Server Server = true
+
+-- ---- the answers on a wire
+
+-- the frames for the wire toward a side
+abbrev pub frames_to : Side → List Sent → List Sent
+frames_to side [] = []
+frames_to side (frame ∷ frames) = if same_side frame.to side then frame ∷ frames_to side frames else frames_to side frames
+
+-- those that moves send
+abbrev pub sent_to : Side → List Effect → List Sent
+sent_to side [] = []
+sent_to side (effect ∷ effects) = frames_to side effect.sent ++ sent_to side effects
+
+-- frames as bytes, one after the other
+abbrev pub bytes_of : List Sent → List ℕ
+bytes_of [] = []
+bytes_of (frame ∷ frames) = frame.bytes ++ bytes_of frames
+
+abbrev pub note_or : Note → Note → Note
+note_or Notes.Nothing later = later
+note_or (Notes.Frame head deed) later = Notes.Frame head deed
+note_or (Notes.Fault code) later = Notes.Fault code
+
+-- the first thing that moves tell
+abbrev pub note_of : List Effect → Note
+note_of [] = Notes.Nothing
+note_of (effect ∷ effects) = note_or effect.told (note_of effects)
+
+-- ---- the value of a session
+
+-- what is held of a side: the bytes of its frame, also while the answer to it waits; the entries of its
+-- reader's stack; the answers of its reader's table in all, and those before the present message,
+-- both modulo 2^64
+pub record Holding : Type 0 where
+  pub held : List ℕ
+  pub entries : ℕ
+  pub total : ℕ
+  pub total_before : ℕ
+
+pub record Gateway : Type 0 where
+  pub state : SessionState
+  -- the frames that wait for each wire, the first perhaps in part
+  pub to_bot : List Sent
+  pub to_server : List Sent
+  pub bot : Holding
+  pub server : Holding
+
+abbrev pub waiting : Gateway → Side → List Sent
+waiting g Bot = g.to_bot
+waiting g Server = g.to_server
+
+abbrev pub holding : Gateway → Side → Holding
+holding g Bot = g.bot
+holding g Server = g.server
+
+abbrev pub is_answer : Side → Option Side → Bool
+is_answer side None = false
+is_answer side (Some one) = same_side one side
+
+-- whether one of the frames answers a side's last frame
+abbrev pub awaits : Side → List Sent → Bool
+awaits side [] = false
+awaits side (frame ∷ frames) = is_answer side frame.answers || awaits side frames
+
+-- whether an answer to a side's last frame waits for a wire
+abbrev pub is_answering : Gateway → Side → Bool
+is_answering g side = awaits side g.to_bot || awaits side g.to_server
+
+-- how many bytes of a side are taken next: none where an answer to its last frame waits, or the session
+-- is over; else what is missing of the header or the body
+unfoldable pub room_of : Gateway → Side → ℕ
+room_of g side =
+    if is_over g.state.phase || is_answering g side then 0
+    else missing g.state.limits.cap (coming g.state side).pending
+
+abbrev pub no_frame : List Sent → Bool
+no_frame [] = true
+no_frame (frame ∷ frames) = false
+
+-- over, and nothing waits
+abbrev pub is_closed : Gateway → Bool
+is_closed g = is_over g.state.phase && (no_frame g.to_bot && no_frame g.to_server)
+
+-- the first n bytes of the first frame are gone, and the frame where these are all
+abbrev pub without : ℕ → List Sent → List Sent
+without n [] = []
+without n (frame ∷ frames) =
+    if nat_lt n (length frame.bytes) then record { to = frame.to; answers = frame.answers; bytes = drop n frame.bytes } ∷ frames else frames
+
+-- how many bytes are left of the first frame
+abbrev pub first_len : List Sent → ℕ
+first_len [] = 0
+first_len (frame ∷ frames) = length frame.bytes
+
+-- xs is a front of the first frame that waits, and empty only where none waits
+abbrev pub IsFrontOf : List ℕ → List Sent → Type 0
+IsFrontOf xs [] = xs ≡ []
+IsFrontOf xs (frame ∷ frames) = (0 < length xs) × ((rest : List ℕ) × (frame.bytes ≡ xs ++ rest))
+
+-- ---- what a call does
+
+-- a new session
+pub record IsNew (limits : Limits) (g : Gateway) : Type 0 where
+  pub state : g.state ≡ opening limits
+  pub to_bot : g.to_bot ≡ []
+  pub to_server : g.to_server ≡ []
+
+-- By these events the session goes from old to new with what the note tells, and what they cause waits
+-- behind what waited.
+pub record Goes (old : Gateway) (events : List Event) (told : Note) (new : Gateway) : Type 0 where
+  pub effects : List Effect
+  pub run : Runs old.state events effects new.state
+  pub kept : (side : Side) → waiting new side ≡ waiting old side ++ sent_to side effects
+  pub note : told ≡ note_of effects
+
+-- One event, after which the session is over and nothing waits for the wire that failed.
+pub record Lost (old : Gateway) (side : Side) (new : Gateway) : Type 0 where
+  pub effects : List Effect
+  pub run : Runs old.state (Loses side ∷ []) effects new.state
+  pub dropped : waiting new side ≡ []
+  pub other_wire : waiting new (other side) ≡ waiting old (other side) ++ sent_to (other side) effects
+  pub over : is_over new.state.phase ≡ true
+
+-- n bytes of what waited for a wire were taken, and nothing else changed of the state and the wires
+pub record Wrote (old : Gateway) (side : Side) (n : ℕ) (new : Gateway) : Type 0 where
+  pub same_state : new.state ≡ old.state
+  pub taken : waiting new side ≡ without n (waiting old side)
+  pub other_wire : waiting new (other side) ≡ waiting old (other side)
+
+-- ---- what is held after a call
+
+-- the number of the table's answers for the present message, modulo 2^64
+abbrev pub steps_of : Holding → ℕ
+steps_of h = (h.total + (2 ^ 64 - h.total_before)) % 2 ^ 64
+
+abbrev pub is_dm_head : Option Head → Bool
+is_dm_head None = false
+is_dm_head (Some head) = is_dm head.kind
+
+-- the bytes of a side's frame after more of them came: none where the frame is dropped
+abbrev pub held_after : Note → List ℕ → List ℕ
+held_after Notes.Nothing bytes = bytes
+held_after (Notes.Frame head Deeds.Relayed) bytes = bytes
+held_after (Notes.Frame head Deeds.Dropped) bytes = []
+held_after (Notes.Frame head Deeds.Prn) bytes = bytes
+held_after (Notes.Frame head (Deeds.Huh place)) bytes = bytes
+held_after (Notes.Fault code) bytes = bytes
+
+-- the count before the present message: the total where a message's header became whole
+abbrev pub counts_from : Option Head → Option Head → Holding → ℕ
+counts_from None None h = h.total_before
+counts_from None (Some head) h = if is_dm head.kind then h.total else h.total_before
+counts_from (Some head) later h = h.total_before
+
+-- bytes of a side came: its frame has them, its table was asked for a message alone, each token once,
+-- and nothing changed of what is held of the other side
+pub record Takes (old : Gateway) (side : Side) (piece : List ℕ) (told : Note) (new : Gateway) : Type 0 where
+  pub bytes : (holding new side).held ≡ held_after told (fed old.state.limits.cap (holding old side).held piece)
+  pub base : (holding new side).total_before ≡ counts_from (head_in old.state.limits.cap (holding old side).held) (head_in old.state.limits.cap (fed old.state.limits.cap (holding old side).held piece)) (holding old side)
+  pub no_message : is_dm_head (head_in old.state.limits.cap (fed old.state.limits.cap (holding old side).held piece)) ≡ false → (holding new side).total ≡ (holding old side).total
+  pub other_side : holding new (other side) ≡ holding old (other side)
+
+-- nothing changed of what is held
+abbrev pub HoldsTheSame : Gateway → Gateway → Type 0
+HoldsTheSame old new = (new.bot ≡ old.bot) × (new.server ≡ old.server)
+
+-- no table was asked
+abbrev pub AsksNothing : Gateway → Gateway → Type 0
+AsksNothing old new = (new.bot.total ≡ old.bot.total) × (new.server.total ≡ old.server.total)
