@@ -1,0 +1,6 @@
+-- What holds of a result's value, carried over.
+use Rattle.std.proofs.Common.{Result, Ok, Err, IfOk}
+
+pub if_ok-more : {A E : Type 0} (r : Result A E) (P Q : A → Type 0) → IfOk r P → ((x : A) → P x → Q x) → IfOk r Q
+if_ok-more (Ok x) P Q has more = more x has
+if_ok-more (Err e) P Q has more = tt

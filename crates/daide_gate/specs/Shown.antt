@@ -1,0 +1,166 @@
+-- What `show` says of an input: a text, and whether its frame would be relayed.
+use Rattle.std.specs.Prelude.{◌≡◌, ⊤, ℕ, ◌+◌, ◌*◌, ◌≤◌, ◌==◌, nat_lt, Bool, true, false, if◌then◌else◌, List, [], ◌∷◌, ◌++◌, take, drop, length, codes, Option, Result, Ok, Err, MatchResult}
+use Rattle.std.specs.Bool.{MatchBool}
+use Rattle.std.specs.Fmt.{decimal}
+use Rattle.std.specs.Io.KnownBytes.{Appends}
+use Rattle.hex.specs.Hex.{encode_upper}
+use Rattle.daide_token.specs.Token.{bra, ket, prn, huh, err, tokens_of}
+use Rattle.daide_token.specs.Text.{text_of}
+use Rattle.daide_frame.specs.declared.side.Side.{Side}
+use Rattle.daide_frame.specs.declared.side.Side.TheVariants.{Bot, Server}
+use Rattle.daide_frame.specs.declared.code.Code.{Code}
+use Rattle.daide_frame.specs.declared.head.Head.{Head}
+use Rattle.daide_frame.specs.declared.head.Kind.{Kind}
+use Rattle.daide_frame.specs.declared.head.Kind.TheVariants.{Im, Rm, Dm, Fm, Em}
+use Rattle.daide_frame.specs.Code.{code_number}
+use Rattle.daide_frame.specs.InitialMessage.{im_of}
+use Rattle.daide_frame.specs.Frames.{Item, Begun, Whole, Wrong, first_items, items_of}
+use Rattle.daide_grammar.specs.declared.side.Side2.{Side2}
+use Rattle.daide_grammar.specs.declared.side.Side2.TheVariants.{Client, ServerEnd}
+use Rattle.daide_grammar.specs.declared.level.Level.{Level}
+use Rattle.daide_grammar.specs.Messages.{IsMessage}
+use Rattle.daide_reader.specs.Verdict.{HasVerdict}
+use Rattle.daide_reader.specs.declared.verdict.Verdict.{Verdict}
+use Rattle.daide_reader.specs.declared.verdict.Verdict.TheVariants.{Relay, Prn, Huh}
+use Rattle.daide_gate.specs.Input.{limit, bytes_of}
+use Rattle.daide_gate.specs.declared.frame_view.ShowFault.{ShowFault}
+use Rattle.daide_gate.specs.declared.frame_view.ShowFault.TheVariants.{Read, TooLong, NotHex, NotOneFrame, Memory, Write}
+
+-- the most bytes that a frame's body may have (own)
+abbrev pub frame_cap : ℕ
+frame_cap = 65526
+
+-- the most brackets that may be open at once (own)
+abbrev pub deepest : ℕ
+deepest = 62
+
+-- what is written, and whether the frame would be relayed
+pub record Shown : Type 0 where
+  pub text : List ℕ
+  pub relayed : Bool
+
+-- the grammar of a side's messages
+abbrev pub end_of : Side → Side2
+end_of Bot = Client
+end_of Server = ServerEnd
+
+-- a text on a line of its own
+abbrev pub line : List ℕ → List ℕ
+line text = text ++ 10 ∷ []
+
+-- the tokens of `PRN ( m )`
+abbrev pub prn_answer : List ℕ → List ℕ
+prn_answer m = prn ∷ bra ∷ (m ++ ket ∷ [])
+
+-- the tokens of `HUH ( m )`, with ERR before the token at a place, or last where there is none
+abbrev pub huh_answer : ℕ → List ℕ → List ℕ
+huh_answer place m = huh ∷ bra ∷ (take place m ++ err ∷ drop place m ++ ket ∷ [])
+
+-- the lines of a verdict: its name, and the answer that the sender gets
+abbrev pub verdict_lines : Verdict → List ℕ → List ℕ
+verdict_lines Relay m = line (codes "relay")
+verdict_lines Prn m = line (codes "PRN") ++ line (text_of (prn_answer m))
+verdict_lines (Huh place) m = line (codes "HUH at " ++ decimal place) ++ line (text_of (huh_answer place m))
+
+abbrev pub is_relay : Verdict → Bool
+is_relay Relay = true
+is_relay Prn = false
+is_relay (Huh place) = false
+
+abbrev pub name_of_kind : Kind → List ℕ
+name_of_kind Im = codes "IM"
+name_of_kind Rm = codes "RM"
+name_of_kind Dm = codes "DM"
+name_of_kind Fm = codes "FM"
+name_of_kind Em = codes "EM"
+
+-- the kind and the length of a body
+abbrev pub kind_line : Kind → ℕ → List ℕ
+kind_line kind len = line (name_of_kind kind ++ 32 ∷ decimal len)
+
+-- a frame at fault: its code in two digits, upper case
+abbrev pub fault_shown : Code → Shown
+fault_shown code = record { text = line (codes "fault " ++ encode_upper (code_number code ∷ [])); relayed = false }
+
+-- a frame that holds no message and is good
+abbrev pub relayed_shown : Kind → ℕ → Shown
+relayed_shown kind len = record { text = kind_line kind len ++ line (codes "relay"); relayed = true }
+
+-- an IM, by its check
+abbrev pub im_shown : ℕ → Result (Unit {0}) Code → Shown
+im_shown len (Ok good) = relayed_shown Im len
+im_shown len (Err code) = fault_shown code
+
+-- a message and its verdict
+abbrev pub message_shown : ℕ → List ℕ → Verdict → Shown
+message_shown len m verdict = record {
+  text = kind_line Dm len ++ line (text_of m) ++ verdict_lines verdict m;
+  relayed = is_relay verdict;
+}
+
+-- what was shown stands after what was there
+abbrev pub Adds : List ℕ → List ℕ → Bool → Shown → Type 0
+Adds old new relayed shown = (new ≡ old ++ shown.text) × (relayed ≡ shown.relayed)
+
+-- a verdict's place, if it has one, is no further than the body's tokens
+abbrev pub IsPlaceWithin : Verdict → ℕ → Type 0
+IsPlaceWithin Relay len = ⊤
+IsPlaceWithin Prn len = ⊤
+IsPlaceWithin (Huh place) len = 2 * place ≤ len
+
+-- what is shown of a whole frame; a DM by the verdict that its end's grammar has for its message
+abbrev pub IsFrameShownAs : Side2 → Level → Kind → ℕ → List ℕ → Shown → Type 0
+IsFrameShownAs end level Im len body shown = shown ≡ im_shown len (im_of body)
+IsFrameShownAs end level Rm len body shown = shown ≡ relayed_shown Rm len
+IsFrameShownAs end level Dm len body shown =
+    (verdict : Verdict) × HasVerdict (IsMessage end level) deepest (tokens_of body) verdict
+    × (shown ≡ message_shown len (tokens_of body) verdict)
+IsFrameShownAs end level Fm len body shown = shown ≡ relayed_shown Fm len
+IsFrameShownAs end level Em len body shown = shown ≡ relayed_shown Em len
+
+-- what some bytes are as one frame
+pub data OneFrame : Type 0 where
+  faulty : Code → OneFrame
+  whole : Head → List ℕ → OneFrame
+  not_one : OneFrame
+
+-- by how many there are, and by the items of the frame that they begin with
+abbrev pub found_among : ℕ → List Item → OneFrame
+found_among count [] = not_one
+found_among count (Begun head ∷ items) = found_among count items
+found_among count (Wrong code ∷ items) = faulty code
+found_among count (Whole head body ∷ items) = if 4 + length body == count then whole head body else not_one
+
+unfoldable pub found_in : ℕ → List ℕ → OneFrame
+found_in cap bytes = found_among (length bytes) (items_of (first_items cap bytes))
+
+-- what is shown of a frame, or that there is not one
+abbrev pub IsOneShownAs : Side → Level → OneFrame → Result Shown ShowFault → Type 0
+IsOneShownAs side level (faulty code) outcome = outcome ≡ Ok (fault_shown code)
+IsOneShownAs side level (whole head body) outcome =
+    (shown : Shown) × (outcome ≡ Ok shown) × IsFrameShownAs (end_of side) level head.kind head.len body shown
+IsOneShownAs side level not_one outcome = outcome ≡ Err NotOneFrame
+
+-- what is shown of some bytes
+abbrev pub AreShownAs : Side → Level → List ℕ → Result Shown ShowFault → Type 0
+AreShownAs side level bytes outcome = IsOneShownAs side level (found_in frame_cap bytes) outcome
+
+-- what is shown of an input, or the input's fault
+abbrev pub IsShownAs : Side → Level → List ℕ → Result Shown ShowFault → Type 0
+IsShownAs side level input outcome =
+    MatchBool (nat_lt limit (length input)) (outcome ≡ Err TooLong)
+    (MatchResult (bytes_of input) (λ bytes. AreShownAs side level bytes outcome) (λ _. outcome ≡ Err NotHex))
+
+-- what is shown of the input was written, and the answer is whether its frame would be relayed
+abbrev pub Shows : Side → Level → List ℕ → Bool → Option (List ℕ) → Option (List ℕ) → Type 0
+Shows side level input relayed old new =
+    (shown : Shown) × IsShownAs side level input (Ok shown) × (relayed ≡ shown.relayed) × Appends old new shown.text
+
+-- the fault is one of the input, and none of the reader, of memory or of the writer
+abbrev pub IsOfInput : ShowFault → Type 0
+IsOfInput Read = ⊥
+IsOfInput TooLong = ⊤
+IsOfInput NotHex = ⊤
+IsOfInput NotOneFrame = ⊤
+IsOfInput Memory = ⊥
+IsOfInput Write = ⊥

@@ -1,0 +1,198 @@
+//! The text of a frame.
+
+ghost use Rattle.std.specs.Prelude.{◌≡◌, ◌≤◌, ◌*◌, ◌%◌, ◌++◌, length, true, IfOk, OnOk};
+ghost use Rattle.daide_token.specs.Token.{tokens_of};
+ghost use Rattle.daide_token.specs.Text.{text_of};
+ghost use Rattle.daide_frame.specs.Head.{has_right_length};
+ghost use Rattle.daide_gate.specs.Shown.{Shown, Adds, IsFrameShownAs, fault_shown, huh_answer, is_relay, kind_line, line, name_of_kind, prn_answer, relayed_shown, im_shown, verdict_lines, IsPlaceWithin};
+ghost use Rattle.daide_frame.specs.InitialMessage.{im_of};
+
+use super::verdict_of::verdict_of;
+use daide_frame::code::Code;
+use daide_frame::head::{Head, Kind};
+use daide_frame::initial_message::check_im;
+use daide_grammar::level::Level;
+use daide_grammar::side::Side2;
+use daide_reader::verdict::Verdict;
+use daide_token::text::write_text;
+use std::alloc::{AllocError, Allocator};
+use std::io;
+use std::io::Write;
+
+/// The tokens `PRN (`.
+const PRN_BRA: [u8; 4] = [0x48, 0x13, 0x40, 0x00];
+
+/// The tokens `HUH (`.
+const HUH_BRA: [u8; 4] = [0x48, 0x06, 0x40, 0x00];
+
+/// The token `ERR`.
+const ERR: [u8; 2] = [0x49, 0x02];
+
+/// The token `)`.
+const KET: [u8; 2] = [0x40, 0x01];
+
+fn kind_name(kind: Kind) -> &'static str
+    ensures { result.now ≡ name_of_kind kind }
+{
+    match kind {
+        Kind::Im => "IM",
+        Kind::Rm => "RM",
+        Kind::Dm => "DM",
+        Kind::Fm => "FM",
+        Kind::Em => "EM",
+    }
+}
+
+/// Writes a frame's kind, and the length of its body.
+fn write_kind<A: Allocator>(head: Head, text: &mut Vec<u8, A>) -> io::Result<()>
+    ensures { OnOk result (text.new.items ≡ text.old.items ++ kind_line head.kind head.len) }
+{
+    let kind = kind_name(head.kind);
+    let len = head.len;
+    writeln!(text, "{kind} {len}")
+}
+
+/// Writes the text form of tokens on a line.
+fn write_tokens<A: Allocator>(tokens: &[u8], text: &mut Vec<u8, A>) -> io::Result<()>
+    requires { length tokens.now % 2 ≡ 0 }
+    ensures { OnOk result (text.new.items ≡ text.old.items ++ line (text_of (tokens_of tokens.now))) }
+{
+    write_text(tokens, text)?;
+    text.write_all(b"\n")
+}
+
+/// The answer to a message that is not paired.
+fn answer_prn<A: Allocator>(alloc: A, body: &[u8]) -> Result<Vec<u8, A>, AllocError>
+    requires { length body.now % 2 ≡ 0 }
+    ensures even { IfOk result (λ answer. length answer.items % 2 ≡ 0) }
+    ensures tokens { IfOk result (λ answer. tokens_of answer.items ≡ prn_answer (tokens_of body.now)) }
+{
+    let mut answer = Vec::from_slice(alloc, &PRN_BRA)?;
+    answer.extend_from_slice(body)?;
+    answer.extend_from_slice(&KET)?;
+    Ok(answer)
+}
+
+/// The answer to a message that is wrong at a place.
+fn answer_huh<A: Allocator>(alloc: A, place: u16, body: &[u8]) -> Result<Vec<u8, A>, AllocError>
+    requires even { length body.now % 2 ≡ 0 }
+    requires within { 2 * place ≤ length body.now }
+    ensures even { IfOk result (λ answer. length answer.items % 2 ≡ 0) }
+    ensures tokens { IfOk result (λ answer. tokens_of answer.items ≡ huh_answer place (tokens_of body.now)) }
+{
+    let (before, after) = body.split_at(2 * place as usize);
+    let mut answer = Vec::from_slice(alloc, &HUH_BRA)?;
+    answer.extend_from_slice(before)?;
+    answer.extend_from_slice(&ERR)?;
+    answer.extend_from_slice(after)?;
+    answer.extend_from_slice(&KET)?;
+    Ok(answer)
+}
+
+/// Writes a verdict, and the answer that the sender gets.
+fn write_verdict<A: Allocator + Copy>(
+    alloc: A,
+    verdict: Verdict,
+    body: &[u8],
+    text: &mut Vec<u8, A>,
+) -> io::Result<bool>
+    requires even { length body.now % 2 ≡ 0 }
+    requires within { IsPlaceWithin verdict (length body.now) }
+    ensures { IfOk result (λ relayed. (text.new.items ≡ text.old.items ++ verdict_lines verdict (tokens_of body.now)) × (relayed ≡ is_relay verdict)) }
+{
+    match verdict {
+        Verdict::Relay => {
+            text.write_all(b"relay\n")?;
+            Ok(true)
+        }
+        Verdict::Prn => {
+            text.write_all(b"PRN\n")?;
+            write_tokens(answer_prn(alloc, body)?.as_slice(), text)?;
+            Ok(false)
+        }
+        Verdict::Huh(place) => {
+            writeln!(text, "HUH at {place}")?;
+            write_tokens(answer_huh(alloc, place, body)?.as_slice(), text)?;
+            Ok(false)
+        }
+    }
+}
+
+/// Writes that a frame is at fault.
+pub(super) fn write_fault<A: Allocator>(
+    alloc: A,
+    code: Code,
+    text: &mut Vec<u8, A>,
+) -> io::Result<bool>
+    ensures { IfOk result (λ relayed. Adds text.old.items text.new.items relayed (fault_shown code)) }
+{
+    let digits = hex::encode_upper(alloc, [code.number()])?;
+    writeln!(text, "fault {digits}")?;
+    Ok(false)
+}
+
+/// Writes what becomes of a frame that holds no message and is good.
+fn write_relayed<A: Allocator>(head: Head, text: &mut Vec<u8, A>) -> io::Result<bool>
+    ensures { IfOk result (λ relayed. Adds text.old.items text.new.items relayed (relayed_shown head.kind head.len)) }
+{
+    write_kind(head, text)?;
+    text.write_all(b"relay\n")?;
+    Ok(true)
+}
+
+/// Writes what becomes of an IM.
+fn write_im<A: Allocator>(
+    alloc: A,
+    head: Head,
+    body: &[u8],
+    text: &mut Vec<u8, A>,
+) -> io::Result<bool>
+    requires im { head.kind ≡ Kind.Im }
+    requires four { length body.now ≡ 4 }
+    ensures { IfOk result (λ relayed. Adds text.old.items text.new.items relayed (im_shown head.len (im_of body.now))) }
+{
+    match check_im([body[0], body[1], body[2], body[3]]) {
+        Ok(()) => write_relayed(head, text),
+        Err(code) => write_fault(alloc, code, text),
+    }
+}
+
+/// Writes a message and what becomes of it.
+fn write_message<A: Allocator + Copy>(
+    alloc: A,
+    end: Side2,
+    level: Level,
+    head: Head,
+    body: &[u8],
+    text: &mut Vec<u8, A>,
+) -> io::Result<bool>
+    requires dm { head.kind ≡ Kind.Dm }
+    requires even { length body.now % 2 ≡ 0 }
+    requires capped { length body.now ≤ 65526 }
+    ensures { IfOk result (λ relayed. (shown : Shown) × IsFrameShownAs end level Kind.Dm head.len body.now shown × Adds text.old.items text.new.items relayed shown) }
+{
+    let verdict = verdict_of(end, level, body);
+    write_kind(head, text)?;
+    write_tokens(body, text)?;
+    write_verdict(alloc, verdict, body, text)
+}
+
+/// Writes a whole frame and what becomes of it; the answer is whether it would be relayed.
+pub(super) fn write_frame<A: Allocator + Copy>(
+    alloc: A,
+    end: Side2,
+    level: Level,
+    head: Head,
+    body: &[u8],
+    text: &mut Vec<u8, A>,
+) -> io::Result<bool>
+    requires right { has_right_length head.kind (length body.now) ≡ true }
+    requires capped { length body.now ≤ 65526 }
+    ensures { IfOk result (λ relayed. (shown : Shown) × IsFrameShownAs end level head.kind head.len body.now shown × Adds text.old.items text.new.items relayed shown) }
+{
+    match head.kind {
+        Kind::Im => write_im(alloc, head, body, text),
+        Kind::Dm => write_message(alloc, end, level, head, body, text),
+        Kind::Rm | Kind::Fm | Kind::Em => write_relayed(head, text),
+    }
+}

@@ -1,0 +1,77 @@
+//! The words of the command line, and what they ask for.
+
+use clap::{Arg, ArgAction, ArgMatches, Command};
+use daide_frame::side::Side;
+use daide_grammar::level::Level;
+use std::alloc::{AllocError, Global};
+
+/// What the words ask for.
+#[derive(Clone, Copy, Debug, PartialEq, Eq)]
+pub enum Order {
+    /// Show one frame, judged as the side's at the level.
+    Show(Side, Level),
+    /// `--side` names no side.
+    BadSide,
+    /// `--level` names no level.
+    BadLevel,
+}
+
+/// The command line that is understood. Both options take any word, so that a wrong one is told in
+/// the program's own words.
+pub fn command<'a>(alloc: Global) -> Result<Command<'a>, AllocError> {
+    let side = Arg::new(alloc, "side")
+        .long("side")
+        .action(ArgAction::Set)
+        .value_name("SIDE")
+        .help("Whose frame it is, bot or server [default: bot]");
+    let level = Arg::new(alloc, "level")
+        .long("level")
+        .action(ArgAction::Set)
+        .value_name("N")
+        .help("The level of press, 0, 10, 20, 30, 40, 50 or 60 [default: 0]");
+    let show = Command::new(alloc, "show")
+        .about("Shows one frame, read as hexadecimal digits from standard input")
+        .arg(side)?
+        .arg(level)?;
+    Command::new(alloc, "daide-gate")
+        .version("0.1.0")
+        .about("A gateway between one bot and a DAIDE server")
+        .subcommand(show)
+}
+
+fn side_of(word: &str) -> Option<Side> {
+    match word {
+        "bot" => Some(Side::Bot),
+        "server" => Some(Side::Server),
+        _ => None,
+    }
+}
+
+fn level_of(word: &str) -> Option<Level> {
+    match word {
+        "0" => Some(Level::L0),
+        "10" => Some(Level::L10),
+        "20" => Some(Level::L20),
+        "30" => Some(Level::L30),
+        "40" => Some(Level::L40),
+        "50" => Some(Level::L50),
+        "60" => Some(Level::L60),
+        _ => None,
+    }
+}
+
+/// What the words ask for; without any, what `show` does with its defaults. A bad side is told
+/// before a bad level.
+pub fn order_of(matches: &ArgMatches) -> Order {
+    let (side, level) = match matches.subcommand() {
+        Some((_, show)) => (show.get_str("side"), show.get_str("level")),
+        None => (None, None),
+    };
+    let Some(side) = side_of(side.unwrap_or("bot")) else {
+        return Order::BadSide;
+    };
+    let Some(level) = level_of(level.unwrap_or("0")) else {
+        return Order::BadLevel;
+    };
+    Order::Show(side, level)
+}

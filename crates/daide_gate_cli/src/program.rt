@@ -1,0 +1,61 @@
+//! What the program does, over any streams.
+
+use crate::arguments::{Order, command, order_of};
+use crate::faults::{CLEAN, FAULT, NOT_RELAYED, USAGE, tell};
+use clap::error::ErrorKind;
+use daide_frame::side::Side;
+use daide_gate::frame_view::show;
+use daide_grammar::level::Level;
+use std::convert::AsStr;
+use std::io;
+use std::io::{Read, Write};
+
+/// Shows the frame of the input.
+fn run_show<R: AllocGlobal, I: Read, O: Write, E: Write>(
+    rt: &R,
+    (side, level): (Side, Level),
+    input: &mut I,
+    output: &mut O,
+    errors: &mut E,
+) -> io::Result<u8> {
+    match show(rt.alloc(), side, level, input, output) {
+        Ok(true) => Ok(CLEAN),
+        Ok(false) => Ok(NOT_RELAYED),
+        Err(fault) => tell(errors, fault, FAULT),
+    }
+}
+
+/// Does what the words ask for, and gives the exit status. The first word is the program's name.
+/// Only a fault that could not be told is an error.
+pub fn answer<R: AllocGlobal, S: AsStr, I: Read, O: Write, E: Write>(
+    rt: &R,
+    words: &[S],
+    input: &mut I,
+    output: &mut O,
+    errors: &mut E,
+) -> io::Result<u8> {
+    let Ok(command) = command(rt.alloc()) else {
+        return tell(errors, "out of memory", FAULT);
+    };
+    let matches = match command.try_get_matches_from(words) {
+        Ok(matches) => matches,
+        Err(why) if why.kind() == ErrorKind::OutOfMemory => {
+            return tell(errors, "out of memory", FAULT);
+        }
+        Err(why) if why.use_stderr() => {
+            write!(errors, "{why}")?;
+            return Ok(USAGE);
+        }
+        Err(help) => {
+            return match write!(output, "{help}") {
+                Ok(()) => Ok(CLEAN),
+                Err(_) => tell(errors, "output could not be written", FAULT),
+            };
+        }
+    };
+    match order_of(&matches) {
+        Order::Show(side, level) => run_show(rt, (side, level), input, output, errors),
+        Order::BadSide => tell(errors, "bad side", USAGE),
+        Order::BadLevel => tell(errors, "bad level", USAGE),
+    }
+}

@@ -1,0 +1,368 @@
+//! Runs of the program, a row each, and `show` where something is refused.
+
+use crate::program::answer;
+use daide_frame::side::Side;
+use daide_gate::frame_view::{ShowFault, show};
+use daide_grammar::level::Level;
+use linked_list_allocator::LocalHeap;
+use std::io;
+use std::io::{ErrorKind, Read, Write};
+use std::process::Abort;
+use std::test::Fail;
+
+/// What a run prints, what it tells on standard error, and its status.
+fn run<R: AllocGlobal>(rt: &R, words: &[&str], input: &[u8]) -> Result<(String, String, u8), Fail> {
+    let mut bytes = input;
+    let mut output = Vec::new(rt.alloc());
+    let mut errors = Vec::new(rt.alloc());
+    let status = answer(rt, words, &mut bytes, &mut output, &mut errors)?;
+    Ok((
+        String::from_utf8(output)?,
+        String::from_utf8(errors)?,
+        status,
+    ))
+}
+
+/// Runs of the program: the words after its name | the input | what it prints, with `/` for the end
+/// of a line | what it tells on standard error | the status.
+const RUNS: &str = "\
+show | 0200000448034000 | DM 4/GOF (/PRN/PRN ( GOF ( )/ | | 3
+show | 02 00 00 04 48 03 40 00 | DM 4/GOF (/PRN/PRN ( GOF ( )/ | | 3
+show | \t0 200000448\r034000 \t | DM 4/GOF (/PRN/PRN ( GOF ( )/ | | 3
+show | 02000002480F | DM 2/OBS/relay/ | | 0
+show | 0200000A480c40004b6140014803 | DM 10/NME ( 'a' ) GOF/HUH at 4/HUH ( NME ( 'a' ) ERR GOF )/ | | 3
+show | 02000008480C40004B614001 | DM 8/NME ( 'a' )/HUH at 4/HUH ( NME ( 'a' ) ERR )/ | | 3
+show | 0200000E480C40004B61400040014B624001 | DM 14/NME ( 'a' ( ) 'b' )/HUH at 3/HUH ( NME ( 'a' ERR ( ) 'b' ) )/ | | 3
+show | 02000000 | DM 0//HUH at 0/HUH ( ERR )/ | | 3
+show | 020000061FFF20003FFF | DM 6/8191 -8192 -1/HUH at 0/HUH ( ERR 8191 -8192 -1 )/ | | 3
+show | 020000064B494B274B6D | DM 6/'I' #4b27 'm'/HUH at 0/HUH ( ERR 'I' #4b27 'm' )/ | | 3
+show | 02000008480340004A124001 | DM 8/GOF ( #4a12 )/HUH at 1/HUH ( GOF ERR ( #4a12 ) )/ | | 3
+show | 020000084813400040004001 | DM 8/PRN ( ( )/relay/ | | 0
+show | 02000006481340004000 | DM 6/PRN ( (/PRN/PRN ( PRN ( ( )/ | | 3
+show | 000000040001DA10 | IM 4/relay/ | | 0
+show | 00000004000110DA | fault 03/ | | 3
+show | 000000040001DA11 | fault 04/ | | 3
+show | 000000040002DA10 | fault 05/ | | 3
+show | 01000000 | RM 0/relay/ | | 0
+show | 01FF0006 4820 41424300 | RM 6/relay/ | | 0
+show | 03000000 | FM 0/relay/ | | 0
+show | 040000020001 | EM 2/relay/ | | 0
+show | 0200FFFE | fault 08/ | | 3
+show | 05000000 | fault 08/ | | 3
+show | 00000400 | fault 03/ | | 3
+show | 00000006 | fault 09/ | | 3
+show | 02000003480F | fault 09/ | | 3
+show | 020000025800 | fault 0E/ | | 3
+show | 0200000648035800 | fault 0E/ | | 3
+show | 02000006480358004803FF | fault 0E/ | | 3
+show | 020000024 | | input is not hexadecimal | 1
+show | 0g | | input is not hexadecimal | 1
+show | 02000003zz | | input is not hexadecimal | 1
+show | | | input is not one frame | 1
+show | 0500 | | input is not one frame | 1
+show | 0200000248 | | input is not one frame | 1
+show | 01000006 | | input is not one frame | 1
+show | 02000002480F00 | | input is not one frame | 1
+show | 0300000000 | | input is not one frame | 1
+show | 00000004000110DA00 | | input is not one frame | 1
+show --level 0 | 0200000848174000 41024001 | DM 8/SND ( FRA )/HUH at 0/HUH ( ERR SND ( FRA ) )/ | | 3
+show --level 10 | 0200001C4817400041024001 40004A1340004A1040004101410240014001 4001 | DM 28/SND ( FRA ) ( PRP ( PCE ( ENG FRA ) ) )/relay/ | | 0
+show --side=bot --level=30 | 0200002C48174000410240014000 4A1340004A0140004A014000 480140014000480140014001 4000480140014001 4001 | DM 44/SND ( FRA ) ( PRP ( AND ( AND ( DRW ) ( DRW ) ) ( DRW ) ) )/HUH at 9/HUH ( SND ( FRA ) ( PRP ( AND ( ERR AND ( DRW ) ( DRW ) ) ( DRW ) ) ) )/ | | 3
+show --level=50 --side bot | 0200002C48174000410240014000 4A1340004A0140004A014000 480140014000480140014001 4000480140014001 4001 | DM 44/SND ( FRA ) ( PRP ( AND ( AND ( DRW ) ( DRW ) ) ( DRW ) ) )/relay/ | | 0
+show --side server | 0200001A480440004101400140 0004D2400140004000 4903000A40014001 | DM 26/HLO ( ENG ) ( 1234 ) ( ( LVL 10 ) )/relay/ | | 0
+show --side bot | 0200000848044000 41014001 | DM 8/HLO ( ENG )/HUH at 1/HUH ( HLO ERR ( ENG ) )/ | | 3
+show --side=server | 02000002480F | DM 2/OBS/HUH at 0/HUH ( ERR OBS )/ | | 3
+show --side both | 02000002480F | | bad side | 2
+show --side= | 02000002480F | | bad side | 2
+show --side=Bot | 02000002480F | | bad side | 2
+show --level=5 | 02000002480F | | bad level | 2
+show --level=010 | 02000002480F | | bad level | 2
+show --level 70 --side=server | 02000002480F | | bad level | 2
+show --level=x --side=x | 02000002480F | | bad side | 2
+| 02000002480F | DM 2/OBS/relay/ | | 0
+--version | | daide-gate 0.1.0/ | | 0
+";
+
+/// The line that tells a fault, if there is one, and nothing else.
+fn is_told(told: &str, fault: &str) -> bool {
+    match told.strip_prefix("daide-gate: ") {
+        Some(line) => line.strip_suffix("\n") == Some(fault) && !fault.is_empty(),
+        None => told.is_empty() && fault.is_empty(),
+    }
+}
+
+/// Runs a row of the table, and looks at what it prints, tells and answers.
+fn check_run<R: AllocGlobal + Abort>(rt: &R, row: &str) -> Result<(), Fail> {
+    let mut fields = row.split('|');
+    let mut words = vec![in rt.alloc(); "daide-gate"]?;
+    for word in fields.next().unwrap_or("").split_whitespace() {
+        words.push(word)?;
+    }
+    let input = fields.next().unwrap_or("");
+    let output = fields.next().unwrap_or("").trim();
+    let fault = fields.next().unwrap_or("").trim();
+    let status = fields.next().unwrap_or("").trim();
+    let (printed, told, ended) = run(rt, words.as_slice(), input.as_bytes())?;
+    let printed = printed.replace(rt.alloc(), "\n", "/")?;
+    let ended = ended.to_string(rt.alloc())?;
+    assert!(rt; printed.as_str() == output, "printed {printed} at {row}");
+    assert!(rt; is_told(told.as_str(), fault), "told {told} at {row}");
+    assert!(rt; ended.as_str() == status, "ended with {ended} at {row}");
+    Ok(())
+}
+
+#[test]
+fn each_run_is_a_row(rt: HostRuntime) -> Result<(), Fail> {
+    for row in RUNS.lines() {
+        check_run(&rt, row)?;
+    }
+    Ok(())
+}
+
+/// Whether a text of `clap`'s is printed, and nothing else.
+fn is_usage(text: &str, other: &str, usage: &str) -> bool {
+    text.contains(usage) && other.is_empty()
+}
+
+#[test]
+fn tells_its_usage(rt: HostRuntime) -> Result<(), Fail> {
+    let (printed, told, status) = run(&rt, &["daide-gate", "--help"], b"")?;
+    let usage = "Usage: daide-gate [COMMAND]";
+    assert!(rt; is_usage(printed.as_str(), told.as_str(), usage) && status == 0);
+    let (printed, told, status) = run(&rt, &["daide-gate", "show", "--help"], b"")?;
+    let usage = "Usage: daide-gate show [OPTIONS]";
+    assert!(rt; is_usage(printed.as_str(), told.as_str(), usage) && status == 0);
+    let (printed, told, status) = run(&rt, &["daide-gate", "tell"], b"")?;
+    let usage = "unrecognized subcommand 'tell'";
+    assert!(rt; is_usage(told.as_str(), printed.as_str(), usage) && status == 2);
+    let (printed, told, status) = run(&rt, &["daide-gate", "show", "--side"], b"")?;
+    let usage = "a value is required for '--side <SIDE>'";
+    assert!(rt; is_usage(told.as_str(), printed.as_str(), usage) && status == 2);
+    Ok(())
+}
+
+#[test]
+fn longest_frame_and_longest_input(rt: HostRuntime) -> Result<(), Fail> {
+    let mut digits = Vec::from_slice(rt.alloc(), b"0200FFF6".as_slice())?;
+    for _ in 0..32_763 {
+        digits.extend_from_slice(b"4803")?;
+    }
+    let (printed, told, status) = run(&rt, &["daide-gate"], digits.as_slice())?;
+    assert!(rt; printed.as_str().starts_with("DM 65526\nGOF GOF GOF "));
+    assert!(rt;
+        printed
+            .as_str()
+            .contains(" GOF\nHUH at 1\nHUH ( GOF ERR GOF GOF ")
+    );
+    assert!(rt; told.is_empty() && status == 3);
+    for _ in digits.len()..200_000 {
+        digits.push(b' ')?;
+    }
+    let (again, _, status) = run(&rt, &["daide-gate"], digits.as_slice())?;
+    assert!(rt; again == printed && status == 3);
+    digits.push(b' ')?;
+    let (printed, told, status) = run(&rt, &["daide-gate"], digits.as_slice())?;
+    assert_eq!(rt; told.as_str(), "daide-gate: input is too long\n");
+    assert!(rt; printed.is_empty() && status == 1);
+    Ok(())
+}
+
+#[test]
+fn one_bracket_too_deep_gets_huh(rt: HostRuntime) -> Result<(), Fail> {
+    for (depth, length, verdict) in [(62, "00FA", "relay\n"), (63, "00FE", "HUH at 63\n")] {
+        let mut digits = format!(in rt.alloc(); "0200{length}4806")?;
+        for _ in 0..depth {
+            digits.push_str("4000")?;
+        }
+        for _ in 0..depth {
+            digits.push_str("4001")?;
+        }
+        let (printed, _, _) = run(&rt, &["daide-gate"], digits.as_bytes())?;
+        assert!(rt; printed.as_str().contains(verdict), "at {depth}");
+    }
+    Ok(())
+}
+
+/// An input that gives three bytes at a read, and fails at a read.
+#[derive(Drop)]
+struct FailsAtRead<'a> {
+    bytes: &'a [u8],
+    reads: usize,
+}
+
+impl Read for FailsAtRead<'_> {
+    fn read(&mut self, buffer: &mut [u8]) -> io::Result<usize> {
+        if self.reads == 0 {
+            return Err(io::Error::from(ErrorKind::Interrupted));
+        }
+        self.reads -= 1;
+        let room = buffer.len().min(3);
+        self.bytes.read(&mut buffer[..room])
+    }
+}
+
+/// An input without end, which counts what it gave.
+#[derive(Drop)]
+struct HasNoEnd {
+    given: u64,
+}
+
+impl Read for HasNoEnd {
+    fn read(&mut self, buffer: &mut [u8]) -> io::Result<usize> {
+        let count = buffer.len().min(1000);
+        buffer[..count].fill(b'0');
+        self.given = self.given.wrapping_add(count as u64);
+        Ok(count)
+    }
+}
+
+/// An output that takes four bytes at a write, and fails at a write.
+#[derive(Drop)]
+struct FailsAtWrite {
+    taken: Vec<u8>,
+    writes: usize,
+}
+
+impl Write for FailsAtWrite {
+    fn write(&mut self, bytes: &[u8]) -> io::Result<usize> {
+        if self.writes == 0 {
+            return Err(io::Error::from(ErrorKind::Other));
+        }
+        self.writes -= 1;
+        let count = bytes.len().min(4);
+        self.taken.extend_from_slice(&bytes[..count])?;
+        Ok(count)
+    }
+
+    fn flush(&mut self) -> io::Result<()> {
+        Ok(())
+    }
+}
+
+/// The text shown for the frame that the tests of refusals read.
+const SHOWN: &[u8] = b"DM 4\nGOF (\nPRN\nPRN ( GOF ( )\n";
+
+#[test]
+fn each_read_refused_in_turn(rt: HostRuntime) -> Result<(), Fail> {
+    for reads in 0..8usize {
+        let mut reader = FailsAtRead {
+            bytes: b"0200000448034000",
+            reads,
+        };
+        let mut output = Vec::new(rt.alloc());
+        let answer = show(rt.alloc(), Side::Bot, Level::L0, &mut reader, &mut output);
+        if reads < 7 {
+            assert_eq!(rt; answer, Err(ShowFault::Read), "at {reads}");
+            assert!(rt; output.is_empty(), "at {reads}");
+        } else {
+            assert_eq!(rt; answer, Ok(false), "at {reads}");
+            assert_eq!(rt; output.as_slice(), SHOWN, "at {reads}");
+        }
+    }
+    Ok(())
+}
+
+#[test]
+fn each_write_refused_in_turn(rt: HostRuntime) -> Result<(), Fail> {
+    for writes in 0..9usize {
+        let mut reader = b"0200000448034000".as_slice();
+        let mut writer = FailsAtWrite {
+            taken: Vec::new(rt.alloc()),
+            writes,
+        };
+        let answer = show(rt.alloc(), Side::Bot, Level::L0, &mut reader, &mut writer);
+        if writes < 8 {
+            assert_eq!(rt; answer, Err(ShowFault::Write), "at {writes}");
+            assert!(rt; SHOWN.starts_with(writer.taken.as_slice()), "at {writes}");
+        } else {
+            assert_eq!(rt; answer, Ok(false), "at {writes}");
+            assert_eq!(rt; writer.taken.as_slice(), SHOWN, "at {writes}");
+        }
+    }
+    Ok(())
+}
+
+#[test]
+fn growth_refused_in_turn(rt: HostRuntime) -> Result<(), Fail> {
+    let mut refused = 0u32;
+    let mut shown = 0u32;
+    for unit in 0..96usize {
+        // The heap gives out multiples of 16 bytes, so each growth is the first that does not fit at
+        // some size. The cutter takes its 65,526 at once: nothing new is refused between.
+        let size = if unit < 32 {
+            16 * unit
+        } else {
+            64_896 + 16 * unit
+        };
+        let heap = LocalHeap::new(rt.alloc(), size)?;
+        let mut reader = b"0200000448034000".as_slice();
+        let mut output = Vec::new(rt.alloc());
+        match show(&heap, Side::Bot, Level::L0, &mut reader, &mut output) {
+            Ok(relayed) => {
+                assert!(rt; !relayed, "at {size}");
+                assert_eq!(rt; output.as_slice(), SHOWN, "at {size}");
+                shown = shown.wrapping_add(1);
+            }
+            Err(fault) => {
+                assert_eq!(rt; fault, ShowFault::Memory, "at {size}");
+                assert!(rt; output.is_empty(), "at {size}");
+                refused = refused.wrapping_add(1);
+            }
+        }
+        assert_eq!(rt; heap.used(), 0, "at {size}");
+    }
+    assert_eq!(rt;
+        ShowFault::Memory.to_string(rt.alloc())?.as_str(),
+        "out of memory"
+    );
+    assert!(rt; refused > 32 && shown > 0);
+    Ok(())
+}
+
+#[test]
+fn input_without_end_is_left(rt: HostRuntime) -> Result<(), Fail> {
+    let mut reader = HasNoEnd { given: 0 };
+    let mut output = Vec::new(rt.alloc());
+    let answer = show(rt.alloc(), Side::Bot, Level::L0, &mut reader, &mut output);
+    assert_eq!(rt; answer, Err(ShowFault::TooLong));
+    assert!(rt; output.is_empty() && reader.given == 200_001);
+    Ok(())
+}
+
+#[test]
+fn failing_streams_are_told(rt: HostRuntime) -> Result<(), Fail> {
+    let words = ["daide-gate"].as_slice();
+    let mut errors = Vec::new(rt.alloc());
+    let mut reader = FailsAtRead {
+        bytes: b"",
+        reads: 0,
+    };
+    let mut output = Vec::new(rt.alloc());
+    let status = answer(&rt, words, &mut reader, &mut output, &mut errors)?;
+    assert_eq!(rt;
+        errors.as_slice(),
+        b"daide-gate: input could not be read\n".as_slice()
+    );
+    assert!(rt; output.is_empty() && status == 1);
+    errors.clear();
+    let mut writer = FailsAtWrite {
+        taken: output,
+        writes: 2,
+    };
+    let mut input = b"02000002480F".as_slice();
+    let status = answer(&rt, words, &mut input, &mut writer, &mut errors)?;
+    assert_eq!(rt;
+        errors.as_slice(),
+        b"daide-gate: output could not be written\n".as_slice()
+    );
+    assert_eq!(rt; status, 1);
+    errors.clear();
+    let words = ["daide-gate", "--help"].as_slice();
+    let status = answer(&rt, words, &mut input, &mut writer, &mut errors)?;
+    assert_eq!(rt;
+        errors.as_slice(),
+        b"daide-gate: output could not be written\n".as_slice()
+    );
+    assert_eq!(rt; status, 1);
+    Ok(())
+}
