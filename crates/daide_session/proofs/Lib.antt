@@ -1,0 +1,17 @@
+pub mod BusyLemmas
+pub mod DialogLemmas
+pub mod FreedLemmas
+pub mod Fronts
+pub mod HeadLemmas
+pub mod HeardLemmas
+pub mod HloLemmas
+pub mod JudgeLemmas
+pub mod Lengths
+pub mod Queues
+pub mod ReactionLemmas
+pub mod SessionLemmas
+pub mod Sound
+pub mod TokenLemmas
+pub mod TrafficLemmas
+pub mod WeightLemmas
+pub mod WroteLemmas

@@ -1,0 +1,119 @@
+//! The session's rules, one small function each: what may come when, and what it changes.
+
+ghost use Rattle.std.specs.Prelude.{◌≡◌};
+ghost use Rattle.daide_token.specs.Token.{tokens_of};
+ghost use Rattle.daide_machine.specs.Events.{other as other_side};
+ghost use Rattle.daide_machine.specs.Machine.{untimely as untimely_code, may_reach as may_reach_side, is_sent as is_sent_to, destination as destination_of, deed_of as deed_by, phase_after as next_phase, level_after as next_level};
+
+use crate::hlo::level_told;
+use daide_frame::code::Code;
+use daide_frame::head::Kind;
+use daide_frame::side::Side;
+use daide_grammar::level::Level;
+use daide_machine::note::Deed;
+use daide_machine::phase::Phase;
+use daide_reader::verdict::Verdict;
+
+/// The opposite side.
+pub fn other(side: Side) -> Side
+    ensures { result ≡ other_side side }
+{
+    match side {
+        Side::Bot => Side::Server,
+        Side::Server => Side::Bot,
+    }
+}
+
+/// The code of a header that may not come now. That 02 is told of the bot's first frame before 0D, and
+/// 08 of an RM before the IM, the protocol leaves open.
+pub fn untimely(phase: Phase, side: Side, kind: Kind) -> Option<Code>
+    ensures { result ≡ untimely_code phase side kind }
+{
+    match (phase, side, kind) {
+        (Phase::Over, _, _) | (_, _, Kind::Fm | Kind::Em) => None,
+        (Phase::WaitIm, Side::Bot, Kind::Im) => None,
+        (Phase::WaitIm, Side::Bot, Kind::Rm | Kind::Dm) => Some(Code::ImNotFirst),
+        (Phase::WaitIm, Side::Server, Kind::Rm) => Some(Code::UnknownMessage),
+        (Phase::WaitRm, Side::Bot, Kind::Dm) => Some(Code::DmBeforeRm),
+        (Phase::WaitRm, Side::Server, Kind::Rm) => None,
+        (Phase::Open, Side::Server, Kind::Rm) => Some(Code::SecondRm),
+        (Phase::Open, _, Kind::Dm) => None,
+        (_, Side::Bot, Kind::Im) => Some(Code::SecondIm),
+        (_, Side::Bot, Kind::Rm) => Some(Code::RmFromClient),
+        (_, Side::Server, Kind::Im) => Some(Code::ImFromServer),
+        (_, _, Kind::Dm) => Some(Code::RmNotFirst),
+    }
+}
+
+/// Whether anything may go out toward a side: nothing reaches the server before the IM.
+pub fn may_reach(phase: Phase, to: Side) -> bool
+    ensures { result ≡ may_reach_side phase to }
+{
+    match (phase, to) {
+        (Phase::WaitIm, Side::Server) => false,
+        _ => true,
+    }
+}
+
+/// Whether the answer to a frame of a kind goes out: an FM or EM of the bot before the IM does not.
+pub fn is_sent(phase: Phase, kind: Kind, to: Side) -> bool
+    ensures { result ≡ is_sent_to phase kind to }
+{
+    match kind {
+        Kind::Im | Kind::Rm | Kind::Dm => true,
+        Kind::Fm | Kind::Em => may_reach(phase, to),
+    }
+}
+
+/// Where the answer to a side's frame goes: on to the other side, or back to its sender.
+pub fn destination(side: Side, verdict: Verdict) -> Side
+    ensures { result ≡ destination_of side verdict }
+{
+    match verdict {
+        Verdict::Relay => other(side),
+        Verdict::Prn | Verdict::Huh(_) => side,
+    }
+}
+
+/// What becomes of a whole frame.
+pub fn deed_of(is_sent: bool, verdict: Verdict) -> Deed
+    ensures { result ≡ deed_by is_sent verdict }
+{
+    match (is_sent, verdict) {
+        (false, _) => Deed::Dropped,
+        (true, Verdict::Relay) => Deed::Relayed,
+        (true, Verdict::Prn) => Deed::Prn,
+        (true, Verdict::Huh(place)) => Deed::Huh(place),
+    }
+}
+
+/// The phase after a frame of a kind was answered.
+pub fn phase_after(kind: Kind, phase: Phase) -> Phase
+    ensures { result ≡ next_phase kind phase }
+{
+    match kind {
+        Kind::Im => Phase::WaitRm,
+        Kind::Rm => Phase::Open,
+        Kind::Dm => phase,
+        Kind::Fm | Kind::Em => Phase::Over,
+    }
+}
+
+/// The level after a side's frame of a kind, with this body, was answered: a relayed HLO of the server
+/// sets it, to at most `top`. A bot's HLO never touches it.
+pub fn level_after(
+    top: Level,
+    kind: Kind,
+    side: Side,
+    verdict: Verdict,
+    body: &[u8],
+    level: Level,
+) -> Level
+    ensures { result ≡ next_level top kind side verdict (tokens_of body.now) level }
+{
+    match (kind, side, verdict) {
+        (Kind::Dm, Side::Server, Verdict::Relay) => level_told(top, body, level),
+        (Kind::Dm, _, _) => level,
+        _ => Level::L0,
+    }
+}
