@@ -1,3 +1,4 @@
+pub mod StandardFacts
 pub mod ListLemmas
 pub mod HeadLemmas
 pub mod AlienLemmas
