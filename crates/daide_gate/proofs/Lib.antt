@@ -3,3 +3,4 @@ pub mod Outcomes
 pub mod Tokens
 pub mod Verdicts
 pub mod OneFrame
+pub mod OneWay

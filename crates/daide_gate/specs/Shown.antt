@@ -156,11 +156,12 @@ abbrev pub Shows : Side → Level → List ℕ → Bool → Option (List ℕ) �
 Shows side level input relayed old new =
     (shown : Shown) × IsShownAs side level input (Ok shown) × (relayed ≡ shown.relayed) × Appends old new shown.text
 
--- the fault is one of the input, and none of the reader, of memory or of the writer
-abbrev pub IsOfInput : ShowFault → Type 0
-IsOfInput Read = ⊥
-IsOfInput TooLong = ⊤
-IsOfInput NotHex = ⊤
-IsOfInput NotOneFrame = ⊤
-IsOfInput Memory = ⊥
-IsOfInput Write = ⊥
+-- what an input has to do with a fault: those of the input are its own, a failed write comes only where
+-- there is something to show, and the reader's and memory's say nothing of it
+abbrev pub IsFaultAt : Side → Level → List ℕ → ShowFault → Type 0
+IsFaultAt side level input Read = ⊤
+IsFaultAt side level input TooLong = IsShownAs side level input (Err TooLong)
+IsFaultAt side level input NotHex = IsShownAs side level input (Err NotHex)
+IsFaultAt side level input NotOneFrame = IsShownAs side level input (Err NotOneFrame)
+IsFaultAt side level input Memory = ⊤
+IsFaultAt side level input Write = (shown : Shown) × IsShownAs side level input (Ok shown)

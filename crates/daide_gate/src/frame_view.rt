@@ -10,8 +10,8 @@ mod verdict_of;
 
 ghost use Rattle.std.specs.Prelude.{◌≡◌, ◌≢◌, ◌≤◌, ◌+◌, ℕ, List, length, IfOk, IfErr, IfSome, Ok, Err};
 ghost use Rattle.std.specs.Io.KnownBytes.{Consumes, Keeps};
-ghost use Rattle.daide_gate.specs.Input.{limit, bytes_of};
-ghost use Rattle.daide_gate.specs.Shown.{AreShownAs, IsShownAs, Shows, IsOfInput, end_of, frame_cap};
+ghost use Rattle.daide_gate.specs.Input.{limit};
+ghost use Rattle.daide_gate.specs.Shown.{AreShownAs, IsShownAs, Shows, IsFaultAt, end_of};
 
 use daide_frame::cutter::Cutter;
 use daide_frame::side::Side;
@@ -127,9 +127,9 @@ pub fn show<A: Allocator + Copy, R: Read, W: Write>(
     ensures shown { IfOk result (λ relayed. IfSome (R.remaining reader.old) (λ input.
         Shows side level input relayed (W.contents writer.old) (W.contents writer.new))) }
 
-    // A fault that is neither the reader's, the writer's nor memory's is the input's own.
+    // A fault of the input is its own, and a write fails only where there is something to show.
     ensures refused { IfErr result (λ fault. IfSome (R.remaining reader.old) (λ input.
-        IsOfInput fault → IsShownAs side level input (Err fault))) }
+        IsFaultAt side level input fault)) }
 
     // Only a failed write can leave something written.
     ensures nothing_written { IfErr result (λ fault. fault ≢ ShowFault.Write

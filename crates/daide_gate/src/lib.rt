@@ -5,3 +5,4 @@
 #![tactic(auto)]
 
 pub mod frame_view;
+pub mod laws;

@@ -1,4 +1,4 @@
-use Rattle.std.proofs.Common.{◌++◌, List, ℕ, ap, refl, ◌∙◌, append_assoc}
+use Rattle.std.proofs.Common.{◌≡◌, ◌++◌, List, ℕ, ap, refl, ◌∙◌, append_assoc}
 use Rattle.daide_token.specs.Token.{tokens_of}
 use Rattle.daide_token.specs.Text.{text_of}
 use Rattle.daide_frame.specs.declared.head.Kind.{Kind}
@@ -6,20 +6,24 @@ use Rattle.daide_gate.specs.Shown.{message_shown, kind_line, line, verdict_lines
 use Rattle.daide_gate.proofs.Outcomes.{if_ok-more}
 use Rattle.daide_gate.proofs.frame_view.text.write_message.Goals as goal
 
+-- three texts written one after the other
+joined : (old a b c first second third : List ℕ) → first ≡ old ++ a → second ≡ first ++ b → third ≡ second ++ c → third ≡ old ++ ((a ++ b) ++ c)
+joined old a b c first second third x y z =
+    z ∙ ap (λ (l : List ℕ). l ++ c) (y ∙ ap (λ (l : List ℕ). l ++ b) x ∙ append_assoc old a b) ∙ append_assoc old (a ++ b) c
+
 pub returns : goal.returns
 returns g c =
     let m = tokens_of c.args.body.now in
     let verdict = c.verdict_of-verdict.result in
-    let head_line = kind_line c.args.head.kind c.args.head.len in
-    let text_line = line (text_of m) in
+    let old = c.args.text.now.items in
+    let len = c.args.head.len in
+    let lines = verdict_lines verdict m in
     if_ok-more c.write_verdict.result _ _ c.write_verdict.ensures (λ relayed wrote. (
-      message_shown c.args.head.len m verdict,
+      message_shown len m verdict,
       (verdict, c.verdict_of-verdict.ensures.verdict, refl),
       (
-        wrote.0
-            ∙ ap (λ (l : List ℕ). l ++ verdict_lines verdict m) (c.in_ok-write_tokens.ensures ∙ ap (λ (l : List ℕ). l ++ text_line) c.in_ok-write_kind.ensures ∙ append_assoc c.args.text.now.items head_line text_line)
-            ∙ append_assoc c.args.text.now.items (head_line ++ text_line) (verdict_lines verdict m)
-            ∙ ap (λ (kind : Kind). c.args.text.now.items ++ ((kind_line kind c.args.head.len ++ text_line) ++ verdict_lines verdict m)) c.requires.dm,
+        joined old (kind_line c.args.head.kind len) (line (text_of m)) lines _ _ _ c.in_ok-write_kind.ensures c.in_ok-write_tokens.ensures wrote.0
+            ∙ ap (λ (kind : Kind). old ++ ((kind_line kind len ++ line (text_of m)) ++ lines)) c.requires.dm,
         wrote.1,
       ),
     ))
