@@ -9,4 +9,8 @@ mod messages;
 #[cfg(test)]
 mod rules;
 #[cfg(test)]
+mod script;
+#[cfg(test)]
+mod sessions;
+#[cfg(test)]
 mod verdicts;

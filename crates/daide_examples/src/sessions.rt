@@ -1,0 +1,391 @@
+//! The worked examples of sessions, by their names in docs/EXAMPLES.md.
+
+use crate::script::Act::{Ends, Pops, Says};
+use crate::script::{IM, RM, Scene, Script, assert_scenes, bytes_of, feed_all, take_three};
+use daide_frame::code::Code;
+use daide_frame::side::Side::{Bot, Server};
+use daide_grammar::level::Level;
+use daide_session::config::{Config, ConfigError};
+use daide_session::session::{Note, Phase, Session, SessionError};
+use linked_list_allocator::LocalHeap;
+use std::alloc::Allocator;
+use std::process::Abort;
+use std::test::Fail;
+
+#[test]
+fn opens_with_im_and_rm(rt: HostRuntime) -> Result<(), Fail> {
+    let scenes: [Scene<'_>; 1] = [(&[Says(Bot, IM), Says(Server, RM)], RM, IM)];
+    assert_scenes(&rt, false, &scenes)?;
+    let mut script = Script::new(&rt, 60)?;
+    script.play(&rt, Says(Bot, IM), 1)?;
+    assert_eq!(rt; script.session.phase(), Phase::WaitRm);
+    script.play(&rt, Says(Server, RM), 1)?;
+    assert_eq!(rt; script.session.phase(), Phase::Open);
+    assert_eq!(rt; script.session.level(), Level::L0);
+    Ok(())
+}
+
+#[test]
+fn config_faults_in_order(rt: HostRuntime) -> Result<(), Fail> {
+    let rows = [
+        (65, 511, 3, ConfigError::Level),
+        (60, 511, 3, ConfigError::Body),
+        (60, 510, 3, ConfigError::Body),
+        (60, 65_528, 3, ConfigError::Body),
+        (60, 512, 3, ConfigError::Depth),
+        (60, 512, 63, ConfigError::Depth),
+    ];
+    for (top_level, max_body, max_depth, want) in rows {
+        let config = Config {
+            top_level,
+            max_body,
+            max_depth,
+        };
+        match Session::new(rt.alloc(), config) {
+            Ok(_session) => assert!(rt; false, "{want:?}"),
+            Err(fault) => assert_eq!(rt; fault, SessionError::Config(want)),
+        }
+    }
+    Ok(())
+}
+
+#[test]
+fn answers_of_the_verdicts(rt: HostRuntime) -> Result<(), Fail> {
+    let scenes: [Scene<'_>; 10] = [
+        (
+            &[Says(
+                Bot,
+                "02 00 00 0E  48 0C 40 00 4B 61 40 01 40 00 4B 62 40 01",
+            )],
+            "",
+            "02 00 00 0E  48 0C 40 00 4B 61 40 01 40 00 4B 62 40 01",
+        ),
+        (&[Says(Bot, "02 FF 00 02  48 0F")], "", "02 00 00 02  48 0F"),
+        (
+            &[Says(Bot, "02 00 00 04  48 03 40 00")],
+            "02 00 00 0A  48 13 40 00 48 03 40 00 40 01",
+            "",
+        ),
+        (
+            &[Says(Bot, "02 00 00 0A  48 0C 40 00 4B 61 40 01 48 03")],
+            "02 00 00 12  48 06 40 00 48 0C 40 00 4B 61 40 01 49 02 48 03 40 01",
+            "",
+        ),
+        (
+            &[Says(Bot, "02 00 00 08  48 0C 40 00 4B 61 40 01")],
+            "02 00 00 10  48 06 40 00 48 0C 40 00 4B 61 40 01 49 02 40 01",
+            "",
+        ),
+        (
+            &[Says(Bot, "02 00 00 00")],
+            "02 00 00 08  48 06 40 00 49 02 40 01",
+            "",
+        ),
+        (
+            &[Says(Bot, "02 00 00 08  48 13 40 00 40 00 40 01")],
+            "",
+            "02 00 00 08  48 13 40 00 40 00 40 01",
+        ),
+        (
+            &[Says(Bot, "02 00 00 06  48 13 40 00 40 00")],
+            "02 00 00 0C  48 13 40 00 48 13 40 00 40 00 40 01",
+            "",
+        ),
+        (
+            &[Says(Bot, "02 00 00 06  48 03 40 01 40 00")],
+            "02 00 00 0C  48 13 40 00 48 03 40 01 40 00 40 01",
+            "",
+        ),
+        (
+            &[Says(Bot, "02 00 00 02  4A 12")],
+            "02 00 00 0A  48 06 40 00 49 02 4A 12 40 01",
+            "",
+        ),
+    ];
+    assert_scenes(&rt, true, &scenes)?;
+    let scenes: [Scene<'_>; 1] = [(
+        &[Says(Server, "02 00 00 0C  48 13 40 00 48 13 40 00 40 00 40 01")],
+        "02 00 00 0C  48 13 40 00 48 13 40 00 40 00 40 01",
+        "",
+    )];
+    assert_scenes(&rt, true, &scenes)
+}
+
+#[test]
+fn longest_body_gets_huh(rt: HostRuntime) -> Result<(), Fail> {
+    let mut frame = bytes_of(&rt, "02 00 FF F6")?;
+    let mut want = bytes_of(&rt, "02 00 FF FE 48 06 40 00 48 03 49 02")?;
+    for token in 0..32_763 {
+        frame.extend_from_slice(&[0x48, 0x03])?;
+        if token > 0 {
+            want.extend_from_slice(&[0x48, 0x03])?;
+        }
+    }
+    want.extend_from_slice(&[0x40, 0x01])?;
+    for piece in [65_530, 1] {
+        let mut script = Script::new(&rt, 60)?;
+        script.play(&rt, Says(Bot, IM), 8)?;
+        script.play(&rt, Says(Server, RM), 4)?;
+        script.to_bot.clear();
+        script.say(Bot, frame.as_slice(), piece)?;
+        assert!(rt;
+            script.to_bot.as_slice() == want.as_slice(),
+            "in pieces of {piece}"
+        );
+    }
+    Ok(())
+}
+
+#[test]
+fn faults_in_an_open_session(rt: HostRuntime) -> Result<(), Fail> {
+    let fm = "03 00 00 00";
+    let scenes: [Scene<'_>; 12] = [
+        (&[Says(Bot, "02 00 00 03")], "04 00 00 02 00 09", fm),
+        (&[Says(Bot, "02 00 FF FE")], "04 00 00 02 00 08", fm),
+        (&[Says(Server, "02 00 00 03")], fm, "04 00 00 02 00 09"),
+        (
+            &[Says(Bot, "02 00 00 06  48 03 58 00 48 03")],
+            "04 00 00 02 00 0E",
+            fm,
+        ),
+        (
+            &[Says(Server, "02 00 00 02  4C 00")],
+            fm,
+            "04 00 00 02 00 0E",
+        ),
+        (&[Says(Bot, IM)], "04 00 00 02 00 06", fm),
+        (&[Says(Bot, RM)], "04 00 00 02 00 0D", fm),
+        (&[Says(Server, IM)], fm, "04 00 00 02 00 07"),
+        (&[Says(Server, RM)], fm, "04 00 00 02 00 0C"),
+        (&[Says(Bot, "02 00 00 04  48 03 40"), Ends(Bot)], "", fm),
+        (&[Ends(Server), Says(Bot, "02 00 00 02  48 0F")], fm, ""),
+        (
+            &[
+                Says(Server, "04 00 00 02 00 01"),
+                Says(Server, "03 00 00 00"),
+                Pops,
+            ],
+            "04 00 00 02 00 01",
+            "",
+        ),
+    ];
+    assert_scenes(&rt, true, &scenes)
+}
+
+#[test]
+fn faults_before_the_session_is_open(rt: HostRuntime) -> Result<(), Fail> {
+    let fm = "03 00 00 00";
+    let scenes: [Scene<'_>; 17] = [
+        (&[Says(Bot, "00 00 04 00")], "04 00 00 02 00 03", ""),
+        (
+            &[Says(Bot, "00 00 00 04  00 01 10 DA")],
+            "04 00 00 02 00 03",
+            "",
+        ),
+        (
+            &[Says(Bot, "00 00 00 04  00 01 DA 11")],
+            "04 00 00 02 00 04",
+            "",
+        ),
+        (
+            &[Says(Bot, "00 00 00 04  00 02 DA 10")],
+            "04 00 00 02 00 05",
+            "",
+        ),
+        (&[Says(Bot, "00 00 00 06")], "04 00 00 02 00 09", ""),
+        (&[Says(Bot, "05 00 00 00")], "04 00 00 02 00 08", ""),
+        (&[Says(Bot, "02 00 00 02")], "04 00 00 02 00 02", ""),
+        (&[Says(Bot, RM)], "04 00 00 02 00 02", ""),
+        (&[Says(Server, IM)], fm, "04 00 00 02 00 07"),
+        (&[Says(Server, RM)], fm, "04 00 00 02 00 08"),
+        (&[Says(Server, "02 00 00 02")], fm, "04 00 00 02 00 0B"),
+        (&[Says(Bot, "03 00 00 00"), Says(Server, RM)], "", ""),
+        (&[Says(Bot, "04 00 00 02 00 01")], "", ""),
+        (&[Pops, Pops], "04 00 00 02 00 01", ""),
+        (&[Ends(Bot)], "", ""),
+        (&[Ends(Server)], fm, ""),
+        (&[Says(Server, "03 00 00 00")], fm, ""),
+    ];
+    assert_scenes(&rt, false, &scenes)
+}
+
+#[test]
+fn messages_before_the_map_are_faults(rt: HostRuntime) -> Result<(), Fail> {
+    let im_and_fm = "00 00 00 04 00 01 DA 10  03 00 00 00";
+    let scenes: [Scene<'_>; 4] = [
+        (
+            &[Says(Bot, IM), Says(Bot, "02 00 00 02")],
+            "04 00 00 02 00 0A",
+            im_and_fm,
+        ),
+        (
+            &[Says(Bot, IM), Says(Server, "02 00 00 02")],
+            "03 00 00 00",
+            "00 00 00 04 00 01 DA 10  04 00 00 02 00 0B",
+        ),
+        (
+            &[Says(Bot, IM), Says(Bot, IM)],
+            "04 00 00 02 00 06",
+            im_and_fm,
+        ),
+        (
+            &[Says(Bot, IM), Says(Bot, RM)],
+            "04 00 00 02 00 0D",
+            im_and_fm,
+        ),
+    ];
+    assert_scenes(&rt, false, &scenes)
+}
+
+#[test]
+fn hlo_opens_press_at_its_level(rt: HostRuntime) -> Result<(), Fail> {
+    let press =
+        "02 00 00 1C  48 17 40 00 41 02 40 01 40 00 4A 13 40 00 4A 10 40 00 41 01 41 02 40 01 40 01 40 01";
+    let huh =
+        "02 00 00 24  48 06 40 00 49 02 48 17 40 00 41 02 40 01 40 00 4A 13 40 00 4A 10 40 00 41 01 41 02 40 01 40 01 40 01 40 01";
+    let hlo =
+        "02 00 00 1A  48 04 40 00 41 01 40 01 40 00 04 D2 40 01 40 00 40 00 49 03 00 0A 40 01 40 01";
+    let hlo_and_huh =
+        "02 00 00 1A  48 04 40 00 41 01 40 01 40 00 04 D2 40 01 40 00 40 00 49 03 00 0A 40 01 40 01  02 00 00 24  48 06 40 00 49 02 48 17 40 00 41 02 40 01 40 00 4A 13 40 00 4A 10 40 00 41 01 41 02 40 01 40 01 40 01 40 01";
+    let header = "02 00 00 1C";
+    let body =
+        "48 17 40 00 41 02 40 01 40 00 4A 13 40 00 4A 10 40 00 41 01 41 02 40 01 40 01 40 01";
+    let scenes: [Scene<'_>; 3] = [
+        (&[Says(Bot, press)], huh, ""),
+        (&[Says(Server, hlo), Says(Bot, press)], hlo, press),
+        (
+            &[Says(Bot, header), Says(Server, hlo), Says(Bot, body)],
+            hlo_and_huh,
+            "",
+        ),
+    ];
+    assert_scenes(&rt, true, &scenes)?;
+    let mut script = Script::new(&rt, 60)?;
+    script.play(&rt, Says(Bot, IM), 8)?;
+    script.play(&rt, Says(Server, RM), 8)?;
+    script.play(&rt, Says(Server, hlo), 8)?;
+    assert_eq!(rt; script.session.level(), Level::L10);
+    script.play(&rt, Says(Bot, "02 00 00 02 48 04"), 8)?;
+    assert_eq!(rt; script.session.level(), Level::L10);
+    Ok(())
+}
+
+#[test]
+fn timer_faults_once(rt: HostRuntime) -> Result<(), Fail> {
+    let mut script = Script::new(&rt, 60)?;
+    assert_eq!(rt; script.session.im_timeout(), Note::Fault(Code::ImTimeout));
+    assert_eq!(rt; script.session.im_timeout(), Note::Nothing);
+    assert!(rt; script.session.is_over());
+    assert!(rt; !script.session.ended(Bot));
+    assert_eq!(rt; script.session.room(Bot), 0);
+    assert_eq!(rt; script.session.room(Server), 0);
+    assert_eq!(rt; script.session.feed(Bot, &[]), Note::Nothing);
+    Ok(())
+}
+
+#[test]
+fn slow_wire_keeps_frames_whole(rt: HostRuntime) -> Result<(), Fail> {
+    let mut script = Script::new(&rt, 60)?;
+    script.play(&rt, Says(Bot, IM), 8)?;
+    script.play(&rt, Says(Server, RM), 8)?;
+    let mut session = script.session;
+    feed_all(&rt, &mut session, Bot, "02 00 00 00")?;
+    feed_all(
+        &rt,
+        &mut session,
+        Server,
+        "02 00 00 0A  48 0E 40 00 47 00 07 6D 40 01",
+    )?;
+    let mut taken = Vec::new(rt.alloc());
+    for _put in 0..64 {
+        assert_eq!(rt;
+            session.room(Bot) > 0,
+            taken.len() >= 12,
+            "after {} bytes",
+            taken.len()
+        );
+        assert_eq!(rt;
+            session.room(Server) > 0,
+            taken.len() >= 26,
+            "after {} bytes",
+            taken.len()
+        );
+        take_three(&mut session, Bot, &mut taken)?;
+    }
+    let want = bytes_of(
+        &rt,
+        "02 00 00 08 48 06 40 00 49 02 40 01  02 00 00 0A 48 0E 40 00 47 00 07 6D 40 01",
+    )?;
+    assert_eq!(rt; taken.as_slice(), want.as_slice());
+    assert_eq!(rt; session.front(Server).len(), 0);
+    Ok(())
+}
+
+#[test]
+fn weight_is_bounded(rt: HostRuntime) -> Result<(), Fail> {
+    let mut script = Script::new(&rt, 60)?;
+    script.play(&rt, Says(Bot, IM), 8)?;
+    script.play(&rt, Says(Server, RM), 8)?;
+    script.play(&rt, Says(Bot, "02 00 00 FA  48 06 40 00 40 00"), 65_530)?;
+    assert!(rt;
+        script.session.weight() <= 362,
+        "{}",
+        script.session.weight()
+    );
+    assert!(rt; script.session.weight() >= 6, "{}", script.session.weight());
+    Ok(())
+}
+
+/// Over a heap that is swept from empty to ample, a session is refused for want of memory and for nothing
+/// else, until there is room for its two bodies. In the first heap that has it, where a further growth
+/// would be refused, a whole session goes through.
+#[test]
+fn session_makes_two_growths(rt: HostRuntime) -> Result<(), Fail> {
+    let config = Config {
+        top_level: 60,
+        max_body: 512,
+        max_depth: 62,
+    };
+    let mut made = false;
+    for step in 0..120 {
+        let heap = LocalHeap::new(rt.alloc(), 16 * step)?;
+        match Session::new(&heap, config) {
+            Ok(mut session) => {
+                if !made {
+                    assert_opens_and_answers(&rt, &mut session)?;
+                }
+                made = true;
+            }
+            Err(fault) => {
+                assert_eq!(rt; fault, SessionError::Memory);
+                assert!(rt; !made, "ample memory is never refused");
+            }
+        }
+    }
+    assert!(rt; made);
+    Ok(())
+}
+
+/// A fresh session opens, and answers an unclosed bracket with PRN.
+fn assert_opens_and_answers<A: Allocator>(
+    rt: &(impl Abort + AllocGlobal),
+    session: &mut Session<A>,
+) -> Result<(), Fail> {
+    let mut to_bot = Vec::new(rt.alloc());
+    let mut to_server = Vec::new(rt.alloc());
+    for (side, text) in [(Bot, IM), (Server, RM), (Bot, "02 00 00 04  48 03 40 00")] {
+        feed_all(rt, session, side, text)?;
+        for _put in 0..8 {
+            take_three(session, Bot, &mut to_bot)?;
+            take_three(session, Server, &mut to_server)?;
+        }
+    }
+    let want = bytes_of(
+        rt,
+        "01 00 00 00  02 00 00 0A  48 13 40 00 48 03 40 00 40 01",
+    )?;
+    assert_eq!(rt; to_bot.as_slice(), want.as_slice());
+    let want = bytes_of(rt, IM)?;
+    assert_eq!(rt; to_server.as_slice(), want.as_slice());
+    Ok(())
+}
