@@ -116,7 +116,7 @@ impl<A: Allocator> Session<A> {
         ensures answer { result ≡ not (is_over_phase self.old.state.phase) }
         ensures holds { HoldsTheSame self.old self.new }
     {
-        let live = !self.dialog.is_over();
+        let live = !self.is_over();
         self.dialog.stop(side);
         live
     }
@@ -179,7 +179,7 @@ impl<A: Allocator> Session<A> {
     pub fn level(&self) -> Level
         ensures { result ≡ level_in self.now.state.phase self.now.state.level }
     {
-        match self.dialog.phase() {
+        match self.phase() {
             Phase::Open => self.dialog.level(),
             Phase::WaitIm | Phase::WaitRm | Phase::Over => Level::L0,
         }
