@@ -1,12 +1,11 @@
 -- Worked examples, computed from the definitions: a wrong table does not check.
-use Rattle.std.proofs.Common.{◌≡◌, ℕ, List, [], ◌∷◌, Result, Ok, Err, refl}
-use Rattle.daide_frame.specs.declared.code.Code.{Code}
+use Rattle.std.proofs.Common.{◌≡◌, [], ◌∷◌, Ok, Err, refl}
 use Rattle.daide_frame.specs.declared.code.Code.TheVariants.{WrongEndian, WrongMagic, WrongVersion, UnknownMessage, WrongLength, InvalidToken}
 use Rattle.daide_frame.specs.declared.head.Kind.TheVariants.{Im, Rm, Dm, Fm, Em}
-use Rattle.daide_frame.specs.declared.head.Head.{Head}
-use Rattle.daide_frame.specs.Head.{head_of}
+use Rattle.daide_frame.specs.declared.cutter.Step.TheVariants.{Bodied}
+use Rattle.daide_frame.specs.Head.{head_bytes, head_of}
 use Rattle.daide_frame.specs.InitialMessage.{im_of}
-use Rattle.daide_frame.specs.Frames.{is_alien, Item, Begun, Whole, Wrong, Placed, first_items, cut}
+use Rattle.daide_frame.specs.Frames.{answer_to, is_alien, Begun, Whole, Wrong, cut, fed, first_items, head_in, last_items, missing}
 
 -- a frame's items end at its header and at its body's last byte, and the next frame follows
 dm_then_fm : cut 1024 (0x02 ∷ 0x00 ∷ 0x00 ∷ 0x02 ∷ 0x48 ∷ 0x0F ∷ 0x03 ∷ 0x00 ∷ 0x00 ∷ 0x00 ∷ []) ≡
@@ -26,12 +25,56 @@ alien_in_second_frame : cut 1024 (0x03 ∷ 0x00 ∷ 0x00 ∷ 0x00 ∷ 0x02 ∷ 0
 unfolding cut first_items head_of is_alien
 alien_in_second_frame = refl
 
+-- an alien token that ends a frame is told in place of its body
+alien_at_the_end : cut 1024 (0x02 ∷ 0x00 ∷ 0x00 ∷ 0x02 ∷ 0x4C ∷ 0x00 ∷ 0x03 ∷ 0x00 ∷ 0x00 ∷ 0x00 ∷ []) ≡
+    record { item = Begun (record { kind = Dm; len = 2 }); at = 4 }
+    ∷ record { item = Wrong InvalidToken; at = 6 } ∷ []
+unfolding cut first_items head_of is_alien
+alien_at_the_end = refl
+
+-- half a token is none
+half_an_alien : cut 1024 (0x02 ∷ 0x00 ∷ 0x00 ∷ 0x04 ∷ 0x48 ∷ 0x03 ∷ 0x58 ∷ []) ≡
+    record { item = Begun (record { kind = Dm; len = 4 }); at = 4 } ∷ []
+unfolding cut first_items head_of is_alien
+half_an_alien = refl
+
+-- only a DM is made of tokens
+block_of_a_map : cut 1024 (0x01 ∷ 0x00 ∷ 0x00 ∷ 0x06 ∷ 0xFF ∷ 0xFF ∷ 0x42 ∷ 0x4F ∷ 0x48 ∷ 0x00 ∷ []) ≡
+    record { item = Begun (record { kind = Rm; len = 6 }); at = 4 }
+    ∷ record { item = Whole (record { kind = Rm; len = 6 }) (0xFF ∷ 0xFF ∷ 0x42 ∷ 0x4F ∷ 0x48 ∷ 0x00 ∷ []); at = 10 } ∷ []
+unfolding cut first_items head_of is_alien
+block_of_a_map = refl
+
+-- fewer than four bytes are no frame yet
+part_of_a_header : cut 1024 (0x05 ∷ 0x00 ∷ 0x00 ∷ []) ≡ []
+unfolding cut first_items
+part_of_a_header = refl
+
 -- a refused header is told at its fourth byte
 odd_length : cut 65526 (0x02 ∷ 0x00 ∷ 0x00 ∷ 0x03 ∷ 0x48 ∷ 0x0F ∷ []) ≡ record { item = Wrong WrongLength; at = 4 } ∷ []
 unfolding cut first_items head_of is_alien
 odd_length = refl
 
+-- the right lengths of each kind, whatever the pad; a body may be as long as the cap
+right_lengths : (head_of (0x00 ∷ 0xFF ∷ 0x00 ∷ 0x04 ∷ []) 4 ≡ Ok (record { kind = Im; len = 4 }))
+    × (head_of (0x01 ∷ 0x00 ∷ 0x00 ∷ 0x00 ∷ []) 0 ≡ Ok (record { kind = Rm; len = 0 }))
+    × (head_of (0x02 ∷ 0x01 ∷ 0x04 ∷ 0x00 ∷ []) 1024 ≡ Ok (record { kind = Dm; len = 1024 }))
+    × (head_of (0x04 ∷ 0x00 ∷ 0x00 ∷ 0x02 ∷ []) 1024 ≡ Ok (record { kind = Em; len = 2 }))
+unfolding head_of
+right_lengths = (refl, refl, refl, refl)
+
+wrong_lengths : (head_of (0x00 ∷ 0x00 ∷ 0x00 ∷ 0x06 ∷ []) 1024 ≡ Err WrongLength)
+    × (head_of (0x01 ∷ 0x00 ∷ 0x00 ∷ 0x08 ∷ []) 1024 ≡ Err WrongLength)
+    × (head_of (0x03 ∷ 0x00 ∷ 0x00 ∷ 0x02 ∷ []) 1024 ≡ Err WrongLength)
+    × (head_of (0x04 ∷ 0x00 ∷ 0x00 ∷ 0x00 ∷ []) 1024 ≡ Err WrongLength)
+unfolding head_of
+wrong_lengths = (refl, refl, refl, refl)
+
 -- the order of a header's faults
+type_before_length : head_of (0x05 ∷ 0x00 ∷ 0x04 ∷ 0x00 ∷ []) 1024 ≡ Err UnknownMessage
+unfolding head_of
+type_before_length = refl
+
 swapped_length : head_of (0x00 ∷ 0x00 ∷ 0x04 ∷ 0x00 ∷ []) 65526 ≡ Err WrongEndian
 unfolding head_of
 swapped_length = refl
@@ -44,7 +87,39 @@ even_above_cap : head_of (0x02 ∷ 0x00 ∷ 0x04 ∷ 0x02 ∷ []) 1024 ≡ Err U
 unfolding head_of
 even_above_cap = refl
 
+-- a header is written with pad 0, and the length's high byte first
+written_header : head_bytes (record { kind = Dm; len = 0xFFF6 }) ≡ 0x02 ∷ 0x00 ∷ 0xFF ∷ 0xF6 ∷ []
+unfolding head_bytes
+written_header = refl
+
+-- what is missing: of the header, then of the body, and nothing after a fault
+missing_bytes : (missing 1024 [] ≡ 4)
+    × (missing 1024 (0x02 ∷ 0x00 ∷ 0x00 ∷ 0x04 ∷ 0x48 ∷ []) ≡ 3)
+    × (missing 1024 (0x02 ∷ 0x00 ∷ 0x00 ∷ 0x04 ∷ 0x58 ∷ 0x00 ∷ []) ≡ 0)
+    × (missing 1024 (0x02 ∷ 0x00 ∷ 0x00 ∷ 0x03 ∷ []) ≡ 0)
+unfolding missing head_in head_of is_alien
+missing_bytes = (refl, refl, refl, refl)
+
+-- the bytes behind a fault are not taken
+behind_a_fault : fed 1024 (0x02 ∷ 0x00 ∷ 0x00 ∷ 0x06 ∷ []) (0x58 ∷ 0x00 ∷ 0x48 ∷ 0x03 ∷ [])
+    ≡ 0x02 ∷ 0x00 ∷ 0x00 ∷ 0x06 ∷ 0x58 ∷ 0x00 ∷ []
+unfolding last_items first_items head_of is_alien
+behind_a_fault = refl
+
+-- an empty frame is told as whole
+empty_frame : answer_to (last_items 1024 (0x03 ∷ 0x00 ∷ 0x00 ∷ 0x00 ∷ [])) ≡ Bodied
+unfolding last_items first_items head_of is_alien
+empty_frame = refl
+
 -- the order of an initial message's faults
+right_im : im_of (0x00 ∷ 0x01 ∷ 0xDA ∷ 0x10 ∷ []) ≡ Ok tt
+unfolding im_of
+right_im = refl
+
+wrong_magic : im_of (0x00 ∷ 0x02 ∷ 0xDA ∷ 0x11 ∷ []) ≡ Err WrongMagic
+unfolding im_of
+wrong_magic = refl
+
 magic_before_version : im_of (0x00 ∷ 0x02 ∷ 0x10 ∷ 0xDA ∷ []) ≡ Err WrongEndian
 unfolding im_of
 magic_before_version = refl

@@ -1,5 +1,5 @@
 -- Worked examples, computed from the definitions: a wrong table does not check.
-use Rattle.std.proofs.Common.{◌≡◌, codes, None, Some, [], ◌∷◌, false, negsuc, pos, refl, true}
+use Rattle.std.proofs.Common.{◌≡◌, codes, None, Some, [], ◌∷◌, false, length, negsuc, pos, refl, true}
 use Rattle.std.specs.Fmt.{digits}
 use Rattle.daide_token.specs.declared.class.Class.TheVariants as class
 use Rattle.daide_token.specs.Class.{class_of, has_known_category}
@@ -75,6 +75,14 @@ listed-err = (refl, refl)
 listed-lvl : (class_of 0x4903 ≡ class.Lvl) × (name_of 0x4903 ≡ Some (codes "LVL"))
 unfolding class_of name_of names
 listed-lvl = (refl, refl)
+
+listed-mrt : (class_of 0x4904 ≡ class.Mrt) × (name_of 0x4904 ≡ Some (codes "MRT"))
+unfolding class_of name_of names
+listed-mrt = (refl, refl)
+
+listed-uno : (class_of 0x490B ≡ class.Uno) × (name_of 0x490B ≡ Some (codes "UNO"))
+unfolding class_of name_of names
+listed-uno = (refl, refl)
 
 listed-dsd : (class_of 0x490D ≡ class.Param) × (name_of 0x490D ≡ Some (codes "DSD"))
 unfolding class_of name_of names
@@ -165,6 +173,19 @@ unlisted-10000 : (class_of 0x10000 ≡ class.Alien) × (name_of 0x10000 ≡ None
 unfolding class_of name_of names
 unlisted-10000 = (refl, refl)
 
+-- a token counts as its category's kind, listed or not
+unlisted-kinds : (class_of 0x0000 ≡ class.Num) × (class_of 0x3FFF ≡ class.Num) × (class_of 0x41FF ≡ class.Power)
+    × (class_of 0x4507 ≡ class.Outcome) × (class_of 0x4601 ≡ class.Coast) × (class_of 0x4705 ≡ class.Season)
+    × (class_of 0x4BFF ≡ class.Text) × (class_of 0x5600 ≡ class.Province) × (class_of 0x57FF ≡ class.Province)
+unfolding class_of
+unlisted-kinds = (refl, refl, refl, refl, refl, refl, refl, refl, refl)
+
+-- where each listed token has its own class, the others have no rule
+unlisted-others : (class_of 0x4202 ≡ class.Other) × (class_of 0x4326 ≡ class.Other) × (class_of 0x4383 ≡ class.Other)
+    × (class_of 0x481F ≡ class.Other)
+unfolding class_of
+unlisted-others = (refl, refl, refl, refl)
+
 -- the categories that are known end at 4B and at 57
 categories : (has_known_category 0x4BFF ≡ true) × (has_known_category 0x4C00 ≡ false) × (has_known_category 0x4FFF ≡ false) × (has_known_category 0x5000 ≡ true) × (has_known_category 0x57FF ≡ true) × (has_known_category 0x5800 ≡ false)
 categories = (refl, refl, refl, refl, refl, refl)
@@ -174,9 +195,17 @@ named-constants : (token_named (codes "BRA") ≡ Some bra) × (token_named (code
 unfolding token_named names
 named-constants = (refl, refl, refl, refl, refl, refl, refl)
 
+-- a name is three capital letters
+no-names : (token_named [] ≡ None) × (token_named (codes "gof") ≡ None) × (token_named (codes "GO") ≡ None)
+    × (token_named (codes "GOFF") ≡ None) × (length names ≡ 198)
+unfolding token_named names
+no-names = (refl, refl, refl, refl, refl)
+
 -- numbers turn negative at 2000
-numbers : (number_of 0x1FFF ≡ Some (pos 8191)) × (number_of 0x2000 ≡ Some (negsuc 8191)) × (number_of 0x3FFF ≡ Some (negsuc 0)) × (number_of 0x4000 ≡ None) × (token_of_number (negsuc 8191) ≡ Some 0x2000) × (token_of_number (negsuc 8192) ≡ None)
-numbers = (refl, refl, refl, refl, refl, refl)
+numbers : (number_of 0x1FFF ≡ Some (pos 8191)) × (number_of 0x2000 ≡ Some (negsuc 8191)) × (number_of 0x3FFF ≡ Some (negsuc 0)) × (number_of 0x4000 ≡ None)
+    × (token_of_number (pos 8191) ≡ Some 0x1FFF) × (token_of_number (pos 8192) ≡ None)
+    × (token_of_number (negsuc 8191) ≡ Some 0x2000) × (token_of_number (negsuc 8192) ≡ None)
+numbers = (refl, refl, refl, refl, refl, refl, refl, refl)
 
 -- text: numbers, runs of characters, names, brackets and digits
 text-numbers : text_of (tokens_of (0x1F ∷ 0xFF ∷ 0x20 ∷ 0x00 ∷ 0x3F ∷ 0xFF ∷ [])) ≡ codes "8191 -8192 -1"
@@ -186,6 +215,14 @@ text-numbers = refl
 text-runs : text_of (tokens_of (0x4B ∷ 0x49 ∷ 0x4B ∷ 0x27 ∷ 0x4B ∷ 0x6D ∷ [])) ≡ codes "'I' #4b27 'm'"
 unfolding text_of name_of names
 text-runs = refl
+
+text-quotable : text_of (tokens_of (0x4B ∷ 0x1F ∷ 0x4B ∷ 0x20 ∷ 0x4B ∷ 0x7E ∷ 0x4B ∷ 0x7F ∷ [])) ≡ codes "#4b1f ' ~' #4b7f"
+unfolding text_of name_of names
+text-quotable = refl
+
+text-alien : text_of (tokens_of (0x4B ∷ 0x61 ∷ 0xFF ∷ 0xF0 ∷ 0x41 ∷ 0x06 ∷ 0x48 ∷ [])) ≡ codes "'a' #fff0 TUR"
+unfolding text_of name_of names
+text-alien = refl
 
 text-words : text_of (tokens_of (0x48 ∷ 0x03 ∷ 0x40 ∷ 0x00 ∷ 0x4A ∷ 0x12 ∷ 0x40 ∷ 0x01 ∷ [])) ≡ codes "GOF ( #4a12 )"
 unfolding text_of name_of names
