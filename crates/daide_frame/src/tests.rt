@@ -258,6 +258,7 @@ fn refused_memory_is_told_and_nothing_else(rt: HostRuntime) -> Result<(), Fail> 
         match Cutter::new(&heap, 512) {
             Ok(mut cutter) => {
                 let taken = heap.used();
+                assert_eq!(rt; taken, 512, "room for the longest body and no more");
                 let (last, _) = feed_all(&rt, &mut cutter, &frame, 512);
                 assert_eq!(rt; last, Step::Bodied);
                 assert_eq!(rt; heap.used(), taken);
