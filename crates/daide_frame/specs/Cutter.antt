@@ -12,7 +12,8 @@ has_alien (Some head) body = is_some (alien_in head body)
 
 -- how the fields belong together: the header's bytes so far, what they were read as, whether there was
 -- a fault in the body, the body's bytes so far, and room for the longest body
-pub record IsConsistent (cap have : ℕ) (header : List ℕ) (head : Option Head) (is_faulty : Bool) (body : List ℕ) (capacity : ℕ) : Type 0 where
+pub record IsConsistent (cap have : ℕ) (header : List ℕ) (head : Option Head) (is_faulty : Bool) (body : List ℕ)
+    (capacity : ℕ) : Type 0 where
   pub four : length header ≡ 4
   pub in_header : have ≤ 4
   pub no_body : have < 4 → body ≡ []

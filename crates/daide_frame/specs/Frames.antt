@@ -43,11 +43,14 @@ pub record Placed : Type 0 where
   pub item : Item
   pub at : ℕ
 
--- after a good header: a fault at the second byte of the first alien token, else the body once it is whole
+-- after a good header: a fault at the second byte of the first alien token, else the body once it is whole. That the
+-- fault is told there, and not at the frame's end, is (own).
 abbrev pub items_of_body : Head → List ℕ → Option ℕ → List Placed
 items_of_body head bytes (Some n) = record { item = Wrong InvalidToken; at = 4 + n } ∷ []
 items_of_body head bytes None =
-    if nat_le head.len (length bytes) then record { item = Whole head (take head.len bytes); at = 4 + head.len } ∷ [] else []
+    if nat_le head.len (length bytes)
+    then record { item = Whole head (take head.len bytes); at = 4 + head.len } ∷ []
+    else []
 
 -- a header is refused at its fourth byte, and then nothing follows; a good one is told there
 abbrev pub items_from_head : Result Head Code → List ℕ → List Placed
@@ -95,7 +98,8 @@ or_nothing next (Some place) = next place
 abbrev pub cut_frames : ℕ → ℕ → List ℕ → List Placed
 cut_frames zero cap bytes = []
 cut_frames (suc n) cap bytes =
-    first_items cap bytes ++ or_nothing (λ len. moved len (cut_frames n cap (drop len bytes))) (frame_end (first_items cap bytes))
+    first_items cap bytes
+    ++ or_nothing (λ len. moved len (cut_frames n cap (drop len bytes))) (frame_end (first_items cap bytes))
 
 -- the frames and faults of all the bytes of one side, each with its place. A frame has four bytes at
 -- least, so there are no more frames than bytes. It is a function: each list has exactly one cut.
@@ -121,13 +125,17 @@ is_nothing (item ∷ items) = false
 abbrev pub fed : ℕ → List ℕ → List ℕ → List ℕ
 fed cap bytes [] = bytes
 fed cap bytes (x ∷ piece) =
-    if is_nothing (last_items cap (bytes ++ x ∷ [])) then fed cap (bytes ++ x ∷ []) piece else bytes ++ x ∷ []
+    if is_nothing (last_items cap (bytes ++ x ∷ []))
+    then fed cap (bytes ++ x ∷ []) piece
+    else bytes ++ x ∷ []
 
 -- the items that end there
 abbrev pub fed_items : ℕ → List ℕ → List ℕ → List Item
 fed_items cap bytes [] = []
 fed_items cap bytes (x ∷ piece) =
-    if is_nothing (last_items cap (bytes ++ x ∷ [])) then fed_items cap (bytes ++ x ∷ []) piece else last_items cap (bytes ++ x ∷ [])
+    if is_nothing (last_items cap (bytes ++ x ∷ []))
+    then fed_items cap (bytes ++ x ∷ []) piece
+    else last_items cap (bytes ++ x ∷ [])
 
 abbrev pub any_item : (Item → Bool) → List Item → Bool
 any_item test [] = false
@@ -145,7 +153,9 @@ items_by_byte cap place pending [] = []
 items_by_byte cap place pending (x ∷ bytes) =
     let items = last_items cap (pending ++ x ∷ []) in
     placed_at (place + 1) items
-    ++ (if any_item is_wrong items then [] else items_by_byte cap (place + 1) (if any_item is_whole items then [] else pending ++ x ∷ []) bytes)
+    ++ (if any_item is_wrong items
+    then []
+    else items_by_byte cap (place + 1) (if any_item is_whole items then [] else pending ++ x ∷ []) bytes)
 
 -- How a cutter tells it
 

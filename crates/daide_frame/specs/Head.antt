@@ -37,13 +37,15 @@ has_right_length Em n = n == 2
 abbrev pub is_im : Kind → Bool
 is_im kind = kind_number kind == 0
 
--- a kind with a length, or the first thing that is wrong of them. That a length 0400 of an IM is
--- the other byte order, and that a length above the cap is an unknown message, is (own).
+-- a kind with a length, or the first thing that is wrong of them. The order is (own), and so is that a length 0400
+-- of an IM is the other byte order, that each wrong length is one error, and that a length above the cap is an
+-- unknown message.
 abbrev pub judged : Option Kind → ℕ → ℕ → Result Head Code
 judged None n cap = Err UnknownMessage
 judged (Some kind) n cap =
     if is_im kind && (n == 0x0400) then Err WrongEndian
-    else if has_right_length kind n then (if nat_lt cap n then Err UnknownMessage else Ok (record { kind = kind; len = n }))
+    else if has_right_length kind n
+    then (if nat_lt cap n then Err UnknownMessage else Ok (record { kind = kind; len = n }))
     else Err WrongLength
 
 -- what the first four of some bytes say; the second, the pad, is ignored

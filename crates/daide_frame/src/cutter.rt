@@ -137,7 +137,8 @@ impl<A: Allocator> Cutter<A> {
         requires { length self.old.bytes < 4 }
         ensures cap { self.new.cap ≡ self.old.cap }
         ensures bytes { self.new.bytes ≡ self.old.bytes ++ byte ∷ [] }
-        ensures items { last_items self.new.cap self.new.bytes ≡ told result (head_in self.new.cap self.new.bytes) (drop 4 self.new.bytes) }
+        ensures items { last_items self.new.cap self.new.bytes
+            ≡ told result (head_in self.new.cap self.new.bytes) (drop 4 self.new.bytes) }
         ensures step { result ≡ answer_to (last_items self.new.cap self.new.bytes) }
         ensures last { (result ≡ More) ⊎ (missing self.old.cap self.old.bytes ≡ 1) }
         ensures room { result ≡ More → missing self.new.cap self.new.bytes + 1 ≡ missing self.old.cap self.old.bytes }
@@ -214,7 +215,8 @@ impl<A: Allocator> Cutter<A> {
         ensures cap { self.new.cap ≡ self.old.cap }
         ensures bytes { self.new.bytes ≡ fed self.old.cap self.old.bytes piece.now }
         ensures step { result ≡ answer_to (fed_items self.old.cap self.old.bytes piece.now) }
-        ensures items { fed_items self.old.cap self.old.bytes piece.now ≡ told result (head_in self.new.cap self.new.bytes) (drop 4 self.new.bytes) }
+        ensures items { fed_items self.old.cap self.old.bytes piece.now
+            ≡ told result (head_in self.new.cap self.new.bytes) (drop 4 self.new.bytes) }
 
         // Without a fault the whole piece is taken.
         ensures whole { IsFault result ⊎ (self.new.bytes ≡ self.old.bytes ++ piece.now) }

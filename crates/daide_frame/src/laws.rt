@@ -15,7 +15,8 @@ pub fn head_comes_back()
 /// However a frame's bytes are cut into pieces, what is told of them is the items of the frame.
 pub fn however_cut()
     ensures { (cap : ℕ) (bytes piece : List ℕ) → length piece ≤ missing cap bytes
-        → items_of (first_items cap (fed cap bytes piece)) ≡ items_of (first_items cap bytes) ++ fed_items cap bytes piece }
+        → items_of (first_items cap (fed cap bytes piece))
+        ≡ items_of (first_items cap bytes) ++ fed_items cap bytes piece }
 {}
 
 /// The cut of some bytes is the items of their first frame, and then the cut of what follows that

@@ -77,7 +77,8 @@ is_known_category category = nat_lt category 0x4C || (nat_le 0x50 category && na
 abbrev pub has_known_category : ℕ → Bool
 has_known_category t = is_known_category (t / 256)
 
--- a token of each class, its only one where the class has but one (own); an operator's word has none, and is past them all
+-- a token of each class, its only one where the class has but one (own); an operator's word has none, and is past
+-- them all
 abbrev pub token_of : Class → ℕ
 token_of Num = 0x0000
 token_of Bra = 0x4000

@@ -9,7 +9,8 @@ use Rattle.daide_token.specs.Class.{brackets, class_in, class_of, commands, has_
 
 -- a token's class: one that tokens have, and where it has one token alone, this one
 abbrev IsRight : ℕ → ℕ → Class → Type 0
-IsRight category code class = (is_standard class ≡ true) × (has_one_token class ≡ true → category * 256 + code ≡ token_of class)
+IsRight category code class =
+    (is_standard class ≡ true) × (has_one_token class ≡ true → category * 256 + code ≡ token_of class)
 
 -- whether each row of a table has its class's only token
 abbrev has_only_tokens : ℕ → List (ℕ × Class) → Bool
@@ -46,7 +47,8 @@ row_right : (category code : ℕ) (row : ℕ × Class)
     → IsRight category code row.1
 row_right category code row e same = (
   right_true (category * 256 + row.0 == token_of row.1) _ e,
-  λ _. ap (λ n. category * 256 + n) (sym same) ∙ eqb-true _ _ (left_true (category * 256 + row.0 == token_of row.1) _ e),
+  λ _. ap (λ n. category * 256 + n) (sym same)
+      ∙ eqb-true _ _ (left_true (category * 256 + row.0 == token_of row.1) _ e),
 )
 
 right_in_table : (category code : ℕ) (rows : List (ℕ × Class)) (unlisted : Class)
@@ -56,7 +58,8 @@ right_in_table category code [] unlisted e u = shared category code unlisted u
 right_in_table category code (row ∷ rows) unlisted e u =
     by_test (IsRight category code) (row.0 == code) row.1 (listed rows unlisted code)
     (λ same. row_right category code row (left_true _ _ e) (eqb-true row.0 code same))
-    (λ _. right_in_table category code rows unlisted (right_true (category * 256 + row.0 == token_of row.1 && is_standard row.1) _ e) u)
+    (λ _. right_in_table category code rows unlisted
+    (right_true (category * 256 + row.0 == token_of row.1 && is_standard row.1) _ e) u)
 
 -- the same where the category is known by a test
 right_where : (known category code : ℕ) (rows : List (ℕ × Class)) (unlisted : Class)

@@ -12,7 +12,8 @@ from t (a ∷ b ∷ c ∷ space ∷ letters) = (t, a ∷ b ∷ c ∷ []) ∷ fro
 from t letters = (t, letters) ∷ []
 
 -- the table, by category: brackets, powers, units, orders, notes, results, coasts, seasons, commands, parameters,
--- press, and the provinces of the standard map, inland, inland centres, sea, coastal, coastal centres, bicoastal centres
+-- press, and the provinces of the standard map, inland, inland centres, sea, coastal, coastal centres, bicoastal
+-- centres
 unfoldable pub names : List Named
 names =
     from 0x4000 (codes "BRA KET") ++

@@ -12,7 +12,8 @@ hex_digit_of n = slice_index (codes "0123456789abcdef") n
 
 -- a token that is neither a number nor named: # and its four digits
 abbrev pub hex_text : ℕ → List ℕ
-hex_text t = 35 ∷ hex_digit_of (t / 4096) ∷ hex_digit_of (t / 256 % 16) ∷ hex_digit_of (t / 16 % 16) ∷ hex_digit_of (t % 16) ∷ []
+hex_text t =
+    35 ∷ hex_digit_of (t / 4096) ∷ hex_digit_of (t / 256 % 16) ∷ hex_digit_of (t / 16 % 16) ∷ hex_digit_of (t % 16) ∷ []
 
 -- a token by itself: a bracket's sign, a number's decimal form, a name, or its digits
 abbrev pub word_of : ℕ → List ℕ

@@ -66,7 +66,8 @@ fn table() -> &'static [(u16, &'static str)]
 
 /// The name beside a token in a table.
 fn name_in(table: &[(u16, &'static str)], code: u16) -> Option<&'static str>
-    ensures { option_map (λ name. name.now) result ≡ option_map (λ row. row.1.now) (find (λ row. row.0 == code) table.now) }
+    ensures { option_map (λ name. name.now) result
+        ≡ option_map (λ row. row.1.now) (find (λ row. row.0 == code) table.now) }
 {
     table.iter().find(|row| row.0 == code).map(|row| row.1)
 }

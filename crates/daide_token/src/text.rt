@@ -27,7 +27,8 @@ enum Place {
 /// A writer's fault is handed on, and then it isn't said how much was written.
 pub fn write_text<W: Write>(tokens: &[u8], writer: &mut W) -> Result<(), io::Error>
     requires { length tokens.now % 2 ≡ 0 }
-    ensures text { OnOk result (Appends (W.contents writer.old) (W.contents writer.new) (text_of (tokens_of tokens.now))) }
+    ensures text { OnOk result
+        (Appends (W.contents writer.old) (W.contents writer.new) (text_of (tokens_of tokens.now))) }
 {
     let mut place = Place::Start;
     let mut rest = tokens;
