@@ -167,74 +167,26 @@ fn cuts_one_frame_whole_and_by_bytes(rt: HostRuntime) -> Result<(), Fail> {
     Ok(())
 }
 
+/// First frames: the bytes, the last answer, the byte that it comes at, and how many bytes of body are kept.
+#[rattlefmt::skip]
+const FIRST_FRAMES: [(&[u8], Step, usize, usize); 12] = [
+    (&[0x02, 0x00, 0x00, 0x03], Step::Fault(Code::WrongLength), 4, 0),
+    (&[0x02, 0x00, 0xFF, 0xFE], Step::Fault(Code::UnknownMessage), 4, 0),
+    (&[0x00, 0x00, 0x04, 0x00], Step::Fault(Code::WrongEndian), 4, 0),
+    (&[0x00, 0x00, 0x00, 0x06], Step::Fault(Code::WrongLength), 4, 0),
+    (&[0x05, 0x00, 0x00, 0x00], Step::Fault(Code::UnknownMessage), 4, 0),
+    (&[0x02, 0x00, 0x00, 0x06, 0x48, 0x03, 0x58, 0x00], Step::Fault(Code::InvalidToken), 8, 4),
+    (&[0x02, 0x00, 0x00, 0x08, 0x4C, 0x00, 0x48, 0x03], Step::Fault(Code::InvalidToken), 6, 2),
+    (&[0x02, 0x00, 0x00, 0x04, 0x4B, 0xFF, 0x57, 0xFF], Step::Bodied, 8, 4),
+    (&[0x02, 0x00, 0x00, 0x04, 0x48, 0x4C], Step::More, 6, 2),
+    (&[0x00, 0x00, 0x00, 0x04, 0xFF, 0xFF, 0xFF, 0xFF], Step::Bodied, 8, 4),
+    (&[0x01, 0x00, 0x00, 0x06, 0x50, 0x00, 0x42, 0x4F, 0x48, 0x00], Step::Bodied, 10, 6),
+    (&[0x03, 0x00, 0x00, 0x00], Step::Bodied, 4, 0),
+];
+
 #[test]
 fn first_frames_are_judged_in_any_pieces(rt: HostRuntime) -> Result<(), Fail> {
-    // the bytes, the last answer, up to which byte, and how many bytes of body are kept
-    let cases: [(&[u8], Step, usize, usize); 12] = [
-        (
-            &[0x02, 0x00, 0x00, 0x03],
-            Step::Fault(Code::WrongLength),
-            4,
-            0,
-        ),
-        (
-            &[0x02, 0x00, 0xFF, 0xFE],
-            Step::Fault(Code::UnknownMessage),
-            4,
-            0,
-        ),
-        (
-            &[0x00, 0x00, 0x04, 0x00],
-            Step::Fault(Code::WrongEndian),
-            4,
-            0,
-        ),
-        (
-            &[0x00, 0x00, 0x00, 0x06],
-            Step::Fault(Code::WrongLength),
-            4,
-            0,
-        ),
-        (
-            &[0x05, 0x00, 0x00, 0x00],
-            Step::Fault(Code::UnknownMessage),
-            4,
-            0,
-        ),
-        (
-            &[0x02, 0x00, 0x00, 0x06, 0x48, 0x03, 0x58, 0x00],
-            Step::Fault(Code::InvalidToken),
-            8,
-            4,
-        ),
-        (
-            &[0x02, 0x00, 0x00, 0x08, 0x4C, 0x00, 0x48, 0x03],
-            Step::Fault(Code::InvalidToken),
-            6,
-            2,
-        ),
-        (
-            &[0x02, 0x00, 0x00, 0x04, 0x4B, 0xFF, 0x57, 0xFF],
-            Step::Bodied,
-            8,
-            4,
-        ),
-        (&[0x02, 0x00, 0x00, 0x04, 0x48, 0x4C], Step::More, 6, 2),
-        (
-            &[0x00, 0x00, 0x00, 0x04, 0xFF, 0xFF, 0xFF, 0xFF],
-            Step::Bodied,
-            8,
-            4,
-        ),
-        (
-            &[0x01, 0x00, 0x00, 0x06, 0x50, 0x00, 0x42, 0x4F, 0x48, 0x00],
-            Step::Bodied,
-            10,
-            6,
-        ),
-        (&[0x03, 0x00, 0x00, 0x00], Step::Bodied, 4, 0),
-    ];
-    for (bytes, step, end, body) in cases {
+    for (bytes, step, end, body) in FIRST_FRAMES {
         for longest in 1..12usize {
             let mut cutter = Cutter::new(rt.alloc(), CAP)?;
             let (last, fed) = feed_all(&rt, &mut cutter, bytes, longest);

@@ -111,6 +111,10 @@ fn names_are_those_of_the_tables(rt: HostRuntime) {
         assert_eq!(rt; token.name(), Some(name), "name of {code:04x}");
         assert_eq!(rt; Token::by_name(name), Some(token), "token of {name}");
     }
+}
+
+#[test]
+fn what_no_table_lists_has_none(rt: HostRuntime) {
     for code in [0x0000, 0x3FFF, 0x4401, 0x4A12, 0x4B41, 0x5300, 0xFFFF] {
         assert_eq!(rt; Token::from_code(code).name(), None, "name of {code:04x}");
     }
