@@ -1,5 +1,6 @@
--- What `show` says of an input: a text, and whether its frame would be relayed.
-use Rattle.std.specs.Prelude.{◌≡◌, ⊤, ℕ, ◌+◌, ◌*◌, ◌≤◌, ◌==◌, nat_lt, Bool, true, false, if◌then◌else◌, List, [], ◌∷◌, ◌++◌, take, drop, length, codes, Option, Result, Ok, Err, MatchResult}
+-- What `show` says of an input: the text of docs/FORMATS.md (own), and whether its frame would be relayed.
+use Rattle.std.specs.Prelude.{◌≡◌, ⊤, ℕ, ◌+◌, ◌*◌, ◌≤◌, ◌==◌, nat_lt, Bool, true, false, if◌then◌else◌}
+use Rattle.std.specs.Prelude.{List, [], ◌∷◌, ◌++◌, take, drop, length, codes, Option, Result, Ok, Err, MatchResult}
 use Rattle.std.specs.Bool.{MatchBool}
 use Rattle.std.specs.Fmt.{decimal}
 use Rattle.std.specs.Io.KnownBytes.{Appends}
@@ -24,7 +25,8 @@ use Rattle.daide_reader.specs.declared.verdict.Verdict.{Verdict}
 use Rattle.daide_reader.specs.declared.verdict.Verdict.TheVariants.{Relay, Prn, Huh}
 use Rattle.daide_gate.specs.Input.{limit, bytes_of}
 use Rattle.daide_gate.specs.declared.frame_view.ShowFault.{ShowFault}
-use Rattle.daide_gate.specs.declared.frame_view.ShowFault.TheVariants.{Read, TooLong, NotHex, NotOneFrame, Memory, Write}
+use Rattle.daide_gate.specs.declared.frame_view.ShowFault.TheVariants.{Read, TooLong, NotHex, NotOneFrame}
+use Rattle.daide_gate.specs.declared.frame_view.ShowFault.TheVariants.{Memory, Write}
 
 -- the most bytes that a frame's body may have (own)
 abbrev pub frame_cap : ℕ
@@ -62,11 +64,13 @@ verdict_lines Relay m = line (codes "relay")
 verdict_lines Prn m = line (codes "PRN") ++ line (text_of (prn_answer m))
 verdict_lines (Huh place) m = line (codes "HUH at " ++ decimal place) ++ line (text_of (huh_answer place m))
 
+-- whether a verdict passes its message on
 abbrev pub is_relay : Verdict → Bool
 is_relay Relay = true
 is_relay Prn = false
 is_relay (Huh place) = false
 
+-- a kind by the two letters of the protocol
 abbrev pub name_of_kind : Kind → List ℕ
 name_of_kind Im = codes "IM"
 name_of_kind Rm = codes "RM"
@@ -131,6 +135,7 @@ found_among count (Begun head ∷ items) = found_among count items
 found_among count (Wrong code ∷ items) = faulty code
 found_among count (Whole head body ∷ items) = if 4 + length body == count then whole head body else not_one
 
+-- what some bytes are under a cap
 unfoldable pub found_in : ℕ → List ℕ → OneFrame
 found_in cap bytes = found_among (length bytes) (items_of (first_items cap bytes))
 

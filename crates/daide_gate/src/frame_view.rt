@@ -69,7 +69,8 @@ fn show_bytes<A: Allocator + Copy>(
     level: Level,
     bytes: &[u8],
 ) -> Result<(Vec<u8, A>, bool), ShowFault>
-    ensures shown { IfOk result (λ answer. AreShownAs side level bytes.now (Ok (record { text = answer.0.items; relayed = answer.1 }))) }
+    ensures shown { IfOk result (λ answer.
+        AreShownAs side level bytes.now (Ok (record { text = answer.0.items; relayed = answer.1 }))) }
     ensures refused { IfErr result (λ fault. fault ≢ ShowFault.Memory → AreShownAs side level bytes.now (Err fault)) }
 {
     let Ok(mut cutter) = Cutter::new(alloc, FRAME_CAP) else {
@@ -102,7 +103,8 @@ fn show_input<A: Allocator + Copy>(
     mut input: Vec<u8, A>,
 ) -> Result<(Vec<u8, A>, bool), ShowFault>
     requires { length input.items ≤ limit }
-    ensures shown { IfOk result (λ answer. IsShownAs side level input.items (Ok (record { text = answer.0.items; relayed = answer.1 }))) }
+    ensures shown { IfOk result (λ answer.
+        IsShownAs side level input.items (Ok (record { text = answer.0.items; relayed = answer.1 }))) }
     ensures refused { IfErr result (λ fault. fault ≢ ShowFault.Memory → IsShownAs side level input.items (Err fault)) }
 {
     drop_blanks(&mut input);

@@ -16,6 +16,23 @@ pub enum Order {
     BadLevel,
 }
 
+/// What the program does without a command, and its exit statuses.
+const NOTES: &str = "\
+Without a command it does what 'show' does with its defaults. The options of 'show':
+      --side <SIDE>  bot or server [default: bot]
+      --level <N>    0, 10, 20, 30, 40, 50 or 60 [default: 0]
+
+Exit status:
+  0  the frame would be relayed; help and version
+  1  a fault of the input, the output or memory, told in one line on standard error
+  2  words that are not understood
+  3  the frame is shown, and would not be relayed";
+
+/// How the frame is read, and what the exit status says of it.
+const SHOW_NOTES: &str = "\
+The input has at most 200,000 bytes. Spaces, tabs and line ends are dropped wherever they stand.
+The exit status is 0 where the frame would be relayed and 3 where not; 'daide-gate --help' has all.";
+
 /// The command line that is understood. Both options take any word, so that a wrong one is told in
 /// the program's own words.
 pub fn command<'a>(alloc: Global) -> Result<Command<'a>, AllocError> {
@@ -31,11 +48,13 @@ pub fn command<'a>(alloc: Global) -> Result<Command<'a>, AllocError> {
         .help("The level of press, 0, 10, 20, 30, 40, 50 or 60 [default: 0]");
     let show = Command::new(alloc, "show")
         .about("Shows one frame, read as hexadecimal digits from standard input")
+        .after_help(SHOW_NOTES)
         .arg(side)?
         .arg(level)?;
     Command::new(alloc, "daide-gate")
         .version("0.1.0")
         .about("A gateway between one bot and a DAIDE server")
+        .after_help(NOTES)
         .subcommand(show)
 }
 

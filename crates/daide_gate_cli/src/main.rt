@@ -7,6 +7,7 @@
 mod arguments;
 mod faults;
 mod program;
+mod terminal;
 #[cfg(test)]
 mod tests;
 
@@ -15,6 +16,7 @@ use program::answer;
 use std::io::ErrorKind;
 use std::process::ExitCode;
 use std::{env, io};
+use terminal::Asking;
 
 /// The words of the command line, or the status of a run that has none.
 fn words(rt: &HostRuntime) -> Result<Vec<String>, u8> {
@@ -27,7 +29,7 @@ fn words(rt: &HostRuntime) -> Result<Vec<String>, u8> {
     };
     let (text, status) = match failed {
         ErrorKind::OutOfMemory => ("daide-gate: out of memory", FAULT),
-        _ => ("error: a word of the command line is not UTF-8", USAGE),
+        _ => ("daide-gate: a word of the command line is not UTF-8", USAGE),
     };
     let _ = rt.eprintln(text);
     Err(status)
@@ -39,7 +41,7 @@ fn run(rt: &HostRuntime) -> u8 {
         Ok(words) => words,
         Err(status) => return status,
     };
-    let mut input = rt.reader();
+    let mut input = Asking::new(rt, rt.reader());
     let mut output = io::writer(rt);
     let mut errors = rt.stderr();
     answer(rt, words.as_slice(), &mut input, &mut output, &mut errors).unwrap_or(FAULT)

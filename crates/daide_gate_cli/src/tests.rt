@@ -65,10 +65,19 @@ show | 01000006 | | input is not one frame | 1
 show | 02000002480F00 | | input is not one frame | 1
 show | 0300000000 | | input is not one frame | 1
 show | 00000004000110DA00 | | input is not one frame | 1
-show --level 0 | 0200000848174000 41024001 | DM 8/SND ( FRA )/HUH at 0/HUH ( ERR SND ( FRA ) )/ | | 3
-show --level 10 | 0200001C4817400041024001 40004A1340004A1040004101410240014001 4001 | DM 28/SND ( FRA ) ( PRP ( PCE ( ENG FRA ) ) )/relay/ | | 0
-show --side=bot --level=30 | 0200002C48174000410240014000 4A1340004A0140004A014000 480140014000480140014001 4000480140014001 4001 | DM 44/SND ( FRA ) ( PRP ( AND ( AND ( DRW ) ( DRW ) ) ( DRW ) ) )/HUH at 9/HUH ( SND ( FRA ) ( PRP ( AND ( ERR AND ( DRW ) ( DRW ) ) ( DRW ) ) ) )/ | | 3
-show --level=50 --side bot | 0200002C48174000410240014000 4A1340004A0140004A014000 480140014000480140014001 4000480140014001 4001 | DM 44/SND ( FRA ) ( PRP ( AND ( AND ( DRW ) ( DRW ) ) ( DRW ) ) )/relay/ | | 0
+show | 0200001C 481740004102400140004A1340004A10400041014102400140014001 | DM 28/SND ( FRA ) ( PRP ( PCE ( ENG FRA ) ) )/HUH at 0/HUH ( ERR SND ( FRA ) ( PRP ( PCE ( ENG FRA ) ) ) )/ | | 3
+show --level 0 | 0200001C 481740004102400140004A1340004A10400041014102400140014001 | DM 28/SND ( FRA ) ( PRP ( PCE ( ENG FRA ) ) )/HUH at 0/HUH ( ERR SND ( FRA ) ( PRP ( PCE ( ENG FRA ) ) ) )/ | | 3
+show --level 10 | 0200001C 481740004102400140004A1340004A10400041014102400140014001 | DM 28/SND ( FRA ) ( PRP ( PCE ( ENG FRA ) ) )/relay/ | | 0
+show --level 10 | 02000024 481740004102400140004A1340004A1F4000400041024200510A40014322400140014001 | DM 36/SND ( FRA ) ( PRP ( XDO ( ( FRA AMY PAR ) HLD ) ) )/HUH at 7/HUH ( SND ( FRA ) ( PRP ( ERR XDO ( ( FRA AMY PAR ) HLD ) ) ) )/ | | 3
+show --level 20 | 02000024 481740004102400140004A1340004A1F4000400041024200510A40014322400140014001 | DM 36/SND ( FRA ) ( PRP ( XDO ( ( FRA AMY PAR ) HLD ) ) )/relay/ | | 0
+show --level 20 | 02000020 481740004102400140004A1340004A0140004801400140004801400140014001 | DM 32/SND ( FRA ) ( PRP ( AND ( DRW ) ( DRW ) ) )/HUH at 7/HUH ( SND ( FRA ) ( PRP ( ERR AND ( DRW ) ( DRW ) ) ) )/ | | 3
+show --level 30 | 02000020 481740004102400140004A1340004A0140004801400140004801400140014001 | DM 32/SND ( FRA ) ( PRP ( AND ( DRW ) ( DRW ) ) )/relay/ | | 0
+show --level 30 | 0200001C 481740004102400140004A1340004A1540004102510A400140014001 | DM 28/SND ( FRA ) ( PRP ( SCD ( FRA PAR ) ) )/HUH at 7/HUH ( SND ( FRA ) ( PRP ( ERR SCD ( FRA PAR ) ) ) )/ | | 3
+show --level 40 | 0200001C 481740004102400140004A1340004A1540004102510A400140014001 | DM 28/SND ( FRA ) ( PRP ( SCD ( FRA PAR ) ) )/relay/ | | 0
+show --side=bot --level=40 | 0200002C 481740004102400140004A1340004A0140004A01400048014001400048014001400140004801400140014001 | DM 44/SND ( FRA ) ( PRP ( AND ( AND ( DRW ) ( DRW ) ) ( DRW ) ) )/HUH at 9/HUH ( SND ( FRA ) ( PRP ( AND ( ERR AND ( DRW ) ( DRW ) ) ( DRW ) ) ) )/ | | 3
+show --level=50 --side bot | 0200002C 481740004102400140004A1340004A0140004A01400048014001400048014001400140004801400140014001 | DM 44/SND ( FRA ) ( PRP ( AND ( AND ( DRW ) ( DRW ) ) ( DRW ) ) )/relay/ | | 0
+show --level 50 | 0200001A 481740004102400140004A0640004A1440004801400140014001 | DM 26/SND ( FRA ) ( FCT ( QRY ( DRW ) ) )/HUH at 7/HUH ( SND ( FRA ) ( FCT ( ERR QRY ( DRW ) ) ) )/ | | 3
+show --level 60 | 0200001A 481740004102400140004A0640004A1440004801400140014001 | DM 26/SND ( FRA ) ( FCT ( QRY ( DRW ) ) )/relay/ | | 0
 show --side server | 0200001A480440004101400140 0004D2400140004000 4903000A40014001 | DM 26/HLO ( ENG ) ( 1234 ) ( ( LVL 10 ) )/relay/ | | 0
 show --side bot | 0200000848044000 41014001 | DM 8/HLO ( ENG )/HUH at 1/HUH ( HLO ERR ( ENG ) )/ | | 3
 show --side=server | 02000002480F | DM 2/OBS/HUH at 0/HUH ( ERR OBS )/ | | 3
@@ -79,8 +88,10 @@ show --level=5 | 02000002480F | | bad level | 2
 show --level=010 | 02000002480F | | bad level | 2
 show --level 70 --side=server | 02000002480F | | bad level | 2
 show --level=x --side=x | 02000002480F | | bad side | 2
+| 0200001C 481740004102400140004A1340004A10400041014102400140014001 | DM 28/SND ( FRA ) ( PRP ( PCE ( ENG FRA ) ) )/HUH at 0/HUH ( ERR SND ( FRA ) ( PRP ( PCE ( ENG FRA ) ) ) )/ | | 3
 | 02000002480F | DM 2/OBS/relay/ | | 0
 --version | | daide-gate 0.1.0/ | | 0
+-V | | daide-gate 0.1.0/ | | 0
 ";
 
 /// The line that tells a fault, if there is one, and nothing else.
@@ -91,13 +102,19 @@ fn is_told(told: &str, fault: &str) -> bool {
     }
 }
 
+/// The words of a command line, the program's name before them.
+fn words_of<'a, R: AllocGlobal>(rt: &R, text: &'a str) -> Result<Vec<&'a str>, Fail> {
+    let mut words = vec![in rt.alloc(); "daide-gate"]?;
+    for word in text.split_whitespace() {
+        words.push(word)?;
+    }
+    Ok(words)
+}
+
 /// Runs a row of the table, and looks at what it prints, tells and answers.
 fn check_run<R: AllocGlobal + Abort>(rt: &R, row: &str) -> Result<(), Fail> {
     let mut fields = row.split('|');
-    let mut words = vec![in rt.alloc(); "daide-gate"]?;
-    for word in fields.next().unwrap_or("").split_whitespace() {
-        words.push(word)?;
-    }
+    let words = words_of(rt, fields.next().unwrap_or(""))?;
     let input = fields.next().unwrap_or("");
     let output = fields.next().unwrap_or("").trim();
     let fault = fields.next().unwrap_or("").trim();
@@ -119,25 +136,57 @@ fn each_run_is_a_row(rt: HostRuntime) -> Result<(), Fail> {
     Ok(())
 }
 
-/// Whether a text of `clap`'s is printed, and nothing else.
-fn is_usage(text: &str, other: &str, usage: &str) -> bool {
-    text.contains(usage) && other.is_empty()
+/// Runs that tell how the program is used: the words after its name | a part of what is printed, or
+/// told where the status is 2 | the status.
+const USAGES: &str = "\
+--help | Usage: daide-gate [COMMAND] | 0
+--help | show  Shows one frame, read as hexadecimal digits from standard input | 0
+--help | Without a command it does what 'show' does with its defaults. | 0
+--help | --side <SIDE>  bot or server [default: bot] | 0
+--help | --level <N>    0, 10, 20, 30, 40, 50 or 60 [default: 0] | 0
+--help | 0  the frame would be relayed; help and version | 0
+--help | 1  a fault of the input, the output or memory, told in one line on standard error | 0
+--help | 2  words that are not understood | 0
+--help | 3  the frame is shown, and would not be relayed | 0
+-h | Exit status: | 0
+help | Exit status: | 0
+show --help | Usage: daide-gate show [OPTIONS] | 0
+show -h | Whose frame it is, bot or server [default: bot] | 0
+help show | The level of press, 0, 10, 20, 30, 40, 50 or 60 [default: 0] | 0
+show --help | The exit status is 0 where the frame would be relayed and 3 where not | 0
+tell | error: unrecognized subcommand 'tell' | 2
+--side bot | error: unexpected argument '--side' found | 2
+show more | error: unexpected argument 'more' found | 2
+show --press | error: unexpected argument '--press' found | 2
+show --side | error: a value is required for '--side <SIDE>' but none was supplied | 2
+show --level | error: a value is required for '--level <N>' but none was supplied | 2
+show --level 0 --level 0 | error: the argument '--level <N>' cannot be used multiple times | 2
+";
+
+/// Runs a row of that table: the text stands in one stream, and the other is empty.
+fn check_usage<R: AllocGlobal + Abort>(rt: &R, row: &str) -> Result<(), Fail> {
+    let mut fields = row.split('|');
+    let words = words_of(rt, fields.next().unwrap_or(""))?;
+    let part = fields.next().unwrap_or("").trim();
+    let status = fields.next().unwrap_or("").trim();
+    let (printed, told, ended) = run(rt, words.as_slice(), b"")?;
+    let (text, other) = if ended == 0 {
+        (printed, told)
+    } else {
+        (told, printed)
+    };
+    let ended = ended.to_string(rt.alloc())?;
+    assert!(rt; text.as_str().contains(part), "told {text} at {row}");
+    assert!(rt; other.is_empty(), "told {other} elsewhere at {row}");
+    assert!(rt; ended.as_str() == status, "ended with {ended} at {row}");
+    Ok(())
 }
 
 #[test]
-fn tells_its_usage(rt: HostRuntime) -> Result<(), Fail> {
-    let (printed, told, status) = run(&rt, &["daide-gate", "--help"], b"")?;
-    let usage = "Usage: daide-gate [COMMAND]";
-    assert!(rt; is_usage(printed.as_str(), told.as_str(), usage) && status == 0);
-    let (printed, told, status) = run(&rt, &["daide-gate", "show", "--help"], b"")?;
-    let usage = "Usage: daide-gate show [OPTIONS]";
-    assert!(rt; is_usage(printed.as_str(), told.as_str(), usage) && status == 0);
-    let (printed, told, status) = run(&rt, &["daide-gate", "tell"], b"")?;
-    let usage = "unrecognized subcommand 'tell'";
-    assert!(rt; is_usage(told.as_str(), printed.as_str(), usage) && status == 2);
-    let (printed, told, status) = run(&rt, &["daide-gate", "show", "--side"], b"")?;
-    let usage = "a value is required for '--side <SIDE>'";
-    assert!(rt; is_usage(told.as_str(), printed.as_str(), usage) && status == 2);
+fn each_usage_is_a_row(rt: HostRuntime) -> Result<(), Fail> {
+    for row in USAGES.lines() {
+        check_usage(&rt, row)?;
+    }
     Ok(())
 }
 

@@ -4,7 +4,9 @@ ghost use Rattle.std.specs.Prelude.{◌≡◌, ◌≤◌, ◌*◌, ◌%◌, ◌+
 ghost use Rattle.daide_token.specs.Token.{tokens_of};
 ghost use Rattle.daide_token.specs.Text.{text_of};
 ghost use Rattle.daide_frame.specs.Head.{has_right_length};
-ghost use Rattle.daide_gate.specs.Shown.{Shown, Adds, IsFrameShownAs, fault_shown, huh_answer, is_relay, kind_line, line, name_of_kind, prn_answer, relayed_shown, im_shown, verdict_lines, IsPlaceWithin};
+ghost use Rattle.daide_gate.specs.Shown.{Shown, Adds, IsFrameShownAs, IsPlaceWithin};
+ghost use Rattle.daide_gate.specs.Shown.{line, kind_line, name_of_kind, fault_shown, relayed_shown, im_shown};
+ghost use Rattle.daide_gate.specs.Shown.{verdict_lines, prn_answer, huh_answer, is_relay};
 ghost use Rattle.daide_frame.specs.InitialMessage.{im_of};
 
 use super::verdict_of::verdict_of;
@@ -98,7 +100,9 @@ fn write_verdict<A: Allocator + Copy>(
 ) -> io::Result<bool>
     requires even { length body.now % 2 ≡ 0 }
     requires within { IsPlaceWithin verdict (length body.now) }
-    ensures { IfOk result (λ relayed. (text.new.items ≡ text.old.items ++ verdict_lines verdict (tokens_of body.now)) × (relayed ≡ is_relay verdict)) }
+    ensures { IfOk result (λ relayed.
+        (text.new.items ≡ text.old.items ++ verdict_lines verdict (tokens_of body.now))
+        × (relayed ≡ is_relay verdict)) }
 {
     match verdict {
         Verdict::Relay => {
@@ -169,7 +173,9 @@ fn write_message<A: Allocator + Copy>(
     requires dm { head.kind ≡ Kind.Dm }
     requires even { length body.now % 2 ≡ 0 }
     requires capped { length body.now ≤ 65526 }
-    ensures { IfOk result (λ relayed. (shown : Shown) × IsFrameShownAs end level Kind.Dm head.len body.now shown × Adds text.old.items text.new.items relayed shown) }
+    ensures { IfOk result (λ relayed. (shown : Shown)
+        × IsFrameShownAs end level Kind.Dm head.len body.now shown
+        × Adds text.old.items text.new.items relayed shown) }
 {
     let verdict = verdict_of(end, level, body);
     write_kind(head, text)?;
@@ -188,7 +194,9 @@ pub(super) fn write_frame<A: Allocator + Copy>(
 ) -> io::Result<bool>
     requires right { has_right_length head.kind (length body.now) ≡ true }
     requires capped { length body.now ≤ 65526 }
-    ensures { IfOk result (λ relayed. (shown : Shown) × IsFrameShownAs end level head.kind head.len body.now shown × Adds text.old.items text.new.items relayed shown) }
+    ensures { IfOk result (λ relayed. (shown : Shown)
+        × IsFrameShownAs end level head.kind head.len body.now shown
+        × Adds text.old.items text.new.items relayed shown) }
 {
     match head.kind {
         Kind::Im => write_im(alloc, head, body, text),

@@ -28,7 +28,8 @@ fn judge<T: Predict, const N: usize>(
     requires size { N ≤ 4096 }
     requires even { length body.now % 2 ≡ 0 }
     requires capped { length body.now ≤ 65526 }
-    ensures verdict { HasVerdict (IsMessageOf (T.language (T.words reader.old.table) (T.opening end level))) reader.old.max_depth (tokens_of body.now) result }
+    ensures verdict { HasVerdict (IsMessageOf (T.language (T.words reader.old.table) (T.opening end level)))
+        reader.old.max_depth (tokens_of body.now) result }
     ensures within { IsPlaceWithin result (length body.now) }
 {
     reader.start(end, level);
