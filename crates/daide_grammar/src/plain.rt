@@ -1,6 +1,6 @@
 //! The grammar's predictions, by matching.
 //!
-//! `move_of` has an arm for each symbol, in the order of `Sym`. A symbol that only one class may
+//! `entry_of` has an arm for each symbol, in the order of `Sym`. A symbol that only one class may
 //! begin stands there whole; the others have a function of their own in the module of their part of
 //! the grammar. Nothing is looked up in memory: the matches are jumps.
 
@@ -121,14 +121,27 @@ fn may<const N: usize>(wanted: Class, class: Class, rest: [Sym; N]) -> Move
     }
 }
 
-/// What a token of the class means to the symbol.
+/// What a token of the class means to the symbol. A closing bracket, the symbol that is met most
+/// often, is told before the jump.
+#[tactic(auto, unfolding(crate::specs::Symbols::table_answer, crate::specs::Symbols::entries, crate::specs::Symbols::may_end_of))]
+fn move_of(sym: Sym, class: Class) -> Move
+    ensures { answer_of result ≡ table_answer sym class }
+{
+    match sym {
+        Sym::Closing => must(Class::Ket, class, []),
+        _ => entry_of(sym, class),
+    }
+}
+
+/// What a token of the class means to the symbol, by a jump.
 //
 // It stays out of line: inlined into a reader's loop over the symbols, the comparisons of all arms
-// would be made before the first symbol is looked at.
+// would be made before the first symbol is looked at. What it calls is inlined, so that an answer
+// is not copied on the way.
 #[inline(never)]
 #[rattlefmt::skip]
 #[tactic(auto, unfolding(crate::specs::Symbols::table_answer, crate::specs::Symbols::entries, crate::specs::Symbols::may_end_of))]
-fn move_of(sym: Sym, class: Class) -> Move
+fn entry_of(sym: Sym, class: Class) -> Move
     ensures { answer_of result ≡ table_answer sym class }
 {
     match sym {
