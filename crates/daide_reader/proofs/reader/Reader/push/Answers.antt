@@ -16,7 +16,7 @@ returns-then-is_some-clause-stands_after g c = λ words first max_depth p h.
       asked_same = refl;
       outline_more = c.add.ensures;
       not_prn = c.if-self.false;
-      unclosed_more = c.count-self-inside.ensures;
+      unclosed_more = c.count.ensures;
       steps_more = (0, omega arith, omega arith);
     })
     c.if-is_some.ensures refl
@@ -39,7 +39,7 @@ take-requires g c = (
         let w = Predict.words c.self.inside.table in
         let here = count_here (Predict.lawful w) g.row.N _ _ _ _ _ _ _ c.self.invariant c.add.ensures c.if-self.false c.if-is_some.ensures in
         room_more Predict g.met.T.Predict.laws w g.row.N c.args.token here.0 _ _ here.3 here.2 c.self.invariant.deepest
-        (below_deepest _ here.0 _ c.args.token _ c.are_open-deepest.ensures here.1 fits),
+        (below_deepest _ here.0 _ c.args.token _ c.opens_at-deepest.ensures here.1 fits),
   ),
 )
 
@@ -51,16 +51,16 @@ invariant_of-self-then-take g c =
     let here = count_here (Predict.lawful w) g.row.N _ _ _ _ _ _ _ c.self.invariant c.add.ensures c.if-self.false c.if-is_some.ensures in
     let taken = c.if-take.ensures.taken in
     let next = lawful_more Predict g.met.T.Predict.laws w c.args.token here.0 _ _ _ here.3 here.2
-    (below_deepest _ here.0 _ c.args.token _ c.are_open-deepest.ensures here.1 taken.fits) taken.advances in
+    (below_deepest _ here.0 _ c.args.token _ c.opens_at-deepest.ensures here.1 taken.fits) taken.advances in
     record {
       small = c.self.invariant.small;
       deepest = c.self.invariant.deepest;
-      counts = rw (c.count-self-inside.ensures, c.add.ensures) (counts_more _ _ (is_bra c.args.token) (is_ket c.args.token) c.self.invariant.counts);
+      counts = rw (c.count-2.ensures, c.add.ensures) (counts_more _ _ (is_bra c.args.token) (is_ket c.args.token) c.self.invariant.counts);
       tokens = let room = c.requires.room in rw c.add.ensures (grind (arith, common_steps));
       fresh = rw c.add.ensures (grind (arith, common_steps));
       lawful_stack = λ _ _. (
         next.0,
-        c.count-self-inside.ensures ∙ (ap (count_one (is_bra c.args.token) (is_ket c.args.token)) here.1 ∙ next.1),
+        c.count-2.ensures ∙ (ap (count_one (is_bra c.args.token) (is_ket c.args.token)) here.1 ∙ next.1),
         next.2,
         subst (λ (w : Words). Predict.lawful w (reverse c.take.new.stack.items) next.0) (sym c.take.ensures.words) next.3,
       );
@@ -84,11 +84,11 @@ returns-then-take-clause-stands_after g c = λ words first max_depth p h.
       asked_same = refl;
       outline_more = c.add.ensures;
       not_prn = c.if-self.false;
-      unclosed_more = c.count-self-inside.ensures;
+      unclosed_more = c.count-2.ensures;
       steps_more = (asked.0, few_steps Predict g.met.T.Predict.laws w (Predict.class_of w c.args.token) _ here.0 asked.0 here.3 asked.1, asked.2);
     })
     (record { no_place = c.if-is_some.ensures; unclosed = here.1; deep = here.2; lawful_stack = here.3 })
-    (below_deepest _ here.0 _ c.args.token _ c.are_open-deepest.ensures here.1 taken.fits)
+    (below_deepest _ here.0 _ c.args.token _ c.opens_at-deepest.ensures here.1 taken.fits)
     taken.advances refl
     (stands_along g.T.Predict words first max_depth _ _ p c.self.view_is h)
 
@@ -107,10 +107,10 @@ returns-clause-stands_after g c = λ words first max_depth p h.
       asked_same = refl;
       outline_more = c.add.ensures;
       not_prn = c.if-self.false;
-      unclosed_more = c.count-self-inside.ensures;
+      unclosed_more = c.count-2.ensures;
       steps_more = (asked.0, few_steps Predict g.met.T.Predict.laws w (Predict.class_of w c.args.token) _ here.0 asked.0 here.3 asked.1, asked.2);
     })
     (record { no_place = c.if-is_some.ensures; unclosed = here.1; deep = here.2; lawful_stack = here.3 })
-    (refused_at (Predict.class_of w) (Predict.moves w) _ here.0 _ c.args.token _ _ c.are_open-deepest.ensures here.1 c.if-take.ensures.refused)
+    (refused_at (Predict.class_of w) (Predict.moves w) _ here.0 _ c.args.token _ _ c.opens_at-deepest.ensures here.1 c.if-take.ensures.refused)
     refl
     (stands_along g.T.Predict words first max_depth _ _ p c.self.view_is h)
