@@ -10,7 +10,7 @@ use Rattle.daide_grammar.specs.Depth.{depth_of}
 use Rattle.daide_reader.specs.declared.outline.Outline.{Outline}
 use Rattle.daide_reader.specs.ViablePrefix.{IsMessageOf}
 use Rattle.daide_reader.specs.ErrorPlace.{IsAllowedPrefix, IsErrorPlace}
-use Rattle.daide_reader.specs.Brackets.{counted}
+use Rattle.daide_grammar.specs.Brackets.{counted}
 use Rattle.daide_reader.specs.Outline.{IsOutlineOf}
 
 -- a reader over a table of type T
