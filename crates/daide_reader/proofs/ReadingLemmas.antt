@@ -17,7 +17,7 @@ use Rattle.daide_grammar.specs.Brackets.{is_bra, is_ket, counted, count_one}
 use Rattle.daide_reader.specs.declared.outline.Outline.{Outline}
 use Rattle.daide_reader.specs.Stack.{IsRefused, steps_at}
 use Rattle.daide_reader.specs.Outline.{IsOutlineOf, with_token}
-use Rattle.daide_reader.specs.Reading.{Reading, StandsAfter, StackOrPlace, HasPlace, IsSteady, steps_since, brackets_open}
+use Rattle.daide_reader.specs.Reading.{Reading, StandsAfter, StackOrPlace, HasPlace, IsSteady, IsSettled, steps_since, brackets_open}
 use Rattle.daide_reader.proofs.StackLemmas.{after_plain, after_open, after_close, four_steps}
 use Rattle.daide_grammar.proofs.Counting.{counted-snoc}
 use Rattle.daide_reader.proofs.OutlineLemmas.{outline-snoc}
@@ -318,6 +318,14 @@ old_not_prn o t fresh now = go (o.tokens == 0) refl
     go : (b : Bool) → (o.tokens == 0) ≡ b → o.is_prn ≡ false
     go true is = fresh (eqb-true o.tokens 0 is)
     go false is = rw is at now
+
+-- what is not settled has no place, and does not begin with PRN
+pub unsettled : {T : Type 0} (v old : Reading T) → v ≡ old → v.place ≡ None → v.outline.is_prn ≡ false → ¬ IsSettled old
+unsettled {T = T} v old same none not_prn settled = go (subst (λ (r : Reading T). IsSettled r) (sym same) settled)
+  where
+    go : IsSettled v → ⊥
+    go (inl placed) = let f : true ≡ false = sym placed ∙ ap is_some none in cc
+    go (inr prn) = let f : true ≡ false = sym prn ∙ not_prn in cc
 
 -- the count of a reader with no place
 pub count_here : (lawful : List Sym → ℕ → Type 0) (size max_depth : ℕ) (stack : List Sym) (o new : Outline) (u place : Option ℕ) (t : ℕ)

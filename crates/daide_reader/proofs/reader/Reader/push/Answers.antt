@@ -3,7 +3,7 @@ use Rattle.daide_grammar.specs.Words.{Words}
 use Rattle.daide_grammar.specs.Brackets.{is_bra, is_ket, count_one}
 use Rattle.daide_reader.specs.Reading.{Reading}
 use Rattle.daide_reader.specs.declared.outline.Outline.{Outline}
-use Rattle.daide_reader.proofs.ReadingLemmas.{stands_along, few_steps, stands_report, stands_placed, stands_taken, stands_refused, refused_at, count_here, below_deepest, counts_more, counts_stay, below_word, steady_more, room_more, lawful_more}
+use Rattle.daide_reader.proofs.ReadingLemmas.{stands_along, few_steps, stands_report, stands_placed, stands_taken, stands_refused, refused_at, count_here, below_deepest, counts_more, counts_stay, below_word, steady_more, unsettled, none_from_test, old_not_prn, room_more, lawful_more}
 use Rattle.daide_reader.proofs.reader.Reader.push.Goals as goal
 
 -- a place was found before
@@ -27,6 +27,7 @@ returns-then-is_some g c = record {
   words = ap (λ (v : Reading g.row.T.Denot). g.T.Predict.words v.table) c.self.view_is;
   depth = ap (λ (v : Reading g.row.T.Denot). v.max_depth) c.self.view_is;
   base = ap (λ (v : Reading g.row.T.Denot). v.asked_before) c.self.view_is;
+  unasked = λ _. ap (λ (v : Reading g.row.T.Denot). v.table) c.self.view_is;
   unfinished = ap (λ (v : Reading g.row.T.Denot). v.finished) c.self.view_is ∙ c.requires.unfinished;
 }
 
@@ -40,6 +41,7 @@ returns-then-self g c = record {
   words = ap (λ (v : Reading g.row.T.Denot). g.T.Predict.words v.table) c.self.view_is;
   depth = ap (λ (v : Reading g.row.T.Denot). v.max_depth) c.self.view_is;
   base = ap (λ (v : Reading g.row.T.Denot). v.asked_before) c.self.view_is;
+  unasked = λ _. ap (λ (v : Reading g.row.T.Denot). v.table) c.self.view_is;
   unfinished = ap (λ (v : Reading g.row.T.Denot). v.finished) c.self.view_is ∙ c.requires.unfinished;
 }
 
@@ -145,6 +147,8 @@ returns-then-take g c = record {
   words = c.take.ensures.words ∙ ap (λ (v : Reading g.row.T.Denot). g.T.Predict.words v.table) c.self.view_is;
   depth = ap (λ (v : Reading g.row.T.Denot). v.max_depth) c.self.view_is;
   base = ap (λ (v : Reading g.row.T.Denot). v.asked_before) c.self.view_is;
+  unasked = λ settled. absurd (unsettled _ _ c.self.view_is (none_from_test _ c.if-is_some.ensures)
+      (old_not_prn c.self.inside.outline c.args.token c.self.invariant.fresh (ap (λ (o : Outline). o.is_prn) (sym c.add.ensures) ∙ c.if-self.false)) settled);
   unfinished = ap (λ (v : Reading g.row.T.Denot). v.finished) c.self.view_is ∙ c.requires.unfinished;
 }
 
@@ -175,5 +179,7 @@ returns g c = record {
   words = c.take.ensures.words ∙ ap (λ (v : Reading g.row.T.Denot). g.T.Predict.words v.table) c.self.view_is;
   depth = ap (λ (v : Reading g.row.T.Denot). v.max_depth) c.self.view_is;
   base = ap (λ (v : Reading g.row.T.Denot). v.asked_before) c.self.view_is;
+  unasked = λ settled. absurd (unsettled _ _ c.self.view_is (none_from_test _ c.if-is_some.ensures)
+      (old_not_prn c.self.inside.outline c.args.token c.self.invariant.fresh (ap (λ (o : Outline). o.is_prn) (sym c.add.ensures) ∙ c.if-self.false)) settled);
   unfinished = ap (λ (v : Reading g.row.T.Denot). v.finished) c.self.view_is ∙ c.requires.unfinished;
 }
