@@ -7,7 +7,7 @@ ghost use Rattle.std.specs.Prelude.{◌≡◌, ◌≤◌, ◌+◌, ◌%◌, ◌^
 ghost use Rattle.std.specs.Bool.{OnTrue, OnFalse};
 ghost use Rattle.std.specs.List.{list_all};
 ghost use Rattle.daide_grammar.specs.Stacks.{stack_after, ends_asked};
-ghost use Rattle.daide_reader.specs.Brackets.{is_bra as is_bra_token};
+ghost use Rattle.daide_grammar.specs.Brackets.{is_bra as is_bra_token};
 ghost use Rattle.daide_reader.specs.Stack.{steps_at, IsTaken, IsRefused};
 ghost use Rattle.arrayvec.specs.ArrayVec.{array_vec_len};
 
@@ -46,7 +46,8 @@ fn follow<T: Predict, const N: usize>(
         ≡ (T.asked table.old + steps_at (T.moves (T.words table.old)) class (reverse stack.old.items)) % 2 ^ 64 }
 {
     while let Some(symbol) = stack.pop() {
-        match table.predict(symbol, class) {
+        let answer = table.predict(symbol, class);
+        match &answer {
             Move::Take(rest) => {
                 put(stack, rest.as_slice());
                 return true;
