@@ -1,5 +1,5 @@
 -- What the definitions of brackets say of single lists. Which is which was worked out by hand from the protocol.
-use Rattle.std.proofs.Common.{◌≡◌, ℕ, Option, None, Some, List, [], ◌∷◌, refl}
+use Rattle.std.proofs.Common.{◌≡◌, None, [], ◌∷◌, refl}
 use Rattle.daide_token.specs.Token.{bra, ket, prn, huh}
 use Rattle.daide_grammar.specs.Depth.{open_brackets, depth_of}
 use Rattle.daide_grammar.specs.Brackets.{counted}

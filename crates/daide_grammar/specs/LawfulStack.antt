@@ -12,7 +12,11 @@ use Rattle.daide_grammar.specs.Symbols.{opening_of}
 -- table makes of one. A token that is taken leaves its rest in the symbol's place; a skipped symbol is dropped.
 pub data IsLawful (moves : Sym → Class → Answer) : List Sym → ℕ → Type 0 where
   opening : (side : Side2) (level : Level) → IsLawful moves (opening_of side level ∷ []) 0
-  word : {n : ℕ} {s : Sym} {rest below : List Sym} (c : Class) → c ≢ Bra → c ≢ Ket → moves s c ≡ Take rest → IsLawful moves (s ∷ below) n → IsLawful moves (rest ++ below) n
-  bra : {n : ℕ} {s : Sym} {rest below : List Sym} → moves s Bra ≡ Take rest → IsLawful moves (s ∷ below) n → IsLawful moves (rest ++ below) (suc n)
-  ket : {n : ℕ} {s : Sym} {rest below : List Sym} → moves s Ket ≡ Take rest → IsLawful moves (s ∷ below) (suc n) → IsLawful moves (rest ++ below) n
-  skip : {n : ℕ} {s : Sym} {below : List Sym} (c : Class) → moves s c ≡ Skip → IsLawful moves (s ∷ below) n → IsLawful moves below n
+  word : {n : ℕ} {s : Sym} {rest below : List Sym} (c : Class) →
+      c ≢ Bra → c ≢ Ket → moves s c ≡ Take rest → IsLawful moves (s ∷ below) n → IsLawful moves (rest ++ below) n
+  bra : {n : ℕ} {s : Sym} {rest below : List Sym} →
+      moves s Bra ≡ Take rest → IsLawful moves (s ∷ below) n → IsLawful moves (rest ++ below) (suc n)
+  ket : {n : ℕ} {s : Sym} {rest below : List Sym} →
+      moves s Ket ≡ Take rest → IsLawful moves (s ∷ below) (suc n) → IsLawful moves (rest ++ below) n
+  skip : {n : ℕ} {s : Sym} {below : List Sym} (c : Class) →
+      moves s c ≡ Skip → IsLawful moves (s ∷ below) n → IsLawful moves below n
