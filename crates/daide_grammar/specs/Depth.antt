@@ -1,4 +1,4 @@
--- How many brackets are open, and how many at most.
+-- How many brackets are open, and how many at most: from the verdicts of docs/PROTOCOL.md.
 use Rattle.std.specs.Prelude.{ℕ, ◌-◌, ◌==◌, ◌||◌, Bool, nat_lt, List, [], ◌∷◌, map, max, if◌then◌else◌}
 use Rattle.std.specs.List.{count_by, list_any}
 use Rattle.daide_token.specs.Token.{bra, ket}

@@ -6,6 +6,7 @@
 
 ghost use Rattle.std.specs.Prelude.{◌≡◌, ◌≤◌, ◌+◌, ◌%◌, ◌^◌, [], if◌then◌else◌};
 ghost use Rattle.daide_grammar.specs.Answers.{Take, Skip, Stop, answer_of};
+ghost use Rattle.daide_grammar.specs.AnswersGiven.{answers_given};
 ghost use Rattle.daide_grammar.specs.Classes.{same_class};
 ghost use Rattle.daide_grammar.specs.Symbols.{may_end_of, table_answer};
 
@@ -38,7 +39,7 @@ pub struct Plain {
 impl Plain {
     /// A table that was never asked.
     pub fn new() -> Plain
-        ensures { result.asked ≡ 0 }
+        ensures { answers_given result ≡ 0 }
     {
         Plain { asked: 0 }
     }
@@ -46,6 +47,7 @@ impl Plain {
 
 impl Predict for Plain {
     ghost use Rattle.daide_token.specs.Class.{class_of};
+    ghost use Rattle.daide_grammar.specs.AnswersGiven.{answers_given};
     ghost use Rattle.daide_grammar.specs.LawfulStack.{IsLawful};
     ghost use Rattle.daide_grammar.specs.Messages.{SymbolMatches};
     ghost use Rattle.daide_grammar.specs.Symbols.{may_end_of, opening_of, table_answer};
@@ -65,7 +67,7 @@ impl Predict for Plain {
 
     ghost lawful = { λ _. IsLawful table_answer };
 
-    ghost asked = { λ table. table.asked };
+    ghost asked = { answers_given };
 
     fn predict(&mut self, sym: Sym, class: Class) -> Move {
         self.asked = self.asked.wrapping_add(1);
