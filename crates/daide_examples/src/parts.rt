@@ -56,7 +56,7 @@ fn parts_of_requests(rt: HostRuntime) -> Result<(), Fail> {
 
 // side, level, message, verdict
 #[rattlefmt::skip]
-const ORDERS: [Example; 39] = [
+const ORDERS: [Example; 40] = [
     (Client, L0, "SUB ( HLD )", Huh(2)),
     (Client, L0, "SUB ( ( ) HLD )", Huh(3)),
     (Client, L0, "SUB ( ( UNO FLT NTH ) HLD )", Huh(3)),
@@ -67,6 +67,7 @@ const ORDERS: [Example; 39] = [
     (Client, L0, "SUB ( ( ENG FLT ( ) ) HLD )", Huh(6)),
     (Client, L0, "SUB ( ( ENG FLT ( NCS ) ) HLD )", Huh(6)),
     (Client, L0, "SUB ( ( ENG FLT ( STP NWY ) ) HLD )", Huh(7)),
+    (Client, L0, "SUB ( ( ENG FLT ( ( STP NCS ) NCS ) ) HLD )", Huh(6)),
     (Client, L0, "SUB ( ( ENG FLT ( STP NCS SCS ) ) HLD )", Huh(8)),
     (Client, L0, "SUB ( ( ENG FLT NTH ) ( ENG FLT NTH ) HLD )", Huh(7)),
     (Client, L0, "SUB ( ( ENG FLT NTH ) NWY )", Huh(7)),
