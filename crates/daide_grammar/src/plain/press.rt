@@ -12,6 +12,9 @@ use crate::symbol::Sym;
 use daide_token::class::Class;
 
 /// An arrangement that is no AND and no ORR, with the symbol of what a NOT holds.
+//
+// It stands in line in its callers, so that the first token of an arrangement costs no call.
+#[inline(always)]
 fn simple(level: Level, inside: Sym, class: Class) -> Move
     ensures { answer_of result ≡ answer_by (entry_at class (simple_entries level inside)) false }
 {
@@ -36,6 +39,7 @@ fn simple(level: Level, inside: Sym, class: Class) -> Move
 }
 
 /// What follows AND and ORR: two operands at least.
+#[inline(always)]
 fn joined(level: Level) -> Move
     ensures { answer_of result ≡ Take (OperandGroup level ∷ OperandGroup level ∷ Operands level ∷ []) }
 {
