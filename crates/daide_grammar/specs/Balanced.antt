@@ -1,4 +1,4 @@
--- Brackets that balance, whatever stands between them.
+-- Brackets that balance, whatever stands between them: from the verdicts of docs/PROTOCOL.md.
 use Rattle.std.specs.Prelude.{◌≢◌, ℕ, List, [], ◌∷◌, ◌++◌}
 use Rattle.daide_token.specs.Token.{bra, ket}
 

@@ -1,4 +1,4 @@
--- A number for each class of tokens, by which two classes are compared.
+-- A number for each class of tokens, by which two classes are compared. (own)
 use Rattle.std.specs.Prelude.{ℕ, ◌+◌, Bool, nat_eq}
 use Rattle.daide_token.specs.declared.class.Class.{Class}
 use Rattle.daide_token.specs.declared.class.Class.TheVariants.{Num, Bra, Ket, Power, Note, Outcome, Coast, Season, Text, Province, Amy, Flt, Cto, Cvy, Hld, Mto, Sup, Via, Dsb, Rto, Bld, Rem, Wve, Ccd, Drw, Frm, Gof, Hlo, Hst, Huh, Iam, Lod, Map, Mdf, Mis, Nme, Not, Now, Obs, Off, Ord, Out, Prn, Rej, Sco, Slo, Snd, Sub, Sve, Thx, Tme, Yes, Adm, Smr, Aly, And, Bwx, Dmz, Fct, Idk, Ins, Occ, Orr, Pce, Prp, Qry, Scd, Sry, Sug, Thk, Try, Vss, Xdo, Lvl, Mrt, Uno, Param, Other, Alien, Word}

@@ -1,4 +1,4 @@
--- How many brackets are open, and how many at most.
+-- How many brackets are open, and how many at most: from the verdicts of docs/PROTOCOL.md.
 use Rattle.std.specs.Prelude.{ℕ, ◌-◌, ◌==◌, ◌||◌, Bool, nat_lt, List, [], ◌∷◌, map, max, if◌then◌else◌}
 use Rattle.std.specs.List.{count_by, list_any}
 use Rattle.daide_token.specs.Token.{bra, ket}
@@ -24,7 +24,8 @@ prefixes (t ∷ m) = [] ∷ map (λ p. t ∷ p) (prefixes m)
 abbrev pub closes_early : List ℕ → Bool
 closes_early m = list_any (λ p. nat_lt (bras p) (kets p)) (prefixes m)
 
--- the brackets that are open after these tokens: none in a message that begins with PRN, and none once a KET came with nothing open
+-- the brackets that are open after these tokens: none in a message that begins with PRN, and none once a KET came
+-- with nothing open
 abbrev pub open_brackets : List ℕ → ℕ
 open_brackets p = if begins_with_prn p || closes_early p then 0 else excess p
 

@@ -8,6 +8,7 @@ pub mod Forms
 pub mod Message
 pub mod Matches
 pub mod Answers
+pub mod AnswersGiven
 pub mod Symbols
 pub mod Messages
 pub mod Words

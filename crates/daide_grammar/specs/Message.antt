@@ -1,4 +1,4 @@
--- The messages of either side.
+-- The messages of either side, rule by rule as docs/PROTOCOL.md lists them.
 pub mod Lists
 pub mod Places
 pub mod Orders

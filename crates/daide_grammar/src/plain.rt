@@ -6,6 +6,7 @@
 
 ghost use Rattle.std.specs.Prelude.{◌≡◌, ◌≤◌, ◌+◌, ◌%◌, ◌^◌, [], if◌then◌else◌};
 ghost use Rattle.daide_grammar.specs.Answers.{Take, Skip, Stop, answer_of};
+ghost use Rattle.daide_grammar.specs.AnswersGiven.{answers_given};
 ghost use Rattle.daide_grammar.specs.Classes.{same_class};
 ghost use Rattle.daide_grammar.specs.Symbols.{may_end_of, table_answer};
 
@@ -38,7 +39,7 @@ pub struct Plain {
 impl Plain {
     /// A table that was never asked.
     pub fn new() -> Plain
-        ensures { result.asked ≡ 0 }
+        ensures { answers_given result ≡ 0 }
     {
         Plain { asked: 0 }
     }
@@ -46,6 +47,7 @@ impl Plain {
 
 impl Predict for Plain {
     ghost use Rattle.daide_token.specs.Class.{class_of};
+    ghost use Rattle.daide_grammar.specs.AnswersGiven.{answers_given};
     ghost use Rattle.daide_grammar.specs.LawfulStack.{IsLawful};
     ghost use Rattle.daide_grammar.specs.Messages.{SymbolMatches};
     ghost use Rattle.daide_grammar.specs.Symbols.{may_end_of, opening_of, table_answer};
@@ -65,7 +67,7 @@ impl Predict for Plain {
 
     ghost lawful = { λ _. IsLawful table_answer };
 
-    ghost asked = { λ table. table.asked };
+    ghost asked = { answers_given };
 
     fn predict(&mut self, sym: Sym, class: Class) -> Move {
         self.asked = self.asked.wrapping_add(1);
@@ -123,7 +125,14 @@ fn may<const N: usize>(wanted: Class, class: Class, rest: [Sym; N]) -> Move
 
 /// What a token of the class means to the symbol. A closing bracket, the symbol that is met most
 /// often, is told before the jump.
-#[tactic(auto, unfolding(crate::specs::Symbols::table_answer, crate::specs::Symbols::entries, crate::specs::Symbols::may_end_of))]
+#[tactic(
+    auto,
+    unfolding(
+        crate::specs::Symbols::table_answer,
+        crate::specs::Symbols::entries,
+        crate::specs::Symbols::may_end_of
+    )
+)]
 fn move_of(sym: Sym, class: Class) -> Move
     ensures { answer_of result ≡ table_answer sym class }
 {
@@ -140,7 +149,14 @@ fn move_of(sym: Sym, class: Class) -> Move
 // by itself, so that an answer is written where it is wanted and not copied on the way.
 #[inline(never)]
 #[rattlefmt::skip]
-#[tactic(auto, unfolding(crate::specs::Symbols::table_answer, crate::specs::Symbols::entries, crate::specs::Symbols::may_end_of))]
+#[tactic(
+    auto,
+    unfolding(
+        crate::specs::Symbols::table_answer,
+        crate::specs::Symbols::entries,
+        crate::specs::Symbols::may_end_of
+    )
+)]
 fn entry_of(sym: Sym, class: Class) -> Move
     ensures { answer_of result ≡ table_answer sym class }
 {

@@ -1,4 +1,5 @@
 //! Predictions of places, units and orders.
+#![tactic(auto, unfolding(crate::specs::Symbols::table_answer, crate::specs::Symbols::entries, crate::specs::Symbols::may_end_of))]
 
 ghost use Rattle.std.specs.Prelude.{◌≡◌};
 ghost use Rattle.daide_grammar.specs.Answers.{answer_of};
@@ -10,7 +11,6 @@ use daide_token::class::Class;
 
 /// A province, or a province and a coast in brackets.
 #[inline(always)]
-#[tactic(auto, unfolding(crate::specs::Symbols::table_answer, crate::specs::Symbols::entries, crate::specs::Symbols::may_end_of))]
 pub fn one_place(class: Class) -> Move
     ensures { answer_of result ≡ table_answer Sym.OnePlace class }
 {
@@ -23,7 +23,6 @@ pub fn one_place(class: Class) -> Move
 
 /// Places, none or more.
 #[inline(always)]
-#[tactic(auto, unfolding(crate::specs::Symbols::table_answer, crate::specs::Symbols::entries, crate::specs::Symbols::may_end_of))]
 pub fn places(class: Class) -> Move
     ensures { answer_of result ≡ table_answer Sym.Places class }
 {
@@ -41,7 +40,6 @@ pub fn places(class: Class) -> Move
 
 /// An army or a fleet.
 #[inline(always)]
-#[tactic(auto, unfolding(crate::specs::Symbols::table_answer, crate::specs::Symbols::entries, crate::specs::Symbols::may_end_of))]
 pub fn unit_type(class: Class) -> Move
     ensures { answer_of result ≡ table_answer Sym.UnitType class }
 {
@@ -53,7 +51,6 @@ pub fn unit_type(class: Class) -> Move
 
 /// A unit in brackets and what it shall do, or a power that waives a build.
 #[inline(always)]
-#[tactic(auto, unfolding(crate::specs::Symbols::table_answer, crate::specs::Symbols::entries, crate::specs::Symbols::may_end_of))]
 pub fn one_order(class: Class) -> Move
     ensures { answer_of result ≡ table_answer Sym.OneOrder class }
 {
@@ -66,7 +63,6 @@ pub fn one_order(class: Class) -> Move
 
 /// What a unit shall do. The target of a supported move is a province and no coast.
 #[inline(always)]
-#[tactic(auto, unfolding(crate::specs::Symbols::table_answer, crate::specs::Symbols::entries, crate::specs::Symbols::may_end_of))]
 pub fn order_tail(class: Class) -> Move
     ensures { answer_of result ≡ table_answer Sym.OrderTail class }
 {

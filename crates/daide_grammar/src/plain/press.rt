@@ -1,26 +1,29 @@
 //! Predictions of arrangements, facts and press, each by its level.
+#![tactic(auto, unfolding(crate::specs::Symbols::table_answer, crate::specs::Symbols::entries, crate::specs::Symbols::may_end_of))]
 
-ghost use Rattle.std.specs.Prelude.{◌≡◌};
-ghost use Rattle.daide_grammar.specs.Answers.{answer_of};
-ghost use Rattle.daide_grammar.specs.Symbols.{table_answer};
+ghost use Rattle.std.specs.Prelude.{◌≡◌, false, [], ◌∷◌};
+ghost use Rattle.daide_grammar.specs.declared.symbol.Sym.TheVariants.{OperandGroup, Operands};
+ghost use Rattle.daide_grammar.specs.Answers.{Take, answer_of};
+ghost use Rattle.daide_grammar.specs.Symbols.{answer_by, entry_at, simple_entries, table_answer};
 
 use crate::level::Level;
 use crate::predict::{Move, Rest};
 use crate::symbol::Sym;
 use daide_token::class::Class;
 
-/// An arrangement. AND and ORR come from level 30 on.
+/// An arrangement that is no AND and no ORR, with the symbol of what a NOT holds.
+//
+// It stands in line in its callers, so that the first token of an arrangement costs no call.
 #[inline(always)]
-#[tactic(auto, unfolding(crate::specs::Symbols::table_answer, crate::specs::Symbols::entries, crate::specs::Symbols::may_end_of))]
-pub fn arrangement(level: Level, class: Class) -> Move
-    ensures { answer_of result ≡ table_answer (Sym.Arrangement level) class }
+fn simple(level: Level, inside: Sym, class: Class) -> Move
+    ensures { answer_of result ≡ answer_by (entry_at class (simple_entries level inside)) false }
 {
     match class {
         Class::Pce => Move::Take(Rest::of([Sym::PowersGroup])),
         Class::Aly => Move::Take(Rest::of([Sym::PowersGroup, Sym::Against, Sym::PowersGroup])),
         Class::Drw => Move::Take(Rest::of([Sym::MaybePowersGroup])),
         Class::Slo => Move::Take(Rest::of([Sym::PowerGroup])),
-        Class::Not => Move::Take(Rest::of([Sym::ArrangementGroup(level)])),
+        Class::Not => Move::Take(Rest::of([inside])),
         Class::Xdo if level.number() >= 20 => Move::Take(Rest::of([Sym::OrderGroup])),
         Class::Dmz if level.number() >= 20 => Move::Take(Rest::of([
             Sym::PowersGroup,
@@ -31,88 +34,58 @@ pub fn arrangement(level: Level, class: Class) -> Move
             Sym::UnitGroup,
             Sym::UnitGroups,
         ])),
-        Class::And | Class::Orr if level.number() >= 30 => {
-            Move::Take(Rest::of([
-                Sym::OperandGroup(level),
-                Sym::OperandGroup(level),
-                Sym::Operands(level),
-            ]))
-        }
         _ => Move::Stop,
+    }
+}
+
+/// What follows AND and ORR: two operands at least.
+#[inline(always)]
+fn joined(level: Level) -> Move
+    ensures { answer_of result ≡ Take (OperandGroup level ∷ OperandGroup level ∷ Operands level ∷ []) }
+{
+    Move::Take(Rest::of([
+        Sym::OperandGroup(level),
+        Sym::OperandGroup(level),
+        Sym::Operands(level),
+    ]))
+}
+
+/// An arrangement. AND and ORR come from level 30 on.
+#[inline(always)]
+pub fn arrangement(level: Level, class: Class) -> Move
+    ensures { answer_of result ≡ table_answer (Sym.Arrangement level) class }
+{
+    match class {
+        Class::And | Class::Orr if level.number() >= 30 => joined(level),
+        _ => simple(level, Sym::ArrangementGroup(level), class),
     }
 }
 
 /// What AND and ORR join: an AND or ORR among them only from level 50 on, at any depth of NOT.
 #[inline(always)]
-#[tactic(auto, unfolding(crate::specs::Symbols::table_answer, crate::specs::Symbols::entries, crate::specs::Symbols::may_end_of))]
 pub fn operand(level: Level, class: Class) -> Move
     ensures { answer_of result ≡ table_answer (Sym.Operand level) class }
 {
     match class {
-        Class::Pce => Move::Take(Rest::of([Sym::PowersGroup])),
-        Class::Aly => Move::Take(Rest::of([Sym::PowersGroup, Sym::Against, Sym::PowersGroup])),
-        Class::Drw => Move::Take(Rest::of([Sym::MaybePowersGroup])),
-        Class::Slo => Move::Take(Rest::of([Sym::PowerGroup])),
-        Class::Not => Move::Take(Rest::of([Sym::OperandGroup(level)])),
-        Class::Xdo if level.number() >= 20 => Move::Take(Rest::of([Sym::OrderGroup])),
-        Class::Dmz if level.number() >= 20 => Move::Take(Rest::of([
-            Sym::PowersGroup,
-            Sym::ProvincesGroup,
-        ])),
-        Class::Scd if level.number() >= 40 => Move::Take(Rest::of([Sym::ShareGroup, Sym::Shares])),
-        Class::Occ if level.number() >= 40 => Move::Take(Rest::of([
-            Sym::UnitGroup,
-            Sym::UnitGroups,
-        ])),
-        Class::And | Class::Orr if level.number() >= 50 => {
-            Move::Take(Rest::of([
-                Sym::OperandGroup(level),
-                Sym::OperandGroup(level),
-                Sym::Operands(level),
-            ]))
-        }
-        _ => Move::Stop,
+        Class::And | Class::Orr if level.number() >= 50 => joined(level),
+        _ => simple(level, Sym::OperandGroup(level), class),
     }
 }
 
 /// A fact: an arrangement, and at level 60 also a query and the negation of a fact.
 #[inline(always)]
-#[tactic(auto, unfolding(crate::specs::Symbols::table_answer, crate::specs::Symbols::entries, crate::specs::Symbols::may_end_of))]
 pub fn fact(level: Level, class: Class) -> Move
     ensures { answer_of result ≡ table_answer (Sym.Fact level) class }
 {
     match class {
-        Class::Pce => Move::Take(Rest::of([Sym::PowersGroup])),
-        Class::Aly => Move::Take(Rest::of([Sym::PowersGroup, Sym::Against, Sym::PowersGroup])),
-        Class::Drw => Move::Take(Rest::of([Sym::MaybePowersGroup])),
-        Class::Slo => Move::Take(Rest::of([Sym::PowerGroup])),
         Class::Not if level.number() >= 60 => Move::Take(Rest::of([Sym::FactGroup(level)])),
-        Class::Not => Move::Take(Rest::of([Sym::ArrangementGroup(level)])),
-        Class::Xdo if level.number() >= 20 => Move::Take(Rest::of([Sym::OrderGroup])),
-        Class::Dmz if level.number() >= 20 => Move::Take(Rest::of([
-            Sym::PowersGroup,
-            Sym::ProvincesGroup,
-        ])),
-        Class::Scd if level.number() >= 40 => Move::Take(Rest::of([Sym::ShareGroup, Sym::Shares])),
-        Class::Occ if level.number() >= 40 => Move::Take(Rest::of([
-            Sym::UnitGroup,
-            Sym::UnitGroups,
-        ])),
-        Class::And | Class::Orr if level.number() >= 30 => {
-            Move::Take(Rest::of([
-                Sym::OperandGroup(level),
-                Sym::OperandGroup(level),
-                Sym::Operands(level),
-            ]))
-        }
         Class::Qry if level.number() >= 60 => Move::Take(Rest::of([Sym::ArrangementGroup(level)])),
-        _ => Move::Stop,
+        _ => arrangement(level, class),
     }
 }
 
 /// A press: what is said, and at level 60 also what is asked, insisted on and believed.
 #[inline(always)]
-#[tactic(auto, unfolding(crate::specs::Symbols::table_answer, crate::specs::Symbols::entries, crate::specs::Symbols::may_end_of))]
 pub fn press(level: Level, class: Class) -> Move
     ensures { answer_of result ≡ table_answer (Sym.Press level) class }
 {
@@ -135,7 +108,6 @@ pub fn press(level: Level, class: Class) -> Move
 
 /// A send in brackets, which may stand from level 10 on.
 #[inline(always)]
-#[tactic(auto, unfolding(crate::specs::Symbols::table_answer, crate::specs::Symbols::entries, crate::specs::Symbols::may_end_of))]
 pub fn maybe_send_group(level: Level, class: Class) -> Move
     ensures { answer_of result ≡ table_answer (Sym.MaybeSendGroup level) class }
 {
@@ -150,7 +122,6 @@ pub fn maybe_send_group(level: Level, class: Class) -> Move
 
 /// What follows the first bracket of a send: its turn, or already the powers.
 #[inline(always)]
-#[tactic(auto, unfolding(crate::specs::Symbols::table_answer, crate::specs::Symbols::entries, crate::specs::Symbols::may_end_of))]
 pub fn send_first(level: Level, class: Class) -> Move
     ensures { answer_of result ≡ table_answer (Sym.SendFirst level) class }
 {

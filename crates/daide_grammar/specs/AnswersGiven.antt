@@ -1,0 +1,7 @@
+-- How many answers a table gave. (own)
+use Rattle.std.specs.Prelude.{ℕ}
+use Rattle.daide_grammar.specs.declared.plain.Plain.{Plain}
+
+-- the answers so far, modulo 2^64
+abbrev pub answers_given : Plain → ℕ
+answers_given table = table.asked
