@@ -1,6 +1,6 @@
 //! The grammar's predictions, by matching.
 //!
-//! `move_of` has an arm for each symbol, in the order of `Sym`. A symbol that only one class may
+//! `entry_of` has an arm for each symbol, in the order of `Sym`. A symbol that only one class may
 //! begin stands there whole; the others have a function of their own in the module of their part of
 //! the grammar. Nothing is looked up in memory: the matches are jumps.
 
@@ -121,126 +121,139 @@ fn may<const N: usize>(wanted: Class, class: Class, rest: [Sym; N]) -> Move
     }
 }
 
-/// What a token of the class means to the symbol.
-//
-// It stays out of line: inlined into a reader's loop over the symbols, the comparisons of all arms
-// would be made before the first symbol is looked at.
-#[inline(never)]
-#[rattlefmt::skip]
+/// What a token of the class means to the symbol. A closing bracket, the symbol that is met most
+/// often, is told before the jump.
 #[tactic(auto, unfolding(crate::specs::Symbols::table_answer, crate::specs::Symbols::entries, crate::specs::Symbols::may_end_of))]
 fn move_of(sym: Sym, class: Class) -> Move
     ensures { answer_of result ≡ table_answer sym class }
 {
     match sym {
-        // single tokens
         Sym::Closing => must(Class::Ket, class, []),
-        Sym::OnePower => must(Class::Power, class, []),
-        Sym::OneProvince => must(Class::Province, class, []),
-        Sym::OneCoast => must(Class::Coast, class, []),
-        Sym::OneNumber => must(Class::Num, class, []),
-        Sym::OneNote => must(Class::Note, class, []),
-        Sym::OneFleet => must(Class::Flt, class, []),
-        Sym::Waived => must(Class::Wve, class, []),
-        Sym::ConvoyTo => must(Class::Cto, class, []),
-        Sym::Through => must(Class::Via, class, []),
-        Sym::Against => must(Class::Vss, class, []),
+        _ => entry_of(sym, class),
+    }
+}
+
+/// What a token of the class means to the symbol, by a jump.
+//
+// It stays out of line: inlined into a reader's loop over the symbols, the comparisons of all arms
+// would be made before the first symbol is looked at. What it calls is inlined and each arm returns
+// by itself, so that an answer is written where it is wanted and not copied on the way.
+#[inline(never)]
+#[rattlefmt::skip]
+#[tactic(auto, unfolding(crate::specs::Symbols::table_answer, crate::specs::Symbols::entries, crate::specs::Symbols::may_end_of))]
+fn entry_of(sym: Sym, class: Class) -> Move
+    ensures { answer_of result ≡ table_answer sym class }
+{
+    match sym {
+        // single tokens
+        Sym::Closing => return must(Class::Ket, class, []),
+        Sym::OnePower => return must(Class::Power, class, []),
+        Sym::OneProvince => return must(Class::Province, class, []),
+        Sym::OneCoast => return must(Class::Coast, class, []),
+        Sym::OneNumber => return must(Class::Num, class, []),
+        Sym::OneNote => return must(Class::Note, class, []),
+        Sym::OneFleet => return must(Class::Flt, class, []),
+        Sym::Waived => return must(Class::Wve, class, []),
+        Sym::ConvoyTo => return must(Class::Cto, class, []),
+        Sym::Through => return must(Class::Via, class, []),
+        Sym::Against => return must(Class::Vss, class, []),
 
         // lists
-        Sym::TextGroup => must(Class::Bra, class, [Sym::Texts, Sym::Closing]),
-        Sym::Texts => may(Class::Text, class, [Sym::Texts]),
-        Sym::PowerGroup => must(Class::Bra, class, [Sym::OnePower, Sym::Closing]),
-        Sym::PowersGroup => must(Class::Bra, class, [Sym::OnePower, Sym::Powers, Sym::Closing]),
-        Sym::MaybePowersGroup => may(Class::Bra, class, [Sym::OnePower, Sym::Powers, Sym::Closing]),
-        Sym::Powers => may(Class::Power, class, [Sym::Powers]),
-        Sym::NumberGroup => must(Class::Bra, class, [Sym::OneNumber, Sym::Closing]),
-        Sym::MaybeNumberGroup => may(Class::Bra, class, [Sym::OneNumber, Sym::Closing]),
-        Sym::MaybeNumber => may(Class::Num, class, []),
-        Sym::ProvincesGroup => must(Class::Bra, class, [Sym::OneProvince, Sym::Provinces, Sym::Closing]),
-        Sym::MaybeProvincesGroup => must(Class::Bra, class, [Sym::Provinces, Sym::Closing]),
-        Sym::Provinces => may(Class::Province, class, [Sym::Provinces]),
-        Sym::TurnGroup => must(Class::Bra, class, [Sym::OneTurn, Sym::Closing]),
-        Sym::OneTurn => must(Class::Season, class, [Sym::OneNumber]),
-        Sym::WordsGroup => must(Class::Bra, class, [Sym::WordList, Sym::Closing]),
-        Sym::WordList => word_list(class),
-        Sym::AnyGroup => must(Class::Bra, class, [Sym::Any, Sym::Closing]),
-        Sym::Any => any(class),
+        Sym::TextGroup => return must(Class::Bra, class, [Sym::Texts, Sym::Closing]),
+        Sym::Texts => return may(Class::Text, class, [Sym::Texts]),
+        Sym::PowerGroup => return must(Class::Bra, class, [Sym::OnePower, Sym::Closing]),
+        Sym::PowersGroup => return must(Class::Bra, class, [Sym::OnePower, Sym::Powers, Sym::Closing]),
+        Sym::MaybePowersGroup => return may(Class::Bra, class, [Sym::OnePower, Sym::Powers, Sym::Closing]),
+        Sym::Powers => return may(Class::Power, class, [Sym::Powers]),
+        Sym::NumberGroup => return must(Class::Bra, class, [Sym::OneNumber, Sym::Closing]),
+        Sym::MaybeNumberGroup => return may(Class::Bra, class, [Sym::OneNumber, Sym::Closing]),
+        Sym::MaybeNumber => return may(Class::Num, class, []),
+        Sym::ProvincesGroup => return must(Class::Bra, class, [Sym::OneProvince, Sym::Provinces, Sym::Closing]),
+        Sym::MaybeProvincesGroup => return must(Class::Bra, class, [Sym::Provinces, Sym::Closing]),
+        Sym::Provinces => return may(Class::Province, class, [Sym::Provinces]),
+        Sym::TurnGroup => return must(Class::Bra, class, [Sym::OneTurn, Sym::Closing]),
+        Sym::OneTurn => return must(Class::Season, class, [Sym::OneNumber]),
+        Sym::WordsGroup => return must(Class::Bra, class, [Sym::WordList, Sym::Closing]),
+        Sym::WordList => return word_list(class),
+        Sym::AnyGroup => return must(Class::Bra, class, [Sym::Any, Sym::Closing]),
+        Sym::Any => return any(class),
 
         // places and units
-        Sym::OnePlace => one_place(class),
-        Sym::PlacesGroup => must(Class::Bra, class, [Sym::Places, Sym::Closing]),
-        Sym::Places => places(class),
-        Sym::UnitGroup => must(Class::Bra, class, [Sym::OneUnit, Sym::Closing]),
-        Sym::UnitGroups => may(Class::Bra, class, [Sym::OneUnit, Sym::Closing, Sym::UnitGroups]),
-        Sym::OneUnit => must(Class::Power, class, [Sym::UnitType, Sym::OnePlace]),
-        Sym::UnitType => unit_type(class),
+        Sym::OnePlace => return one_place(class),
+        Sym::PlacesGroup => return must(Class::Bra, class, [Sym::Places, Sym::Closing]),
+        Sym::Places => return places(class),
+        Sym::UnitGroup => return must(Class::Bra, class, [Sym::OneUnit, Sym::Closing]),
+        Sym::UnitGroups => return may(Class::Bra, class, [Sym::OneUnit, Sym::Closing, Sym::UnitGroups]),
+        Sym::OneUnit => return must(Class::Power, class, [Sym::UnitType, Sym::OnePlace]),
+        Sym::UnitType => return unit_type(class),
 
         // orders
-        Sym::OrderGroup => must(Class::Bra, class, [Sym::OneOrder, Sym::Closing]),
-        Sym::Orders => may(Class::Bra, class, [Sym::OneOrder, Sym::Closing, Sym::Orders]),
-        Sym::OneOrder => one_order(class),
-        Sym::OrderTail => order_tail(class),
-        Sym::SupportTail => may(Class::Mto, class, [Sym::OneProvince]),
+        Sym::OrderGroup => return must(Class::Bra, class, [Sym::OneOrder, Sym::Closing]),
+        Sym::Orders => return may(Class::Bra, class, [Sym::OneOrder, Sym::Closing, Sym::Orders]),
+        Sym::OneOrder => return one_order(class),
+        Sym::OrderTail => return order_tail(class),
+        Sym::SupportTail => return may(Class::Mto, class, [Sym::OneProvince]),
 
         // arrangements and facts
-        Sym::ArrangementGroup(level) => must(Class::Bra, class, [Sym::Arrangement(level), Sym::Closing]),
-        Sym::Arrangement(level) => arrangement(level, class),
-        Sym::FactGroup(level) => must(Class::Bra, class, [Sym::Fact(level), Sym::Closing]),
-        Sym::Fact(level) => fact(level, class),
-        Sym::OperandGroup(level) => must(Class::Bra, class, [Sym::Operand(level), Sym::Closing]),
-        Sym::Operands(level) => may(Class::Bra, class, [Sym::Operand(level), Sym::Closing, Sym::Operands(level)]),
-        Sym::Operand(level) => operand(level, class),
-        Sym::ShareGroup => must(Class::Bra, class, [Sym::OnePower, Sym::Provinces, Sym::Closing]),
-        Sym::Shares => may(Class::Bra, class, [Sym::OnePower, Sym::Provinces, Sym::Closing, Sym::Shares]),
+        Sym::ArrangementGroup(level) => return must(Class::Bra, class, [Sym::Arrangement(level), Sym::Closing]),
+        Sym::Arrangement(level) => return arrangement(level, class),
+        Sym::FactGroup(level) => return must(Class::Bra, class, [Sym::Fact(level), Sym::Closing]),
+        Sym::Fact(level) => return fact(level, class),
+        Sym::OperandGroup(level) => return must(Class::Bra, class, [Sym::Operand(level), Sym::Closing]),
+        Sym::Operands(level) => return may(Class::Bra, class, [Sym::Operand(level), Sym::Closing, Sym::Operands(level)]),
+        Sym::Operand(level) => return operand(level, class),
+        Sym::ShareGroup => return must(Class::Bra, class, [Sym::OnePower, Sym::Provinces, Sym::Closing]),
+        Sym::Shares => return may(Class::Bra, class, [Sym::OnePower, Sym::Provinces, Sym::Closing, Sym::Shares]),
 
         // press
-        Sym::PressGroup(level) => must(Class::Bra, class, [Sym::Press(level), Sym::Closing]),
-        Sym::Press(level) => press(level, class),
-        Sym::SendGroup(level) => must(Class::Bra, class, [Sym::Send(level), Sym::Closing]),
-        Sym::MaybeSendGroup(level) => maybe_send_group(level, class),
-        Sym::Send(level) => must(Class::Snd, class, [Sym::SendTail(level)]),
-        Sym::SendTail(level) => must(Class::Bra, class, [Sym::SendFirst(level)]),
-        Sym::SendFirst(level) => send_first(level, class),
+        Sym::PressGroup(level) => return must(Class::Bra, class, [Sym::Press(level), Sym::Closing]),
+        Sym::Press(level) => return press(level, class),
+        Sym::SendGroup(level) => return must(Class::Bra, class, [Sym::Send(level), Sym::Closing]),
+        Sym::MaybeSendGroup(level) => return maybe_send_group(level, class),
+        Sym::Send(level) => return must(Class::Snd, class, [Sym::SendTail(level)]),
+        Sym::SendTail(level) => return must(Class::Bra, class, [Sym::SendFirst(level)]),
+        Sym::SendFirst(level) => return send_first(level, class),
 
         // client messages
-        Sym::Client(level) => client(level, class),
-        Sym::RequestGroup(level) => must(Class::Bra, class, [Sym::Request(level), Sym::Closing]),
-        Sym::Request(level) => request(level, class),
-        Sym::SubmitTail => may(Class::Bra, class, [Sym::SubmitFirst]),
-        Sym::SubmitFirst => submit_first(class),
-        Sym::CancelGroup => must(Class::Bra, class, [Sym::Cancel, Sym::Closing]),
-        Sym::Cancel => cancel(class),
-        Sym::ReplyGroup => must(Class::Bra, class, [Sym::Reply, Sym::Closing]),
-        Sym::Reply => reply(class),
+        Sym::Client(level) => return client(level, class),
+        Sym::RequestGroup(level) => return must(Class::Bra, class, [Sym::Request(level), Sym::Closing]),
+        Sym::Request(level) => return request(level, class),
+        Sym::SubmitTail => return may(Class::Bra, class, [Sym::SubmitFirst]),
+        Sym::SubmitFirst => return submit_first(class),
+        Sym::CancelGroup => return must(Class::Bra, class, [Sym::Cancel, Sym::Closing]),
+        Sym::Cancel => return cancel(class),
+        Sym::ReplyGroup => return must(Class::Bra, class, [Sym::Reply, Sym::Closing]),
+        Sym::Reply => return reply(class),
 
         // server messages
-        Sym::Server(level) => server(level, class),
-        Sym::WhoGroup => must(Class::Bra, class, [Sym::Who, Sym::Closing]),
-        Sym::Who => who(class),
-        Sym::ParamsGroup => must(Class::Bra, class, [Sym::Params, Sym::Closing]),
-        Sym::Params => may(Class::Bra, class, [Sym::OneParam, Sym::Closing, Sym::Params]),
-        Sym::OneParam => one_param(class),
-        Sym::CentresGroup => must(Class::Bra, class, [Sym::OwnersGroup, Sym::MaybeProvincesGroup, Sym::Closing]),
-        Sym::OwnersGroup => must(Class::Bra, class, [Sym::Owners, Sym::Closing]),
-        Sym::Owners => may(Class::Bra, class, [Sym::Owned, Sym::Closing, Sym::Owners]),
-        Sym::Owned => owned(class),
-        Sym::BordersGroup => must(Class::Bra, class, [Sym::BordersList, Sym::Closing]),
-        Sym::BordersList => may(Class::Bra, class, [Sym::Borders, Sym::Closing, Sym::BordersList]),
-        Sym::Borders => must(Class::Province, class, [Sym::KindList]),
-        Sym::KindList => may(Class::Bra, class, [Sym::KindPlaces, Sym::Closing, Sym::KindList]),
-        Sym::KindPlaces => kind_places(class),
-        Sym::Stands => may(Class::Bra, class, [Sym::OneStand, Sym::Closing, Sym::Stands]),
-        Sym::OneStand => must(Class::Power, class, [Sym::UnitType, Sym::OnePlace, Sym::StandTail]),
-        Sym::StandTail => may(Class::Mrt, class, [Sym::PlacesGroup]),
-        Sym::MissingTail => may(Class::Bra, class, [Sym::MissingFirst]),
-        Sym::MissingFirst => missing_first(class),
-        Sym::NoteGroup => must(Class::Bra, class, [Sym::OneNote, Sym::Closing]),
-        Sym::OutcomesGroup => must(Class::Bra, class, [Sym::OneOutcome, Sym::Outcomes, Sym::Closing]),
-        Sym::Outcomes => outcomes(class),
-        Sym::OneOutcome => one_outcome(class),
-        Sym::CivilDisorderGroup => must(Class::Bra, class, [Sym::CivilDisorder, Sym::Closing]),
-        Sym::CivilDisorder => must(Class::Ccd, class, [Sym::PowerGroup]),
-        Sym::Players => may(Class::Bra, class, [Sym::OnePlayer, Sym::Closing, Sym::Players]),
-        Sym::OnePlayer => must(Class::Power, class, [Sym::TextGroup, Sym::TextGroup, Sym::OneNumber, Sym::MaybeNumber]),
+        Sym::Server(level) => return server(level, class),
+        Sym::WhoGroup => return must(Class::Bra, class, [Sym::Who, Sym::Closing]),
+        Sym::Who => return who(class),
+        Sym::ParamsGroup => return must(Class::Bra, class, [Sym::Params, Sym::Closing]),
+        Sym::Params => return may(Class::Bra, class, [Sym::OneParam, Sym::Closing, Sym::Params]),
+        Sym::OneParam => return one_param(class),
+        Sym::CentresGroup => return must(Class::Bra, class, [Sym::OwnersGroup, Sym::MaybeProvincesGroup, Sym::Closing]),
+        Sym::OwnersGroup => return must(Class::Bra, class, [Sym::Owners, Sym::Closing]),
+        Sym::Owners => return may(Class::Bra, class, [Sym::Owned, Sym::Closing, Sym::Owners]),
+        Sym::Owned => return owned(class),
+        Sym::BordersGroup => return must(Class::Bra, class, [Sym::BordersList, Sym::Closing]),
+        Sym::BordersList => return may(Class::Bra, class, [Sym::Borders, Sym::Closing, Sym::BordersList]),
+        Sym::Borders => return must(Class::Province, class, [Sym::KindList]),
+        Sym::KindList => return may(Class::Bra, class, [Sym::KindPlaces, Sym::Closing, Sym::KindList]),
+        Sym::KindPlaces => return kind_places(class),
+        Sym::Stands => return may(Class::Bra, class, [Sym::OneStand, Sym::Closing, Sym::Stands]),
+        Sym::OneStand => return must(Class::Power, class, [Sym::UnitType, Sym::OnePlace, Sym::StandTail]),
+        Sym::StandTail => return may(Class::Mrt, class, [Sym::PlacesGroup]),
+        Sym::MissingTail => return may(Class::Bra, class, [Sym::MissingFirst]),
+        Sym::MissingFirst => return missing_first(class),
+        Sym::NoteGroup => return must(Class::Bra, class, [Sym::OneNote, Sym::Closing]),
+        Sym::OutcomesGroup => return must(Class::Bra, class, [Sym::OneOutcome, Sym::Outcomes, Sym::Closing]),
+        Sym::Outcomes => return outcomes(class),
+        Sym::OneOutcome => return one_outcome(class),
+        Sym::CivilDisorderGroup => return must(Class::Bra, class, [Sym::CivilDisorder, Sym::Closing]),
+        Sym::CivilDisorder => return must(Class::Ccd, class, [Sym::PowerGroup]),
+        Sym::Players => return may(Class::Bra, class, [Sym::OnePlayer, Sym::Closing, Sym::Players]),
+        Sym::OnePlayer => return must(Class::Power, class, [Sym::TextGroup, Sym::TextGroup, Sym::OneNumber, Sym::MaybeNumber]),
     }
 }
 

@@ -172,19 +172,19 @@ none_from_test (Some x) e = let f : false ≡ true = e in absurd cc
 
 -- fewer brackets are open than may be, where a token that opens one is not at the greatest depth_of
 pub below_deepest : (u : Option ℕ) (n max_depth t : ℕ) (deepest : Bool)
-    → (IsTrue deepest ↔ (u ≡ Some max_depth)) → u ≡ Some n → (is_bra t ≡ true → deepest ≡ false)
+    → (IsTrue deepest ↔ ((is_bra t ≡ true) × (u ≡ Some max_depth))) → u ≡ Some n → (is_bra t ≡ true → deepest ≡ false)
     → is_bra t ≡ true → n ≢ max_depth
 below_deepest u n max_depth t deepest iff is fits opens same =
-    let yes : deepest ≡ true = iff.1 (is ∙ ap (λ (k : ℕ). Some k) same) in
+    let yes : deepest ≡ true = iff.1 (opens, is ∙ ap (λ (k : ℕ). Some k) same) in
     let no = fits opens in
     let f : true ≡ false = sym yes ∙ no in
     cc
 
 -- why a token was refused, at the count
 pub refused_at : (class_of : ℕ → Class) (moves : Sym → Class → Answer) (u : Option ℕ) (n max_depth t : ℕ) (deepest : Bool) (stack : List Sym)
-    → (IsTrue deepest ↔ (u ≡ Some max_depth)) → u ≡ Some n → IsRefused class_of moves t deepest stack
+    → (IsTrue deepest ↔ ((is_bra t ≡ true) × (u ≡ Some max_depth))) → u ≡ Some n → IsRefused class_of moves t deepest stack
     → ((is_bra t ≡ true) × (n ≡ max_depth)) ⊎ (stack_after moves (class_of t) stack ≡ None)
-refused_at class_of moves u n max_depth t deepest stack iff is (inl (opens, deep)) = inl (opens, (let e = iff.0 deep in cc))
+refused_at class_of moves u n max_depth t deepest stack iff is (inl (opens, deep)) = inl (opens, (let e = (iff.0 deep).1 in cc))
 refused_at class_of moves u n max_depth t deepest stack iff is (inr none) = inr none
 
 module _ {T : Type 0} (table : Ghosts T) (words : Words) (first : Sym) (max_depth : ℕ) where

@@ -4,7 +4,7 @@
 //! table: also after a token that no message continues, and in the words that the table takes
 //! for plain ones.
 
-ghost use Rattle.std.specs.Prelude.{◌≡◌, ◌<◌, ◌==◌, ◌↔◌, IsTrue, Some, IfSome};
+ghost use Rattle.std.specs.Prelude.{◌≡◌, ◌<◌, ◌==◌, ◌↔◌, IsTrue, true, Some, IfSome};
 ghost use Rattle.daide_grammar.specs.Brackets.{is_bra as is_bra_token, is_ket as is_ket_token, count_one};
 ghost use Rattle.daide_reader.specs.Outline.{is_prn as is_prn_token};
 
@@ -31,18 +31,20 @@ pub fn is_prn(token: Token) -> bool
     token.code() == 0x4813
 }
 
-/// The open brackets after one more token, or `None` once a KET came with nothing open.
-pub fn count(unclosed: Option<u16>, token: Token) -> Option<u16>
-    requires { IfSome unclosed (λ n. n < 65535) }
-    ensures { result ≡ count_one (is_bra_token token) (is_ket_token token) unclosed }
+/// Counts one more token: the open brackets after it, or `None` once a KET came with nothing open.
+/// Only a bracket writes.
+pub fn count(unclosed: &mut Option<u16>, token: Token)
+    requires { IfSome unclosed.old (λ n. n < 65535) }
+    ensures { unclosed.new ≡ count_one (is_bra_token token) (is_ket_token token) unclosed.old }
 {
-    let open = unclosed?;
     if is_bra(token) {
-        Some(open + 1)
+        if let Some(open) = *unclosed {
+            *unclosed = Some(open + 1);
+        }
     } else if is_ket(token) {
-        open.checked_sub(1)
-    } else {
-        Some(open)
+        if let Some(open) = *unclosed {
+            *unclosed = open.checked_sub(1);
+        }
     }
 }
 
@@ -51,4 +53,11 @@ pub fn are_open(unclosed: Option<u16>, count: u16) -> bool
     ensures { IsTrue result ↔ (unclosed ≡ Some count) }
 {
     unclosed == Some(count)
+}
+
+/// Whether the token opens a bracket where just so many are open.
+pub fn opens_at(unclosed: Option<u16>, token: Token, count: u16) -> bool
+    ensures { IsTrue result ↔ ((is_bra_token token ≡ true) × (unclosed ≡ Some count)) }
+{
+    is_bra(token) && are_open(unclosed, count)
 }

@@ -12,7 +12,7 @@ ghost use Rattle.daide_reader.specs.Verdict.{HasVerdict};
 ghost use Rattle.daide_reader.specs.Reading.{StandsAfter, IsSettled, tokens_read, brackets_open, steps_since};
 ghost use Rattle.daide_reader.specs.declared.verdict.Verdict.TheVariants.{Prn};
 
-use crate::brackets::{are_open, count};
+use crate::brackets::{are_open, count, opens_at};
 use crate::outline::Outline;
 use crate::stack::{may_all_end, take};
 use crate::verdict::Verdict;
@@ -128,11 +128,12 @@ impl<T: Predict, const N: usize> Reader<T, N> {
             self.stack.clear();
             return;
         }
-        let deepest = are_open(self.unclosed, self.max_depth);
-        self.unclosed = count(self.unclosed, token);
         if self.place.is_some() {
+            count(&mut self.unclosed, token);
             return;
         }
+        let deepest = opens_at(self.unclosed, token, self.max_depth);
+        count(&mut self.unclosed, token);
         if take(&mut self.table, &mut self.stack, token, deepest) {
             return;
         }

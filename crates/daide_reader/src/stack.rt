@@ -46,7 +46,8 @@ fn follow<T: Predict, const N: usize>(
         ≡ (T.asked table.old + steps_at (T.moves (T.words table.old)) class (reverse stack.old.items)) % 2 ^ 64 }
 {
     while let Some(symbol) = stack.pop() {
-        match table.predict(symbol, class) {
+        let answer = table.predict(symbol, class);
+        match &answer {
             Move::Take(rest) => {
                 put(stack, rest.as_slice());
                 return true;

@@ -9,6 +9,7 @@ use crate::symbol::Sym;
 use daide_token::class::Class;
 
 /// A province, or a province and a coast in brackets.
+#[inline(always)]
 #[tactic(auto, unfolding(crate::specs::Symbols::table_answer, crate::specs::Symbols::entries, crate::specs::Symbols::may_end_of))]
 pub fn one_place(class: Class) -> Move
     ensures { answer_of result ≡ table_answer Sym.OnePlace class }
@@ -21,6 +22,7 @@ pub fn one_place(class: Class) -> Move
 }
 
 /// Places, none or more.
+#[inline(always)]
 #[tactic(auto, unfolding(crate::specs::Symbols::table_answer, crate::specs::Symbols::entries, crate::specs::Symbols::may_end_of))]
 pub fn places(class: Class) -> Move
     ensures { answer_of result ≡ table_answer Sym.Places class }
@@ -38,6 +40,7 @@ pub fn places(class: Class) -> Move
 }
 
 /// An army or a fleet.
+#[inline(always)]
 #[tactic(auto, unfolding(crate::specs::Symbols::table_answer, crate::specs::Symbols::entries, crate::specs::Symbols::may_end_of))]
 pub fn unit_type(class: Class) -> Move
     ensures { answer_of result ≡ table_answer Sym.UnitType class }
@@ -49,6 +52,7 @@ pub fn unit_type(class: Class) -> Move
 }
 
 /// A unit in brackets and what it shall do, or a power that waives a build.
+#[inline(always)]
 #[tactic(auto, unfolding(crate::specs::Symbols::table_answer, crate::specs::Symbols::entries, crate::specs::Symbols::may_end_of))]
 pub fn one_order(class: Class) -> Move
     ensures { answer_of result ≡ table_answer Sym.OneOrder class }
@@ -61,6 +65,7 @@ pub fn one_order(class: Class) -> Move
 }
 
 /// What a unit shall do. The target of a supported move is a province and no coast.
+#[inline(always)]
 #[tactic(auto, unfolding(crate::specs::Symbols::table_answer, crate::specs::Symbols::entries, crate::specs::Symbols::may_end_of))]
 pub fn order_tail(class: Class) -> Move
     ensures { answer_of result ≡ table_answer Sym.OrderTail class }

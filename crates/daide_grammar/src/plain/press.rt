@@ -10,6 +10,7 @@ use crate::symbol::Sym;
 use daide_token::class::Class;
 
 /// An arrangement. AND and ORR come from level 30 on.
+#[inline(always)]
 #[tactic(auto, unfolding(crate::specs::Symbols::table_answer, crate::specs::Symbols::entries, crate::specs::Symbols::may_end_of))]
 pub fn arrangement(level: Level, class: Class) -> Move
     ensures { answer_of result ≡ table_answer (Sym.Arrangement level) class }
@@ -42,6 +43,7 @@ pub fn arrangement(level: Level, class: Class) -> Move
 }
 
 /// What AND and ORR join: an AND or ORR among them only from level 50 on, at any depth of NOT.
+#[inline(always)]
 #[tactic(auto, unfolding(crate::specs::Symbols::table_answer, crate::specs::Symbols::entries, crate::specs::Symbols::may_end_of))]
 pub fn operand(level: Level, class: Class) -> Move
     ensures { answer_of result ≡ table_answer (Sym.Operand level) class }
@@ -74,6 +76,7 @@ pub fn operand(level: Level, class: Class) -> Move
 }
 
 /// A fact: an arrangement, and at level 60 also a query and the negation of a fact.
+#[inline(always)]
 #[tactic(auto, unfolding(crate::specs::Symbols::table_answer, crate::specs::Symbols::entries, crate::specs::Symbols::may_end_of))]
 pub fn fact(level: Level, class: Class) -> Move
     ensures { answer_of result ≡ table_answer (Sym.Fact level) class }
@@ -108,6 +111,7 @@ pub fn fact(level: Level, class: Class) -> Move
 }
 
 /// A press: what is said, and at level 60 also what is asked, insisted on and believed.
+#[inline(always)]
 #[tactic(auto, unfolding(crate::specs::Symbols::table_answer, crate::specs::Symbols::entries, crate::specs::Symbols::may_end_of))]
 pub fn press(level: Level, class: Class) -> Move
     ensures { answer_of result ≡ table_answer (Sym.Press level) class }
@@ -130,6 +134,7 @@ pub fn press(level: Level, class: Class) -> Move
 }
 
 /// A send in brackets, which may stand from level 10 on.
+#[inline(always)]
 #[tactic(auto, unfolding(crate::specs::Symbols::table_answer, crate::specs::Symbols::entries, crate::specs::Symbols::may_end_of))]
 pub fn maybe_send_group(level: Level, class: Class) -> Move
     ensures { answer_of result ≡ table_answer (Sym.MaybeSendGroup level) class }
@@ -144,6 +149,7 @@ pub fn maybe_send_group(level: Level, class: Class) -> Move
 }
 
 /// What follows the first bracket of a send: its turn, or already the powers.
+#[inline(always)]
 #[tactic(auto, unfolding(crate::specs::Symbols::table_answer, crate::specs::Symbols::entries, crate::specs::Symbols::may_end_of))]
 pub fn send_first(level: Level, class: Class) -> Move
     ensures { answer_of result ≡ table_answer (Sym.SendFirst level) class }

@@ -10,6 +10,7 @@ use crate::symbol::Sym;
 use daide_token::class::Class;
 
 /// Words: any tokens but the brackets.
+#[inline(always)]
 #[tactic(auto, unfolding(crate::specs::Symbols::table_answer, crate::specs::Symbols::entries, crate::specs::Symbols::may_end_of))]
 pub fn word_list(class: Class) -> Move
     ensures { answer_of result ≡ table_answer Sym.WordList class }
@@ -21,6 +22,7 @@ pub fn word_list(class: Class) -> Move
 }
 
 /// Any tokens whose brackets balance.
+#[inline(always)]
 #[tactic(auto, unfolding(crate::specs::Symbols::table_answer, crate::specs::Symbols::entries, crate::specs::Symbols::may_end_of))]
 pub fn any(class: Class) -> Move
     ensures { answer_of result ≡ table_answer Sym.Any class }
@@ -33,6 +35,7 @@ pub fn any(class: Class) -> Move
 }
 
 /// A client request. Press is sent from level 10 on.
+#[inline(always)]
 #[tactic(auto, unfolding(crate::specs::Symbols::table_answer, crate::specs::Symbols::entries, crate::specs::Symbols::may_end_of))]
 pub fn request(level: Level, class: Class) -> Move
     ensures { answer_of result ≡ table_answer (Sym.Request level) class }
@@ -53,6 +56,7 @@ pub fn request(level: Level, class: Class) -> Move
 }
 
 /// A client's message: a request, a reply, or the report HUH.
+#[inline(always)]
 #[tactic(auto, unfolding(crate::specs::Symbols::table_answer, crate::specs::Symbols::entries, crate::specs::Symbols::may_end_of))]
 pub fn client(level: Level, class: Class) -> Move
     ensures { answer_of result ≡ table_answer (Sym.Client level) class }
@@ -65,6 +69,7 @@ pub fn client(level: Level, class: Class) -> Move
 }
 
 /// What follows the first bracket of a SUB: its turn, or already an order.
+#[inline(always)]
 #[tactic(auto, unfolding(crate::specs::Symbols::table_answer, crate::specs::Symbols::entries, crate::specs::Symbols::may_end_of))]
 pub fn submit_first(class: Class) -> Move
     ensures { answer_of result ≡ table_answer Sym.SubmitFirst class }
@@ -84,6 +89,7 @@ pub fn submit_first(class: Class) -> Move
 }
 
 /// What a client may take back.
+#[inline(always)]
 #[tactic(auto, unfolding(crate::specs::Symbols::table_answer, crate::specs::Symbols::entries, crate::specs::Symbols::may_end_of))]
 pub fn cancel(class: Class) -> Move
     ensures { answer_of result ≡ table_answer Sym.Cancel class }
@@ -98,6 +104,7 @@ pub fn cancel(class: Class) -> Move
 }
 
 /// What a client says yes or no to.
+#[inline(always)]
 #[tactic(auto, unfolding(crate::specs::Symbols::table_answer, crate::specs::Symbols::entries, crate::specs::Symbols::may_end_of))]
 pub fn reply(class: Class) -> Move
     ensures { answer_of result ≡ table_answer Sym.Reply class }

@@ -10,6 +10,7 @@ use crate::symbol::Sym;
 use daide_token::class::Class;
 
 /// A server's message. CCD and OUT may hand back a send, and FRM hands on a press, from level 10 on.
+#[inline(always)]
 #[tactic(auto, unfolding(crate::specs::Symbols::table_answer, crate::specs::Symbols::entries, crate::specs::Symbols::may_end_of))]
 pub fn server(level: Level, class: Class) -> Move
     ensures { answer_of result ≡ table_answer (Sym.Server level) class }
@@ -48,6 +49,7 @@ pub fn server(level: Level, class: Class) -> Move
 }
 
 /// Whom the server greets: a power, or nobody.
+#[inline(always)]
 #[tactic(auto, unfolding(crate::specs::Symbols::table_answer, crate::specs::Symbols::entries, crate::specs::Symbols::may_end_of))]
 pub fn who(class: Class) -> Move
     ensures { answer_of result ≡ table_answer Sym.Who class }
@@ -59,6 +61,7 @@ pub fn who(class: Class) -> Move
 }
 
 /// An option of the game.
+#[inline(always)]
 #[tactic(auto, unfolding(crate::specs::Symbols::table_answer, crate::specs::Symbols::entries, crate::specs::Symbols::may_end_of))]
 pub fn one_param(class: Class) -> Move
     ensures { answer_of result ≡ table_answer Sym.OneParam class }
@@ -72,6 +75,7 @@ pub fn one_param(class: Class) -> Move
 }
 
 /// An owner, one power or several or nobody, and its supply centres.
+#[inline(always)]
 #[tactic(auto, unfolding(crate::specs::Symbols::table_answer, crate::specs::Symbols::entries, crate::specs::Symbols::may_end_of))]
 pub fn owned(class: Class) -> Move
     ensures { answer_of result ≡ table_answer Sym.Owned class }
@@ -89,6 +93,7 @@ pub fn owned(class: Class) -> Move
 }
 
 /// A kind of unit, or a fleet at a coast, and the places where it can go.
+#[inline(always)]
 #[tactic(auto, unfolding(crate::specs::Symbols::table_answer, crate::specs::Symbols::entries, crate::specs::Symbols::may_end_of))]
 pub fn kind_places(class: Class) -> Move
     ensures { answer_of result ≡ table_answer Sym.KindPlaces class }
@@ -106,6 +111,7 @@ pub fn kind_places(class: Class) -> Move
 }
 
 /// What follows the first bracket of a MIS: a number, or already a unit.
+#[inline(always)]
 #[tactic(auto, unfolding(crate::specs::Symbols::table_answer, crate::specs::Symbols::entries, crate::specs::Symbols::may_end_of))]
 pub fn missing_first(class: Class) -> Move
     ensures { answer_of result ≡ table_answer Sym.MissingFirst class }
@@ -124,6 +130,7 @@ pub fn missing_first(class: Class) -> Move
 }
 
 /// What became of an order, once more or no more.
+#[inline(always)]
 #[tactic(auto, unfolding(crate::specs::Symbols::table_answer, crate::specs::Symbols::entries, crate::specs::Symbols::may_end_of))]
 pub fn outcomes(class: Class) -> Move
     ensures { answer_of result ≡ table_answer Sym.Outcomes class }
@@ -135,6 +142,7 @@ pub fn outcomes(class: Class) -> Move
 }
 
 /// What became of an order.
+#[inline(always)]
 #[tactic(auto, unfolding(crate::specs::Symbols::table_answer, crate::specs::Symbols::entries, crate::specs::Symbols::may_end_of))]
 pub fn one_outcome(class: Class) -> Move
     ensures { answer_of result ≡ table_answer Sym.OneOutcome class }
