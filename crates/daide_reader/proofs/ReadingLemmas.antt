@@ -1,5 +1,5 @@
 -- A reader after one more token.
-use Rattle.std.proofs.Common.{◌≡◌, ◌≢◌, ℕ, zero, suc, ◌+◌, ◌-◌, ◌*◌, ◌%◌, ◌^◌, ◌≤◌, ◌<◌, ◌==◌, Bool, true, false, ◌||◌, List, [], ◌∷◌, ◌++◌, length, Option, None, Some, IfSome, IsSome, IsTrue, is_some, refl, sym, ◌∙◌, ap, subst, arith, add-one, if◌then◌else◌, ◌⊎◌, ◌↔◌, inl, inr}
+use Rattle.std.proofs.Common.{◌≡◌, ◌≢◌, ℕ, zero, suc, ◌+◌, ◌-◌, ◌*◌, ◌%◌, ◌^◌, ◌≤◌, ◌<◌, ◌==◌, Bool, true, false, ◌||◌, List, [], ◌∷◌, ◌++◌, length, reverse, Option, None, Some, IfSome, IsSome, IsTrue, is_some, refl, sym, ◌∙◌, ap, subst, arith, add-one, if◌then◌else◌, ◌⊎◌, ◌↔◌, inl, inr}
 use Rattle.std.proofs.lemmas.List.{length-append}
 use Rattle.std.proofs.lemmas.Bool.{eqb-true}
 use Rattle.daide_token.specs.declared.class.Class.{Class}
@@ -21,7 +21,7 @@ use Rattle.daide_reader.specs.Reading.{Reading, StandsAfter, StackOrPlace, HasPl
 use Rattle.daide_reader.proofs.StackLemmas.{after_plain, after_open, after_close, four_steps}
 use Rattle.daide_grammar.proofs.Counting.{counted-snoc}
 use Rattle.daide_reader.proofs.OutlineLemmas.{outline-snoc}
-use Rattle.daide_reader.proofs.ErrorPlaceLemmas.{expects_taken, wrong_here, place_kept}
+use Rattle.daide_reader.proofs.ErrorPlaceLemmas.{expects_start, expects_taken, wrong_here, place_kept}
 
 closes_one : (n less : ℕ) → n ≡ less + 1 → count_one false true (Some n) ≡ Some less
 closes_one n less e = rw (e, add-one) refl
@@ -125,6 +125,27 @@ counts_stay (Some n) m h = omega arith
 pub below_word : (u : Option ℕ) (m : ℕ) → IfSome u (λ n. n ≤ m) → m ≤ 32767 → IfSome u (λ n. n < 65535)
 below_word None m h le = tt
 below_word (Some n) m h le = omega arith
+
+-- a stack on which one symbol was put
+pub lone_symbol : (first opening : Sym) (empty items : List Sym) → empty ≡ [] → items ≡ empty ++ first ∷ [] → first ≡ opening
+    → reverse items ≡ opening ∷ []
+lone_symbol first opening empty items none put is =
+    ap reverse (put ∙ (ap (λ (s : List Sym). s ++ first ∷ []) none ∙ ap (λ (s : Sym). s ∷ []) is))
+
+-- a reader at the start of a message is steady
+pub steady_start : (lawful : List Sym → ℕ → Type 0) (size max_depth : ℕ) (first : Sym) (stack : List Sym) (o : Outline)
+    → size ≤ 4096 → 8 * max_depth + 16 ≤ size → stack ≡ first ∷ [] → o.tokens ≡ 0 → o.is_prn ≡ false → lawful (first ∷ []) 0
+    → IsSteady lawful size max_depth stack o (Some 0) None
+steady_start lawful size max_depth first stack o small deepest alone none plain ok = record {
+  small = small;
+  deepest = deepest;
+  counts = omega arith;
+  tokens = omega arith;
+  fresh = λ _. plain;
+  lawful_stack = λ _ _. (0, refl, omega arith, subst (λ (s : List Sym). lawful s 0) (sym alone) ok);
+  none_left = λ placed. let f : false ≡ true = placed in absurd cc;
+  none_in_prn = λ report. let f : true ≡ false = sym report ∙ plain in absurd cc;
+}
 
 -- a reader stays steady with one more token, where its stack and its place are what the token makes of them
 pub steady_more : (old_lawful lawful : List Sym → ℕ → Type 0) (size max_depth : ℕ) (old_stack stack : List Sym) (old o : Outline)
@@ -309,6 +330,22 @@ module _ {T : Type 0} (table : Ghosts T)
           moved (inl (opens, deepest)) = inl (opens, deepest ∙ h.depth_kept)
           moved (inr none) = inr (subst (λ (w : Words). stack_after (table.moves w) (table.class_of w t) old.stack ≡ None) h.words_kept none)
       go (Some i) e _ _ _ = let f : false ≡ true = e in absurd cc
+
+  -- a reader at the start of a message stands after no tokens
+  pub stands_start : (v : Reading T) → table.words v.table ≡ words → v.max_depth ≡ max_depth → IsOutlineOf v.outline []
+      → v.stack ≡ first ∷ [] → v.unclosed ≡ Some 0 → v.place ≡ None → v.asked_before ≡ table.asked v.table → v.asked_before < 2 ^ 64
+      → StandsAfter table words first max_depth v []
+  stands_start v same depth outline alone even none base word = record {
+    words_kept = same;
+    depth_kept = depth;
+    outline = outline;
+    unclosed = even;
+    place = λ _. rw (none, alone) (expects_start _ _ _ _ _ (laws words) first max_depth);
+    steps = nothing_yet (table.asked v.table) v.asked_before _ base word;
+  }
+    where
+      nothing_yet : (now before few : ℕ) → before ≡ now → before < 2 ^ 64 → (now + (2 ^ 64 - before)) % 2 ^ 64 ≤ few
+      nothing_yet now before few same word = omega arith
 
 -- a message that goes on without PRN at its front had none
 pub old_not_prn : (o : Outline) (t : ℕ) → (o.tokens ≡ 0 → o.is_prn ≡ false) → (with_token o t).is_prn ≡ false

@@ -1,4 +1,4 @@
--- What is kept of a message's ends.
+-- What is kept of a message's ends. (own)
 use Rattle.std.specs.Prelude.{◌≡◌, ℕ, ◌+◌, ◌==◌, ◌&&◌, nat_le, Bool, false, List, [], ◌∷◌, length, reverse, drop, if◌then◌else◌}
 use Rattle.daide_token.specs.Token.{prn}
 use Rattle.daide_grammar.specs.Paired.{begins_with_prn}

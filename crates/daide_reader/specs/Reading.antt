@@ -1,4 +1,4 @@
--- What a contract sees of a reader, and what that says of the tokens since `start`.
+-- What a contract sees of a reader, and what that says of the tokens since `start`. (own)
 use Rattle.std.specs.Prelude.{◌≡◌, ℕ, ◌+◌, ◌-◌, ◌*◌, ◌%◌, ◌^◌, ◌≤◌, ◌<◌, List, [], ◌++◌, take, length, Bool, false, true, Option, None, Some, MatchOption, IsSome, IfSome, ◌↔◌, ◌⊎◌, if◌then◌else◌}
 use Rattle.std.specs.Option.{unwrap_or}
 use Rattle.daide_grammar.specs.declared.symbol.Sym.{Sym}
@@ -80,6 +80,7 @@ pub record IsSteady (lawful : List Sym → ℕ → Type 0) (size max_depth : ℕ
   pub tokens : outline.tokens ≤ 32767
   pub fresh : outline.tokens ≡ 0 → outline.is_prn ≡ false
   -- with no place the stack is lawful at the open brackets
-  pub lawful_stack : outline.is_prn ≡ false → place ≡ None → (n : ℕ) × (unclosed ≡ Some n) × (n ≤ max_depth) × lawful stack n
+  pub lawful_stack : outline.is_prn ≡ false → place ≡ None
+      → (n : ℕ) × (unclosed ≡ Some n) × (n ≤ max_depth) × lawful stack n
   pub none_left : IsSome place → stack ≡ []
   pub none_in_prn : outline.is_prn ≡ true → stack ≡ []

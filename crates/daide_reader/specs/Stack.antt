@@ -1,4 +1,4 @@
--- One token against a stack of symbols, the next one first.
+-- One token against a stack of symbols, the next one first. (own)
 use Rattle.std.specs.Prelude.{◌≡◌, ℕ, ◌+◌, Bool, true, false, None, Some, List, [], ◌∷◌, ◌⊎◌}
 use Rattle.daide_token.specs.declared.class.Class.{Class}
 use Rattle.daide_grammar.specs.declared.symbol.Sym.{Sym}
@@ -10,7 +10,11 @@ use Rattle.daide_grammar.specs.Brackets.{is_bra}
 -- takes or stops it
 abbrev pub steps_at : (Sym → Class → Answer) → Class → List Sym → ℕ
 steps_at moves class [] = 0
-steps_at moves class (s ∷ stack) = elim (moves s class) [ Take rest ↦ 1 | Skip ↦ 1 + steps_at moves class stack | Stop ↦ 1 ]
+steps_at moves class (s ∷ stack) = elim (moves s class) [
+  | Take rest ↦ 1
+  | Skip ↦ 1 + steps_at moves class stack
+  | Stop ↦ 1
+]
 
 -- a symbol takes the token, which does not open a bracket at the greatest depth
 pub record IsTaken (class_of : ℕ → Class) (moves : Sym → Class → Answer) (token : ℕ) (deepest : Bool)

@@ -1,4 +1,4 @@
--- What becomes of a message.
+-- What becomes of a message. The answers are the protocol's; that PRN is told before all else is (own).
 use Rattle.std.specs.Prelude.{ℕ, ◌≤◌, List}
 use Rattle.daide_grammar.specs.Paired.{IsPaired}
 use Rattle.daide_grammar.specs.Depth.{depth_of}

@@ -69,7 +69,8 @@ impl<T: Predict, const N: usize> Reader<T, N> {
         requires low { 4 ≤ max_depth }
         requires high { 8 * max_depth + 16 ≤ N }
         requires size { N ≤ 4096 }
-        ensures stands_after { StandsAfter T.Predict (T.words table) (T.opening Side2.Client Level.L0) max_depth result [] }
+        ensures stands_after { StandsAfter T.Predict (T.words table) (T.opening Side2.Client Level.L0)
+            max_depth result [] }
         ensures table { result.table ≡ table }
         ensures base { result.asked_before ≡ T.asked table }
         ensures unfinished { result.finished ≡ false }
@@ -93,7 +94,8 @@ impl<T: Predict, const N: usize> Reader<T, N> {
     /// Begins a message of the side at the level. What was read before is forgotten; the table, its
     /// words and its count stay.
     pub fn start(&mut self, side: Side2, level: Level)
-        ensures stands_after { StandsAfter T.Predict (T.words self.old.table) (T.opening side level) self.old.max_depth self.new [] }
+        ensures stands_after { StandsAfter T.Predict (T.words self.old.table) (T.opening side level)
+            self.old.max_depth self.new [] }
         ensures table { self.new.table ≡ self.old.table }
         ensures base { self.new.asked_before ≡ T.asked self.old.table }
         ensures unfinished { self.new.finished ≡ false }

@@ -38,7 +38,8 @@ fn follow<T: Predict, const N: usize>(
     class: Class,
 ) -> bool
     requires size { N ≤ 4096 }
-    requires room { IfSome (stack_after (T.moves (T.words table.old)) class (reverse stack.old.items)) (λ after. length after ≤ N) }
+    requires room { IfSome (stack_after (T.moves (T.words table.old)) class (reverse stack.old.items))
+        (λ after. length after ≤ N) }
     ensures stack { stack_after (T.moves (T.words table.old)) class (reverse stack.old.items)
         ≡ (if result then Some (reverse stack.new.items) else None) }
     ensures words { T.words table.new ≡ T.words table.old }
@@ -69,12 +70,15 @@ pub fn take<T: Predict, const N: usize>(
 ) -> bool
     requires size { N ≤ 4096 }
     requires room { (is_bra_token token ≡ true → deepest ≡ false) →
-        IfSome (stack_after (T.moves (T.words table.old)) (T.class_of (T.words table.old) token) (reverse stack.old.items))
+        IfSome
+        (stack_after (T.moves (T.words table.old)) (T.class_of (T.words table.old) token) (reverse stack.old.items))
         (λ after. length after ≤ N) }
     ensures words { T.words table.new ≡ T.words table.old }
-    ensures taken { OnTrue result (IsTaken (T.class_of (T.words table.old)) (T.moves (T.words table.old)) token deepest
+    ensures taken { OnTrue result
+        (IsTaken (T.class_of (T.words table.old)) (T.moves (T.words table.old)) token deepest
         (reverse stack.old.items) (reverse stack.new.items)) }
-    ensures refused { OnFalse result (IsRefused (T.class_of (T.words table.old)) (T.moves (T.words table.old)) token deepest
+    ensures refused { OnFalse result
+        (IsRefused (T.class_of (T.words table.old)) (T.moves (T.words table.old)) token deepest
         (reverse stack.old.items)) }
     ensures emptied { OnFalse result (stack.new.items ≡ []) }
     ensures steps { (n : ℕ)
