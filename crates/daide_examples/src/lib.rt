@@ -7,6 +7,8 @@
 #[cfg(test)]
 mod messages;
 #[cfg(test)]
+mod parts;
+#[cfg(test)]
 mod rules;
 #[cfg(test)]
 mod script;

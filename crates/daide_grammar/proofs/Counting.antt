@@ -1,5 +1,5 @@
 -- Brackets counted from left to right.
-use Rattle.std.proofs.Common.{◌≡◌, ◌≢◌, ℕ, zero, suc, ◌+◌, ◌-◌, ◌≤◌, max, Bool, true, false, ◌||◌, ◌==◌, nat_lt, cond, List, [], ◌∷◌, ◌++◌, map, Option, None, Some, refl, sym, ◌∙◌, ap, subst, arith, append_assoc, add-one, append-nil, if◌then◌else◌, ◌↔◌}
+use Rattle.std.proofs.Common.{◌≡◌, ◌≢◌, ℕ, zero, suc, ◌+◌, ◌-◌, ◌≤◌, max, Bool, true, false, ◌||◌, nat_lt, cond, List, [], ◌∷◌, ◌++◌, map, Option, None, Some, refl, sym, ◌∙◌, ap, subst, arith, append_assoc, add-one, append-nil, if◌then◌else◌, ◌↔◌}
 use Rattle.std.specs.List.{list_any}
 use Rattle.std.proofs.lemmas.List.{map-append}
 use Rattle.std.proofs.lemmas.List.Folds.{list_any-append}
@@ -12,25 +12,7 @@ use Rattle.daide_grammar.specs.Balanced.{IsBalanced, empty, plain, joined, brack
 use Rattle.daide_grammar.specs.Paired.{begins_with_prn}
 use Rattle.daide_grammar.specs.Proved.MovesAgree.{no-yes}
 use Rattle.daide_grammar.specs.Depth.{bras, kets, excess, prefixes, closes_early, greatest, depth_of}
-
--- whether a token is BRA, and whether it is KET
-abbrev pub is_bra : ℕ → Bool
-is_bra t = t == bra
-
-abbrev pub is_ket : ℕ → Bool
-is_ket t = t == ket
-
--- how many brackets are open, or None once a KET came with nothing open
-abbrev pub counted : List ℕ → Option ℕ
-counted p = if closes_early p then None else Some (excess p)
-
--- the count of open brackets after a token that opens or not and closes or not; None once one closed what was not open
-abbrev pub count_one : Bool → Bool → Option ℕ → Option ℕ
-count_one opens closes None = None
-count_one true closes (Some n) = Some (n + 1)
-count_one false true (Some zero) = None
-count_one false true (Some (suc n)) = Some n
-count_one false false (Some n) = Some n
+use Rattle.daide_grammar.specs.Brackets.{is_bra, is_ket, counted, count_one}
 
 -- an induction from the end of a list
 pub from_the_end : (P : List ℕ → Type 0) → P [] → ((p : List ℕ) (t : ℕ) → P p → P (p ++ t ∷ [])) → (p : List ℕ) → P p

@@ -1,5 +1,7 @@
 pub mod Counting
 pub mod DepthLemmas
+pub mod BracketFacts
+pub mod ClassNumbers
 pub mod BalancedLemmas
 pub mod Languages
 pub mod PredictionLemmas

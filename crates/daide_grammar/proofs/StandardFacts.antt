@@ -330,6 +330,12 @@ requests =
     ∷ unsaid Client L0 (ADM ∷ BRA ∷ letter_a ∷ KET ∷ letter_b ∷ [])
     ∷ unsaid Client L0 (letter_a ∷ [])
     ∷ unsaid Client L0 ([])
+    ∷ said Client L0 (NME ∷ BRA ∷ letter_a ∷ letter_b ∷ KET ∷ BRA ∷ letter_b ∷ KET ∷ [])
+    ∷ unsaid Client L0 (NME ∷ BRA ∷ FRA ∷ KET ∷ BRA ∷ letter_b ∷ KET ∷ [])
+    ∷ unsaid Client L0 (NME ∷ BRA ∷ letter_a ∷ KET ∷ BRA ∷ letter_b ∷ KET ∷ BRA ∷ letter_b ∷ KET ∷ [])
+    ∷ unsaid Client L0 (IAM ∷ BRA ∷ ENG ∷ FRA ∷ KET ∷ BRA ∷ 5 ∷ KET ∷ [])
+    ∷ unsaid Client L0 (SUB ∷ BRA ∷ SPR ∷ 1901 ∷ KET ∷ BRA ∷ SPR ∷ 1901 ∷ KET ∷ [])
+    ∷ unsaid Client L0 (DRW ∷ BRA ∷ ENG ∷ KET ∷ BRA ∷ FRA ∷ KET ∷ [])
     ∷ []
 
 pub requests_hold : AllHold requests
@@ -347,6 +353,10 @@ client =
     ∷ said Client L0 (HUH ∷ BRA ∷ GOF ∷ BRA ∷ KET ∷ KET ∷ [])
     ∷ unsaid Client L0 (HUH ∷ GOF ∷ [])
     ∷ unsaid Client L0 (MAP ∷ BRA ∷ letter_a ∷ KET ∷ [])
+    ∷ unsaid Client L0 (YES ∷ BRA ∷ MAP ∷ BRA ∷ FRA ∷ KET ∷ KET ∷ [])
+    ∷ unsaid Client L0 (YES ∷ BRA ∷ MAP ∷ BRA ∷ letter_a ∷ KET ∷ BRA ∷ letter_b ∷ KET ∷ KET ∷ [])
+    ∷ said Client L0 (HUH ∷ BRA ∷ GOF ∷ BRA ∷ BRA ∷ KET ∷ OBS ∷ KET ∷ BRA ∷ KET ∷ KET ∷ [])
+    ∷ unsaid Client L0 (HUH ∷ BRA ∷ KET ∷ BRA ∷ KET ∷ [])
     ∷ []
 
 pub client_hold : AllHold client
@@ -379,6 +389,13 @@ orders =
     ∷ unsaid Client L0 (SUB ∷ BRA ∷ BRA ∷ ENG ∷ KET ∷ WVE ∷ KET ∷ [])
     ∷ unsaid Client L0 (SUB ∷ BRA ∷ UNO ∷ WVE ∷ KET ∷ [])
     ∷ unsaid Client L0 (SUB ∷ BRA ∷ ENG ∷ WVE ∷ KET ∷ BRA ∷ SPR ∷ 1901 ∷ KET ∷ [])
+    ∷ unsaid Client L0 (SUB ∷ BRA ∷ BRA ∷ UNO ∷ FLT ∷ NTH ∷ KET ∷ HLD ∷ KET ∷ [])
+    ∷ unsaid Client L0 (SUB ∷ BRA ∷ BRA ∷ ENG ∷ FLT ∷ NTH ∷ MRT ∷ BRA ∷ NWY ∷ KET ∷ KET ∷ HLD ∷ KET ∷ [])
+    ∷ unsaid Client L0 (SUB ∷ BRA ∷ BRA ∷ ENG ∷ FLT ∷ BRA ∷ STP ∷ NCS ∷ SCS ∷ KET ∷ KET ∷ HLD ∷ KET ∷ [])
+    ∷ unsaid Client L0 (SUB ∷ BRA ∷ BRA ∷ ENG ∷ FLT ∷ NTH ∷ KET ∷ SUP ∷ BRA ∷ FRA ∷ AMY ∷ GAS ∷ KET ∷ MTO ∷ SPA ∷ PAR ∷ KET ∷ [])
+    ∷ unsaid Client L0 (SUB ∷ BRA ∷ BRA ∷ ENG ∷ FLT ∷ NTH ∷ KET ∷ CVY ∷ BRA ∷ ENG ∷ AMY ∷ LON ∷ KET ∷ CTO ∷ NWY ∷ VIA ∷ BRA ∷ NTH ∷ KET ∷ KET ∷ [])
+    ∷ unsaid Client L0 (SUB ∷ BRA ∷ BRA ∷ ENG ∷ AMY ∷ LON ∷ KET ∷ CTO ∷ BRA ∷ STP ∷ NCS ∷ KET ∷ VIA ∷ BRA ∷ NTH ∷ KET ∷ KET ∷ [])
+    ∷ unsaid Client L0 (SUB ∷ BRA ∷ BRA ∷ ENG ∷ AMY ∷ LON ∷ KET ∷ CTO ∷ NWY ∷ VIA ∷ BRA ∷ BRA ∷ STP ∷ NCS ∷ KET ∷ KET ∷ KET ∷ [])
     ∷ []
 
 pub orders_hold : AllHold orders
@@ -438,6 +455,22 @@ server =
     ∷ said ServerEnd L0 (ADM ∷ BRA ∷ letter_a ∷ KET ∷ BRA ∷ letter_b ∷ KET ∷ [])
     ∷ unsaid ServerEnd L0 (GOF ∷ [])
     ∷ said ServerEnd L0 (HUH ∷ BRA ∷ KET ∷ [])
+    ∷ said ServerEnd L0 (MDF ∷ BRA ∷ ENG ∷ FRA ∷ KET ∷ BRA ∷ BRA ∷ BRA ∷ FRA ∷ PAR ∷ BRE ∷ KET ∷ KET ∷ BRA ∷ GAS ∷ BUR ∷ KET ∷ KET ∷ BRA ∷ BRA ∷ PAR ∷ BRA ∷ AMY ∷ GAS ∷ BUR ∷ KET ∷ BRA ∷ FLT ∷ KET ∷ KET ∷ KET ∷ [])
+    ∷ unsaid ServerEnd L0 (MDF ∷ BRA ∷ FRA ∷ KET ∷ BRA ∷ BRA ∷ BRA ∷ FRA ∷ BRA ∷ SPA ∷ NCS ∷ KET ∷ KET ∷ KET ∷ BRA ∷ KET ∷ KET ∷ BRA ∷ KET ∷ [])
+    ∷ unsaid ServerEnd L0 (MDF ∷ BRA ∷ FRA ∷ KET ∷ BRA ∷ BRA ∷ KET ∷ BRA ∷ KET ∷ KET ∷ BRA ∷ BRA ∷ BRA ∷ SPA ∷ NCS ∷ KET ∷ KET ∷ KET ∷ [])
+    ∷ unsaid ServerEnd L0 (MDF ∷ BRA ∷ FRA ∷ KET ∷ BRA ∷ BRA ∷ KET ∷ BRA ∷ KET ∷ KET ∷ BRA ∷ BRA ∷ PAR ∷ GAS ∷ KET ∷ KET ∷ [])
+    ∷ unsaid ServerEnd L0 (HLO ∷ BRA ∷ BRA ∷ ENG ∷ KET ∷ KET ∷ BRA ∷ 5 ∷ KET ∷ BRA ∷ KET ∷ [])
+    ∷ unsaid ServerEnd L0 (SCO ∷ BRA ∷ FRA ∷ BRA ∷ SPA ∷ NCS ∷ KET ∷ KET ∷ [])
+    ∷ unsaid ServerEnd L0 (SCO ∷ BRA ∷ BRA ∷ FRA ∷ UNO ∷ KET ∷ PAR ∷ KET ∷ [])
+    ∷ unsaid ServerEnd L0 (NOW ∷ BRA ∷ SPR ∷ 1901 ∷ KET ∷ BRA ∷ UNO ∷ AMY ∷ PAR ∷ KET ∷ [])
+    ∷ unsaid ServerEnd L0 (THX ∷ BRA ∷ ENG ∷ WVE ∷ KET ∷ BRA ∷ MBV ∷ KET ∷ BRA ∷ MBV ∷ KET ∷ [])
+    ∷ unsaid ServerEnd L0 (ORD ∷ BRA ∷ SPR ∷ 1901 ∷ KET ∷ BRA ∷ ENG ∷ WVE ∷ KET ∷ BRA ∷ SUC ∷ KET ∷ BRA ∷ RET ∷ KET ∷ [])
+    ∷ unsaid ServerEnd L0 (YES ∷ BRA ∷ YES ∷ BRA ∷ MAP ∷ BRA ∷ letter_a ∷ KET ∷ KET ∷ KET ∷ [])
+    ∷ unsaid ServerEnd L0 (CCD ∷ BRA ∷ UNO ∷ KET ∷ [])
+    ∷ unsaid ServerEnd L0 (OUT ∷ BRA ∷ UNO ∷ KET ∷ [])
+    ∷ unsaid ServerEnd L0 (SLO ∷ BRA ∷ UNO ∷ KET ∷ [])
+    ∷ said ServerEnd L0 (SMR ∷ BRA ∷ FAL ∷ 1905 ∷ KET ∷ [])
+    ∷ unsaid ServerEnd L0 (SMR ∷ BRA ∷ FAL ∷ 1905 ∷ KET ∷ BRA ∷ UNO ∷ BRA ∷ KET ∷ BRA ∷ KET ∷ 18 ∷ KET ∷ [])
     ∷ []
 
 pub server_hold : AllHold server
@@ -463,6 +496,11 @@ sends =
     ∷ unsaid ServerEnd L10 (OUT ∷ BRA ∷ FRA ∷ KET ∷ BRA ∷ OBS ∷ KET ∷ [])
     ∷ unsaid ServerEnd L0 (YES ∷ BRA ∷ SND ∷ BRA ∷ FRA ∷ KET ∷ BRA ∷ TRY ∷ BRA ∷ KET ∷ KET ∷ KET ∷ [])
     ∷ said ServerEnd L10 (YES ∷ BRA ∷ SND ∷ BRA ∷ FRA ∷ KET ∷ BRA ∷ TRY ∷ BRA ∷ KET ∷ KET ∷ KET ∷ [])
+    ∷ unsaid Client L10 (SND ∷ BRA ∷ UNO ∷ KET ∷ BRA ∷ TRY ∷ BRA ∷ KET ∷ KET ∷ [])
+    ∷ unsaid Client L10 (SND ∷ BRA ∷ SPR ∷ 1901 ∷ KET ∷ BRA ∷ SPR ∷ 1901 ∷ KET ∷ BRA ∷ FRA ∷ KET ∷ BRA ∷ TRY ∷ BRA ∷ KET ∷ KET ∷ [])
+    ∷ unsaid Client L10 (SND ∷ BRA ∷ FRA ∷ KET ∷ BRA ∷ TRY ∷ BRA ∷ KET ∷ KET ∷ BRA ∷ TRY ∷ BRA ∷ KET ∷ KET ∷ [])
+    ∷ unsaid ServerEnd L10 (FRM ∷ BRA ∷ FRA ∷ KET ∷ BRA ∷ UNO ∷ KET ∷ BRA ∷ TRY ∷ BRA ∷ KET ∷ KET ∷ [])
+    ∷ unsaid ServerEnd L10 (SLO ∷ BRA ∷ FRA ∷ KET ∷ BRA ∷ SND ∷ BRA ∷ FRA ∷ KET ∷ BRA ∷ TRY ∷ BRA ∷ KET ∷ KET ∷ KET ∷ [])
     ∷ []
 
 pub sends_hold : AllHold sends
@@ -489,6 +527,10 @@ press =
     ∷ unsaid Client L50 (SND ∷ BRA ∷ FRA ∷ KET ∷ BRA ∷ SRY ∷ BRA ∷ TRY ∷ BRA ∷ KET ∷ KET ∷ KET ∷ [])
     ∷ said Client L60 (SND ∷ BRA ∷ FRA ∷ KET ∷ BRA ∷ SRY ∷ BRA ∷ TRY ∷ BRA ∷ KET ∷ KET ∷ KET ∷ [])
     ∷ unsaid Client L60 (SND ∷ BRA ∷ FRA ∷ KET ∷ BRA ∷ SUG ∷ BRA ∷ QRY ∷ BRA ∷ DRW ∷ KET ∷ KET ∷ KET ∷ [])
+    ∷ said Client L60 (SND ∷ BRA ∷ FRA ∷ KET ∷ BRA ∷ INS ∷ BRA ∷ AND ∷ BRA ∷ DRW ∷ KET ∷ BRA ∷ ORR ∷ BRA ∷ DRW ∷ KET ∷ BRA ∷ DRW ∷ KET ∷ KET ∷ KET ∷ KET ∷ [])
+    ∷ unsaid Client L60 (SND ∷ BRA ∷ FRA ∷ KET ∷ BRA ∷ QRY ∷ BRA ∷ QRY ∷ BRA ∷ DRW ∷ KET ∷ KET ∷ KET ∷ [])
+    ∷ unsaid Client L60 (SND ∷ BRA ∷ FRA ∷ KET ∷ BRA ∷ IDK ∷ BRA ∷ DRW ∷ KET ∷ KET ∷ [])
+    ∷ unsaid Client L10 (SND ∷ BRA ∷ FRA ∷ KET ∷ BRA ∷ PRP ∷ BRA ∷ DRW ∷ KET ∷ BRA ∷ DRW ∷ KET ∷ KET ∷ [])
     ∷ []
 
 pub press_hold : AllHold press
@@ -526,6 +568,16 @@ arrangements =
     ∷ said Client L40 (SND ∷ BRA ∷ FRA ∷ KET ∷ BRA ∷ PRP ∷ BRA ∷ OCC ∷ BRA ∷ FRA ∷ AMY ∷ PAR ∷ KET ∷ BRA ∷ ENG ∷ FLT ∷ NTH ∷ KET ∷ KET ∷ KET ∷ [])
     ∷ unsaid Client L40 (SND ∷ BRA ∷ FRA ∷ KET ∷ BRA ∷ PRP ∷ BRA ∷ OCC ∷ BRA ∷ FRA ∷ AMY ∷ KET ∷ KET ∷ KET ∷ [])
     ∷ said Client L40 (SND ∷ BRA ∷ FRA ∷ KET ∷ BRA ∷ PRP ∷ BRA ∷ AND ∷ BRA ∷ SCD ∷ BRA ∷ FRA ∷ PAR ∷ KET ∷ KET ∷ BRA ∷ OCC ∷ BRA ∷ FRA ∷ AMY ∷ PAR ∷ KET ∷ KET ∷ KET ∷ KET ∷ [])
+    ∷ unsaid Client L10 (SND ∷ BRA ∷ FRA ∷ KET ∷ BRA ∷ PRP ∷ BRA ∷ PCE ∷ BRA ∷ UNO ∷ KET ∷ KET ∷ KET ∷ [])
+    ∷ unsaid Client L10 (SND ∷ BRA ∷ FRA ∷ KET ∷ BRA ∷ PRP ∷ BRA ∷ ALY ∷ BRA ∷ ENG ∷ KET ∷ VSS ∷ BRA ∷ KET ∷ KET ∷ KET ∷ [])
+    ∷ unsaid Client L20 (SND ∷ BRA ∷ FRA ∷ KET ∷ BRA ∷ PRP ∷ BRA ∷ DMZ ∷ BRA ∷ FRA ∷ KET ∷ BRA ∷ BRA ∷ SPA ∷ NCS ∷ KET ∷ KET ∷ KET ∷ KET ∷ [])
+    ∷ said Client L30 (SND ∷ BRA ∷ FRA ∷ KET ∷ BRA ∷ PRP ∷ BRA ∷ AND ∷ BRA ∷ DRW ∷ KET ∷ BRA ∷ DRW ∷ KET ∷ BRA ∷ DRW ∷ KET ∷ KET ∷ KET ∷ [])
+    ∷ unsaid Client L30 (SND ∷ BRA ∷ FRA ∷ KET ∷ BRA ∷ PRP ∷ BRA ∷ ORR ∷ BRA ∷ DRW ∷ KET ∷ KET ∷ KET ∷ [])
+    ∷ unsaid Client L40 (SND ∷ BRA ∷ FRA ∷ KET ∷ BRA ∷ PRP ∷ BRA ∷ AND ∷ BRA ∷ DRW ∷ KET ∷ BRA ∷ ORR ∷ BRA ∷ DRW ∷ KET ∷ BRA ∷ DRW ∷ KET ∷ KET ∷ KET ∷ KET ∷ [])
+    ∷ said Client L50 (SND ∷ BRA ∷ FRA ∷ KET ∷ BRA ∷ PRP ∷ BRA ∷ AND ∷ BRA ∷ DRW ∷ KET ∷ BRA ∷ ORR ∷ BRA ∷ DRW ∷ KET ∷ BRA ∷ DRW ∷ KET ∷ KET ∷ KET ∷ KET ∷ [])
+    ∷ unsaid Client L60 (SND ∷ BRA ∷ FRA ∷ KET ∷ BRA ∷ PRP ∷ BRA ∷ ORR ∷ BRA ∷ DRW ∷ KET ∷ BRA ∷ QRY ∷ BRA ∷ DRW ∷ KET ∷ KET ∷ KET ∷ KET ∷ [])
+    ∷ unsaid Client L40 (SND ∷ BRA ∷ FRA ∷ KET ∷ BRA ∷ PRP ∷ BRA ∷ SCD ∷ BRA ∷ FRA ∷ BRA ∷ SPA ∷ NCS ∷ KET ∷ KET ∷ KET ∷ KET ∷ [])
+    ∷ unsaid Client L40 (SND ∷ BRA ∷ FRA ∷ KET ∷ BRA ∷ PRP ∷ BRA ∷ OCC ∷ BRA ∷ FRA ∷ AMY ∷ PAR ∷ MRT ∷ BRA ∷ KET ∷ KET ∷ KET ∷ KET ∷ [])
     ∷ []
 
 pub arrangements_hold : AllHold arrangements
@@ -544,6 +596,9 @@ facts =
     ∷ unsaid Client L60 (SND ∷ BRA ∷ FRA ∷ KET ∷ BRA ∷ FCT ∷ BRA ∷ QRY ∷ BRA ∷ QRY ∷ BRA ∷ DRW ∷ KET ∷ KET ∷ KET ∷ KET ∷ [])
     ∷ unsaid Client L60 (SND ∷ BRA ∷ FRA ∷ KET ∷ BRA ∷ FCT ∷ BRA ∷ AND ∷ BRA ∷ DRW ∷ KET ∷ BRA ∷ QRY ∷ BRA ∷ DRW ∷ KET ∷ KET ∷ KET ∷ KET ∷ [])
     ∷ said Client L60 (SND ∷ BRA ∷ FRA ∷ KET ∷ BRA ∷ FCT ∷ BRA ∷ NOT ∷ BRA ∷ NOT ∷ BRA ∷ DRW ∷ KET ∷ KET ∷ KET ∷ KET ∷ [])
+    ∷ said Client L30 (SND ∷ BRA ∷ FRA ∷ KET ∷ BRA ∷ FCT ∷ BRA ∷ AND ∷ BRA ∷ DRW ∷ KET ∷ BRA ∷ DRW ∷ KET ∷ KET ∷ KET ∷ [])
+    ∷ said Client L60 (SND ∷ BRA ∷ FRA ∷ KET ∷ BRA ∷ FCT ∷ BRA ∷ QRY ∷ BRA ∷ AND ∷ BRA ∷ DRW ∷ KET ∷ BRA ∷ DRW ∷ KET ∷ KET ∷ KET ∷ KET ∷ [])
+    ∷ unsaid Client L60 (SND ∷ BRA ∷ FRA ∷ KET ∷ BRA ∷ FCT ∷ BRA ∷ NOT ∷ BRA ∷ AND ∷ BRA ∷ DRW ∷ KET ∷ BRA ∷ QRY ∷ BRA ∷ DRW ∷ KET ∷ KET ∷ KET ∷ KET ∷ KET ∷ [])
     ∷ []
 
 pub facts_hold : AllHold facts

@@ -8,11 +8,15 @@ use Rattle.daide_grammar.specs.declared.symbol.Sym.{Sym}
 use Rattle.daide_grammar.specs.Answers.{Answer, Take, Skip}
 use Rattle.daide_grammar.specs.Symbols.{opening_of}
 
--- The stacks, each with its class_number of open brackets: an opening symbol alone with none, and what an answer of the table makes
--- of one. A token that is taken leaves its rest in the symbol's place; a skipped symbol is dropped.
+-- The stacks, each with its number of open brackets: an opening symbol alone with none, and what an answer of the
+-- table makes of one. A token that is taken leaves its rest in the symbol's place; a skipped symbol is dropped.
 pub data IsLawful (moves : Sym → Class → Answer) : List Sym → ℕ → Type 0 where
   opening : (side : Side2) (level : Level) → IsLawful moves (opening_of side level ∷ []) 0
-  word : {n : ℕ} {s : Sym} {rest below : List Sym} (c : Class) → c ≢ Bra → c ≢ Ket → moves s c ≡ Take rest → IsLawful moves (s ∷ below) n → IsLawful moves (rest ++ below) n
-  bra : {n : ℕ} {s : Sym} {rest below : List Sym} → moves s Bra ≡ Take rest → IsLawful moves (s ∷ below) n → IsLawful moves (rest ++ below) (suc n)
-  ket : {n : ℕ} {s : Sym} {rest below : List Sym} → moves s Ket ≡ Take rest → IsLawful moves (s ∷ below) (suc n) → IsLawful moves (rest ++ below) n
-  skip : {n : ℕ} {s : Sym} {below : List Sym} (c : Class) → moves s c ≡ Skip → IsLawful moves (s ∷ below) n → IsLawful moves below n
+  word : {n : ℕ} {s : Sym} {rest below : List Sym} (c : Class) →
+      c ≢ Bra → c ≢ Ket → moves s c ≡ Take rest → IsLawful moves (s ∷ below) n → IsLawful moves (rest ++ below) n
+  bra : {n : ℕ} {s : Sym} {rest below : List Sym} →
+      moves s Bra ≡ Take rest → IsLawful moves (s ∷ below) n → IsLawful moves (rest ++ below) (suc n)
+  ket : {n : ℕ} {s : Sym} {rest below : List Sym} →
+      moves s Ket ≡ Take rest → IsLawful moves (s ∷ below) (suc n) → IsLawful moves (rest ++ below) n
+  skip : {n : ℕ} {s : Sym} {below : List Sym} (c : Class) →
+      moves s c ≡ Skip → IsLawful moves (s ∷ below) n → IsLawful moves below n

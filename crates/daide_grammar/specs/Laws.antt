@@ -7,13 +7,17 @@ use Rattle.daide_grammar.specs.declared.symbol.Sym.{Sym}
 use Rattle.daide_grammar.specs.Answers.{Answer, Take, Skip, Stop}
 use Rattle.daide_grammar.specs.Stacks.{StackMatches, stack_after, skips_before, ends_asked}
 
--- The laws of prediction. That two alternatives of a symbol never begin with the same class is said by `moves` being a function.
-pub record PredictLaws (class_of : ℕ → Class) (language : Sym → List ℕ → Type 0) (moves : Sym → Class → Answer) (may_end : Sym → Bool) (lawful : List Sym → ℕ → Type 0) : Type 0 where
+-- The laws of prediction. That two alternatives of a symbol never begin with the same class is said by `moves` being a
+-- function.
+pub record PredictLaws (class_of : ℕ → Class) (language : Sym → List ℕ → Type 0) (moves : Sym → Class → Answer)
+    (may_end : Sym → Bool) (lawful : List Sym → ℕ → Type 0) : Type 0 where
   -- a bracket is the only token of its class
   pub only_bra : (t : ℕ) → (class_of t ≡ Bra) ↔ (t ≡ bra)
   pub only_ket : (t : ℕ) → (class_of t ≡ Ket) ↔ (t ≡ ket)
-  -- moves agree with the languages. At a Take, a list of the symbol that begins with the token goes on as a list of the rest;
-  pub takes : (s : Sym) (t : ℕ) (rest : List Sym) → moves s (class_of t) ≡ Take rest → (r : List ℕ) → language s (t ∷ r) ↔ StackMatches language rest r
+  -- moves agree with the languages. At a Take, a list of the symbol that begins with the token goes on as a list of
+  -- the rest;
+  pub takes : (s : Sym) (t : ℕ) (rest : List Sym) → moves s (class_of t) ≡ Take rest →
+      (r : List ℕ) → language s (t ∷ r) ↔ StackMatches language rest r
   -- at a Skip the symbol may be empty, and none of its lists begins with the token;
   pub skips_empty : (s : Sym) (t : ℕ) → moves s (class_of t) ≡ Skip → language s []
   pub skips_none : (s : Sym) (t : ℕ) → moves s (class_of t) ≡ Skip → (r : List ℕ) → ¬ language s (t ∷ r)
@@ -24,12 +28,17 @@ pub record PredictLaws (class_of : ℕ → Class) (language : Sym → List ℕ �
   pub ends : (s : Sym) → (may_end s ≡ true) ↔ language s []
   pub no_language_is_empty : (s : Sym) → (r : List ℕ) × language s r
   -- a symbol that may be empty and what follows it on a lawful stack never begin with the same class
-  pub neighbours_differ : (s : Sym) (c : Class) (rest stack : List Sym) (k : ℕ) → lawful (s ∷ stack) k → may_end s ≡ true → moves s c ≡ Take rest → stack_after moves c stack ≡ None
+  pub neighbours_differ : (s : Sym) (c : Class) (rest stack : List Sym) (k : ℕ) → lawful (s ∷ stack) k →
+      may_end s ≡ true → moves s c ≡ Take rest → stack_after moves c stack ≡ None
   -- stacks stay lawful: BRA opens a bracket, KET closes one that is open, and everything else leaves the count
-  pub lawful_skip : (s : Sym) (c : Class) (stack : List Sym) (k : ℕ) → lawful (s ∷ stack) k → moves s c ≡ Skip → lawful stack k
-  pub lawful_take : (s : Sym) (c : Class) (rest stack : List Sym) (k : ℕ) → lawful (s ∷ stack) k → moves s c ≡ Take rest → c ≢ Bra → c ≢ Ket → lawful (rest ++ stack) k
-  pub lawful_open : (s : Sym) (rest stack : List Sym) (k : ℕ) → lawful (s ∷ stack) k → moves s Bra ≡ Take rest → lawful (rest ++ stack) (k + 1)
-  pub lawful_close : (s : Sym) (rest stack : List Sym) (k : ℕ) → lawful (s ∷ stack) k → moves s Ket ≡ Take rest → (less : ℕ) × (k ≡ less + 1) × lawful (rest ++ stack) less
+  pub lawful_skip : (s : Sym) (c : Class) (stack : List Sym) (k : ℕ) →
+      lawful (s ∷ stack) k → moves s c ≡ Skip → lawful stack k
+  pub lawful_take : (s : Sym) (c : Class) (rest stack : List Sym) (k : ℕ) →
+      lawful (s ∷ stack) k → moves s c ≡ Take rest → c ≢ Bra → c ≢ Ket → lawful (rest ++ stack) k
+  pub lawful_open : (s : Sym) (rest stack : List Sym) (k : ℕ) →
+      lawful (s ∷ stack) k → moves s Bra ≡ Take rest → lawful (rest ++ stack) (k + 1)
+  pub lawful_close : (s : Sym) (rest stack : List Sym) (k : ℕ) →
+      lawful (s ∷ stack) k → moves s Ket ≡ Take rest → (less : ℕ) × (k ≡ less + 1) × lawful (rest ++ stack) less
   -- they are bounded by the open brackets, and a question goes few symbols down
   pub few_entries : (stack : List Sym) (k : ℕ) → lawful stack k → length stack ≤ 8 * k + 16
   pub few_skips : (stack : List Sym) (k : ℕ) (c : Class) → lawful stack k → skips_before moves c stack ≤ 3

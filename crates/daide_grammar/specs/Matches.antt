@@ -32,7 +32,8 @@ pub data Matches (d : Dialect) : Form → List ℕ → Type 0 where
   second : {f g : Form} {w : List ℕ} → Matches d g w → Matches d (f ∣ g) w
   no_more : {f : Form} → Matches d (many f) []
   one_more : {f : Form} {u v : List ℕ} → Matches d f u → Matches d (many f) v → Matches d (many f) (u ++ v)
-  bracketed : {f : Form} {u : List ℕ} (b k : ℕ) → IsTrue (accepts (is Bra) (d.class_of b)) → Matches d f u → IsTrue (accepts (is Ket) (d.class_of k)) → Matches d (group f) (b ∷ (u ++ k ∷ []))
+  bracketed : {f : Form} {u : List ℕ} (b k : ℕ) →
+      IsTrue (accepts (is Bra) (d.class_of b)) → Matches d f u → IsTrue (accepts (is Ket) (d.class_of k)) → Matches d (group f) (b ∷ (u ++ k ∷ []))
   by_name : {n : Name} {w : List ℕ} → Matches d (rule d n) w → Matches d (named n) w
 
 -- a list in parts that match the forms one after the other

@@ -9,15 +9,18 @@ abbrev pub StackMatches : (Sym → List ℕ → Type 0) → List Sym → List �
 StackMatches language [] r = r ≡ []
 StackMatches language (s ∷ stack) r = (a b : List ℕ) × (r ≡ a ++ b) × language s a × StackMatches language stack b
 
--- the stack after a token of the class: symbols that are empty here are dropped, and one takes the token; None where none does
+-- the stack after a token of the class: symbols that are empty here are dropped, and one takes the token; None where
+-- none does
 abbrev pub stack_after : (Sym → Class → Answer) → Class → List Sym → Option (List Sym)
 stack_after moves class [] = None
-stack_after moves class (s ∷ stack) = elim (moves s class) [ Take rest ↦ Some (rest ++ stack) | Skip ↦ stack_after moves class stack | Stop ↦ None ]
+stack_after moves class (s ∷ stack) =
+    elim (moves s class) [ Take rest ↦ Some (rest ++ stack) | Skip ↦ stack_after moves class stack | Stop ↦ None ]
 
 -- how many symbols are empty before one takes or stops a token of the class
 abbrev pub skips_before : (Sym → Class → Answer) → Class → List Sym → ℕ
 skips_before moves class [] = 0
-skips_before moves class (s ∷ stack) = elim (moves s class) [ Take rest ↦ 0 | Skip ↦ 1 + skips_before moves class stack | Stop ↦ 0 ]
+skips_before moves class (s ∷ stack) =
+    elim (moves s class) [ Take rest ↦ 0 | Skip ↦ 1 + skips_before moves class stack | Stop ↦ 0 ]
 
 -- how many symbols are asked at a message's end: in order, up to one that may not be empty or the last
 abbrev pub ends_asked : (Sym → Bool) → List Sym → ℕ

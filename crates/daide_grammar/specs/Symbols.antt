@@ -1,5 +1,6 @@
 -- The table: for each symbol its form, its entries, whether it may be empty, and where an operator's word may stand.
--- The order is that of the grammar: single tokens, lists, places and units, orders, arrangements, press, client, server.
+-- The order is that of the grammar: single tokens, lists, places and units, orders, arrangements, press, client,
+-- server.
 use Rattle.std.specs.Prelude.{Bool, true, false, nat_le, List, [], ◌∷◌, ◌++◌, Option, Some, None}
 use Rattle.daide_token.specs.declared.class.Class.{Class}
 use Rattle.daide_token.specs.declared.class.Class.TheVariants.{Num, Bra, Ket, Power, Note, Outcome, Coast, Season, Text, Province, Amy, Flt, Cto, Cvy, Hld, Mto, Sup, Via, Dsb, Rto, Bld, Rem, Wve, Ccd, Drw, Frm, Gof, Hlo, Hst, Huh, Iam, Lod, Map, Mdf, Mis, Nme, Not, Now, Obs, Off, Ord, Out, Rej, Sco, Slo, Snd, Sub, Sve, Thx, Tme, Yes, Adm, Smr, Aly, And, Bwx, Dmz, Fct, Idk, Ins, Occ, Orr, Pce, Prp, Qry, Scd, Sry, Sug, Thk, Try, Vss, Xdo, Lvl, Mrt, Uno, Param}

@@ -14,6 +14,7 @@ ghost use Rattle.daide_grammar.specs.Matches.{Matches};
 ghost use Rattle.daide_grammar.specs.Balanced.{IsBalanced};
 ghost use Rattle.daide_grammar.specs.Paired.{IsPaired, begins_with_prn};
 ghost use Rattle.daide_grammar.specs.Depth.{depth_of};
+ghost use Rattle.daide_grammar.specs.Classes.{same_class};
 ghost use Rattle.daide_grammar.specs.Forms.{accepts};
 ghost use Rattle.daide_grammar.specs.Answers.{Take, Skip, Stop};
 ghost use Rattle.daide_grammar.specs.Symbols.{entries, may_end_of, opening_of, table_answer};
@@ -49,8 +50,10 @@ pub fn prn_answer_is_a_message()
 /// `HUH ( a )` is a message of either side at every level where a's brackets balance, and it is one
 /// deeper than a, unless a begins with PRN and so has no depth.
 pub fn huh_answer_is_a_message()
-    ensures message { (side : Side2) (level : Level) (a : List ℕ) → IsBalanced a → IsMessage side level (huh ∷ bra ∷ (a ++ ket ∷ [])) }
-    ensures depth { (a : List ℕ) → IsBalanced a → begins_with_prn a ≡ false → depth_of (huh ∷ bra ∷ (a ++ ket ∷ [])) ≡ depth_of a + 1 }
+    ensures message { (side : Side2) (level : Level) (a : List ℕ) → IsBalanced a →
+        IsMessage side level (huh ∷ bra ∷ (a ++ ket ∷ [])) }
+    ensures depth { (a : List ℕ) → IsBalanced a → begins_with_prn a ≡ false →
+        depth_of (huh ∷ bra ∷ (a ++ ket ∷ [])) ≡ depth_of a + 1 }
 {}
 
 /// The table's moves agree with what its symbols stand for. At a Take a list goes on as a list of the
@@ -64,6 +67,12 @@ pub fn moves_agree()
     ensures stops { (sym : Sym) (t : ℕ) (m : List ℕ) → table_answer sym (class_of t) ≡ Stop →
         ¬ SymbolMatches sym [] × ¬ SymbolMatches sym (t ∷ m) }
     ensures ends { (sym : Sym) → (may_end_of sym ≡ true) ↔ SymbolMatches sym [] }
+{}
+
+/// Two classes have one number exactly where they are one class. Forms and table compare classes by
+/// their numbers, so a place of a form takes the tokens of its own class and no others.
+pub fn numbers_tell_classes_apart()
+    ensures { (c d : Class) → (same_class c d ≡ true) ↔ (c ≡ d) }
 {}
 
 /// Each symbol stands for some list, so every stack of symbols can be completed.
@@ -91,7 +100,8 @@ pub fn stacks_stay_lawful()
         IsLawful table_answer (sym ∷ below) open_brackets → table_answer sym class ≡ Skip →
         IsLawful table_answer below open_brackets }
     ensures take { (sym : Sym) (rest below : List Sym) (open_brackets : ℕ) (class : Class) →
-        IsLawful table_answer (sym ∷ below) open_brackets → table_answer sym class ≡ Take rest → class ≢ Bra → class ≢ Ket →
+        IsLawful table_answer (sym ∷ below) open_brackets →
+        table_answer sym class ≡ Take rest → class ≢ Bra → class ≢ Ket →
         IsLawful table_answer (rest ++ below) open_brackets }
     ensures bra { (sym : Sym) (rest below : List Sym) (open_brackets : ℕ) →
         IsLawful table_answer (sym ∷ below) open_brackets → table_answer sym Bra ≡ Take rest →
@@ -106,7 +116,8 @@ pub fn stacks_stay_lawful()
 pub fn stacks_are_short()
     ensures entries { (stack : List Sym) (open_brackets : ℕ) → IsLawful table_answer stack open_brackets →
         length stack ≤ 8 * open_brackets + 16 }
-    ensures rests { (sym : Sym) (class : Class) (rest : List Sym) → table_answer sym class ≡ Take rest → length rest ≤ 12 }
+    ensures rests { (sym : Sym) (class : Class) (rest : List Sym) →
+        table_answer sym class ≡ Take rest → length rest ≤ 12 }
 {}
 
 /// On a lawful stack a token meets at most three symbols that are empty before one takes or stops

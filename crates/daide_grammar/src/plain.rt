@@ -127,7 +127,14 @@ fn may<const N: usize>(wanted: Class, class: Class, rest: [Sym; N]) -> Move
 // would be made before the first symbol is looked at.
 #[inline(never)]
 #[rattlefmt::skip]
-#[tactic(auto, unfolding(crate::specs::Symbols::table_answer, crate::specs::Symbols::entries, crate::specs::Symbols::may_end_of))]
+#[tactic(
+    auto,
+    unfolding(
+        crate::specs::Symbols::table_answer,
+        crate::specs::Symbols::entries,
+        crate::specs::Symbols::may_end_of
+    )
+)]
 fn move_of(sym: Sym, class: Class) -> Move
     ensures { answer_of result ≡ table_answer sym class }
 {

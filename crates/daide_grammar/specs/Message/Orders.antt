@@ -9,7 +9,8 @@ abbrev pub order : Form
 order = named Order_name
 
 -- what an order says of its unit: hold, move to a place, support a unit (or its move to a province, never to a
--- coast), convoy a unit to a province, move to a province by convoy through one province at least, retreat, disband, build, remove
+-- coast), convoy a unit to a province, move to a province by convoy through one province at least, retreat, disband,
+-- build, remove
 abbrev pub order_tail : Form
 order_tail =
     tok Hld

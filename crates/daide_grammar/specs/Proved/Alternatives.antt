@@ -17,8 +17,7 @@ unfoldable pub product : List (List Form) → List (List Form) → List (List Fo
 product [] ys = []
 product (x ∷ xs) ys = map (λ y. x ++ y) ys ++ product xs ys
 
--- the alternatives of a form
--- a name is one alternative; the words and brackets of `any` stand for themselves
+-- the alternatives of a name: itself alone, but the words and brackets of `any` stand for themselves
 unfoldable pub name_parts : Name → List (List Form)
 name_parts Any_name = (anything ∷ []) ∷ []
 name_parts n = (named n ∷ []) ∷ []
@@ -205,20 +204,20 @@ level_of : ℕ → Level
 level_of n =
     elim (nat_eq n 0) [ true ↦ L0 | false ↦ elim (nat_eq n 10) [ true ↦ L10 | false ↦ elim (nat_eq n 20) [ true ↦ L20 | false ↦ elim (nat_eq n 30) [ true ↦ L30 | false ↦ elim (nat_eq n 40) [ true ↦ L40 | false ↦ elim (nat_eq n 50) [ true ↦ L50 | false ↦ L60 ] ] ] ] ] ]
 
-level_of-class_number : (l : Level) → level_of (level_number l) ≡ l
+level_of-level_number : (l : Level) → level_of (level_number l) ≡ l
 unfolding level_of
-level_of-class_number L0 = refl
-level_of-class_number L10 = refl
-level_of-class_number L20 = refl
-level_of-class_number L30 = refl
-level_of-class_number L40 = refl
-level_of-class_number L50 = refl
-level_of-class_number L60 = refl
+level_of-level_number L0 = refl
+level_of-level_number L10 = refl
+level_of-level_number L20 = refl
+level_of-level_number L30 = refl
+level_of-level_number L40 = refl
+level_of-level_number L50 = refl
+level_of-level_number L60 = refl
 
 -- levels that compare as the same are the same
 pub same_level-means : (l m : Level) → same_level l m ≡ true → l ≡ m
 same_level-means l m e =
-    sym (level_of-class_number l) ∙ ap level_of (eqb-true (level_number l) (level_number m) e) ∙ level_of-class_number m
+    sym (level_of-level_number l) ∙ ap level_of (eqb-true (level_number l) (level_number m) e) ∙ level_of-level_number m
 
 -- both tests pass
 pub both-pass : (a b : Bool) → (a && b) ≡ true → (a ≡ true) × (b ≡ true)

@@ -1,4 +1,5 @@
 //! Predictions of places, units and orders.
+#![tactic(auto, unfolding(crate::specs::Symbols::table_answer, crate::specs::Symbols::entries, crate::specs::Symbols::may_end_of))]
 
 ghost use Rattle.std.specs.Prelude.{◌≡◌};
 ghost use Rattle.daide_grammar.specs.Answers.{answer_of};
@@ -9,7 +10,6 @@ use crate::symbol::Sym;
 use daide_token::class::Class;
 
 /// A province, or a province and a coast in brackets.
-#[tactic(auto, unfolding(crate::specs::Symbols::table_answer, crate::specs::Symbols::entries, crate::specs::Symbols::may_end_of))]
 pub fn one_place(class: Class) -> Move
     ensures { answer_of result ≡ table_answer Sym.OnePlace class }
 {
@@ -21,7 +21,6 @@ pub fn one_place(class: Class) -> Move
 }
 
 /// Places, none or more.
-#[tactic(auto, unfolding(crate::specs::Symbols::table_answer, crate::specs::Symbols::entries, crate::specs::Symbols::may_end_of))]
 pub fn places(class: Class) -> Move
     ensures { answer_of result ≡ table_answer Sym.Places class }
 {
@@ -38,7 +37,6 @@ pub fn places(class: Class) -> Move
 }
 
 /// An army or a fleet.
-#[tactic(auto, unfolding(crate::specs::Symbols::table_answer, crate::specs::Symbols::entries, crate::specs::Symbols::may_end_of))]
 pub fn unit_type(class: Class) -> Move
     ensures { answer_of result ≡ table_answer Sym.UnitType class }
 {
@@ -49,7 +47,6 @@ pub fn unit_type(class: Class) -> Move
 }
 
 /// A unit in brackets and what it shall do, or a power that waives a build.
-#[tactic(auto, unfolding(crate::specs::Symbols::table_answer, crate::specs::Symbols::entries, crate::specs::Symbols::may_end_of))]
 pub fn one_order(class: Class) -> Move
     ensures { answer_of result ≡ table_answer Sym.OneOrder class }
 {
@@ -61,7 +58,6 @@ pub fn one_order(class: Class) -> Move
 }
 
 /// What a unit shall do. The target of a supported move is a province and no coast.
-#[tactic(auto, unfolding(crate::specs::Symbols::table_answer, crate::specs::Symbols::entries, crate::specs::Symbols::may_end_of))]
 pub fn order_tail(class: Class) -> Move
     ensures { answer_of result ≡ table_answer Sym.OrderTail class }
 {

@@ -1,4 +1,5 @@
 //! Predictions of arrangements, facts and press, each by its level.
+#![tactic(auto, unfolding(crate::specs::Symbols::table_answer, crate::specs::Symbols::entries, crate::specs::Symbols::may_end_of))]
 
 ghost use Rattle.std.specs.Prelude.{◌≡◌};
 ghost use Rattle.daide_grammar.specs.Answers.{answer_of};
@@ -10,7 +11,6 @@ use crate::symbol::Sym;
 use daide_token::class::Class;
 
 /// An arrangement. AND and ORR come from level 30 on.
-#[tactic(auto, unfolding(crate::specs::Symbols::table_answer, crate::specs::Symbols::entries, crate::specs::Symbols::may_end_of))]
 pub fn arrangement(level: Level, class: Class) -> Move
     ensures { answer_of result ≡ table_answer (Sym.Arrangement level) class }
 {
@@ -42,7 +42,6 @@ pub fn arrangement(level: Level, class: Class) -> Move
 }
 
 /// What AND and ORR join: an AND or ORR among them only from level 50 on, at any depth of NOT.
-#[tactic(auto, unfolding(crate::specs::Symbols::table_answer, crate::specs::Symbols::entries, crate::specs::Symbols::may_end_of))]
 pub fn operand(level: Level, class: Class) -> Move
     ensures { answer_of result ≡ table_answer (Sym.Operand level) class }
 {
@@ -74,7 +73,6 @@ pub fn operand(level: Level, class: Class) -> Move
 }
 
 /// A fact: an arrangement, and at level 60 also a query and the negation of a fact.
-#[tactic(auto, unfolding(crate::specs::Symbols::table_answer, crate::specs::Symbols::entries, crate::specs::Symbols::may_end_of))]
 pub fn fact(level: Level, class: Class) -> Move
     ensures { answer_of result ≡ table_answer (Sym.Fact level) class }
 {
@@ -108,7 +106,6 @@ pub fn fact(level: Level, class: Class) -> Move
 }
 
 /// A press: what is said, and at level 60 also what is asked, insisted on and believed.
-#[tactic(auto, unfolding(crate::specs::Symbols::table_answer, crate::specs::Symbols::entries, crate::specs::Symbols::may_end_of))]
 pub fn press(level: Level, class: Class) -> Move
     ensures { answer_of result ≡ table_answer (Sym.Press level) class }
 {
@@ -130,7 +127,6 @@ pub fn press(level: Level, class: Class) -> Move
 }
 
 /// A send in brackets, which may stand from level 10 on.
-#[tactic(auto, unfolding(crate::specs::Symbols::table_answer, crate::specs::Symbols::entries, crate::specs::Symbols::may_end_of))]
 pub fn maybe_send_group(level: Level, class: Class) -> Move
     ensures { answer_of result ≡ table_answer (Sym.MaybeSendGroup level) class }
 {
@@ -144,7 +140,6 @@ pub fn maybe_send_group(level: Level, class: Class) -> Move
 }
 
 /// What follows the first bracket of a send: its turn, or already the powers.
-#[tactic(auto, unfolding(crate::specs::Symbols::table_answer, crate::specs::Symbols::entries, crate::specs::Symbols::may_end_of))]
 pub fn send_first(level: Level, class: Class) -> Move
     ensures { answer_of result ≡ table_answer (Sym.SendFirst level) class }
 {

@@ -1,4 +1,5 @@
 //! Predictions of client messages, and of lists of any tokens.
+#![tactic(auto, unfolding(crate::specs::Symbols::table_answer, crate::specs::Symbols::entries, crate::specs::Symbols::may_end_of))]
 
 ghost use Rattle.std.specs.Prelude.{◌≡◌};
 ghost use Rattle.daide_grammar.specs.Answers.{answer_of};
@@ -10,7 +11,6 @@ use crate::symbol::Sym;
 use daide_token::class::Class;
 
 /// Words: any tokens but the brackets.
-#[tactic(auto, unfolding(crate::specs::Symbols::table_answer, crate::specs::Symbols::entries, crate::specs::Symbols::may_end_of))]
 pub fn word_list(class: Class) -> Move
     ensures { answer_of result ≡ table_answer Sym.WordList class }
 {
@@ -21,7 +21,6 @@ pub fn word_list(class: Class) -> Move
 }
 
 /// Any tokens whose brackets balance.
-#[tactic(auto, unfolding(crate::specs::Symbols::table_answer, crate::specs::Symbols::entries, crate::specs::Symbols::may_end_of))]
 pub fn any(class: Class) -> Move
     ensures { answer_of result ≡ table_answer Sym.Any class }
 {
@@ -33,7 +32,6 @@ pub fn any(class: Class) -> Move
 }
 
 /// A client request. Press is sent from level 10 on.
-#[tactic(auto, unfolding(crate::specs::Symbols::table_answer, crate::specs::Symbols::entries, crate::specs::Symbols::may_end_of))]
 pub fn request(level: Level, class: Class) -> Move
     ensures { answer_of result ≡ table_answer (Sym.Request level) class }
 {
@@ -53,7 +51,6 @@ pub fn request(level: Level, class: Class) -> Move
 }
 
 /// A client's message: a request, a reply, or the report HUH.
-#[tactic(auto, unfolding(crate::specs::Symbols::table_answer, crate::specs::Symbols::entries, crate::specs::Symbols::may_end_of))]
 pub fn client(level: Level, class: Class) -> Move
     ensures { answer_of result ≡ table_answer (Sym.Client level) class }
 {
@@ -65,7 +62,6 @@ pub fn client(level: Level, class: Class) -> Move
 }
 
 /// What follows the first bracket of a SUB: its turn, or already an order.
-#[tactic(auto, unfolding(crate::specs::Symbols::table_answer, crate::specs::Symbols::entries, crate::specs::Symbols::may_end_of))]
 pub fn submit_first(class: Class) -> Move
     ensures { answer_of result ≡ table_answer Sym.SubmitFirst class }
 {
@@ -84,7 +80,6 @@ pub fn submit_first(class: Class) -> Move
 }
 
 /// What a client may take back.
-#[tactic(auto, unfolding(crate::specs::Symbols::table_answer, crate::specs::Symbols::entries, crate::specs::Symbols::may_end_of))]
 pub fn cancel(class: Class) -> Move
     ensures { answer_of result ≡ table_answer Sym.Cancel class }
 {
@@ -98,7 +93,6 @@ pub fn cancel(class: Class) -> Move
 }
 
 /// What a client says yes or no to.
-#[tactic(auto, unfolding(crate::specs::Symbols::table_answer, crate::specs::Symbols::entries, crate::specs::Symbols::may_end_of))]
 pub fn reply(class: Class) -> Move
     ensures { answer_of result ≡ table_answer Sym.Reply class }
 {

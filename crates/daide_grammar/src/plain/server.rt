@@ -1,4 +1,5 @@
 //! Predictions of server messages.
+#![tactic(auto, unfolding(crate::specs::Symbols::table_answer, crate::specs::Symbols::entries, crate::specs::Symbols::may_end_of))]
 
 ghost use Rattle.std.specs.Prelude.{◌≡◌};
 ghost use Rattle.daide_grammar.specs.Answers.{answer_of};
@@ -10,7 +11,6 @@ use crate::symbol::Sym;
 use daide_token::class::Class;
 
 /// A server's message. CCD and OUT may hand back a send, and FRM hands on a press, from level 10 on.
-#[tactic(auto, unfolding(crate::specs::Symbols::table_answer, crate::specs::Symbols::entries, crate::specs::Symbols::may_end_of))]
 pub fn server(level: Level, class: Class) -> Move
     ensures { answer_of result ≡ table_answer (Sym.Server level) class }
 {
@@ -48,7 +48,6 @@ pub fn server(level: Level, class: Class) -> Move
 }
 
 /// Whom the server greets: a power, or nobody.
-#[tactic(auto, unfolding(crate::specs::Symbols::table_answer, crate::specs::Symbols::entries, crate::specs::Symbols::may_end_of))]
 pub fn who(class: Class) -> Move
     ensures { answer_of result ≡ table_answer Sym.Who class }
 {
@@ -59,7 +58,6 @@ pub fn who(class: Class) -> Move
 }
 
 /// An option of the game.
-#[tactic(auto, unfolding(crate::specs::Symbols::table_answer, crate::specs::Symbols::entries, crate::specs::Symbols::may_end_of))]
 pub fn one_param(class: Class) -> Move
     ensures { answer_of result ≡ table_answer Sym.OneParam class }
 {
@@ -72,7 +70,6 @@ pub fn one_param(class: Class) -> Move
 }
 
 /// An owner, one power or several or nobody, and its supply centres.
-#[tactic(auto, unfolding(crate::specs::Symbols::table_answer, crate::specs::Symbols::entries, crate::specs::Symbols::may_end_of))]
 pub fn owned(class: Class) -> Move
     ensures { answer_of result ≡ table_answer Sym.Owned class }
 {
@@ -89,7 +86,6 @@ pub fn owned(class: Class) -> Move
 }
 
 /// A kind of unit, or a fleet at a coast, and the places where it can go.
-#[tactic(auto, unfolding(crate::specs::Symbols::table_answer, crate::specs::Symbols::entries, crate::specs::Symbols::may_end_of))]
 pub fn kind_places(class: Class) -> Move
     ensures { answer_of result ≡ table_answer Sym.KindPlaces class }
 {
@@ -106,7 +102,6 @@ pub fn kind_places(class: Class) -> Move
 }
 
 /// What follows the first bracket of a MIS: a number, or already a unit.
-#[tactic(auto, unfolding(crate::specs::Symbols::table_answer, crate::specs::Symbols::entries, crate::specs::Symbols::may_end_of))]
 pub fn missing_first(class: Class) -> Move
     ensures { answer_of result ≡ table_answer Sym.MissingFirst class }
 {
@@ -124,7 +119,6 @@ pub fn missing_first(class: Class) -> Move
 }
 
 /// What became of an order, once more or no more.
-#[tactic(auto, unfolding(crate::specs::Symbols::table_answer, crate::specs::Symbols::entries, crate::specs::Symbols::may_end_of))]
 pub fn outcomes(class: Class) -> Move
     ensures { answer_of result ≡ table_answer Sym.Outcomes class }
 {
@@ -135,7 +129,6 @@ pub fn outcomes(class: Class) -> Move
 }
 
 /// What became of an order.
-#[tactic(auto, unfolding(crate::specs::Symbols::table_answer, crate::specs::Symbols::entries, crate::specs::Symbols::may_end_of))]
 pub fn one_outcome(class: Class) -> Move
     ensures { answer_of result ≡ table_answer Sym.OneOutcome class }
 {
