@@ -1,5 +1,5 @@
 -- A reader after one more token.
-use Rattle.std.proofs.Common.{◌≡◌, ◌≢◌, ℕ, zero, suc, ◌+◌, ◌-◌, ◌*◌, ◌%◌, ◌^◌, ◌≤◌, ◌==◌, Bool, true, false, ◌||◌, List, [], ◌∷◌, ◌++◌, length, Option, None, Some, IfSome, IsTrue, is_some, refl, sym, ◌∙◌, ap, subst, arith, add-one, if◌then◌else◌, ◌⊎◌, ◌↔◌, inl, inr}
+use Rattle.std.proofs.Common.{◌≡◌, ◌≢◌, ℕ, zero, suc, ◌+◌, ◌-◌, ◌*◌, ◌%◌, ◌^◌, ◌≤◌, ◌<◌, ◌==◌, Bool, true, false, ◌||◌, List, [], ◌∷◌, ◌++◌, length, Option, None, Some, IfSome, IsSome, IsTrue, is_some, refl, sym, ◌∙◌, ap, subst, arith, add-one, if◌then◌else◌, ◌⊎◌, ◌↔◌, inl, inr}
 use Rattle.std.proofs.lemmas.List.{length-append}
 use Rattle.std.proofs.lemmas.Bool.{eqb-true}
 use Rattle.daide_token.specs.declared.class.Class.{Class}
@@ -13,11 +13,11 @@ use Rattle.daide_grammar.specs.Laws.{PredictLaws}
 use Rattle.daide_grammar.specs.Paired.{begins_with_prn}
 use Rattle.daide_grammar.specs.Depth.{excess, closes_early, open_brackets}
 use Rattle.std.specs.Option.{unwrap_or}
-use Rattle.daide_reader.specs.Brackets.{is_bra, is_ket, counted, count_one}
+use Rattle.daide_grammar.specs.Brackets.{is_bra, is_ket, counted, count_one}
 use Rattle.daide_reader.specs.declared.outline.Outline.{Outline}
 use Rattle.daide_reader.specs.Stack.{IsRefused, steps_at}
 use Rattle.daide_reader.specs.Outline.{IsOutlineOf, with_token}
-use Rattle.daide_reader.specs.Reading.{Reading, StandsAfter, StackOrPlace, HasPlace, IsSteady, steps_since, brackets_open}
+use Rattle.daide_reader.specs.Reading.{Reading, StandsAfter, StackOrPlace, HasPlace, IsSteady, IsSettled, steps_since, brackets_open}
 use Rattle.daide_reader.proofs.StackLemmas.{after_plain, after_open, after_close, four_steps}
 use Rattle.daide_grammar.proofs.Counting.{counted-snoc}
 use Rattle.daide_reader.proofs.OutlineLemmas.{outline-snoc}
@@ -116,6 +116,34 @@ counts_more (Some n) m true closes h = omega arith
 counts_more (Some zero) m false true h = tt
 counts_more (Some (suc n)) m false true h = omega arith
 counts_more (Some n) m false false h = omega arith
+
+pub counts_stay : (u : Option ℕ) (m : ℕ) → IfSome u (λ n. n ≤ m) → IfSome u (λ n. n ≤ m + 1)
+counts_stay None m h = tt
+counts_stay (Some n) m h = omega arith
+
+-- the count of open brackets can go one up
+pub below_word : (u : Option ℕ) (m : ℕ) → IfSome u (λ n. n ≤ m) → m ≤ 32767 → IfSome u (λ n. n < 65535)
+below_word None m h le = tt
+below_word (Some n) m h le = omega arith
+
+-- a reader stays steady with one more token, where its stack and its place are what the token makes of them
+pub steady_more : (old_lawful lawful : List Sym → ℕ → Type 0) (size max_depth : ℕ) (old_stack stack : List Sym) (old o : Outline)
+    (old_unclosed old_place unclosed place : Option ℕ) (t : ℕ)
+    → IsSteady old_lawful size max_depth old_stack old old_unclosed old_place → old.tokens < 32767 → o ≡ with_token old t
+    → IfSome unclosed (λ n. n ≤ old.tokens + 1)
+    → (o.is_prn ≡ false → place ≡ None → (n : ℕ) × (unclosed ≡ Some n) × (n ≤ max_depth) × lawful stack n)
+    → (IsSome place → stack ≡ []) → (o.is_prn ≡ true → stack ≡ [])
+    → IsSteady lawful size max_depth stack o unclosed place
+steady_more old_lawful lawful size max_depth old_stack stack old o old_unclosed old_place unclosed place t steady room more counts ok placed report = record {
+  small = steady.small;
+  deepest = steady.deepest;
+  counts = rw more counts;
+  tokens = rw more (omega arith);
+  fresh = rw more (λ none. absurd (omega (arith, none)));
+  lawful_stack = ok;
+  none_left = placed;
+  none_in_prn = report;
+}
 
 pub none_from_test : (o : Option ℕ) → false ≡ is_some o → o ≡ None
 none_from_test None e = refl
@@ -291,6 +319,14 @@ old_not_prn o t fresh now = go (o.tokens == 0) refl
     go true is = fresh (eqb-true o.tokens 0 is)
     go false is = rw is at now
 
+-- what is not settled has no place, and does not begin with PRN
+pub unsettled : {T : Type 0} (v old : Reading T) → v ≡ old → v.place ≡ None → v.outline.is_prn ≡ false → ¬ IsSettled old
+unsettled {T = T} v old same none not_prn settled = go (subst (λ (r : Reading T). IsSettled r) (sym same) settled)
+  where
+    go : IsSettled v → ⊥
+    go (inl placed) = let f : true ≡ false = sym placed ∙ ap is_some none in cc
+    go (inr prn) = let f : true ≡ false = sym prn ∙ not_prn in cc
+
 -- the count of a reader with no place
 pub count_here : (lawful : List Sym → ℕ → Type 0) (size max_depth : ℕ) (stack : List Sym) (o new : Outline) (u place : Option ℕ) (t : ℕ)
     → IsSteady lawful size max_depth stack o u place → new ≡ with_token o t → new.is_prn ≡ false
@@ -298,6 +334,14 @@ pub count_here : (lawful : List Sym → ℕ → Type 0) (size max_depth : ℕ) (
     → (n : ℕ) × (u ≡ Some n) × (n ≤ max_depth) × lawful stack n
 count_here lawful size max_depth stack o new u place t steady more now none =
     steady.lawful_stack (old_not_prn o t steady.fresh (ap (λ (o : Outline). o.is_prn) (sym more) ∙ now)) (none_from_test place none)
+
+-- a reader stays steady with other answers counted, and the same words
+pub steady_along : {T : Type 0} (table : Ghosts T) (old new : T) (size max_depth : ℕ) (stack : List Sym) (o : Outline)
+    (u place : Option ℕ) → table.words new ≡ table.words old
+    → IsSteady (table.lawful (table.words old)) size max_depth stack o u place
+    → IsSteady (table.lawful (table.words new)) size max_depth stack o u place
+steady_along table old new size max_depth stack o u place same steady =
+    subst (λ (w : Words). IsSteady (table.lawful w) size max_depth stack o u place) (sym same) steady
 
 -- a table that meets the laws is asked four times at most at the end
 pub four_ends : (may_end : Sym → Bool) (lawful : List Sym → ℕ → Type 0)
@@ -337,6 +381,19 @@ module _ {T : Type 0} (table : Ghosts T) (words : Words) (first : Sym) (max_dept
     pub finished : new.finished ≡ true
     pub steps_more : (n : ℕ) × (n ≤ 4) × (table.asked new.table % 2 ^ 64 ≡ (table.asked old.table + n) % 2 ^ 64)
 
+  -- the same reader, finished
+  abbrev pub finished_reading : Reading T → Reading T
+  finished_reading v = record {
+    table = v.table;
+    max_depth = v.max_depth;
+    stack = v.stack;
+    outline = v.outline;
+    unclosed = v.unclosed;
+    place = v.place;
+    asked_before = v.asked_before;
+    finished = true;
+  }
+
   pub stands_finished : (old new : Reading T) (p : List ℕ) → Finishes old new
       → StandsAfter table words first max_depth old p → StandsAfter table words first max_depth new p
   stands_finished old new p same h = record {
@@ -356,3 +413,23 @@ module _ {T : Type 0} (table : Ghosts T) (words : Words) (first : Sym) (max_dept
           let before : (table.asked old.table + (2 ^ 64 - old.asked_before)) % 2 ^ 64 ≤ 4 * length p = omega arith in
           rw (same.finished, same.asked_same) (steps_within table words first max_depth
           (table.asked new.table) (table.asked old.table) n.0 (4 * length p) (2 ^ 64 - old.asked_before) n.2 n.1 before)
+
+  -- a reader that was finished with no question
+  pub stands_told : (v old : Reading T) (p : List ℕ) → v ≡ old → old.finished ≡ false
+      → StandsAfter table words first max_depth old p
+      → StandsAfter table words first max_depth (finished_reading v) p
+  stands_told v old p same unfinished h =
+      stands_finished v (finished_reading v) p
+      (record {
+        words_same = refl;
+        depth_same = refl;
+        stack_same = refl;
+        outline_same = refl;
+        unclosed_same = refl;
+        place_same = refl;
+        asked_same = refl;
+        unfinished = ap (λ (r : Reading T). r.finished) same ∙ unfinished;
+        finished = refl;
+        steps_more = (0, omega arith, omega arith);
+      })
+      (stands_along table words first max_depth old v p same h)

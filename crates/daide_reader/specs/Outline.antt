@@ -1,8 +1,13 @@
 -- What is kept of a message's ends.
 use Rattle.std.specs.Prelude.{◌≡◌, ℕ, ◌+◌, ◌==◌, ◌&&◌, nat_le, Bool, false, List, [], ◌∷◌, length, reverse, drop, if◌then◌else◌}
+use Rattle.daide_token.specs.Token.{prn}
 use Rattle.daide_grammar.specs.Paired.{begins_with_prn}
-use Rattle.daide_reader.specs.Brackets.{is_bra, is_ket, is_prn}
+use Rattle.daide_grammar.specs.Brackets.{is_bra, is_ket}
 use Rattle.daide_reader.specs.declared.outline.Outline.{Outline}
+
+-- the token is PRN
+abbrev pub is_prn : ℕ → Bool
+is_prn t = t == prn
 
 -- the list has a first token, and it passes
 abbrev pub first_is : (ℕ → Bool) → List ℕ → Bool

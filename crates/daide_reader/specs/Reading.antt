@@ -1,5 +1,5 @@
 -- What a contract sees of a reader, and what that says of the tokens since `start`.
-use Rattle.std.specs.Prelude.{◌≡◌, ℕ, ◌+◌, ◌-◌, ◌*◌, ◌%◌, ◌^◌, ◌≤◌, ◌<◌, List, [], ◌++◌, take, length, Bool, false, true, Option, None, Some, MatchOption, IsSome, IfSome, ◌↔◌, if◌then◌else◌}
+use Rattle.std.specs.Prelude.{◌≡◌, ℕ, ◌+◌, ◌-◌, ◌*◌, ◌%◌, ◌^◌, ◌≤◌, ◌<◌, List, [], ◌++◌, take, length, Bool, false, true, Option, None, Some, MatchOption, IsSome, IfSome, ◌↔◌, ◌⊎◌, if◌then◌else◌}
 use Rattle.std.specs.Option.{unwrap_or}
 use Rattle.daide_grammar.specs.declared.symbol.Sym.{Sym}
 use Rattle.daide_grammar.specs.declared.predict.Predict.{Ghosts}
@@ -10,7 +10,7 @@ use Rattle.daide_grammar.specs.Depth.{depth_of}
 use Rattle.daide_reader.specs.declared.outline.Outline.{Outline}
 use Rattle.daide_reader.specs.ViablePrefix.{IsMessageOf}
 use Rattle.daide_reader.specs.ErrorPlace.{IsAllowedPrefix, IsErrorPlace}
-use Rattle.daide_reader.specs.Brackets.{counted}
+use Rattle.daide_grammar.specs.Brackets.{counted}
 use Rattle.daide_reader.specs.Outline.{IsOutlineOf}
 
 -- a reader over a table of type T
@@ -39,6 +39,10 @@ brackets_open v = unwrap_or v.unclosed 0
 -- the table's answers since the last `start`
 abbrev pub steps_since : {T : Type 0} → (T → ℕ) → Reading T → ℕ
 steps_since asked v = (asked v.table + (2 ^ 64 - v.asked_before)) % 2 ^ 64
+
+-- the table has no say in what is left of the message: a place was found, or it begins with PRN (own)
+abbrev pub IsSettled : {T : Type 0} → Reading T → Type 0
+IsSettled v = IsSome v.place ⊎ (v.outline.is_prn ≡ true)
 
 -- no place was found in the tokens, and the stack's language is exactly what may follow them
 pub record Expects (language : Sym → List ℕ → Type 0) (first : Sym) (max_depth : ℕ) (stack : List Sym)

@@ -4,7 +4,7 @@ use Rattle.daide_token.specs.declared.class.Class.{Class}
 use Rattle.daide_grammar.specs.declared.symbol.Sym.{Sym}
 use Rattle.daide_grammar.specs.Answers.{Answer, Take, Skip, Stop}
 use Rattle.daide_grammar.specs.Stacks.{stack_after}
-use Rattle.daide_reader.specs.Brackets.{is_bra}
+use Rattle.daide_grammar.specs.Brackets.{is_bra}
 
 -- the questions for a token of the class: one for each symbol that is empty before it, and one for the symbol that
 -- takes or stops it

@@ -5,7 +5,8 @@
 //! for plain ones.
 
 ghost use Rattle.std.specs.Prelude.{◌≡◌, ◌<◌, ◌==◌, ◌↔◌, IsTrue, Some, IfSome};
-ghost use Rattle.daide_reader.specs.Brackets.{is_bra as is_bra_token, is_ket as is_ket_token, is_prn as is_prn_token, count_one};
+ghost use Rattle.daide_grammar.specs.Brackets.{is_bra as is_bra_token, is_ket as is_ket_token, count_one};
+ghost use Rattle.daide_reader.specs.Outline.{is_prn as is_prn_token};
 
 use daide_token::token::Token;
 

@@ -3,13 +3,14 @@
 //! Where no message continues, the place is kept and the stack dropped; the brackets are counted to
 //! the end, since a message that is not paired is answered as such wherever it went wrong before.
 
-ghost use Rattle.std.specs.Prelude.{◌≡◌, ◌≤◌, ◌<◌, ◌+◌, ◌-◌, ◌*◌, ◌%◌, ◌^◌, ◌++◌, [], ◌∷◌, List, ℕ, Option, None, Some, IsSome, IsTrue, ◌↔◌, if◌then◌else◌, false, true, length};
+ghost use Rattle.std.specs.Prelude.{◌≡◌, ◌≤◌, ◌<◌, ◌+◌, ◌-◌, ◌*◌, ◌%◌, ◌^◌, ◌++◌, [], ◌∷◌, List, ℕ, Option, None, Some, IsSome, IsTrue, ◌↔◌, ◌⊎◌, if◌then◌else◌, false, true, length};
 ghost use Rattle.daide_grammar.specs.declared.symbol.Sym.{Sym};
 ghost use Rattle.daide_grammar.specs.Depth.{open_brackets};
 ghost use Rattle.daide_grammar.specs.Words.{Words};
 ghost use Rattle.daide_reader.specs.ViablePrefix.{IsMessageOf};
 ghost use Rattle.daide_reader.specs.Verdict.{HasVerdict};
-ghost use Rattle.daide_reader.specs.Reading.{StandsAfter, tokens_read, brackets_open, steps_since};
+ghost use Rattle.daide_reader.specs.Reading.{StandsAfter, IsSettled, tokens_read, brackets_open, steps_since};
+ghost use Rattle.daide_reader.specs.declared.verdict.Verdict.TheVariants.{Prn};
 
 use crate::brackets::{are_open, count};
 use crate::outline::Outline;
@@ -118,6 +119,7 @@ impl<T: Predict, const N: usize> Reader<T, N> {
         ensures words { T.words self.new.table ≡ T.words self.old.table }
         ensures depth { self.new.max_depth ≡ self.old.max_depth }
         ensures base { self.new.asked_before ≡ self.old.asked_before }
+        ensures unasked { IsSettled self.old → self.new.table ≡ self.old.table }
         ensures unfinished { self.new.finished ≡ false }
     {
         let index = self.outline.tokens;
@@ -150,6 +152,7 @@ impl<T: Predict, const N: usize> Reader<T, N> {
         ensures words { T.words self.new.table ≡ T.words self.old.table }
         ensures depth { self.new.max_depth ≡ self.old.max_depth }
         ensures base { self.new.asked_before ≡ self.old.asked_before }
+        ensures unasked { IsSettled self.old ⊎ (result ≡ Prn) → self.new.table ≡ self.old.table }
         ensures finished { self.new.finished ≡ true }
     {
         self.finished = true;

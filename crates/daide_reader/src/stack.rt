@@ -7,7 +7,7 @@ ghost use Rattle.std.specs.Prelude.{◌≡◌, ◌≤◌, ◌+◌, ◌%◌, ◌^
 ghost use Rattle.std.specs.Bool.{OnTrue, OnFalse};
 ghost use Rattle.std.specs.List.{list_all};
 ghost use Rattle.daide_grammar.specs.Stacks.{stack_after, ends_asked};
-ghost use Rattle.daide_reader.specs.Brackets.{is_bra as is_bra_token};
+ghost use Rattle.daide_grammar.specs.Brackets.{is_bra as is_bra_token};
 ghost use Rattle.daide_reader.specs.Stack.{steps_at, IsTaken, IsRefused};
 ghost use Rattle.arrayvec.specs.ArrayVec.{array_vec_len};
 

@@ -16,7 +16,7 @@ use Rattle.daide_reader.specs.declared.verdict.Verdict.{Verdict}
 use Rattle.daide_reader.specs.declared.verdict.Verdict.TheVariants.{Relay, Prn, Huh}
 use Rattle.daide_reader.specs.ViablePrefix.{IsMessageOf}
 use Rattle.daide_reader.specs.Verdict.{HasVerdict}
-use Rattle.daide_reader.specs.Brackets.{counted}
+use Rattle.daide_grammar.specs.Brackets.{counted}
 use Rattle.daide_reader.proofs.VerdictLemmas.{verdict_along}
 use Rattle.daide_session.specs.Direction.{IsPlaceIn}
 use Rattle.daide_session.proofs.TokenLemmas.{tokens_len}
