@@ -1,5 +1,6 @@
 -- The tokens of a body, pair by pair.
-use Rattle.std.proofs.Common.{◌≡◌, ℕ, ◌+◌, ◌*◌, ◌/◌, ◌<◌, zero, suc, List, [], ◌∷◌, ◌++◌, length, get_or, take, refl, ap, arith}
+use Rattle.std.proofs.Common.{◌≡◌, ℕ, ◌+◌, ◌*◌, ◌/◌, ◌<◌, zero, suc, List, [], ◌∷◌, ◌++◌, length, get_or, take, refl}
+use Rattle.std.proofs.Common.{ap, arith}
 use Rattle.daide_token.specs.Token.{tokens_of}
 
 pub tokens_len : (b : List ℕ) → length (tokens_of b) ≡ length b / 2
@@ -9,7 +10,8 @@ tokens_len (x ∷ y ∷ b) = omega (arith, tokens_len b)
 
 -- one token more
 pub tokens_more : (i : ℕ) (b : List ℕ) → 2 * i + 1 < length b →
-    tokens_of (take (2 * (i + 1)) b) ≡ tokens_of (take (2 * i) b) ++ (get_or b (2 * i) 0 * 256 + get_or b (2 * i + 1) 0) ∷ []
+    tokens_of (take (2 * (i + 1)) b)
+    ≡ tokens_of (take (2 * i) b) ++ (get_or b (2 * i) 0 * 256 + get_or b (2 * i + 1) 0) ∷ []
 tokens_more zero [] h = absurd (omega arith)
 tokens_more zero (x ∷ []) h = absurd (omega arith)
 tokens_more zero (x ∷ y ∷ b) h = refl

@@ -102,7 +102,7 @@ impl<A: Allocator> Session<A> {
         ensures goes { Goes self.old (bytes_come side piece.now) result self.new }
         ensures takes { Takes self.old side piece.now result self.new }
     {
-        if self.dialog.is_shut(side) {
+        if piece.is_empty() || self.dialog.is_shut(side) {
             return Note::Nothing;
         }
         let step = self.dialog.take(side, piece);

@@ -17,9 +17,11 @@ loop-i-preserved g c =
       count = omega arith;
       depth = c.push.ensures.depth ∙ before.depth;
       base = c.push.ensures.base ∙ before.base;
-      stands_after = λ words first max_depth h. subst (λ (p : List ℕ). StandsAfter g.T.Predict words first max_depth c.push.new.self p)
+      stands_after = λ words first max_depth h. subst
+          (λ (p : List ℕ). StandsAfter g.T.Predict words first max_depth c.push.new.self p)
           (ap (λ (t : ℕ). tokens_of (take (2 * i) b) ++ t ∷ []) c.from_be.ensures ∙ sym more)
-          (c.push.ensures.stands_after words first max_depth (tokens_of (take (2 * i) b)) (before.stands_after words first max_depth h));
+          (c.push.ensures.stands_after words first max_depth (tokens_of (take (2 * i) b))
+          (before.stands_after words first max_depth h));
     }
 
 pub returns-clause-verdict : goal.returns-clause-verdict
@@ -27,11 +29,15 @@ returns-clause-verdict g c = λ words first max_depth h.
     let b = c.args.body.now in
     let all : c.loop-i.i ≡ length b / 2 = omega arith in
     c.finish.ensures.verdict words first max_depth (tokens_of b)
-    (subst (λ (p : List ℕ). StandsAfter g.T.Predict words first max_depth c.loop-i.reader p) (ap (λ (k : ℕ). tokens_of (take (2 * k) b)) all ∙ tokens_all b) (c.loop-i.invariant.stands_after words first max_depth h))
+    (subst (λ (p : List ℕ). StandsAfter g.T.Predict words first max_depth c.loop-i.reader p)
+    (ap (λ (k : ℕ). tokens_of (take (2 * k) b)) all ∙ tokens_all b)
+    (c.loop-i.invariant.stands_after words first max_depth h))
 
 pub returns-clause-stands_after : goal.returns-clause-stands_after
 returns-clause-stands_after g c = λ words first max_depth h.
     let b = c.args.body.now in
     let all : c.loop-i.i ≡ length b / 2 = omega arith in
     c.finish.ensures.stands_after words first max_depth (tokens_of b)
-    (subst (λ (p : List ℕ). StandsAfter g.T.Predict words first max_depth c.loop-i.reader p) (ap (λ (k : ℕ). tokens_of (take (2 * k) b)) all ∙ tokens_all b) (c.loop-i.invariant.stands_after words first max_depth h))
+    (subst (λ (p : List ℕ). StandsAfter g.T.Predict words first max_depth c.loop-i.reader p)
+    (ap (λ (k : ℕ). tokens_of (take (2 * k) b)) all ∙ tokens_all b)
+    (c.loop-i.invariant.stands_after words first max_depth h))

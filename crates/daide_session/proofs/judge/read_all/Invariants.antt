@@ -12,6 +12,7 @@ invariant-loop-i g l = record {
   count : tokens_read l.reader ≡ l.i;
   depth : l.reader.max_depth ≡ l.fn.reader.max_depth;
   base : l.reader.asked_before ≡ l.fn.reader.asked_before;
-  stands_after : (words : Words) (first : Sym) (max_depth : ℕ) → StandsAfter g.T.Predict words first max_depth l.fn.reader [] →
+  stands_after : (words : Words) (first : Sym) (max_depth : ℕ) →
+      StandsAfter g.T.Predict words first max_depth l.fn.reader [] →
       StandsAfter g.T.Predict words first max_depth l.reader (tokens_of (take (2 * l.i) l.body));
 }
