@@ -9,13 +9,13 @@ use Rattle.daide_frame.specs.declared.side.Side.TheVariants.{Bot, Server}
 use Rattle.daide_frame.specs.Frames.{announced, head_in}
 use Rattle.daide_grammar.specs.Paired.{begins_with_prn}
 use Rattle.daide_grammar.specs.Depth.{open_brackets, closes_early, bras}
+use Rattle.daide_reader.proofs.BodyLemmas.{tokens_of-length}
 use Rattle.daide_machine.specs.Wires.{is_answering, is_dm_head}
 use Rattle.daide_machine.specs.Weight.{tokens_held, direction_bound, weight_of, weight_bound, steps_bound, IsTied}
 use Rattle.daide_session.specs.Dialog.{Face, face_held}
 use Rattle.daide_session.specs.Judge.{Judging, Judgings, judging, steps_in, IsIdle}
 use Rattle.daide_session.specs.Session.{gateway_of, IsHeard, IsTold, IsTogether}
 use Rattle.daide_session.proofs.SessionLemmas.{answering_is}
-use Rattle.daide_session.proofs.TokenLemmas.{tokens_len}
 
 -- ---- the open brackets of a message that is held
 
@@ -40,7 +40,7 @@ held_few : (limit : ℕ) (held : List ℕ) → length (tokens_held limit held) �
 held_few limit held = go (is_dm_head (head_in limit held)) refl
   where
     go : (b : Bool) → is_dm_head (head_in limit held) ≡ b → length (tokens_held limit held) ≤ length (drop 4 held)
-    go true e = rw e (let half = tokens_len (drop 4 held) in omega (arith, half))
+    go true e = rw e (let half = tokens_of-length (drop 4 held) in omega (arith, half))
     go false e = rw e (omega arith)
 
 -- no more brackets are open than bytes are held
