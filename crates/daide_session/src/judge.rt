@@ -88,6 +88,7 @@ impl Judge {
         ensures level { result.level ≡ Level.L0 }
         ensures depth { result.max_depth ≡ max_depth }
         ensures idle { IsIdle result }
+        ensures unasked { result.total ≡ 0 }
     {
         let mut reader = Reader::new(Plain::new(), max_depth);
         reader.start(side2_of(side), Level::L0);
