@@ -46,7 +46,8 @@ impl Model for Judge {
 
     ghost view = { λ j. judging_of ⟦<Plain as Predict>⟧.asked j.reader j.side j.level };
 
-    ghost invariant = { λ j. j.reader.finished ≡ false → StandsAfter ⟦<Plain as Predict>⟧ [] (opening_of (side2_of j.side) j.level) j.reader.max_depth j.reader [] };
+    ghost invariant = { λ j. j.reader.finished ≡ false →
+        StandsAfter ⟦<Plain as Predict>⟧ [] (opening_of (side2_of j.side) j.level) j.reader.max_depth j.reader [] };
 }
 
 /// Whose messages a side's are: the gateway is the server to the bot, and the client to the server.
@@ -65,9 +66,11 @@ fn read_all<T: Predict, const N: usize>(reader: &mut Reader<T, N>, body: &[u8]) 
     requires unfinished { reader.old.finished ≡ false }
     requires unread { tokens_read reader.old ≡ 0 }
     requires len { length body.now ≤ 65534 }
-    ensures verdict { (words : Words) (first : Sym) (max_depth : ℕ) → StandsAfter T.Predict words first max_depth reader.old [] →
+    ensures verdict { (words : Words) (first : Sym) (max_depth : ℕ) →
+        StandsAfter T.Predict words first max_depth reader.old [] →
         HasVerdict (IsMessageOf (T.language words first)) max_depth (tokens_of body.now) result }
-    ensures stands_after { (words : Words) (first : Sym) (max_depth : ℕ) → StandsAfter T.Predict words first max_depth reader.old [] →
+    ensures stands_after { (words : Words) (first : Sym) (max_depth : ℕ) →
+        StandsAfter T.Predict words first max_depth reader.old [] →
         StandsAfter T.Predict words first max_depth reader.new (tokens_of body.now) }
     ensures depth { reader.new.max_depth ≡ reader.old.max_depth }
     ensures base { reader.new.asked_before ≡ reader.old.asked_before }
@@ -118,7 +121,8 @@ impl Judge {
     pub fn judge(&mut self, body: &[u8]) -> Verdict
         requires fresh { self.old.fresh ≡ true }
         requires len { length body.now ≤ 65534 }
-        ensures verdict { HasVerdict (IsMessage (side2_of_side self.old.side) self.old.level) self.old.max_depth (tokens_of body.now) result }
+        ensures verdict { HasVerdict (IsMessage (side2_of_side self.old.side) self.old.level) self.old.max_depth
+            (tokens_of body.now) result }
         ensures place { IsPlaceIn body.now result }
         ensures side { self.new.side ≡ self.old.side }
         ensures level { self.new.level ≡ self.old.level }
