@@ -357,7 +357,7 @@ fn each_event_before_the_rm(rt: HostRuntime) -> Result<(), Fail> {
 }
 
 /// What the server says one after the other, and the level after it, under an operator's level 30.
-const HLO_ROWS: [(&str, Level); 10] = [
+const HLO_ROWS: [(&str, Level); 11] = [
     // HLO ( ENG ) ( 1234 ) ( ( LVL 60 ) ), above the operator's level 30
     (
         "02 00 00 1A  48 04 40 00 41 01 40 01 40 00 04 D2 40 01 40 00 40 00 49 03 00 3C 40 01 40 01",
@@ -370,6 +370,8 @@ const HLO_ROWS: [(&str, Level); 10] = [
     ),
     // NOW ( SPR 1901 )
     ("02 00 00 0A  48 0E 40 00 47 00 07 6D 40 01", Level::L20),
+    // YES ( HLO )
+    ("02 00 00 08  48 1C 40 00 48 04 40 01", Level::L20),
     // HLO ( LVL 10 ), which is answered with HUH
     ("02 00 00 0A  48 04 40 00 49 03 00 0A 40 01", Level::L20),
     // HLO ( ENG ) ( 1234 ) ( ( LVL 10 ), which is answered with PRN

@@ -8,18 +8,21 @@ use Rattle.daide_frame.specs.declared.head.Kind.{Kind}
 use Rattle.daide_frame.specs.declared.head.Kind.TheVariants.{Im, Rm, Dm, Fm, Em}
 use Rattle.daide_grammar.specs.declared.level.Level.TheVariants.{L0, L10, L20, L30, L60}
 use Rattle.daide_frame.specs.declared.code.Code.TheVariants.{WrongLength, InvalidToken}
-use Rattle.daide_frame.specs.Head.{head_bytes}
+use Rattle.daide_frame.specs.Head.{head_bytes, head_of}
+use Rattle.daide_frame.specs.Frames.{is_alien, first_items, last_items}
 use Rattle.daide_frame.specs.InitialMessage.{im_of}
 use Rattle.daide_reader.specs.declared.verdict.Verdict.{Verdict}
 use Rattle.daide_reader.specs.declared.verdict.Verdict.TheVariants.{Relay, Prn, Huh}
 use Rattle.daide_machine.specs.declared.phase.Phase.{Phase}
 use Rattle.daide_machine.specs.declared.phase.Phase.TheVariants.{WaitIm, WaitRm, Open, Over}
-use Rattle.daide_machine.specs.Events.{Ends, Loses, Pops}
+use Rattle.daide_machine.specs.declared.note.Deed.TheVariants as Deeds
+use Rattle.daide_machine.specs.declared.note.Note.TheVariants as Notes
+use Rattle.daide_machine.specs.Events.{Comes, Ends, Loses, Pops}
 use Rattle.daide_machine.specs.Answers.{prn_open, huh_open, err_word, close_word, answer_body, answer_bytes}
 use Rattle.daide_machine.specs.HloLevel.{first_level, level_told}
 use Rattle.daide_machine.specs.Machine.{Limits, SessionState, Outcome, coming, opening, in_phase, nothing, begun}
-use Rattle.daide_machine.specs.Machine.{untimely, whole, fault, end, level_after, event_outcome}
-use Rattle.daide_machine.specs.Wires.{sent_to, bytes_of}
+use Rattle.daide_machine.specs.Machine.{with_coming, untimely, whole, fault, end, level_after, event_outcome, question}
+use Rattle.daide_machine.specs.Wires.{sent_to, bytes_of, note_of}
 
 -- a session in a phase at level 0, of which nothing is held
 abbrev standing : Limits → Phase → SessionState
@@ -331,6 +334,12 @@ hlo_answered : (level_after L60 Dm Server Prn (hlo_with 10) L30 ≡ L30)
     × (level_after L60 Dm Server (Huh 1) (hlo_with 10) L30 ≡ L30)
 hlo_answered = (refl, refl)
 
+-- the level is 0 until the session is open, and again when it is over
+level_of_other_frames : (side : Side) →
+    (level_after L60 Im side Relay [] L30 ≡ L0) × (level_after L60 Rm side Relay [] L30 ≡ L0)
+    × (level_after L60 Fm side Relay [] L30 ≡ L0) × (level_after L60 Em side Relay [] L30 ≡ L0)
+level_of_other_frames side = (refl, refl, refl, refl)
+
 -- the first option with a number counts
 hlo_with_two : first_level (0x4000 ∷ 0x4903 ∷ 0x0014 ∷ 0x4001 ∷ 0x4000 ∷ 0x4903 ∷ 0x000A ∷ 0x4001 ∷ []) ≡ Some (pos 20)
 hlo_with_two = refl
@@ -338,3 +347,60 @@ hlo_with_two = refl
 -- another message leaves it
 other_message : level_told L60 (0x4810 ∷ []) L10 ≡ L10
 other_message = refl
+
+-- ---- what the last byte of a frame makes
+
+abbrev small : Limits
+small = record { cap = 512; top_level = L60; max_depth = 62 }
+
+-- these bytes of the bot are pending, in this phase at level 30, and the last header came at level 10
+abbrev pending_in : Phase → List ℕ → SessionState
+pending_in phase bytes = with_coming (in_phase phase L30 (opening small)) Bot (record { pending = bytes; noted = L10 })
+
+-- a message is judged by the level that held at its header
+judged_by_the_noted_level : question (pending_in Open (0x02 ∷ 0x00 ∷ 0x00 ∷ 0x02 ∷ 0x48 ∷ [])) (Comes Bot 0x0F)
+    ≡ Some (record { side = Bot; level = L10; message = 0x480F ∷ [] })
+unfolding last_items first_items head_of is_alien
+judged_by_the_noted_level = refl
+
+-- a message without tokens is whole with its header, and judged by the level that holds now
+empty_judged_by_the_level_now : question (pending_in Open (0x02 ∷ 0x00 ∷ 0x00 ∷ [])) (Comes Bot 0x00)
+    ≡ Some (record { side = Bot; level = L30; message = [] })
+unfolding last_items first_items head_of is_alien
+empty_judged_by_the_level_now = refl
+
+-- nothing else is judged: no header, no other frame, no untimely message, and nothing after the end
+not_judged : (question (pending_in Open (0x02 ∷ 0x00 ∷ 0x00 ∷ [])) (Comes Bot 0x02) ≡ None)
+    × (question (pending_in Open (0x03 ∷ 0x00 ∷ 0x00 ∷ [])) (Comes Bot 0x00) ≡ None)
+    × (question (pending_in Open (0x04 ∷ 0x00 ∷ 0x00 ∷ 0x02 ∷ 0x00 ∷ [])) (Comes Bot 0x01) ≡ None)
+    × (question (pending_in WaitRm (0x02 ∷ 0x00 ∷ 0x00 ∷ [])) (Comes Bot 0x00) ≡ None)
+    × (question (pending_in Over (0x02 ∷ 0x00 ∷ 0x00 ∷ [])) (Comes Bot 0x00) ≡ None)
+unfolding last_items first_items head_of is_alien
+not_judged = (refl, refl, refl, refl, refl)
+
+-- the faults of a frame come before the session's own: at the header, or at an alien token
+faults_by_bytes : (wire Bot (event_outcome (pending_in WaitRm (0x00 ∷ 0x00 ∷ 0x04 ∷ [])) (Comes Bot 0x00) Relay)
+    ≡ em 0x03)
+    × (wire Bot (event_outcome (pending_in WaitRm (0x02 ∷ 0x00 ∷ 0x00 ∷ [])) (Comes Bot 0x03) Relay) ≡ em 0x09)
+    × (wire Bot (event_outcome (pending_in WaitRm (0x02 ∷ 0x00 ∷ 0x00 ∷ [])) (Comes Bot 0x02) Relay) ≡ em 0x0A)
+    × (wire Bot (event_outcome (pending_in Open (0x02 ∷ 0x00 ∷ 0x02 ∷ [])) (Comes Bot 0x02) Relay) ≡ em 0x08)
+    × (wire Bot (event_outcome (pending_in Open (0x02 ∷ 0x00 ∷ 0x00 ∷ 0x04 ∷ 0x58 ∷ [])) (Comes Bot 0x00) Relay)
+    ≡ em 0x0E)
+unfolding last_items first_items head_of is_alien
+faults_by_bytes = (refl, refl, refl, refl, refl)
+
+-- what the moves are called
+told_by_bytes : (note_of (event_outcome (pending_in Open (0x03 ∷ 0x00 ∷ 0x00 ∷ [])) (Comes Bot 0x00) Relay).effects
+    ≡ Notes.Frame (record { kind = Fm; len = 0 }) Deeds.Relayed)
+    × (note_of (event_outcome (pending_in WaitIm (0x03 ∷ 0x00 ∷ 0x00 ∷ [])) (Comes Bot 0x00) Relay).effects
+    ≡ Notes.Frame (record { kind = Fm; len = 0 }) Deeds.Dropped)
+    × (note_of (event_outcome (pending_in Open (0x02 ∷ 0x00 ∷ 0x00 ∷ [])) (Comes Bot 0x00) (Huh 0)).effects
+    ≡ Notes.Frame (record { kind = Dm; len = 0 }) (Deeds.Huh 0))
+    × (note_of (event_outcome (pending_in Open (0x02 ∷ 0x00 ∷ 0x00 ∷ [])) (Comes Bot 0x00) Prn).effects
+    ≡ Notes.Frame (record { kind = Dm; len = 0 }) Deeds.Prn)
+    × (note_of (event_outcome (pending_in Open (0x02 ∷ 0x00 ∷ 0x00 ∷ [])) (Comes Bot 0x03) Relay).effects
+    ≡ Notes.Fault WrongLength)
+    × (note_of (event_outcome (pending_in Open (0x02 ∷ 0x00 ∷ 0x00 ∷ [])) (Comes Bot 0x02) Relay).effects
+    ≡ Notes.Nothing)
+unfolding last_items first_items head_of is_alien
+told_by_bytes = (refl, refl, refl, refl, refl, refl)

@@ -1,6 +1,6 @@
 -- What a session does, as a machine: a state, and what one event makes of it. The state holds for each
 -- side the bytes since its last whole frame, so the frames of both sides come in the order in which
--- their last bytes do.
+-- their last bytes do. The rules are those of docs/PROTOCOL.md, "The session"; a choice of ours is (own).
 use Rattle.std.specs.Prelude.{◌≡◌, ℕ, Bool, true, false, List, [], ◌∷◌, ◌++◌}
 use Rattle.std.specs.Prelude.{Option, Some, None, is_some, Result, Ok, Err, if◌then◌else◌}
 use Rattle.daide_token.specs.Token.{tokens_of}
@@ -199,7 +199,7 @@ untimely Over Server Dm = None
 untimely Over Server Fm = None
 untimely Over Server Em = None
 
--- a whole header: it is a fault, or the level is noted by which the message will be judged
+-- a whole header: it is a fault, or the level is noted by which the message will be judged (own)
 abbrev pub begun : SessionState → Side → Option Code → Outcome
 begun state side None = nothing (with_noted state side state.level)
 begun state side (Some code) = fault state side code
@@ -264,7 +264,7 @@ abbrev pub answer_to : Side → Head → List ℕ → Verdict → Sent
 answer_to side head body verdict =
     record { to = destination side verdict; answers = Some side; bytes = answer_bytes head body verdict }
 
--- the answer to a frame, which a kind other than DM has by the verdict Relay
+-- the answer to a frame: itself, sent on; but a DM goes by its verdict, which is Relay for every other kind
 abbrev pub answered : SessionState → Side → Head → List ℕ → Verdict → Outcome
 answered state side head body verdict =
     let goes = is_sent state.phase head.kind (destination side verdict) in

@@ -121,11 +121,13 @@ IsFrontOf xs (frame ∷ frames) = (0 < length xs) × ((rest : List ℕ) × (fram
 
 -- ---- what a call does
 
--- a new session
+-- a new session: nothing came, nothing is held, nothing waits, and no table was asked
 pub record IsNew (limits : Limits) (g : Gateway) : Type 0 where
   pub state : g.state ≡ opening limits
   pub to_bot : g.to_bot ≡ []
   pub to_server : g.to_server ≡ []
+  pub held : (g.bot.held ≡ []) × (g.server.held ≡ [])
+  pub unasked : (g.bot.total ≡ 0) × (g.server.total ≡ 0)
 
 -- By these events the session goes from old to new with what the note tells, and what they cause waits
 -- behind what waited.

@@ -1,6 +1,7 @@
 //! Laws of the machine: functions with no parameters and an empty body, whose contracts are the laws.
 
-ghost use Rattle.daide_machine.specs.Laws.{AnswersAreUnique, RunsJoin, AnswersJoin, PiecesDoNotMatter, NothingAfterTheEnd, FramesAreThoseOfTheCut, EachSideIsWaitedFor};
+ghost use Rattle.daide_machine.specs.Laws.{AnswersAreUnique, RunsJoin, AnswersJoin, PiecesDoNotMatter};
+ghost use Rattle.daide_machine.specs.Laws.{NothingAfterTheEnd, FramesAreThoseOfTheCut, EachSideIsWaitedFor};
 
 /// A state and a list of events have one run: the same moves, so the same frames for each wire, and the
 /// same state after.

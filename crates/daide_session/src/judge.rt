@@ -41,7 +41,8 @@ impl Model for Judge {
 
     ghost view = { λ j. judging_of ⟦<Plain as Predict>⟧.asked j.reader j.side j.level };
 
-    ghost invariant = { λ j. j.reader.finished ≡ false → StandsAfter ⟦<Plain as Predict>⟧ [] (opening_of (side2_of j.side) j.level) j.reader.max_depth j.reader [] };
+    ghost invariant = { λ j. j.reader.finished ≡ false →
+        StandsAfter ⟦<Plain as Predict>⟧ [] (opening_of (side2_of j.side) j.level) j.reader.max_depth j.reader [] };
 }
 
 /// Whose messages a side's are: the gateway is the server to the bot, and the client to the server.
@@ -63,6 +64,7 @@ impl Judge {
         ensures level { result.level ≡ Level.L0 }
         ensures depth { result.max_depth ≡ max_depth }
         ensures idle { IsIdle result }
+        ensures unasked { result.total ≡ 0 }
     {
         let mut reader = Reader::new(Plain::new(), max_depth);
         reader.start(side2_of(side), Level::L0);
@@ -92,7 +94,8 @@ impl Judge {
     pub fn judge(&mut self, body: &[u8]) -> Verdict
         requires fresh { self.old.fresh ≡ true }
         requires len { length body.now ≤ 65534 }
-        ensures verdict { HasVerdict (IsMessage (side2_of_side self.old.side) self.old.level) self.old.max_depth (tokens_of body.now) result }
+        ensures verdict { HasVerdict (IsMessage (side2_of_side self.old.side) self.old.level) self.old.max_depth
+            (tokens_of body.now) result }
         ensures place { IsPlaceIn body.now result }
         ensures side { self.new.side ≡ self.old.side }
         ensures level { self.new.level ≡ self.old.level }
