@@ -2,7 +2,7 @@
 
 use daide_frame::side::Side;
 use daide_session::config::Config;
-use daide_session::session::Session;
+use daide_session::session::{Note, Session};
 use std::alloc::Allocator;
 use std::process::Abort;
 use std::test::Fail;
@@ -14,6 +14,8 @@ pub enum Act {
     Says(Side, &'static str),
     /// The side's stream ends.
     Ends(Side),
+    /// The wire toward the side fails.
+    Loses(Side),
     /// The timer of the initial message pops.
     Pops,
 }
@@ -104,12 +106,36 @@ impl Script {
             Act::Ends(side) => {
                 self.session.ended(side);
             }
+            Act::Loses(side) => self.session.lost(side),
             Act::Pops => {
                 self.session.im_timeout();
             }
         }
         self.deliver()
     }
+}
+
+/// Says bytes of a side one by one, with all that waits taken after each, and answers what was told: at most
+/// one thing of one frame.
+pub fn note_of(
+    rt: &(impl Abort + AllocGlobal),
+    script: &mut Script,
+    side: Side,
+    text: &str,
+) -> Result<Note, Fail> {
+    let mut told = Note::Nothing;
+    let bytes = bytes_of(rt, text)?;
+    for byte in bytes.as_slice() {
+        if script.session.room(side) > 0 {
+            let note = script.session.feed(side, &[*byte]);
+            if note != Note::Nothing {
+                assert_eq!(rt; told, Note::Nothing, "{text}");
+                told = note;
+            }
+            script.deliver()?;
+        }
+    }
+    Ok(told)
 }
 
 /// What a side sends first, and what the server answers.

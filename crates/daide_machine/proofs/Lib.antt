@@ -1,4 +1,5 @@
 pub mod PieceRuns
 pub mod OneRun
 pub mod WireLemmas
+pub mod FramesHeard
 pub mod StandardFacts

@@ -4,23 +4,27 @@ use Rattle.daide_reader.specs.declared.verdict.Verdict.{Verdict}
 use Rattle.daide_reader.proofs.VerdictLemmas.{verdict_is_one}
 use Rattle.daide_grammar.specs.Messages.{IsMessage}
 use Rattle.daide_machine.specs.Events.{Event}
-use Rattle.daide_machine.specs.Machine.{SessionState, Effect, Outcome, Question, Step, Runs, IsRight, question, side2_of, event_outcome}
+use Rattle.daide_machine.specs.Machine.{SessionState, Effect, Outcome, Question, Step, Runs, IsRight, question}
+use Rattle.daide_machine.specs.Machine.{side2_of, event_outcome}
 
 -- ---- one verdict
 
-one_right : (max_depth : ℕ) (q : Option Question) (v w : Verdict) → IsRight max_depth q v → IsRight max_depth q w → v ≡ w
+one_right : (max_depth : ℕ) (q : Option Question) (v w : Verdict) → IsRight max_depth q v → IsRight max_depth q w →
+    v ≡ w
 one_right max_depth None v w a b = a ∙ sym b
 one_right max_depth (Some q) v w a b = verdict_is_one (IsMessage (side2_of q.side) q.level) max_depth q.message v w a b
 
 -- ---- one run
 
-one_step : (old : SessionState) (event : Event) (a b : List Effect) (new other : SessionState) → Step old event a new → Step old event b other →
+one_step : (old : SessionState) (event : Event) (a b : List Effect) (new other : SessionState) →
+    Step old event a new → Step old event b other →
     ◌≡◌ {A = Outcome} (record { state = new; effects = a }) (record { state = other; effects = b })
 one_step old event a b new other s t =
     let same = one_right old.limits.max_depth (question old event) s.verdict t.verdict s.right t.right in
     sym s.outcome ∙ (ap (event_outcome old event) same ∙ t.outcome)
 
-pub one_run : (events : List Event) (old : SessionState) (a b : List Effect) (new other : SessionState) → Runs old events a new → Runs old events b other →
+pub one_run : (events : List Event) (old : SessionState) (a b : List Effect) (new other : SessionState) →
+    Runs old events a new → Runs old events b other →
     (a ≡ b) × (new ≡ other)
 one_run [] old a b new other r s = (r.0 ∙ sym s.0, r.1 ∙ sym s.1)
 one_run (event ∷ events) old a b new other r s =
@@ -32,9 +36,18 @@ one_run (event ∷ events) old a b new other r s =
 
 -- ---- runs join
 
-pub runs_join : (events more : List Event) (old mid new : SessionState) (a b : List Effect) → Runs old events a mid → Runs mid more b new →
+pub runs_join : (events more : List Event) (old mid new : SessionState) (a b : List Effect) → Runs old events a mid →
+    Runs mid more b new →
     Runs old (events ++ more) (a ++ b) new
 runs_join [] more old mid new a b r s =
-    subst (λ (m : SessionState). Runs m more (a ++ b) new) r.1 (subst (λ (x : List Effect). Runs mid more (x ++ b) new) (sym r.0) s)
-runs_join (event ∷ events) more old mid new a b r s =
-    (r.0, r.1, r.2 ++ b, r.3, runs_join events more r.0 mid new r.2 b r.4 s, ap (λ (x : List Effect). x ++ b) r.5 ∙ append_assoc r.1 r.2 b)
+    subst (λ (m : SessionState). Runs m more (a ++ b) new) r.1
+    (subst (λ (x : List Effect). Runs mid more (x ++ b) new) (sym r.0) s)
+runs_join (event ∷ events) more old mid new a b r s = (
+  r.0,
+  r.1,
+  r.2 ++ b,
+  r.3,
+  runs_join events more r.0 mid new r.2 b r.4 s,
+  ap (λ (x : List Effect). x ++ b) r.5
+      ∙ append_assoc r.1 r.2 b,
+)

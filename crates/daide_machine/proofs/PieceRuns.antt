@@ -1,6 +1,7 @@
 -- A piece is the run over its bytes: what a session makes of the items that end within a piece is what
 -- the machine makes of its bytes, one by one.
-use Rattle.std.proofs.Common.{◌≡◌, ℕ, Bool, true, false, List, [], ◌∷◌, ◌++◌, length, Option, None, refl, sym, ap, ◌∙◌, subst, arith, append_assoc, append-nil, length-append, ◌⊎◌, inl, inr, ⊎_elim}
+use Rattle.std.proofs.Common.{◌≡◌, ℕ, Bool, true, false, List, [], ◌∷◌, ◌++◌, length, Option, None, refl, sym, ap, ◌∙◌}
+use Rattle.std.proofs.Common.{subst, arith, append_assoc, append-nil, length-append, ◌⊎◌, inl, inr, ⊎_elim}
 use Rattle.daide_frame.specs.declared.side.Side.{Side}
 use Rattle.daide_frame.specs.declared.side.Side.TheVariants.{Bot, Server}
 use Rattle.daide_frame.specs.Frames.{Item, last_items, is_nothing, fed, fed_items}
@@ -9,7 +10,9 @@ use Rattle.daide_reader.specs.declared.verdict.Verdict.TheVariants.{Relay}
 use Rattle.daide_machine.specs.declared.phase.Phase.{Phase}
 use Rattle.daide_machine.specs.declared.phase.Phase.TheVariants.{WaitIm, WaitRm, Open, Over}
 use Rattle.daide_machine.specs.Events.{Event, Comes, Ends, Loses, Pops, bytes_come}
-use Rattle.daide_machine.specs.Machine.{SessionState, Outcome, Question, Step, Runs, coming, with_pending, items_outcome, asked_by, question, IsRight, event_outcome, nothing, is_over, popped}
+use Rattle.daide_machine.specs.Machine.{SessionState, Outcome, Question, Step, Runs, coming, with_pending}
+use Rattle.daide_machine.specs.Machine.{items_outcome, asked_by, question, IsRight, event_outcome, nothing, is_over}
+use Rattle.daide_machine.specs.Machine.{popped}
 
 -- ---- a session that is over
 
@@ -19,7 +22,8 @@ over_is WaitRm e = absurd (cc)
 over_is Open e = absurd (cc)
 over_is Over e = refl
 
-over_outcome : (s : SessionState) (e : Event) (v : Verdict) → is_over s.phase ≡ true → event_outcome s e v ≡ nothing s
+pub over_outcome : (s : SessionState) (e : Event) (v : Verdict) → is_over s.phase ≡ true →
+    event_outcome s e v ≡ nothing s
 over_outcome s (Comes side byte) v h = rw h refl
 over_outcome s (Ends side) v h = rw h refl
 over_outcome s (Loses side) v h = rw h refl
@@ -65,7 +69,8 @@ nothing_is (item ∷ items) e = absurd (cc)
 -- what a piece makes of a state
 abbrev pub piece_outcome : SessionState → Side → List ℕ → Verdict → Outcome
 piece_outcome s side piece v =
-    items_outcome (with_pending s side (fed s.limits.cap (coming s side).pending piece)) side (fed_items s.limits.cap (coming s side).pending piece) v
+    items_outcome (with_pending s side (fed s.limits.cap (coming s side).pending piece)) side
+    (fed_items s.limits.cap (coming s side).pending piece) v
 
 -- the message that it asks the grammar about
 abbrev pub piece_asks : SessionState → Side → List ℕ → Option Question
@@ -74,7 +79,8 @@ piece_asks s side piece = asked_by s side (fed_items s.limits.cap (coming s side
 -- the whole piece was taken, or the session is over
 abbrev pub IsTaken : SessionState → Side → List ℕ → Verdict → Type 0
 IsTaken s side piece v =
-    (fed s.limits.cap (coming s side).pending piece ≡ (coming s side).pending ++ piece) ⊎ (is_over (piece_outcome s side piece v).state.phase ≡ true)
+    (fed s.limits.cap (coming s side).pending piece ≡ (coming s side).pending ++ piece)
+    ⊎ (is_over (piece_outcome s side piece v).state.phase ≡ true)
 
 -- the bytes with one more, and the items that end with it
 abbrev with_byte : SessionState → Side → ℕ → List ℕ
@@ -85,7 +91,8 @@ items_at s side x = last_items s.limits.cap (with_byte s side x)
 
 -- a byte that ends nothing
 
-later_outcome : (s : SessionState) (side : Side) (x : ℕ) (piece : List ℕ) (v : Verdict) → is_nothing (items_at s side x) ≡ true →
+later_outcome : (s : SessionState) (side : Side) (x : ℕ) (piece : List ℕ) (v : Verdict) →
+    is_nothing (items_at s side x) ≡ true →
     piece_outcome (with_pending s side (with_byte s side x)) side piece v ≡ piece_outcome s side (x ∷ piece) v
 later_outcome s Bot x piece v n = rw n refl
 later_outcome s Server x piece v n = rw n refl
@@ -97,11 +104,14 @@ later_asks s Server x piece n = rw n refl
 
 later_fed : (s : SessionState) (side : Side) (x : ℕ) (piece : List ℕ) → is_nothing (items_at s side x) ≡ true →
     fed s.limits.cap (coming s side).pending (x ∷ piece) ≡ (coming s side).pending ++ x ∷ piece →
-    fed (with_pending s side (with_byte s side x)).limits.cap (coming (with_pending s side (with_byte s side x)) side).pending piece ≡ (coming (with_pending s side (with_byte s side x)) side).pending ++ piece
+    fed (with_pending s side (with_byte s side x)).limits.cap
+    (coming (with_pending s side (with_byte s side x)) side).pending piece
+    ≡ (coming (with_pending s side (with_byte s side x)) side).pending ++ piece
 later_fed s Bot x piece n e = (let h = rw n at e in h) ∙ sym (append_assoc s.bot.pending (x ∷ []) piece)
 later_fed s Server x piece n e = (let h = rw n at e in h) ∙ sym (append_assoc s.server.pending (x ∷ []) piece)
 
-quiet_step : (s : SessionState) (side : Side) (x : ℕ) → is_over s.phase ≡ false → items_at s side x ≡ [] → Step s (Comes side x) [] (with_pending s side (with_byte s side x))
+quiet_step : (s : SessionState) (side : Side) (x : ℕ) → is_over s.phase ≡ false → items_at s side x ≡ [] →
+    Step s (Comes side x) [] (with_pending s side (with_byte s side x))
 quiet_step s side x o n = record {
   verdict = Relay;
   right = rw (o, n) refl;
@@ -110,7 +120,8 @@ quiet_step s side x o n = record {
 
 -- a byte that ends something
 
-loud_step : (s : SessionState) (side : Side) (x : ℕ) (v : Verdict) → is_over s.phase ≡ false → IsRight s.limits.max_depth (asked_by s side (items_at s side x)) v →
+loud_step : (s : SessionState) (side : Side) (x : ℕ) (v : Verdict) → is_over s.phase ≡ false →
+    IsRight s.limits.max_depth (asked_by s side (items_at s side x)) v →
     let r = items_outcome (with_pending s side (with_byte s side x)) side (items_at s side x) v in
     Step s (Comes side x) r.effects r.state
 loud_step s side x v o r = record {
@@ -119,8 +130,10 @@ loud_step s side x v o r = record {
   outcome = rw o refl;
 }
 
-loud_outcome : (s : SessionState) (side : Side) (x : ℕ) (piece : List ℕ) (v : Verdict) → is_nothing (items_at s side x) ≡ false →
-    piece_outcome s side (x ∷ piece) v ≡ items_outcome (with_pending s side (with_byte s side x)) side (items_at s side x) v
+loud_outcome : (s : SessionState) (side : Side) (x : ℕ) (piece : List ℕ) (v : Verdict) →
+    is_nothing (items_at s side x) ≡ false →
+    piece_outcome s side (x ∷ piece) v
+    ≡ items_outcome (with_pending s side (with_byte s side x)) side (items_at s side x) v
 loud_outcome s side x piece v e = rw e refl
 
 loud_asks : (s : SessionState) (side : Side) (x : ℕ) (piece : List ℕ) → is_nothing (items_at s side x) ≡ false →
@@ -139,37 +152,54 @@ rest_runs s side [] e = (refl, refl)
 rest_runs s side (x ∷ piece) e = absurd (omega arith)
 
 -- the run over the bytes of a piece
-pub piece_runs : (piece : List ℕ) (s : SessionState) (side : Side) (v : Verdict) → is_over s.phase ≡ false → IsTaken s side piece v → IsRight s.limits.max_depth (piece_asks s side piece) v →
+pub piece_runs : (piece : List ℕ) (s : SessionState) (side : Side) (v : Verdict) → is_over s.phase ≡ false →
+    IsTaken s side piece v → IsRight s.limits.max_depth (piece_asks s side piece) v →
     Runs s (bytes_come side piece) (piece_outcome s side piece v).effects (piece_outcome s side piece v).state
 piece_runs [] s side v o t r = (refl, same_pending s side)
-piece_runs (x ∷ piece) s side v o t r = go (is_nothing (items_at s side x)) refl (λ s' v' o' t' r'. piece_runs piece s' side v' o' t' r')
+piece_runs (x ∷ piece) s side v o t r =
+    go (is_nothing (items_at s side x)) refl (λ s' v' o' t' r'. piece_runs piece s' side v' o' t' r')
   where
     next : SessionState
     next = with_pending s side (with_byte s side x)
 
     Later : Type 0
-    Later = (s' : SessionState) (v' : Verdict) → is_over s'.phase ≡ false → IsTaken s' side piece v' → IsRight s'.limits.max_depth (piece_asks s' side piece) v' →
+    Later = (s' : SessionState) (v' : Verdict) → is_over s'.phase ≡ false → IsTaken s' side piece v' →
+        IsRight s'.limits.max_depth (piece_asks s' side piece) v' →
         Runs s' (bytes_come side piece) (piece_outcome s' side piece v').effects (piece_outcome s' side piece v').state
 
     go : (n : Bool) → is_nothing (items_at s side x) ≡ n → Later →
-        Runs s (bytes_come side (x ∷ piece)) (piece_outcome s side (x ∷ piece) v).effects (piece_outcome s side (x ∷ piece) v).state
+        Runs s (bytes_come side (x ∷ piece)) (piece_outcome s side (x ∷ piece) v).effects
+        (piece_outcome s side (x ∷ piece) v).state
     go true e later =
         let same = later_outcome s side x piece v e in
         let taken : IsTaken next side piece v = ⊎_elim
-        (λ (h : fed s.limits.cap (coming s side).pending (x ∷ piece) ≡ (coming s side).pending ++ x ∷ piece). inl (later_fed s side x piece e h))
-        (λ (h : is_over (piece_outcome s side (x ∷ piece) v).state.phase ≡ true). inr (ap (λ (q : Outcome). is_over q.state.phase) same ∙ h))
+        (λ (h : fed s.limits.cap (coming s side).pending (x ∷ piece) ≡ (coming s side).pending ++ x ∷ piece). inl
+        (later_fed s side x piece e h))
+        (λ (h : is_over (piece_outcome s side (x ∷ piece) v).state.phase ≡ true). inr
+        (ap (λ (q : Outcome). is_over q.state.phase) same ∙ h))
         t in
-        let asks = subst (λ (q : Option Question). IsRight s.limits.max_depth q v) (sym (later_asks s side x piece e)) r in
-        let asks_there = subst (λ (d : ℕ). IsRight d (piece_asks next side piece) v) (sym (depth_is s side (with_byte s side x))) asks in
-        let more = later next v (ap is_over (phase_is s side (with_byte s side x)) ∙ o) taken asks_there in
-        (next, [], (piece_outcome s side (x ∷ piece) v).effects, quiet_step s side x o (nothing_is _ e), subst (λ (q : Outcome). Runs next (bytes_come side piece) q.effects q.state) same more, refl)
+        let asks = subst (λ (q : Option Question). IsRight s.limits.max_depth q v)
+        (sym (later_asks s side x piece e)) r in
+        let asks_there = subst (λ (d : ℕ). IsRight d (piece_asks next side piece) v)
+        (sym (depth_is s side (with_byte s side x))) asks in
+        let more = later next v (ap is_over (phase_is s side (with_byte s side x)) ∙ o) taken asks_there in (
+          next,
+          [],
+          (piece_outcome s side (x ∷ piece) v).effects,
+          quiet_step s side x o (nothing_is _ e),
+          subst (λ (q : Outcome). Runs next (bytes_come side piece) q.effects q.state) same more,
+          refl,
+        )
     go false e later =
         let result = items_outcome next side (items_at s side x) v in
         let same : piece_outcome s side (x ∷ piece) v ≡ result = loud_outcome s side x piece v e in
         let asks = subst (λ (q : Option Question). IsRight s.limits.max_depth q v) (loud_asks s side x piece e) r in
         let rest : Runs result.state (bytes_come side piece) [] result.state = ⊎_elim
-        (λ (h : fed s.limits.cap (coming s side).pending (x ∷ piece) ≡ (coming s side).pending ++ x ∷ piece). rest_runs result.state side piece (short (coming s side).pending x piece (sym (loud_fed s side x piece e) ∙ h)))
-        (λ (h : is_over (piece_outcome s side (x ∷ piece) v).state.phase ≡ true). over_stays result.state (bytes_come side piece) (ap (λ (q : Outcome). is_over q.state.phase) (sym same) ∙ h))
+        (λ (h : fed s.limits.cap (coming s side).pending (x ∷ piece)
+        ≡ (coming s side).pending ++ x ∷ piece). rest_runs result.state side piece
+        (short (coming s side).pending x piece (sym (loud_fed s side x piece e) ∙ h)))
+        (λ (h : is_over (piece_outcome s side (x ∷ piece) v).state.phase ≡ true). over_stays result.state
+        (bytes_come side piece) (ap (λ (q : Outcome). is_over q.state.phase) (sym same) ∙ h))
         t in
         subst (λ (q : Outcome). Runs s (bytes_come side (x ∷ piece)) q.effects q.state) (sym same)
         (result.state, result.effects, [], loud_step s side x v o asks, rest, sym (append-nil result.effects))

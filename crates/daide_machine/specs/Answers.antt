@@ -1,4 +1,5 @@
--- What is sent for a frame: itself, or a DM that has its body within PRN or HUH. Each is written with pad 0.
+-- What is sent for a frame: itself, or a DM that has its body within PRN or HUH, by docs/PROTOCOL.md,
+-- "Verdicts". Each is written with pad 0.
 use Rattle.std.specs.Prelude.{ℕ, ◌+◌, ◌*◌, List, [], ◌∷◌, ◌++◌, take, drop}
 use Rattle.daide_frame.specs.declared.head.Kind.TheVariants.{Dm}
 use Rattle.daide_frame.specs.declared.head.Head.{Head}

@@ -1,4 +1,5 @@
--- The level of press that a server's HLO sets: HLO ( power ) ( passcode ) ( ( LVL n ) .. ).
+-- The level of press that a server's HLO sets: HLO ( power ) ( passcode ) ( ( LVL n ) .. ). The rule is
+-- that of docs/PROTOCOL.md, "The session".
 use Rattle.std.specs.Prelude.{ℕ, ℤ, Bool, false, ◌&&◌, ◌==◌, List, [], ◌∷◌, Option, Some, None, if◌then◌else◌}
 use Rattle.daide_token.specs.Token.{bra, ket, hlo, lvl, number_of}
 use Rattle.daide_grammar.specs.declared.level.Level.{Level}

@@ -4,4 +4,5 @@ pub mod HloLevel
 pub mod Machine
 pub mod Wires
 pub mod Weight
+pub mod Heard
 pub mod Laws

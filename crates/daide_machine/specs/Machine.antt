@@ -1,7 +1,8 @@
 -- What a session does, as a machine: a state, and what one event makes of it. The state holds for each
 -- side the bytes since its last whole frame, so the frames of both sides come in the order in which
--- their last bytes do.
-use Rattle.std.specs.Prelude.{◌≡◌, ℕ, Bool, true, false, List, [], ◌∷◌, ◌++◌, Option, Some, None, is_some, Result, Ok, Err, if◌then◌else◌}
+-- their last bytes do. The rules are those of docs/PROTOCOL.md, "The session"; a choice of ours is (own).
+use Rattle.std.specs.Prelude.{◌≡◌, ℕ, Bool, true, false, List, [], ◌∷◌, ◌++◌}
+use Rattle.std.specs.Prelude.{Option, Some, None, is_some, Result, Ok, Err, if◌then◌else◌}
 use Rattle.daide_token.specs.Token.{tokens_of}
 use Rattle.daide_frame.specs.declared.side.Side.{Side}
 use Rattle.daide_frame.specs.declared.side.Side.TheVariants.{Bot, Server}
@@ -9,7 +10,8 @@ use Rattle.daide_frame.specs.declared.head.Kind.{Kind}
 use Rattle.daide_frame.specs.declared.head.Kind.TheVariants.{Im, Rm, Dm, Fm, Em}
 use Rattle.daide_frame.specs.declared.head.Head.{Head}
 use Rattle.daide_frame.specs.declared.code.Code.{Code}
-use Rattle.daide_frame.specs.declared.code.Code.TheVariants.{ImTimeout, ImNotFirst, SecondIm, ImFromServer, UnknownMessage, DmBeforeRm, RmNotFirst, SecondRm, RmFromClient}
+use Rattle.daide_frame.specs.declared.code.Code.TheVariants.{ImTimeout, ImNotFirst, SecondIm, ImFromServer}
+use Rattle.daide_frame.specs.declared.code.Code.TheVariants.{UnknownMessage, DmBeforeRm, RmNotFirst, SecondRm, RmFromClient}
 use Rattle.daide_frame.specs.Code.{code_number}
 use Rattle.daide_frame.specs.InitialMessage.{im_of}
 use Rattle.daide_frame.specs.Frames.{Item, Begun, Whole, Wrong, last_items}
@@ -58,8 +60,10 @@ coming state Bot = state.bot
 coming state Server = state.server
 
 abbrev pub with_coming : SessionState → Side → Coming → SessionState
-with_coming state Bot c = record { limits = state.limits; phase = state.phase; level = state.level; bot = c; server = state.server }
-with_coming state Server c = record { limits = state.limits; phase = state.phase; level = state.level; bot = state.bot; server = c }
+with_coming state Bot c =
+    record { limits = state.limits; phase = state.phase; level = state.level; bot = c; server = state.server }
+with_coming state Server c =
+    record { limits = state.limits; phase = state.phase; level = state.level; bot = state.bot; server = c }
 
 -- the same with other bytes since the last whole frame
 abbrev pub with_pending : SessionState → Side → List ℕ → SessionState
@@ -70,7 +74,8 @@ abbrev pub with_noted : SessionState → Side → Level → SessionState
 with_noted state side level = with_coming state side (record { pending = (coming state side).pending; noted = level })
 
 abbrev pub in_phase : Phase → Level → SessionState → SessionState
-in_phase phase level state = record { limits = state.limits; phase = phase; level = level; bot = state.bot; server = state.server }
+in_phase phase level state =
+    record { limits = state.limits; phase = phase; level = level; bot = state.bot; server = state.server }
 
 abbrev pub over : SessionState → SessionState
 over state = in_phase Over L0 state
@@ -194,7 +199,7 @@ untimely Over Server Dm = None
 untimely Over Server Fm = None
 untimely Over Server Em = None
 
--- a whole header: it is a fault, or the level is noted by which the message will be judged
+-- a whole header: it is a fault, or the level is noted by which the message will be judged (own)
 abbrev pub begun : SessionState → Side → Option Code → Outcome
 begun state side None = nothing (with_noted state side state.level)
 begun state side (Some code) = fault state side code
@@ -259,12 +264,13 @@ abbrev pub answer_to : Side → Head → List ℕ → Verdict → Sent
 answer_to side head body verdict =
     record { to = destination side verdict; answers = Some side; bytes = answer_bytes head body verdict }
 
--- the answer to a frame, which a kind other than DM has by the verdict Relay
+-- the answer to a frame: itself, sent on; but a DM goes by its verdict, which is Relay for every other kind
 abbrev pub answered : SessionState → Side → Head → List ℕ → Verdict → Outcome
 answered state side head body verdict =
     let goes = is_sent state.phase head.kind (destination side verdict) in
     let level = level_after state.limits.top_level head.kind side verdict (tokens_of body) state.level in
-    one_move (in_phase (phase_after head.kind state.phase) level (with_pending state side [])) (Notes.Frame head (deed_of goes verdict))
+    one_move (in_phase (phase_after head.kind state.phase) level (with_pending state side []))
+    (Notes.Frame head (deed_of goes verdict))
     (if goes then answer_to side head body verdict ∷ [] else [])
 
 -- an IM is checked first
@@ -274,7 +280,8 @@ im_answered good state side (Err code) = fault state side code
 
 abbrev pub whole : SessionState → Side → Head → List ℕ → Verdict → Outcome
 whole state side head body verdict =
-    if is_im head.kind then im_answered (answered state side head body verdict) state side (im_of body) else answered state side head body verdict
+    if is_im head.kind then im_answered (answered state side head body verdict) state side (im_of body)
+    else answered state side head body verdict
 
 -- ---- events
 
@@ -294,7 +301,8 @@ items_outcome state side (item ∷ items) verdict =
 
 -- the items that end with the last of a side's bytes
 abbrev pub byte_outcome : SessionState → Side → List ℕ → Verdict → Outcome
-byte_outcome state side bytes verdict = items_outcome (with_pending state side bytes) side (last_items state.limits.cap bytes) verdict
+byte_outcome state side bytes verdict =
+    items_outcome (with_pending state side bytes) side (last_items state.limits.cap bytes) verdict
 
 -- the timer: in the phase WaitIm the bot's fault
 abbrev pub popped : Phase → SessionState → Outcome
@@ -305,7 +313,8 @@ popped Over state = nothing state
 
 abbrev pub event_outcome : SessionState → Event → Verdict → Outcome
 event_outcome state (Comes side byte) verdict =
-    if is_over state.phase then nothing state else byte_outcome state side ((coming state side).pending ++ byte ∷ []) verdict
+    if is_over state.phase then nothing state
+    else byte_outcome state side ((coming state side).pending ++ byte ∷ []) verdict
 event_outcome state (Ends side) verdict = if is_over state.phase then nothing state else end state side
 event_outcome state (Loses side) verdict = if is_over state.phase then nothing state else end state side
 event_outcome state Pops verdict = popped state.phase state
@@ -319,14 +328,16 @@ pub record Question : Type 0 where
   pub message : List ℕ
 
 abbrev pub question_of : Side → Level → Head → List ℕ → Option Question
-question_of side level head body = if is_dm head.kind then Some (record { side = side; level = level; message = tokens_of body }) else None
+question_of side level head body =
+    if is_dm head.kind then Some (record { side = side; level = level; message = tokens_of body }) else None
 
 -- by the level noted at the header, or by the present one where the header ends here too; a message
 -- whose header is untimely is not judged
 abbrev pub question_in : Side → Level → Level → (Kind → Option Code) → List Item → Option Question
 question_in side noted now refusal [] = None
 question_in side noted now refusal (Whole head body ∷ items) = question_of side noted head body
-question_in side noted now refusal (Begun head ∷ Whole again body ∷ items) = if is_some (refusal head.kind) then None else question_of side now again body
+question_in side noted now refusal (Begun head ∷ Whole again body ∷ items) =
+    if is_some (refusal head.kind) then None else question_of side now again body
 question_in side noted now refusal (Begun head ∷ []) = None
 question_in side noted now refusal (Begun head ∷ Begun again ∷ items) = None
 question_in side noted now refusal (Begun head ∷ Wrong code ∷ items) = None
@@ -338,7 +349,8 @@ asked_by state side items = question_in side (coming state side).noted state.lev
 -- the message that an event asks the grammar about, if any
 abbrev pub question : SessionState → Event → Option Question
 question state (Comes side byte) =
-    if is_over state.phase then None else asked_by state side (last_items state.limits.cap ((coming state side).pending ++ byte ∷ []))
+    if is_over state.phase then None
+    else asked_by state side (last_items state.limits.cap ((coming state side).pending ++ byte ∷ []))
 question state (Ends side) = None
 question state (Loses side) = None
 question state Pops = None
@@ -365,4 +377,5 @@ pub record Step (old : SessionState) (event : Event) (effects : List Effect) (ne
 abbrev pub Runs : SessionState → List Event → List Effect → SessionState → Type 0
 Runs old [] effects new = (effects ≡ []) × (new ≡ old)
 Runs old (event ∷ events) effects new =
-    (mid : SessionState) × (first : List Effect) × (rest : List Effect) × Step old event first mid × Runs mid events rest new × (effects ≡ first ++ rest)
+    (mid : SessionState) × (first : List Effect) × (rest : List Effect)
+    × Step old event first mid × Runs mid events rest new × (effects ≡ first ++ rest)

@@ -28,7 +28,8 @@ weight_bound g = direction_bound g.state.limits.cap g.bot.held + direction_bound
 
 -- the table's answers that a side's message may take: four a token, and four at its end
 abbrev pub steps_bound : Gateway → Side → ℕ
-steps_bound g side = 4 * length (tokens_held g.state.limits.cap (holding g side).held) + (if is_answering g side then 4 else 0)
+steps_bound g side =
+    4 * length (tokens_held g.state.limits.cap (holding g side).held) + (if is_answering g side then 4 else 0)
 
 -- where no answer to a side's last frame waits, the bytes that are held are those since its last whole frame
 abbrev pub IsTied : Gateway → Type 0

@@ -1,6 +1,7 @@
 -- A session as its callers see it: its state, the frames that wait for each wire, and what it holds of
 -- each side; and what each call does to these.
-use Rattle.std.specs.Prelude.{◌≡◌, ℕ, ◌+◌, ◌-◌, ◌%◌, ◌^◌, ◌<◌, Bool, true, false, ◌||◌, ◌&&◌, nat_lt, List, [], ◌∷◌, ◌++◌, length, drop, Option, Some, None, if◌then◌else◌}
+use Rattle.std.specs.Prelude.{◌≡◌, ℕ, ◌+◌, ◌-◌, ◌%◌, ◌^◌, ◌<◌, Bool, true, false, ◌||◌, ◌&&◌, nat_lt}
+use Rattle.std.specs.Prelude.{List, [], ◌∷◌, ◌++◌, length, drop, Option, Some, None, if◌then◌else◌}
 use Rattle.daide_frame.specs.declared.side.Side.{Side}
 use Rattle.daide_frame.specs.declared.side.Side.TheVariants.{Bot, Server}
 use Rattle.daide_frame.specs.declared.head.Head.{Head}
@@ -22,7 +23,8 @@ same_side Server Server = true
 -- the frames for the wire toward a side
 abbrev pub frames_to : Side → List Sent → List Sent
 frames_to side [] = []
-frames_to side (frame ∷ frames) = if same_side frame.to side then frame ∷ frames_to side frames else frames_to side frames
+frames_to side (frame ∷ frames) =
+    if same_side frame.to side then frame ∷ frames_to side frames else frames_to side frames
 
 -- those that moves send
 abbrev pub sent_to : Side → List Effect → List Sent
@@ -103,7 +105,9 @@ is_closed g = is_over g.state.phase && (no_frame g.to_bot && no_frame g.to_serve
 abbrev pub without : ℕ → List Sent → List Sent
 without n [] = []
 without n (frame ∷ frames) =
-    if nat_lt n (length frame.bytes) then record { to = frame.to; answers = frame.answers; bytes = drop n frame.bytes } ∷ frames else frames
+    if nat_lt n (length frame.bytes)
+    then record { to = frame.to; answers = frame.answers; bytes = drop n frame.bytes } ∷ frames
+    else frames
 
 -- how many bytes are left of the first frame
 abbrev pub first_len : List Sent → ℕ
@@ -117,11 +121,13 @@ IsFrontOf xs (frame ∷ frames) = (0 < length xs) × ((rest : List ℕ) × (fram
 
 -- ---- what a call does
 
--- a new session
+-- a new session: nothing came, nothing is held, nothing waits, and no table was asked
 pub record IsNew (limits : Limits) (g : Gateway) : Type 0 where
   pub state : g.state ≡ opening limits
   pub to_bot : g.to_bot ≡ []
   pub to_server : g.to_server ≡ []
+  pub held : (g.bot.held ≡ []) × (g.server.held ≡ [])
+  pub unasked : (g.bot.total ≡ 0) × (g.server.total ≡ 0)
 
 -- By these events the session goes from old to new with what the note tells, and what they cause waits
 -- behind what waited.
@@ -170,12 +176,23 @@ counts_from None None h = h.total_before
 counts_from None (Some head) h = if is_dm head.kind then h.total else h.total_before
 counts_from (Some head) later h = h.total_before
 
--- bytes of a side came: its frame has them, its table was asked for a message alone, each token once,
--- and nothing changed of what is held of the other side
+-- the bytes of a side's frame with more of them, up to the end of the frame
+abbrev pub grown : Gateway → Side → List ℕ → List ℕ
+grown g side piece = fed g.state.limits.cap (holding g side).held piece
+
+-- the header of a side's frame that has these bytes, once it is whole and good
+abbrev pub head_by : Gateway → List ℕ → Option Head
+head_by g bytes = head_in g.state.limits.cap bytes
+
+-- Bytes of a side came: its frame has them, its table was asked for a message alone, each token once,
+-- and nothing changed of what is held of the other side. Where no byte came, nothing changed at all.
 pub record Takes (old : Gateway) (side : Side) (piece : List ℕ) (told : Note) (new : Gateway) : Type 0 where
-  pub bytes : (holding new side).held ≡ held_after told (fed old.state.limits.cap (holding old side).held piece)
-  pub base : (holding new side).total_before ≡ counts_from (head_in old.state.limits.cap (holding old side).held) (head_in old.state.limits.cap (fed old.state.limits.cap (holding old side).held piece)) (holding old side)
-  pub no_message : is_dm_head (head_in old.state.limits.cap (fed old.state.limits.cap (holding old side).held piece)) ≡ false → (holding new side).total ≡ (holding old side).total
+  pub nothing : piece ≡ [] → holding new side ≡ holding old side
+  pub bytes : (holding new side).held ≡ held_after told (grown old side piece)
+  pub base : (holding new side).total_before
+      ≡ counts_from (head_by old (holding old side).held) (head_by old (grown old side piece)) (holding old side)
+  pub no_message : is_dm_head (head_by old (grown old side piece)) ≡ false →
+      (holding new side).total ≡ (holding old side).total
   pub other_side : holding new (other side) ≡ holding old (other side)
 
 -- nothing changed of what is held

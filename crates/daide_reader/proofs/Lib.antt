@@ -1,3 +1,4 @@
+pub mod BodyLemmas
 pub mod OutlineLemmas
 pub mod StackLemmas
 pub mod ErrorPlaceLemmas

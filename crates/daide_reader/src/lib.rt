@@ -6,6 +6,7 @@
 //! table is another grammar and no other proof.
 #![tactic(auto)]
 
+mod body;
 mod brackets;
 pub mod laws;
 mod outline;

@@ -1,5 +1,6 @@
 -- What a whole header says of lengths.
-use Rattle.std.proofs.Common.{◌≡◌, ℕ, ◌≤◌, Bool, true, false, List, [], ◌∷◌, length, Option, Some, None, Result, Ok, Err, refl, ap, ◌∙◌, subst, arith}
+use Rattle.std.proofs.Common.{◌≡◌, ℕ, ◌≤◌, Bool, true, false, List, [], ◌∷◌, length, Option, Some, None, Result, Ok}
+use Rattle.std.proofs.Common.{Err, refl, ap, ◌∙◌, subst, arith}
 use Rattle.std.specs.Prelude.{nat_lt, ◌&&◌, ◌==◌, slice_index}
 use Rattle.std.specs.Int.{w16, from_be_bytes}
 use Rattle.std.proofs.lemmas.Bool.Decides.{nat_tests}
@@ -15,13 +16,17 @@ not_above limit n e = grind (arith, nat_tests)
 
 judged_capped : (k : Option Kind) (n limit : ℕ) (h : Head) → judged k n limit ≡ Ok h → h.len ≤ limit
 judged_capped None n limit h e = absurd (cc)
-judged_capped (Some kind) n limit h e = go (is_im kind && (n == 0x0400)) refl (has_right_length kind n) refl (nat_lt limit n) refl
+judged_capped (Some kind) n limit h e =
+    go (is_im kind && (n == 0x0400)) refl (has_right_length kind n) refl (nat_lt limit n) refl
   where
-    go : (a : Bool) → (is_im kind && (n == 0x0400)) ≡ a → (b : Bool) → has_right_length kind n ≡ b → (c : Bool) → nat_lt limit n ≡ c → h.len ≤ limit
+    go : (a : Bool) → (is_im kind && (n == 0x0400)) ≡ a → (b : Bool) → has_right_length kind n ≡ b → (c : Bool) →
+        nat_lt limit n ≡ c → h.len ≤ limit
     go true ea b eb c ec = let bad = rw ea at e in absurd (cc)
     go false ea false eb c ec = let bad = rw (ea, eb) at e in absurd (cc)
     go false ea true eb true ec = let bad = rw (ea, eb, ec) at e in absurd (cc)
-    go false ea true eb false ec = let good = rw (ea, eb, ec) at e in let same : n ≡ h.len = ok_len good in let fits = not_above limit n ec in omega (arith, same, fits)
+    go false ea true eb false ec =
+        let good = rw (ea, eb, ec) at e in let same : n ≡ h.len = ok_len good in let fits = not_above limit n ec in
+        omega (arith, same, fits)
       where
         ok_len : ◌≡◌ {A = Result Head Code} (Ok (record { kind = kind; len = n })) (Ok h) → n ≡ h.len
         ok_len q = ap len_in q
@@ -36,7 +41,9 @@ part_is (Err x) h e = absurd (cc)
 
 whole_capped : (limit : ℕ) (bytes : List ℕ) (h : Head) → head_of bytes limit ≡ Ok h → h.len ≤ limit
 unfolding head_of
-whole_capped limit bytes h e = judged_capped (kind_of (slice_index bytes 0)) (from_be_bytes w16 (slice_index bytes 2 ∷ slice_index bytes 3 ∷ [])) limit h e
+whole_capped limit bytes h e =
+    judged_capped (kind_of (slice_index bytes 0))
+    (from_be_bytes w16 (slice_index bytes 2 ∷ slice_index bytes 3 ∷ [])) limit h e
 
 pub head_capped : (limit : ℕ) (bytes : List ℕ) (h : Head) → head_in limit bytes ≡ Some h → h.len ≤ limit
 unfolding head_in

@@ -1,5 +1,6 @@
 -- The tokens of a body, from one of them on.
-use Rattle.std.proofs.Common.{◌≡◌, ℕ, ◌+◌, ◌-◌, ◌*◌, ◌<◌, ◌≤◌, zero, suc, true, false, List, [], ◌∷◌, length, get_or, take, drop, Option, Some, None, refl, ap, ◌∙◌, subst, arith, length-drop}
+use Rattle.std.proofs.Common.{◌≡◌, ℕ, ◌+◌, ◌-◌, ◌*◌, ◌<◌, ◌≤◌, zero, suc, true, false, List, [], ◌∷◌, length, get_or}
+use Rattle.std.proofs.Common.{take, drop, Option, Some, None, refl, ap, ◌∙◌, subst, arith, length-drop}
 use Rattle.std.specs.Prelude.{ℤ, is_some}
 use Rattle.std.proofs.Math.Seq.{take-length}
 use Rattle.daide_token.specs.Token.{tokens_of}
@@ -23,7 +24,8 @@ tokens_none [] h = refl
 tokens_none (x ∷ []) h = refl
 tokens_none (x ∷ y ∷ b) h = absurd (omega arith)
 
-pub level_later : (tokens : List ℕ) (t : ℕ) (rest : List ℕ) → tokens ≡ t ∷ rest → option_number tokens ≡ None → first_level tokens ≡ first_level rest
+pub level_later : (tokens : List ℕ) (t : ℕ) (rest : List ℕ) → tokens ≡ t ∷ rest → option_number tokens ≡ None →
+    first_level tokens ≡ first_level rest
 level_later tokens t rest e h =
     let here : option_number (t ∷ rest) ≡ None = subst (λ (x : List ℕ). option_number x ≡ None) e h in
     ap first_level e ∙ ap (λ (n : Option ℤ). or_else n (first_level rest)) here

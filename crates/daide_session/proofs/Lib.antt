@@ -11,7 +11,6 @@ pub mod Queues
 pub mod ReactionLemmas
 pub mod SessionLemmas
 pub mod Sound
-pub mod TokenLemmas
 pub mod TrafficLemmas
 pub mod WeightLemmas
 pub mod WroteLemmas

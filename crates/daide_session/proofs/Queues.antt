@@ -1,5 +1,6 @@
 -- What a wire's list says of the frames that wait for it.
-use Rattle.std.proofs.Common.{◌≡◌, ℕ, ◌+◌, ◌<◌, ◌≤◌, Bool, true, false, List, [], ◌∷◌, ◌++◌, length, drop, map, Option, Some, None, refl, sym, ap, ◌∙◌, arith, ⊎_elim, ◌⊎◌, inl, inr, zero, suc}
+use Rattle.std.proofs.Common.{◌≡◌, ℕ, ◌+◌, ◌<◌, ◌≤◌, Bool, true, false, List, [], ◌∷◌, ◌++◌, length, drop, map, Option}
+use Rattle.std.proofs.Common.{Some, None, refl, sym, ap, ◌∙◌, arith, ⊎_elim, ◌⊎◌, inl, inr, zero, suc}
 use Rattle.std.specs.Prelude.{◌||◌, is_some}
 use Rattle.std.proofs.lemmas.List.{map-append}
 use Rattle.daide_frame.specs.declared.side.Side.{Side}
@@ -11,7 +12,8 @@ use Rattle.daide_session.specs.declared.wire.Waiting.{Waiting}
 use Rattle.daide_session.specs.declared.wire.Waiting.TheVariants.{Answer, Fm, Em}
 use Rattle.daide_session.specs.Wire.{Queue}
 use Rattle.daide_session.specs.Traffic.{has_end, end_to}
-use Rattle.daide_session.specs.Outgoing.{frame_of, frames_of, bytes_in, behind, count_of, bot_mark, server_mark, end_mark, presence, IsBegun, ending_of}
+use Rattle.daide_session.specs.Outgoing.{frame_of, frames_of, bytes_in, behind, count_of, bot_mark, server_mark}
+use Rattle.daide_session.specs.Outgoing.{end_mark, presence, IsBegun, ending_of}
 
 -- marks are counted one by one
 
@@ -95,8 +97,11 @@ bot_busy None s p q e =
     ) refl
 bot_busy (Some a) s p q e =
     or_true _ _ (⊎_elim
-    (λ (h : 0 < count_of bot_mark p.items). inl (behind-awaits Bot p.written (map (frame_of Bot (Some a) s) p.items) ∙ awaits_bot-some Bot (Some a) s p.items h))
-    (λ (h : 0 < count_of bot_mark q.items). inr (behind-awaits Bot q.written (map (frame_of Server (Some a) s) q.items) ∙ awaits_bot-some Server (Some a) s q.items h))
+    (λ (h : 0 < count_of bot_mark p.items). inl (behind-awaits Bot p.written (map (frame_of Bot (Some a) s) p.items)
+    ∙ awaits_bot-some Bot (Some a) s p.items h))
+    (λ (h : 0 < count_of bot_mark q.items). inr
+    (behind-awaits Bot q.written (map (frame_of Server (Some a) s) q.items)
+    ∙ awaits_bot-some Server (Some a) s q.items h))
     (one_of (count_of bot_mark p.items) (count_of bot_mark q.items) e))
 
 pub server_busy : (b s : Option (List ℕ)) (p q : Queue) →
@@ -113,8 +118,12 @@ server_busy b None p q e =
     ) refl
 server_busy b (Some a) p q e =
     or_true _ _ (⊎_elim
-    (λ (h : 0 < count_of server_mark p.items). inl (behind-awaits Server p.written (map (frame_of Bot b (Some a)) p.items) ∙ awaits_server-some Bot b (Some a) p.items h))
-    (λ (h : 0 < count_of server_mark q.items). inr (behind-awaits Server q.written (map (frame_of Server b (Some a)) q.items) ∙ awaits_server-some Server b (Some a) q.items h))
+    (λ (h : 0 < count_of server_mark p.items). inl
+    (behind-awaits Server p.written (map (frame_of Bot b (Some a)) p.items)
+    ∙ awaits_server-some Bot b (Some a) p.items h))
+    (λ (h : 0 < count_of server_mark q.items). inr
+    (behind-awaits Server q.written (map (frame_of Server b (Some a)) q.items)
+    ∙ awaits_server-some Server b (Some a) q.items h))
     (one_of (count_of server_mark p.items) (count_of server_mark q.items) e))
 
 pub free_of : (o : Option (List ℕ)) → is_some o ≡ false → o ≡ None
@@ -127,17 +136,23 @@ pub same_bot : (to : Side) (b c s : Option (List ℕ)) (items : List Waiting) �
     map (frame_of to b s) items ≡ map (frame_of to c s) items
 same_bot to b c s [] e = refl
 same_bot to b c s (Answer Bot ∷ items) e = absurd (omega arith)
-same_bot to b c s (Answer Server ∷ items) e = ap (λ (t : List Sent). frame_of to b s (Answer Server) ∷ t) (same_bot to b c s items (omega arith))
-same_bot to b c s (Fm ∷ items) e = ap (λ (t : List Sent). frame_of to b s Fm ∷ t) (same_bot to b c s items (omega arith))
-same_bot to b c s (Em code ∷ items) e = ap (λ (t : List Sent). frame_of to b s (Em code) ∷ t) (same_bot to b c s items (omega arith))
+same_bot to b c s (Answer Server ∷ items) e =
+    ap (λ (t : List Sent). frame_of to b s (Answer Server) ∷ t) (same_bot to b c s items (omega arith))
+same_bot to b c s (Fm ∷ items) e =
+    ap (λ (t : List Sent). frame_of to b s Fm ∷ t) (same_bot to b c s items (omega arith))
+same_bot to b c s (Em code ∷ items) e =
+    ap (λ (t : List Sent). frame_of to b s (Em code) ∷ t) (same_bot to b c s items (omega arith))
 
 pub same_server : (to : Side) (b s c : Option (List ℕ)) (items : List Waiting) → count_of server_mark items ≡ 0 →
     map (frame_of to b s) items ≡ map (frame_of to b c) items
 same_server to b s c [] e = refl
 same_server to b s c (Answer Server ∷ items) e = absurd (omega arith)
-same_server to b s c (Answer Bot ∷ items) e = ap (λ (t : List Sent). frame_of to b s (Answer Bot) ∷ t) (same_server to b s c items (omega arith))
-same_server to b s c (Fm ∷ items) e = ap (λ (t : List Sent). frame_of to b s Fm ∷ t) (same_server to b s c items (omega arith))
-same_server to b s c (Em code ∷ items) e = ap (λ (t : List Sent). frame_of to b s (Em code) ∷ t) (same_server to b s c items (omega arith))
+same_server to b s c (Answer Bot ∷ items) e =
+    ap (λ (t : List Sent). frame_of to b s (Answer Bot) ∷ t) (same_server to b s c items (omega arith))
+same_server to b s c (Fm ∷ items) e =
+    ap (λ (t : List Sent). frame_of to b s Fm ∷ t) (same_server to b s c items (omega arith))
+same_server to b s c (Em code ∷ items) e =
+    ap (λ (t : List Sent). frame_of to b s (Em code) ∷ t) (same_server to b s c items (omega arith))
 
 pub frames-same_bot : (to : Side) (b c s : Option (List ℕ)) (q : Queue) → count_of bot_mark q.items ≡ 0 →
     frames_of to b s q ≡ frames_of to c s q
@@ -167,10 +182,13 @@ begun-same_server b s c n (Em code ∷ items) e h = h
 
 pub frames-push : (to : Side) (b s : Option (List ℕ)) (n : ℕ) (items : List Waiting) (item : Waiting) →
     IsBegun b s n items →
-    behind n (map (frame_of to b s) (items ++ item ∷ [])) ≡ behind n (map (frame_of to b s) items) ++ frame_of to b s item ∷ []
+    behind n (map (frame_of to b s) (items ++ item ∷ []))
+    ≡ behind n (map (frame_of to b s) items) ++ frame_of to b s item ∷ []
 frames-push to b s n [] item h = rw h refl
 frames-push to b s n (x ∷ items) item h =
-    ap (λ (t : List Sent). record { to = to; answers = (frame_of to b s x).answers; bytes = drop n (frame_of to b s x).bytes } ∷ t) (map-append (frame_of to b s) items (item ∷ []))
+    let bytes = drop n (frame_of to b s x).bytes in
+    let first : Sent = record { to = to; answers = (frame_of to b s x).answers; bytes = bytes } in
+    ap (λ (t : List Sent). first ∷ t) (map-append (frame_of to b s) items (item ∷ []))
 
 pub begun-push : (b s : Option (List ℕ)) (n : ℕ) (items : List Waiting) (item : Waiting) → IsBegun b s n items →
     0 < length (bytes_in b s item) → IsBegun b s n (items ++ item ∷ [])

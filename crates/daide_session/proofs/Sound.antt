@@ -1,5 +1,6 @@
 -- The fields of an `Outgoing` stay sound, step by step.
-use Rattle.std.proofs.Common.{◌≡◌, ℕ, ◌+◌, ◌<◌, ◌≤◌, false, List, length, Option, Some, None, sym, ap, ◌∙◌, subst, arith}
+use Rattle.std.proofs.Common.{◌≡◌, ℕ, ◌+◌, ◌<◌, ◌≤◌, false, List, length, Option, Some, None, sym, ap, ◌∙◌, subst}
+use Rattle.std.proofs.Common.{arith}
 use Rattle.std.specs.Prelude.{is_some, IfSome}
 use Rattle.daide_frame.specs.declared.side.Side.{Side}
 use Rattle.daide_frame.specs.declared.side.Side.TheVariants.{Bot, Server}
@@ -8,8 +9,10 @@ use Rattle.daide_session.specs.declared.wire.Waiting.TheVariants.{Answer}
 use Rattle.daide_session.specs.Direction.{HeldFrame}
 use Rattle.daide_session.specs.Wire.{Queue, pushed}
 use Rattle.daide_session.specs.Traffic.{Traffic, pending, awaits_on}
-use Rattle.daide_session.specs.Outgoing.{Fields, traffic_of, IsSound, IsBegun, count_of, bot_mark, server_mark, end_mark, presence, pending_of, ending_of}
-use Rattle.daide_session.proofs.Queues.{bot_busy, server_busy, free_of, count_of-push, length_by_marks, presence_least, begun-push, begun-same_bot, begun-same_server, ending-marks, ending-filled}
+use Rattle.daide_session.specs.Outgoing.{Fields, traffic_of, IsSound, IsBegun, count_of, bot_mark, server_mark}
+use Rattle.daide_session.specs.Outgoing.{end_mark, presence, pending_of, ending_of}
+use Rattle.daide_session.proofs.Queues.{bot_busy, server_busy, free_of, count_of-push, length_by_marks, presence_least}
+use Rattle.daide_session.proofs.Queues.{begun-push, begun-same_bot, begun-same_server, ending-marks, ending-filled}
 
 -- the fields, with one of them changed
 
@@ -59,11 +62,14 @@ server_awaits f i = server_busy f.bot.answer f.server.answer f.to_bot f.to_serve
 
 pub bot_free : (f : Fields) (t : Traffic) (side : Side) → IsSound f → traffic_of f ≡ t → side ≡ Bot →
     awaits_on t side ≡ false → f.bot.answer ≡ None
-bot_free f t side i v s e = free_of f.bot.answer (bot_awaits f i ∙ ap (λ (q : Traffic). awaits_on q Bot) v ∙ ap (awaits_on t) (sym s) ∙ e)
+bot_free f t side i v s e =
+    free_of f.bot.answer (bot_awaits f i ∙ ap (λ (q : Traffic). awaits_on q Bot) v ∙ ap (awaits_on t) (sym s) ∙ e)
 
 pub server_free : (f : Fields) (t : Traffic) (side : Side) → IsSound f → traffic_of f ≡ t → side ≡ Server →
     awaits_on t side ≡ false → f.server.answer ≡ None
-server_free f t side i v s e = free_of f.server.answer (server_awaits f i ∙ ap (λ (q : Traffic). awaits_on q Server) v ∙ ap (awaits_on t) (sym s) ∙ e)
+server_free f t side i v s e =
+    free_of f.server.answer (server_awaits f i ∙ ap (λ (q : Traffic). awaits_on q Server) v ∙ ap (awaits_on t) (sym s)
+    ∙ e)
 
 pub pending-none : (o : Option (List ℕ)) (bytes : List ℕ) → o ≡ None → pending_of o bytes ≡ bytes
 pending-none o bytes e = ap (λ (p : Option (List ℕ)). pending_of p bytes) e
@@ -71,12 +77,14 @@ pending-none o bytes e = ap (λ (p : Option (List ℕ)). pending_of p bytes) e
 pub pending_bot : (f : Fields) (t : Traffic) (side : Side) → IsSound f → traffic_of f ≡ t → side ≡ Bot →
     awaits_on t side ≡ false → f.bot.held ≡ pending t side
 pending_bot f t side i v s e =
-    sym (pending-none f.bot.answer f.bot.held (bot_free f t side i v s e)) ∙ ap (λ (q : Traffic). q.bot.pending) v ∙ ap (pending t) (sym s)
+    sym (pending-none f.bot.answer f.bot.held (bot_free f t side i v s e)) ∙ ap (λ (q : Traffic). q.bot.pending) v
+    ∙ ap (pending t) (sym s)
 
 pub pending_server : (f : Fields) (t : Traffic) (side : Side) → IsSound f → traffic_of f ≡ t → side ≡ Server →
     awaits_on t side ≡ false → f.server.held ≡ pending t side
 pending_server f t side i v s e =
-    sym (pending-none f.server.answer f.server.held (server_free f t side i v s e)) ∙ ap (λ (q : Traffic). q.server.pending) v ∙ ap (pending t) (sym s)
+    sym (pending-none f.server.answer f.server.held (server_free f t side i v s e))
+    ∙ ap (λ (q : Traffic). q.server.pending) v ∙ ap (pending t) (sym s)
 
 pub cap_bot : (f : Fields) (t : Traffic) → traffic_of f ≡ t → f.bot.cap ≡ t.cap
 cap_bot f t v = ap (λ (q : Traffic). q.cap) v
@@ -94,8 +102,10 @@ sound_bot f again i c a = record {
   server_once = i.server_once;
   bot_ends = i.bot_ends;
   server_ends = i.server_ends;
-  bot_begun = subst (λ (o : Option (List ℕ)). IsBegun o f.server.answer f.to_bot.written f.to_bot.items) (sym a) i.bot_begun;
-  server_begun = subst (λ (o : Option (List ℕ)). IsBegun o f.server.answer f.to_server.written f.to_server.items) (sym a) i.server_begun;
+  bot_begun = subst (λ (o : Option (List ℕ)). IsBegun o f.server.answer f.to_bot.written f.to_bot.items)
+      (sym a) i.bot_begun;
+  server_begun = subst (λ (o : Option (List ℕ)). IsBegun o f.server.answer f.to_server.written f.to_server.items)
+      (sym a) i.server_begun;
   bot_filled = subst (λ (o : Option (List ℕ)). IfSome o (λ bytes. 0 < length bytes)) (sym a) i.bot_filled;
   server_filled = i.server_filled;
 }
@@ -108,8 +118,10 @@ sound_server f again i c a = record {
   server_once = i.server_once ∙ ap presence (sym a);
   bot_ends = i.bot_ends;
   server_ends = i.server_ends;
-  bot_begun = subst (λ (o : Option (List ℕ)). IsBegun f.bot.answer o f.to_bot.written f.to_bot.items) (sym a) i.bot_begun;
-  server_begun = subst (λ (o : Option (List ℕ)). IsBegun f.bot.answer o f.to_server.written f.to_server.items) (sym a) i.server_begun;
+  bot_begun = subst (λ (o : Option (List ℕ)). IsBegun f.bot.answer o f.to_bot.written f.to_bot.items)
+      (sym a) i.bot_begun;
+  server_begun = subst (λ (o : Option (List ℕ)). IsBegun f.bot.answer o f.to_server.written f.to_server.items)
+      (sym a) i.server_begun;
   bot_filled = i.bot_filled;
   server_filled = subst (λ (o : Option (List ℕ)). IfSome o (λ bytes. 0 < length bytes)) (sym a) i.server_filled;
 }
@@ -117,7 +129,14 @@ sound_server f again i c a = record {
 -- a frame that ends the session is let wait
 
 pub end_room : (f : Fields) → IsSound f → count_of end_mark f.to_bot.items ≡ 0 → length f.to_bot.items < 3
-end_room f i e = omega (arith, length_by_marks f.to_bot.items, i.bot_once, i.server_once, presence_least f.bot.answer, presence_least f.server.answer)
+end_room f i e = omega (
+  arith,
+  length_by_marks f.to_bot.items,
+  i.bot_once,
+  i.server_once,
+  presence_least f.bot.answer,
+  presence_least f.server.answer,
+)
 
 pub sound_end : (f : Fields) (code : Option Code) → IsSound f → count_of end_mark f.to_bot.items ≡ 0 →
     IsSound (with_to_bot f (pushed f.to_bot (ending_of code)))
@@ -129,7 +148,8 @@ sound_end f code i e =
       server_once = omega (arith, i.server_once, m.1, count_of-push server_mark f.to_bot.items (ending_of code));
       bot_ends = omega (arith, m.2, count_of-push end_mark f.to_bot.items (ending_of code));
       server_ends = i.server_ends;
-      bot_begun = begun-push f.bot.answer f.server.answer f.to_bot.written f.to_bot.items (ending_of code) i.bot_begun (ending-filled f.bot.answer f.server.answer code);
+      bot_begun = begun-push f.bot.answer f.server.answer f.to_bot.written f.to_bot.items (ending_of code) i.bot_begun
+          (ending-filled f.bot.answer f.server.answer code);
       server_begun = i.server_begun;
       bot_filled = i.bot_filled;
       server_filled = i.server_filled;
@@ -153,8 +173,11 @@ sound_reply_of_bot f bytes i free fills =
       server_once = omega (arith, i.server_once, count_of-push server_mark f.to_bot.items (Answer Bot));
       bot_ends = omega (arith, i.bot_ends, count_of-push end_mark f.to_bot.items (Answer Bot));
       server_ends = i.server_ends;
-      bot_begun = begun-push (Some bytes) f.server.answer f.to_bot.written f.to_bot.items (Answer Bot) (begun-same_bot f.bot.answer (Some bytes) f.server.answer f.to_bot.written f.to_bot.items here i.bot_begun) fills;
-      server_begun = begun-same_bot f.bot.answer (Some bytes) f.server.answer f.to_server.written f.to_server.items there i.server_begun;
+      bot_begun = begun-push (Some bytes) f.server.answer f.to_bot.written f.to_bot.items (Answer Bot)
+          (begun-same_bot f.bot.answer
+          (Some bytes) f.server.answer f.to_bot.written f.to_bot.items here i.bot_begun) fills;
+      server_begun = begun-same_bot f.bot.answer
+          (Some bytes) f.server.answer f.to_server.written f.to_server.items there i.server_begun;
       bot_filled = fills;
       server_filled = i.server_filled;
     }
@@ -171,8 +194,11 @@ sound_reply_of_server f bytes i free fills =
       server_once = omega (arith, count_of-push server_mark f.to_bot.items (Answer Server));
       bot_ends = omega (arith, i.bot_ends, count_of-push end_mark f.to_bot.items (Answer Server));
       server_ends = i.server_ends;
-      bot_begun = begun-push f.bot.answer (Some bytes) f.to_bot.written f.to_bot.items (Answer Server) (begun-same_server f.bot.answer f.server.answer (Some bytes) f.to_bot.written f.to_bot.items here i.bot_begun) fills;
-      server_begun = begun-same_server f.bot.answer f.server.answer (Some bytes) f.to_server.written f.to_server.items there i.server_begun;
+      bot_begun = begun-push f.bot.answer (Some bytes) f.to_bot.written f.to_bot.items (Answer Server)
+          (begun-same_server f.bot.answer f.server.answer
+          (Some bytes) f.to_bot.written f.to_bot.items here i.bot_begun) fills;
+      server_begun = begun-same_server f.bot.answer f.server.answer
+          (Some bytes) f.to_server.written f.to_server.items there i.server_begun;
       bot_filled = i.bot_filled;
       server_filled = fills;
     }

@@ -19,4 +19,6 @@ is_depth n = nat_le 4 n && nat_le n 62
 -- the first thing that is wrong
 abbrev pub config_fault : Config → Result (Unit {0}) ConfigError
 config_fault config =
-    if is_level config.top_level then (if is_body config.max_body then (if is_depth config.max_depth then Ok tt else Err Depth) else Err Body) else Err Level
+    if is_level config.top_level
+    then (if is_body config.max_body then (if is_depth config.max_depth then Ok tt else Err Depth) else Err Body)
+    else Err Level

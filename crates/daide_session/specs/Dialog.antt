@@ -7,7 +7,8 @@ use Rattle.daide_grammar.specs.declared.level.Level.{Level}
 use Rattle.daide_grammar.specs.declared.level.Level.TheVariants.{L0}
 use Rattle.daide_machine.specs.declared.phase.Phase.{Phase}
 use Rattle.daide_machine.specs.declared.phase.Phase.TheVariants.{WaitIm, WaitRm, Open, Over}
-use Rattle.daide_machine.specs.Machine.{Sent, SessionState, Limits, Outcome, with_pending, opening, is_over, nothing, end}
+use Rattle.daide_machine.specs.Machine.{Sent, SessionState, Limits, Outcome, with_pending, opening}
+use Rattle.daide_machine.specs.Machine.{is_over, nothing, end}
 use Rattle.daide_machine.specs.Wires.{sent_to, awaits, without}
 use Rattle.daide_session.specs.Traffic.{Traffic, has_end, gone}
 
@@ -47,13 +48,37 @@ face_held f Bot = f.bot_held
 face_held f Server = f.server_held
 
 abbrev pub with_held : Face → Side → List ℕ → Face
-with_held f Bot bytes = record { state = f.state; to_bot = f.to_bot; to_server = f.to_server; bot_held = bytes; server_held = f.server_held }
-with_held f Server bytes = record { state = f.state; to_bot = f.to_bot; to_server = f.to_server; bot_held = f.bot_held; server_held = bytes }
+with_held f Bot bytes = record {
+  state = f.state;
+  to_bot = f.to_bot;
+  to_server = f.to_server;
+  bot_held = bytes;
+  server_held = f.server_held;
+}
+with_held f Server bytes = record {
+  state = f.state;
+  to_bot = f.to_bot;
+  to_server = f.to_server;
+  bot_held = f.bot_held;
+  server_held = bytes;
+}
 
 -- these bytes of a side's frame came, and no more
 abbrev pub with_taken : Face → Side → List ℕ → Face
-with_taken f Bot bytes = record { state = with_pending f.state Bot bytes; to_bot = f.to_bot; to_server = f.to_server; bot_held = bytes; server_held = f.server_held }
-with_taken f Server bytes = record { state = with_pending f.state Server bytes; to_bot = f.to_bot; to_server = f.to_server; bot_held = f.bot_held; server_held = bytes }
+with_taken f Bot bytes = record {
+  state = with_pending f.state Bot bytes;
+  to_bot = f.to_bot;
+  to_server = f.to_server;
+  bot_held = bytes;
+  server_held = f.server_held;
+}
+with_taken f Server bytes = record {
+  state = with_pending f.state Server bytes;
+  to_bot = f.to_bot;
+  to_server = f.to_server;
+  bot_held = f.bot_held;
+  server_held = bytes;
+}
 
 -- a side's frame is held while its answer waits, and dropped where none does
 abbrev pub held_if : Bool → Face → Side → Face
@@ -92,8 +117,20 @@ let_go f None = f
 let_go f (Some side) = with_held f side []
 
 abbrev pub with_frames : Face → Side → List Sent → Face
-with_frames f Bot frames = record { state = f.state; to_bot = frames; to_server = f.to_server; bot_held = f.bot_held; server_held = f.server_held }
-with_frames f Server frames = record { state = f.state; to_bot = f.to_bot; to_server = frames; bot_held = f.bot_held; server_held = f.server_held }
+with_frames f Bot frames = record {
+  state = f.state;
+  to_bot = frames;
+  to_server = f.to_server;
+  bot_held = f.bot_held;
+  server_held = f.server_held;
+}
+with_frames f Server frames = record {
+  state = f.state;
+  to_bot = f.to_bot;
+  to_server = frames;
+  bot_held = f.bot_held;
+  server_held = f.server_held;
+}
 
 abbrev pub after_writing : Face → Side → ℕ → Face
 after_writing f to n = with_frames (let_go f (gone n (face_waiting f to))) to (without n (face_waiting f to))

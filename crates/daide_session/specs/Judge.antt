@@ -67,6 +67,7 @@ pub record IsFirst (max_depth : ℕ) (side : Side) (j : Judging) : Type 0 where
   pub level : j.level ≡ L0
   pub depth : j.max_depth ≡ max_depth
   pub idle : IsIdle j
+  pub unasked : j.total ≡ 0
 
 -- where no byte of a body is held, the message that was read last is forgotten
 pub record IsForgotten (bytes : ℕ) (old new : Judging) : Type 0 where

@@ -95,7 +95,8 @@ IsBegun bot server n (item ∷ items) = n < length (bytes_in bot server item)
 pub record IsSound (f : Fields) : Type 0 where
   pub same_cap : f.server.cap ≡ f.bot.cap
   pub bot_once : count_of bot_mark f.to_bot.items + count_of bot_mark f.to_server.items ≡ presence f.bot.answer
-  pub server_once : count_of server_mark f.to_bot.items + count_of server_mark f.to_server.items ≡ presence f.server.answer
+  pub server_once : count_of server_mark f.to_bot.items + count_of server_mark f.to_server.items
+      ≡ presence f.server.answer
   pub bot_ends : count_of end_mark f.to_bot.items ≤ 1
   pub server_ends : count_of end_mark f.to_server.items ≤ 1
   pub bot_begun : IsBegun f.bot.answer f.server.answer f.to_bot.written f.to_bot.items

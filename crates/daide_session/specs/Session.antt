@@ -103,11 +103,13 @@ pub record IsJudged (kind : Kind) (body : List ℕ) (old new : Judging) : Type 0
   pub level : new.level ≡ old.level
   pub max_depth : new.max_depth ≡ old.max_depth
   pub base : new.total_before ≡ old.total_before
-  pub message : is_dm kind ≡ true → (new.unclosed ≡ open_brackets (tokens_of body)) × (steps_in new ≤ 4 * length (tokens_of body) + 4)
+  pub message : is_dm kind ≡ true →
+      (new.unclosed ≡ open_brackets (tokens_of body)) × (steps_in new ≤ 4 * length (tokens_of body) + 4)
   pub no_message : is_dm kind ≡ false → new ≡ old
 
 -- a side's whole frame was answered
-pub record IsCompleted (old : Face) (j : Judging) (side : Side) (head : Head) (body : List ℕ) (told : Note) (new : Face) : Type 0 where
+pub record IsCompleted (old : Face) (j : Judging) (side : Side) (head : Head) (body : List ℕ) (told : Note)
+    (new : Face) : Type 0 where
   pub verdict : Verdict
   pub right : IsJudgedAs j head.kind body verdict
   pub kept : Bool
@@ -127,5 +129,6 @@ pub record Reacts (old : Face) (side : Side) (items : List Item) (told : Note) (
 -- a table is asked for a message alone, and nothing of the other side's
 pub record Counts (old : Face) (side : Side) (before after : Judgings) : Type 0 where
   pub base : (judging after side).total_before ≡ (judging before side).total_before
-  pub no_message : is_dm_head (head_in old.state.limits.cap (coming old.state side).pending) ≡ false → (judging after side).total ≡ (judging before side).total
+  pub no_message : is_dm_head (head_in old.state.limits.cap (coming old.state side).pending) ≡ false →
+      (judging after side).total ≡ (judging before side).total
   pub other_side : judging after (other side) ≡ judging before (other side)

@@ -1,5 +1,6 @@
 -- What a session's rings hold: the bytes that came from each side, and the frames that wait for each wire.
-use Rattle.std.specs.Prelude.{ℕ, Bool, true, false, ◌||◌, List, [], ◌∷◌, ◌++◌, length, Option, Some, None, if◌then◌else◌, nat_lt}
+use Rattle.std.specs.Prelude.{ℕ, Bool, true, false, ◌||◌, List, [], ◌∷◌, ◌++◌, length}
+use Rattle.std.specs.Prelude.{Option, Some, None, if◌then◌else◌, nat_lt}
 use Rattle.daide_frame.specs.declared.side.Side.{Side}
 use Rattle.daide_frame.specs.declared.side.Side.TheVariants.{Bot, Server}
 use Rattle.daide_frame.specs.declared.code.Code.{Code}
@@ -62,8 +63,10 @@ waiting t Bot = t.to_bot
 waiting t Server = t.to_server
 
 abbrev pub with_waiting : Traffic → Side → List Sent → Traffic
-with_waiting t Bot frames = record { cap = t.cap; bot = t.bot; server = t.server; to_bot = frames; to_server = t.to_server }
-with_waiting t Server frames = record { cap = t.cap; bot = t.bot; server = t.server; to_bot = t.to_bot; to_server = frames }
+with_waiting t Bot frames =
+    record { cap = t.cap; bot = t.bot; server = t.server; to_bot = frames; to_server = t.to_server }
+with_waiting t Server frames =
+    record { cap = t.cap; bot = t.bot; server = t.server; to_bot = t.to_bot; to_server = frames }
 
 -- a frame waits behind the others for its wire
 abbrev pub posted : Traffic → Sent → Traffic

@@ -6,10 +6,14 @@
 ghost use Rattle.std.specs.Prelude.{◌≡◌, ℕ, ◌≤◌, ◌⊎◌, false, true, [], ◌∷◌, ◌++◌, drop, length, IfOk};
 ghost use Rattle.daide_frame.specs.Frames.{fed, fed_items, told, IsFault, IsWholeBody, head_in, missing, announced};
 ghost use Rattle.daide_frame.specs.declared.cutter.Step.TheVariants.{Bodied};
-ghost use Rattle.daide_machine.specs.Machine.{Limits, fault as faulted, end as at_end, begun, answered, coming, untimely as untimely_code, is_sent as is_sent_to, destination as destination_of, is_over as is_over_phase, popped};
+ghost use Rattle.daide_machine.specs.Machine.{Limits, fault as faulted, end as at_end, begun, answered, coming};
+ghost use Rattle.daide_machine.specs.Machine.{untimely as untimely_code, is_sent as is_sent_to};
+ghost use Rattle.daide_machine.specs.Machine.{destination as destination_of, is_over as is_over_phase, popped};
 ghost use Rattle.daide_machine.specs.Wires.{awaits, IsFrontOf, first_len};
 ghost use Rattle.daide_session.specs.Direction.{IsPlaceIn};
-ghost use Rattle.daide_session.specs.Dialog.{first_face, face_waiting, face_held, with_taken, held_if, applied, is_busy_face, is_waiting_for_im, is_shut_face, stopped, after_writing, after_losing};
+ghost use Rattle.daide_session.specs.Dialog.{first_face, face_waiting, face_held, with_taken, held_if, applied};
+ghost use Rattle.daide_session.specs.Dialog.{is_busy_face, is_waiting_for_im, is_shut_face, stopped, after_writing};
+ghost use Rattle.daide_session.specs.Dialog.{after_losing};
 
 use crate::outgoing::Outgoing;
 use crate::rules::{destination, is_sent, level_after, may_reach, phase_after, untimely};
@@ -53,7 +57,8 @@ impl<A: Allocator + Copy> Dialog<A> {
         max_body: u16,
         max_depth: u16,
     ) -> Result<Dialog<A>, AllocError>
-        ensures { IfOk result (λ dialog. dialog ≡ first_face (record { cap = max_body; top_level = top_level; max_depth = max_depth })) }
+        ensures { IfOk result (λ dialog.
+            dialog ≡ first_face (record { cap = max_body; top_level = top_level; max_depth = max_depth })) }
     {
         Ok(Dialog {
             wires: Outgoing::new(alloc, max_body)?,
@@ -146,7 +151,8 @@ impl<A: Allocator> Dialog<A> {
     pub fn begin(&mut self, side: Side, kind: Kind) -> Option<Code>
         requires { is_over_phase self.old.state.phase ≡ false }
         ensures code { result ≡ untimely_code self.old.state.phase side kind }
-        ensures value { self.new ≡ applied self.old (begun self.old.state side (untimely_code self.old.state.phase side kind)) }
+        ensures value { self.new ≡ applied self.old
+            (begun self.old.state side (untimely_code self.old.state.phase side kind)) }
     {
         let code = untimely(self.phase, side, kind);
         match code {
@@ -167,7 +173,8 @@ impl<A: Allocator> Dialog<A> {
         requires len { head.len ≤ 65526 }
         requires place { IsPlaceIn (drop 4 (coming self.old.state side).pending) verdict }
         ensures goes { result ≡ is_sent_to self.old.state.phase head.kind (destination_of side verdict) }
-        ensures value { self.new ≡ applied (held_if result self.old side) (answered self.old.state side head (drop 4 (coming self.old.state side).pending) verdict) }
+        ensures value { self.new ≡ applied (held_if result self.old side)
+            (answered self.old.state side head (drop 4 (coming self.old.state side).pending) verdict) }
     {
         let to = destination(side, verdict);
         let level = level_after(
@@ -260,10 +267,16 @@ impl<A: Allocator> Dialog<A> {
     pub fn take(&mut self, side: Side, piece: &[u8]) -> Step
         requires free { is_busy_face self.old side ≡ false }
         requires room { length piece.now ≤ missing self.old.state.limits.cap (coming self.old.state side).pending }
-        ensures value { self.new ≡ with_taken self.old side (fed self.old.state.limits.cap (coming self.old.state side).pending piece.now) }
-        ensures items { fed_items self.old.state.limits.cap (coming self.old.state side).pending piece.now ≡ told result (head_in self.new.state.limits.cap (coming self.new.state side).pending) (drop 4 (coming self.new.state side).pending) }
-        ensures whole { IsFault result ⊎ ((coming self.new.state side).pending ≡ (coming self.old.state side).pending ++ piece.now) }
-        ensures full { result ≡ Bodied → IsWholeBody (head_in self.new.state.limits.cap (coming self.new.state side).pending) (drop 4 (coming self.new.state side).pending) }
+        ensures value { self.new ≡ with_taken self.old side
+            (fed self.old.state.limits.cap (coming self.old.state side).pending piece.now) }
+        ensures items { fed_items self.old.state.limits.cap (coming self.old.state side).pending piece.now
+            ≡ told result (head_in self.new.state.limits.cap (coming self.new.state side).pending)
+            (drop 4 (coming self.new.state side).pending) }
+        ensures whole { IsFault result
+            ⊎ ((coming self.new.state side).pending ≡ (coming self.old.state side).pending ++ piece.now) }
+        ensures full { result ≡ Bodied →
+            IsWholeBody (head_in self.new.state.limits.cap (coming self.new.state side).pending)
+            (drop 4 (coming self.new.state side).pending) }
     {
         self.wires.feed(side, piece)
     }

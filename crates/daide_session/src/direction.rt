@@ -4,8 +4,10 @@
 //! `HUH (`, `ERR` and `)` are fixed words, and the body stays where it came. So a direction holds
 //! one body, and a frame takes no more memory when it is answered.
 
-ghost use Rattle.std.specs.Prelude.{◌≡◌, ℕ, ◌+◌, ◌-◌, ◌*◌, ◌<◌, ◌≤◌, List, [], ◌∷◌, ◌++◌, length, take, drop, ◌⊎◌, is_some, Some, None, IfOk};
-ghost use Rattle.daide_frame.specs.Frames.{fed, fed_items, told, IsFault, IsEnd, IsWholeBody, head_in, missing, announced};
+ghost use Rattle.std.specs.Prelude.{◌≡◌, ℕ, ◌+◌, ◌-◌, ◌*◌, ◌<◌, ◌≤◌, List, [], ◌∷◌, ◌++◌, length, take, drop, ◌⊎◌};
+ghost use Rattle.std.specs.Prelude.{is_some, Some, None, IfOk};
+ghost use Rattle.daide_frame.specs.Frames.{fed, fed_items, told, IsFault, IsEnd, IsWholeBody, head_in, missing};
+ghost use Rattle.daide_frame.specs.Frames.{announced};
 ghost use Rattle.daide_frame.specs.declared.cutter.Step.TheVariants.{Bodied};
 ghost use Rattle.daide_machine.specs.Answers.{answer_bytes};
 ghost use Rattle.daide_session.specs.Direction.{IsFront, IsPlaceIn, cleared, some_bytes};
@@ -41,7 +43,11 @@ impl<A: Allocator> Model for Direction<A> {
 
     ghost Value = { HeldFrame };
 
-    ghost view = { λ d. record { cap = d.cutter.cap; held = d.cutter.bytes; answer = answer_of d.cutter d.header d.answer } };
+    ghost view = { λ d. record {
+      cap = d.cutter.cap;
+      held = d.cutter.bytes;
+      answer = answer_of d.cutter d.header d.answer;
+    } };
 
     ghost invariant = { λ d. IsAnswerable d.cutter d.header d.answer };
 }
@@ -128,8 +134,13 @@ impl<A: Allocator> Direction<A> {
     pub fn feed(&mut self, piece: &[u8]) -> Step
         requires free { self.old.answer ≡ None }
         requires room { length piece.now ≤ missing self.old.cap self.old.held }
-        ensures state { self.new ≡ record { cap = self.old.cap; held = fed self.old.cap self.old.held piece.now; answer = None } }
-        ensures items { fed_items self.old.cap self.old.held piece.now ≡ told result (head_in self.new.cap self.new.held) (drop 4 self.new.held) }
+        ensures state { self.new ≡ record {
+          cap = self.old.cap;
+          held = fed self.old.cap self.old.held piece.now;
+          answer = None;
+        } }
+        ensures items { fed_items self.old.cap self.old.held piece.now
+            ≡ told result (head_in self.new.cap self.new.held) (drop 4 self.new.held) }
         ensures whole { IsFault result ⊎ (self.new.held ≡ self.old.held ++ piece.now) }
         ensures full { result ≡ Bodied → IsWholeBody (head_in self.new.cap self.new.held) (drop 4 self.new.held) }
         ensures closed { IsEnd result → missing self.new.cap self.new.held ≡ 0 }
@@ -143,7 +154,11 @@ impl<A: Allocator> Direction<A> {
         requires free { self.old.answer ≡ None }
         requires len { head.len ≤ 65526 }
         requires place { IsPlaceIn (drop 4 self.old.held) verdict }
-        ensures { self.new ≡ record { cap = self.old.cap; held = self.old.held; answer = Some (answer_bytes head (drop 4 self.old.held) verdict) } }
+        ensures { self.new ≡ record {
+          cap = self.old.cap;
+          held = self.old.held;
+          answer = Some (answer_bytes head (drop 4 self.old.held) verdict);
+        } }
     {
         let head = match verdict {
             Verdict::Relay => head,

@@ -5,7 +5,8 @@
 
 ghost use Rattle.std.specs.Prelude.{◌≡◌};
 ghost use Rattle.daide_token.specs.Token.{tokens_of};
-ghost use Rattle.daide_machine.specs.HloLevel.{option_number as number_of_option, first_level as level_of_options, begins_with_hlo as is_hlo, level_told as level_of_message};
+ghost use Rattle.daide_machine.specs.HloLevel.{option_number as number_of_option, first_level as level_of_options};
+ghost use Rattle.daide_machine.specs.HloLevel.{begins_with_hlo as is_hlo, level_told as level_of_message};
 
 use daide_grammar::level::Level;
 use daide_token::token::Token;

@@ -3,16 +3,12 @@
 //! A reader is started when a header is whole, so that a message is read at the level that held then,
 //! and takes the tokens of a body once it is whole: each once, in their order.
 
-ghost use Rattle.std.specs.Prelude.{◌≡◌, ℕ, ◌+◌, ◌*◌, ◌≤◌, [], List, length, true, false};
+ghost use Rattle.std.specs.Prelude.{◌≡◌, ◌+◌, ◌*◌, ◌≤◌, length, true};
 ghost use Rattle.daide_token.specs.Token.{tokens_of};
 ghost use Rattle.daide_grammar.specs.Depth.{open_brackets};
 ghost use Rattle.daide_grammar.specs.Messages.{IsMessage};
-ghost use Rattle.daide_grammar.specs.Words.{Words};
-ghost use Rattle.daide_grammar.specs.declared.symbol.Sym.{Sym};
 ghost use Rattle.daide_grammar.specs.declared.level.Level.{Level};
-ghost use Rattle.daide_reader.specs.ViablePrefix.{IsMessageOf};
 ghost use Rattle.daide_reader.specs.Verdict.{HasVerdict};
-ghost use Rattle.daide_reader.specs.Reading.{StandsAfter, tokens_read};
 ghost use Rattle.daide_machine.specs.Machine.{side2_of as side2_of_side};
 ghost use Rattle.daide_session.specs.Direction.{IsPlaceIn};
 ghost use Rattle.daide_session.specs.Judge.{Judging, Begins, IsIdle, steps_in};
@@ -24,7 +20,6 @@ use daide_grammar::predict::Predict;
 use daide_grammar::side::Side2;
 use daide_reader::reader::Reader;
 use daide_reader::verdict::Verdict;
-use daide_token::token::Token;
 use std::marker::Model;
 
 /// A side's reader.
@@ -46,7 +41,8 @@ impl Model for Judge {
 
     ghost view = { λ j. judging_of ⟦<Plain as Predict>⟧.asked j.reader j.side j.level };
 
-    ghost invariant = { λ j. j.reader.finished ≡ false → StandsAfter ⟦<Plain as Predict>⟧ [] (opening_of (side2_of j.side) j.level) j.reader.max_depth j.reader [] };
+    ghost invariant = { λ j. j.reader.finished ≡ false →
+        StandsAfter ⟦<Plain as Predict>⟧ [] (opening_of (side2_of j.side) j.level) j.reader.max_depth j.reader [] };
 }
 
 /// Whose messages a side's are: the gateway is the server to the bot, and the client to the server.
@@ -59,26 +55,6 @@ fn side2_of(side: Side) -> Side2
     }
 }
 
-/// Reads a whole message: each token of its body once, in their order.
-fn read_all<T: Predict, const N: usize>(reader: &mut Reader<T, N>, body: &[u8]) -> Verdict
-    requires size { N ≤ 4096 }
-    requires unfinished { reader.old.finished ≡ false }
-    requires unread { tokens_read reader.old ≡ 0 }
-    requires len { length body.now ≤ 65534 }
-    ensures verdict { (words : Words) (first : Sym) (max_depth : ℕ) → StandsAfter T.Predict words first max_depth reader.old [] →
-        HasVerdict (IsMessageOf (T.language words first)) max_depth (tokens_of body.now) result }
-    ensures stands_after { (words : Words) (first : Sym) (max_depth : ℕ) → StandsAfter T.Predict words first max_depth reader.old [] →
-        StandsAfter T.Predict words first max_depth reader.new (tokens_of body.now) }
-    ensures depth { reader.new.max_depth ≡ reader.old.max_depth }
-    ensures base { reader.new.asked_before ≡ reader.old.asked_before }
-    ensures finished { reader.new.finished ≡ true }
-{
-    for i in 0..body.len() / 2 {
-        reader.push(Token::from_be([body[2 * i], body[2 * i + 1]]));
-    }
-    reader.finish()
-}
-
 impl Judge {
     /// A side's reader, at level 0. `max_depth` is from 4 to 62.
     pub fn new(side: Side, max_depth: u16) -> Judge
@@ -88,6 +64,7 @@ impl Judge {
         ensures level { result.level ≡ Level.L0 }
         ensures depth { result.max_depth ≡ max_depth }
         ensures idle { IsIdle result }
+        ensures unasked { result.total ≡ 0 }
     {
         let mut reader = Reader::new(Plain::new(), max_depth);
         reader.start(side2_of(side), Level::L0);
@@ -117,7 +94,8 @@ impl Judge {
     pub fn judge(&mut self, body: &[u8]) -> Verdict
         requires fresh { self.old.fresh ≡ true }
         requires len { length body.now ≤ 65534 }
-        ensures verdict { HasVerdict (IsMessage (side2_of_side self.old.side) self.old.level) self.old.max_depth (tokens_of body.now) result }
+        ensures verdict { HasVerdict (IsMessage (side2_of_side self.old.side) self.old.level) self.old.max_depth
+            (tokens_of body.now) result }
         ensures place { IsPlaceIn body.now result }
         ensures side { self.new.side ≡ self.old.side }
         ensures level { self.new.level ≡ self.old.level }
@@ -126,7 +104,7 @@ impl Judge {
         ensures unclosed { self.new.unclosed ≡ open_brackets (tokens_of body.now) }
         ensures steps { steps_in self.new ≤ 4 * length (tokens_of body.now) + 4 }
     {
-        read_all(&mut self.reader, body)
+        self.reader.read_body(body)
     }
 
     /// How many entries the reader's stack has.

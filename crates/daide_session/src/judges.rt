@@ -72,7 +72,8 @@ impl Judges {
     pub fn judge(&mut self, side: Side, body: &[u8]) -> Verdict
         requires fresh { (judging self.old side).fresh ≡ true }
         requires len { length body.now ≤ 65534 }
-        ensures verdict { HasVerdict (IsMessage (side2_of (judging self.old side).side) (judging self.old side).level) (judging self.old side).max_depth (tokens_of body.now) result }
+        ensures verdict { HasVerdict (IsMessage (side2_of (judging self.old side).side) (judging self.old side).level)
+            (judging self.old side).max_depth (tokens_of body.now) result }
         ensures place { IsPlaceIn body.now result }
         ensures side { (judging self.new side).side ≡ (judging self.old side).side }
         ensures level { (judging self.new side).level ≡ (judging self.old side).level }

@@ -4,15 +4,18 @@
 //! is held until the last byte of its answer is gone, and its side is not read meanwhile: at most
 //! one answer of each side waits, and with the frame that ends the session at most three a wire.
 
-ghost use Rattle.std.specs.Prelude.{◌≡◌, ℕ, ◌+◌, ◌-◌, ◌*◌, ◌<◌, ◌≤◌, ◌⊎◌, false, List, [], ◌∷◌, ◌++◌, length, take, drop, Some, None, IfOk, IsSome};
-ghost use Rattle.daide_frame.specs.Frames.{fed, fed_items, told, IsFault, IsEnd, IsWholeBody, head_in, missing, announced};
+ghost use Rattle.std.specs.Prelude.{◌≡◌, ℕ, ◌+◌, ◌-◌, ◌*◌, ◌<◌, ◌≤◌, ◌⊎◌, false, List, [], ◌∷◌, ◌++◌, length, take};
+ghost use Rattle.std.specs.Prelude.{drop, Some, None, IfOk, IsSome};
+ghost use Rattle.daide_frame.specs.Frames.{fed, fed_items, told, IsFault, IsEnd, IsWholeBody, head_in, missing};
+ghost use Rattle.daide_frame.specs.Frames.{announced};
 ghost use Rattle.daide_frame.specs.declared.cutter.Step.TheVariants.{Bodied};
 ghost use Rattle.daide_machine.specs.Answers.{answer_bytes};
 ghost use Rattle.daide_machine.specs.Machine.{em_bytes};
 ghost use Rattle.daide_machine.specs.Wires.{IsFrontOf, first_len};
 ghost use Rattle.daide_session.specs.Direction.{IsPlaceIn};
 ghost use Rattle.daide_session.specs.Outgoing.{ending_of, behind, size_of_first, bot_after, server_after};
-ghost use Rattle.daide_session.specs.Traffic.{Traffic, held, pending, with_bytes, answering, waiting, with_waiting, posted, awaits_on, has_end, end_to, quiet, written, without_first, lost};
+ghost use Rattle.daide_session.specs.Traffic.{Traffic, held, pending, with_bytes, answering, waiting, with_waiting};
+ghost use Rattle.daide_session.specs.Traffic.{posted, awaits_on, has_end, end_to, quiet, written, without_first, lost};
 
 use crate::direction::Direction;
 use crate::wire::{Waiting, Wire};
@@ -99,9 +102,11 @@ impl<A: Allocator> Model for Outgoing<A> {
 
     ghost Value = { Traffic };
 
-    ghost view = { λ o. traffic_of (record { bot = o.bot; server = o.server; to_bot = o.to_bot; to_server = o.to_server }) };
+    ghost view = { λ o. traffic_of
+        (record { bot = o.bot; server = o.server; to_bot = o.to_bot; to_server = o.to_server }) };
 
-    ghost invariant = { λ o. IsSound (record { bot = o.bot; server = o.server; to_bot = o.to_bot; to_server = o.to_server }) };
+    ghost invariant = { λ o. IsSound
+        (record { bot = o.bot; server = o.server; to_bot = o.to_bot; to_server = o.to_server }) };
 }
 
 impl<A: Allocator + Copy> Outgoing<A> {
@@ -191,13 +196,15 @@ impl<A: Allocator> Outgoing<A> {
         requires free { awaits_on self.old side ≡ false }
         requires room { length piece.now ≤ missing self.old.cap (pending self.old side) }
         ensures state { self.new ≡ with_bytes self.old side (fed self.old.cap (pending self.old side) piece.now) }
-        ensures items { fed_items self.old.cap (pending self.old side) piece.now ≡ told result (head_in self.new.cap (pending self.new side)) (drop 4 (pending self.new side)) }
+        ensures items { fed_items self.old.cap (pending self.old side) piece.now
+            ≡ told result (head_in self.new.cap (pending self.new side)) (drop 4 (pending self.new side)) }
 
         // Without a fault the whole piece is taken.
         ensures whole { IsFault result ⊎ (pending self.new side ≡ pending self.old side ++ piece.now) }
 
         // A body is told when it has just the length that the header announces.
-        ensures full { result ≡ Bodied → IsWholeBody (head_in self.new.cap (pending self.new side)) (drop 4 (pending self.new side)) }
+        ensures full { result ≡ Bodied →
+            IsWholeBody (head_in self.new.cap (pending self.new side)) (drop 4 (pending self.new side)) }
         ensures closed { IsEnd result → missing self.new.cap (pending self.new side) ≡ 0 }
     {
         match side {
@@ -234,7 +241,11 @@ impl<A: Allocator> Outgoing<A> {
         requires free { awaits_on self.old side ≡ false }
         requires len { head.len ≤ 65526 }
         requires place { IsPlaceIn (drop 4 (pending self.old side)) verdict }
-        ensures { self.new ≡ posted (answering self.old side) (record { to = to; answers = Some side; bytes = answer_bytes head (drop 4 (pending self.old side)) verdict }) }
+        ensures { self.new ≡ posted (answering self.old side) (record {
+          to = to;
+          answers = Some side;
+          bytes = answer_bytes head (drop 4 (pending self.old side)) verdict;
+        }) }
     {
         match (side, to) {
             (Side::Bot, Side::Bot) => {

@@ -47,7 +47,8 @@ fn begin<A: Allocator>(
     requires free { is_busy_face dialog.old side ≡ false }
     requires together { IsTogether dialog.old judges.old }
     ensures code { result ≡ untimely_code dialog.old.state.phase side kind }
-    ensures value { dialog.new ≡ applied dialog.old (begun dialog.old.state side (untimely_code dialog.old.state.phase side kind)) }
+    ensures value { dialog.new
+        ≡ applied dialog.old (begun dialog.old.state side (untimely_code dialog.old.state.phase side kind)) }
     ensures begins { result ≡ None → Begins (judging judges.old side) dialog.old.state.level (judging judges.new side) }
     ensures refused { IsSome result → judging judges.new side ≡ judging judges.old side }
     ensures other_side { judging judges.new (other side) ≡ judging judges.old (other side) }
@@ -89,8 +90,10 @@ fn complete<A: Allocator>(
     requires head { head_in dialog.old.state.limits.cap (coming dialog.old.state side).pending ≡ Some head }
     requires full { IsWholeBody (Some head) (drop 4 (coming dialog.old.state side).pending) }
     requires together { IsTogether dialog.old judges.old }
-    ensures value { IsCompleted dialog.old (judging judges.old side) side head (drop 4 (coming dialog.old.state side).pending) result dialog.new }
-    ensures judged { IsJudged head.kind (drop 4 (coming dialog.old.state side).pending) (judging judges.old side) (judging judges.new side) }
+    ensures value { IsCompleted dialog.old (judging judges.old side) side head
+        (drop 4 (coming dialog.old.state side).pending) result dialog.new }
+    ensures judged { IsJudged head.kind (drop 4 (coming dialog.old.state side).pending) (judging judges.old side)
+        (judging judges.new side) }
     ensures other_side { judging judges.new (other side) ≡ judging judges.old (other side) }
     ensures together { IsTogether dialog.new judges.new }
 {
@@ -116,9 +119,13 @@ pub fn react<A: Allocator>(
 ) -> Note
     requires live { is_over_phase dialog.old.state.phase ≡ false }
     requires free { is_busy_face dialog.old side ≡ false }
-    requires full { step ≡ Bodied → IsWholeBody (head_in dialog.old.state.limits.cap (coming dialog.old.state side).pending) (drop 4 (coming dialog.old.state side).pending) }
+    requires full { step ≡ Bodied →
+        IsWholeBody (head_in dialog.old.state.limits.cap (coming dialog.old.state side).pending)
+        (drop 4 (coming dialog.old.state side).pending) }
     requires together { IsTogether dialog.old judges.old }
-    ensures reacts { Reacts dialog.old side (told step (head_in dialog.old.state.limits.cap (coming dialog.old.state side).pending) (drop 4 (coming dialog.old.state side).pending)) result dialog.new }
+    ensures reacts { Reacts dialog.old side
+        (told step (head_in dialog.old.state.limits.cap (coming dialog.old.state side).pending)
+        (drop 4 (coming dialog.old.state side).pending)) result dialog.new }
     ensures counts { Counts dialog.old side judges.old judges.new }
     ensures together { IsTogether dialog.new judges.new }
 {

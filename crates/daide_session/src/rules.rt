@@ -3,7 +3,9 @@
 ghost use Rattle.std.specs.Prelude.{◌≡◌};
 ghost use Rattle.daide_token.specs.Token.{tokens_of};
 ghost use Rattle.daide_machine.specs.Events.{other as other_side};
-ghost use Rattle.daide_machine.specs.Machine.{untimely as untimely_code, may_reach as may_reach_side, is_sent as is_sent_to, destination as destination_of, deed_of as deed_by, phase_after as next_phase, level_after as next_level};
+ghost use Rattle.daide_machine.specs.Machine.{untimely as untimely_code, may_reach as may_reach_side};
+ghost use Rattle.daide_machine.specs.Machine.{is_sent as is_sent_to, destination as destination_of, deed_of as deed_by};
+ghost use Rattle.daide_machine.specs.Machine.{phase_after as next_phase, level_after as next_level};
 
 use crate::hlo::level_told;
 use daide_frame::code::Code;

@@ -14,7 +14,8 @@
 ghost use Rattle.std.specs.Prelude.{◌≡◌, ℕ, ◌+◌, ◌*◌, ◌≤◌, not, [], ◌∷◌, length, Ok, IfOk, IfErr};
 ghost use Rattle.daide_machine.specs.Events.{Ends, Pops, bytes_come};
 ghost use Rattle.daide_machine.specs.Machine.{is_over as is_over_phase};
-ghost use Rattle.daide_machine.specs.Wires.{IsFrontOf, first_len, waiting, holding, room_of, steps_of, IsNew, Goes, Lost, Wrote, Takes, HoldsTheSame, AsksNothing};
+ghost use Rattle.daide_machine.specs.Wires.{IsFrontOf, first_len, waiting, holding, room_of, steps_of, IsNew, Goes};
+ghost use Rattle.daide_machine.specs.Wires.{Lost, Wrote, Takes, HoldsTheSame, AsksNothing};
 ghost use Rattle.daide_machine.specs.Weight.{weight_of, weight_bound, steps_bound, IsTied};
 ghost use Rattle.daide_machine.specs.declared.note.Note.TheVariants.{Nothing};
 ghost use Rattle.daide_session.specs.Config.{config_fault};
@@ -102,7 +103,7 @@ impl<A: Allocator> Session<A> {
         ensures goes { Goes self.old (bytes_come side piece.now) result self.new }
         ensures takes { Takes self.old side piece.now result self.new }
     {
-        if self.dialog.is_shut(side) {
+        if piece.is_empty() || self.dialog.is_shut(side) {
             return Note::Nothing;
         }
         let step = self.dialog.take(side, piece);

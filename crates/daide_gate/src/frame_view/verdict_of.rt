@@ -3,41 +3,17 @@
 ghost use Rattle.std.specs.Prelude.{◌≡◌, ◌≤◌, ◌%◌, length};
 ghost use Rattle.daide_token.specs.Token.{tokens_of};
 ghost use Rattle.daide_grammar.specs.Messages.{IsMessage};
-ghost use Rattle.daide_reader.specs.ViablePrefix.{IsMessageOf};
 ghost use Rattle.daide_reader.specs.Verdict.{HasVerdict};
 ghost use Rattle.daide_gate.specs.Shown.{IsPlaceWithin, deepest};
 
 use daide_grammar::level::Level;
 use daide_grammar::plain::Plain;
-use daide_grammar::predict::Predict;
 use daide_grammar::side::Side2;
 use daide_reader::reader::Reader;
 use daide_reader::verdict::Verdict;
-use daide_token::token::Token;
 
 /// The most brackets that may be open at once.
 const DEEPEST: u16 = 62;
-
-/// What a reader makes of the message of a body, over any table. Each token is pushed once.
-fn judge<T: Predict, const N: usize>(
-    reader: &mut Reader<T, N>,
-    end: Side2,
-    level: Level,
-    body: &[u8],
-) -> Verdict
-    requires size { N ≤ 4096 }
-    requires even { length body.now % 2 ≡ 0 }
-    requires capped { length body.now ≤ 65526 }
-    ensures verdict { HasVerdict (IsMessageOf (T.language (T.words reader.old.table) (T.opening end level)))
-        reader.old.max_depth (tokens_of body.now) result }
-    ensures within { IsPlaceWithin result (length body.now) }
-{
-    reader.start(end, level);
-    for i in 0..body.len() / 2 {
-        reader.push(Token::from_be([body[2 * i], body[2 * i + 1]]));
-    }
-    reader.finish()
-}
 
 /// What becomes of the message of a body.
 pub(super) fn verdict_of(end: Side2, level: Level, body: &[u8]) -> Verdict
@@ -47,5 +23,6 @@ pub(super) fn verdict_of(end: Side2, level: Level, body: &[u8]) -> Verdict
     ensures within { IsPlaceWithin result (length body.now) }
 {
     let mut reader: Reader<Plain, 512> = Reader::new(Plain::new(), DEEPEST);
-    judge(&mut reader, end, level, body)
+    reader.start(end, level);
+    reader.read_body(body)
 }

@@ -7,7 +7,8 @@ use Rattle.daide_session.proofs.dialog.Dialog.lose.Goals as goal
 pub invariant_of-self : goal.invariant_of-self
 invariant_of-self g c =
     let d = c.self.inside in
-    subst (λ (t : Traffic). IsLive t d.phase) (sym c.lose.ensures) (live_on d.wires (lost d.wires c.args.to) d.phase c.self.invariant (lost-live d.wires c.args.to))
+    subst (λ (t : Traffic). IsLive t d.phase) (sym c.lose.ensures)
+    (live_on d.wires (lost d.wires c.args.to) d.phase c.self.invariant (lost-live d.wires c.args.to))
 
 pub returns : goal.returns
 returns g c =

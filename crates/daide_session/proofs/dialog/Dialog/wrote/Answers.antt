@@ -10,13 +10,16 @@ pub wrote-requires : goal.wrote-requires
 wrote-requires g c =
     let d = c.self.inside in
     subst (λ (frames : List Sent). c.args.n ≤ first_len frames)
-    (ap (λ (f : Face). face_waiting f c.args.to) (sym c.self.view_is) ∙ face_waiting-of d.max_depth d.top_level d.phase d.level d.bot_noted d.server_noted d.wires c.args.to)
+    (ap (λ (f : Face). face_waiting f c.args.to) (sym c.self.view_is)
+    ∙ face_waiting-of d.max_depth d.top_level d.phase d.level d.bot_noted d.server_noted d.wires c.args.to)
     c.requires
 
 pub invariant_of-self : goal.invariant_of-self
 invariant_of-self g c =
     let d = c.self.inside in
-    subst (λ (t : Traffic). IsLive t d.phase) (sym c.wrote.ensures) (live_on d.wires (written d.wires c.args.to c.args.n) d.phase c.self.invariant (written-live d.wires c.args.to c.args.n))
+    subst (λ (t : Traffic). IsLive t d.phase) (sym c.wrote.ensures)
+    (live_on d.wires (written d.wires c.args.to c.args.n) d.phase c.self.invariant
+    (written-live d.wires c.args.to c.args.n))
 
 pub returns : goal.returns
 returns g c =

@@ -15,4 +15,5 @@ returns g c =
       | in-Prn w ↦ w.head-is ∙ ap (answer_head c.args.head) (sym w.in-Prn.is)
       | in-Huh w ↦ w.head-is ∙ ap (answer_head c.args.head) (sym w.in-Huh.is)
     ] in
-    answered _ _ _ _ _ _ c.args.verdict (ap (λ (h : HeldFrame). h.cap) c.self.view_is) (c.write_head-self-inside.ensures ∙ ap head_bytes head) (ap (λ (h : HeldFrame). h.held) c.self.view_is)
+    answered _ _ _ _ _ _ c.args.verdict (ap (λ (h : HeldFrame). h.cap) c.self.view_is)
+    (c.write_head-self-inside.ensures ∙ ap head_bytes head) (ap (λ (h : HeldFrame). h.held) c.self.view_is)

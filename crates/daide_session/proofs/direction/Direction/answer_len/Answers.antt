@@ -10,7 +10,8 @@ returns-in-Some-Relay g c =
     let which = rw c.in-Some-Relay.is at c.in-Some-Relay.field-0-is in
     ap (λ (xs : List ℕ). 4 + length xs) c.body-body.ensures.value
     ∙ sym (length-relayed d.header (drop 4 d.cutter.bytes) c.self.invariant.four)
-    ∙ ap (λ (o : Option Verdict). length (some_bytes (answer_of d.cutter d.header o))) (sym (c.in-Some-Relay.is ∙ ap Some which))
+    ∙ ap (λ (o : Option Verdict). length (some_bytes (answer_of d.cutter d.header o)))
+    (sym (c.in-Some-Relay.is ∙ ap Some which))
     ∙ ap (λ (h : HeldFrame). length (some_bytes h.answer)) c.self.view_is
 
 pub returns-in-Some-Prn : goal.returns-in-Some-Prn
@@ -19,7 +20,8 @@ returns-in-Some-Prn g c =
     let which = rw c.in-Some-Prn.is at c.in-Some-Prn.field-0-is in
     ap (λ (xs : List ℕ). 10 + length xs) c.body-body.ensures.value
     ∙ sym (length-prn d.header (drop 4 d.cutter.bytes) c.self.invariant.four)
-    ∙ ap (λ (o : Option Verdict). length (some_bytes (answer_of d.cutter d.header o))) (sym (c.in-Some-Prn.is ∙ ap Some which))
+    ∙ ap (λ (o : Option Verdict). length (some_bytes (answer_of d.cutter d.header o)))
+    (sym (c.in-Some-Prn.is ∙ ap Some which))
     ∙ ap (λ (h : HeldFrame). length (some_bytes h.answer)) c.self.view_is
 
 pub returns-in-Some-Huh : goal.returns-in-Some-Huh

@@ -16,7 +16,8 @@ invariant_of-self g c =
     let side = c.args.side in
     let free = bot_free f t side c.self.invariant c.self.view_is c.in-Bot.is c.requires in
     let state = c.clear.ensures in
-    sound_bot f c.clear.new.self c.self.invariant (ap (λ (h : HeldFrame). h.cap) state) (ap (λ (h : HeldFrame). h.answer) state ∙ sym free)
+    sound_bot f c.clear.new.self c.self.invariant (ap (λ (h : HeldFrame). h.cap) state)
+    (ap (λ (h : HeldFrame). h.answer) state ∙ sym free)
 
 pub returns-in-Bot : goal.returns-in-Bot
 returns-in-Bot g c =
@@ -26,7 +27,8 @@ returns-in-Bot g c =
     let side = c.args.side in
     let free = bot_free f t side c.self.invariant c.self.view_is c.in-Bot.is c.requires in
     let state = c.clear.ensures in
-    traffic_bot f c.clear.new.self t c.self.view_is (ap (λ (h : HeldFrame). h.cap) state) (ap (λ (h : HeldFrame). h.answer) state ∙ sym free) free
+    traffic_bot f c.clear.new.self t c.self.view_is (ap (λ (h : HeldFrame). h.cap) state)
+    (ap (λ (h : HeldFrame). h.answer) state ∙ sym free) free
     ∙ ap (with_bytes t Bot) (ap (λ (h : HeldFrame). h.held) state)
     ∙ ap (λ (x : Side). with_bytes t x []) (sym c.in-Bot.is)
 
@@ -38,7 +40,8 @@ invariant_of-self-in-Server g c =
     let side = c.args.side in
     let free = server_free f t side c.self.invariant c.self.view_is c.in-Server.is c.requires in
     let state = c.clear-in-Server.ensures in
-    sound_server f c.clear-in-Server.new.self c.self.invariant (ap (λ (h : HeldFrame). h.cap) state) (ap (λ (h : HeldFrame). h.answer) state ∙ sym free)
+    sound_server f c.clear-in-Server.new.self c.self.invariant (ap (λ (h : HeldFrame). h.cap) state)
+    (ap (λ (h : HeldFrame). h.answer) state ∙ sym free)
 
 pub returns-in-Server : goal.returns-in-Server
 returns-in-Server g c =
@@ -48,6 +51,7 @@ returns-in-Server g c =
     let side = c.args.side in
     let free = server_free f t side c.self.invariant c.self.view_is c.in-Server.is c.requires in
     let state = c.clear-in-Server.ensures in
-    traffic_server f c.clear-in-Server.new.self t c.self.view_is (ap (λ (h : HeldFrame). h.answer) state ∙ sym free) free
+    traffic_server f c.clear-in-Server.new.self t c.self.view_is (ap (λ (h : HeldFrame). h.answer) state
+    ∙ sym free) free
     ∙ ap (with_bytes t Server) (ap (λ (h : HeldFrame). h.held) state)
     ∙ ap (λ (x : Side). with_bytes t x []) (sym c.in-Server.is)

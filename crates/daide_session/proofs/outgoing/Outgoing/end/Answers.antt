@@ -13,8 +13,10 @@ push-requires g c =
     let d = c.self.inside in
     let f : Fields = record { bot = d.bot; server = d.server; to_bot = d.to_bot; to_server = d.to_server } in
     let t = c.args.self.now in
-    let unended : has_end (waiting t Bot) ≡ false = subst (λ (x : Side). has_end (waiting t x) ≡ false) c.in-Bot.is c.requires in
-    let none = ends_of Bot d.bot.answer d.server.answer d.to_bot (ap (λ (q : Traffic). has_end q.to_bot) c.self.view_is ∙ unended) in
+    let unended : has_end (waiting t Bot) ≡ false =
+    subst (λ (x : Side). has_end (waiting t x) ≡ false) c.in-Bot.is c.requires in
+    let none = ends_of Bot d.bot.answer d.server.answer d.to_bot
+    (ap (λ (q : Traffic). has_end q.to_bot) c.self.view_is ∙ unended) in
     end_room f c.self.invariant none
 
 pub invariant_of-self : goal.invariant_of-self
@@ -22,8 +24,10 @@ invariant_of-self g c =
     let d = c.self.inside in
     let f : Fields = record { bot = d.bot; server = d.server; to_bot = d.to_bot; to_server = d.to_server } in
     let t = c.args.self.now in
-    let unended : has_end (waiting t Bot) ≡ false = subst (λ (x : Side). has_end (waiting t x) ≡ false) c.in-Bot.is c.requires in
-    let none = ends_of Bot d.bot.answer d.server.answer d.to_bot (ap (λ (q : Traffic). has_end q.to_bot) c.self.view_is ∙ unended) in
+    let unended : has_end (waiting t Bot) ≡ false =
+    subst (λ (x : Side). has_end (waiting t x) ≡ false) c.in-Bot.is c.requires in
+    let none = ends_of Bot d.bot.answer d.server.answer d.to_bot
+    (ap (λ (q : Traffic). has_end q.to_bot) c.self.view_is ∙ unended) in
     let queue = c.push.ensures ∙ ap (pushed d.to_bot) c.ending.ensures in
     subst (λ (q : Queue). IsSound (with_to_bot f q)) (sym queue) (sound_end f c.args.code c.self.invariant none)
 
@@ -32,8 +36,10 @@ push-requires-in-Server g c =
     let d = c.self.inside in
     let f : Fields = record { bot = d.bot; server = d.server; to_bot = d.to_bot; to_server = d.to_server } in
     let t = c.args.self.now in
-    let unended : has_end (waiting t Server) ≡ false = subst (λ (x : Side). has_end (waiting t x) ≡ false) c.in-Server.is c.requires in
-    let none = ends_of Server d.bot.answer d.server.answer d.to_server (ap (λ (q : Traffic). has_end q.to_server) c.self.view_is ∙ unended) in
+    let unended : has_end (waiting t Server) ≡ false =
+    subst (λ (x : Side). has_end (waiting t x) ≡ false) c.in-Server.is c.requires in
+    let none = ends_of Server d.bot.answer d.server.answer d.to_server
+    (ap (λ (q : Traffic). has_end q.to_server) c.self.view_is ∙ unended) in
     end_room (swapped f) (sound-swap f c.self.invariant) none
 
 pub invariant_of-self-in-Server : goal.invariant_of-self-in-Server
@@ -41,7 +47,10 @@ invariant_of-self-in-Server g c =
     let d = c.self.inside in
     let f : Fields = record { bot = d.bot; server = d.server; to_bot = d.to_bot; to_server = d.to_server } in
     let t = c.args.self.now in
-    let unended : has_end (waiting t Server) ≡ false = subst (λ (x : Side). has_end (waiting t x) ≡ false) c.in-Server.is c.requires in
-    let none = ends_of Server d.bot.answer d.server.answer d.to_server (ap (λ (q : Traffic). has_end q.to_server) c.self.view_is ∙ unended) in
+    let unended : has_end (waiting t Server) ≡ false =
+    subst (λ (x : Side). has_end (waiting t x) ≡ false) c.in-Server.is c.requires in
+    let none = ends_of Server d.bot.answer d.server.answer d.to_server
+    (ap (λ (q : Traffic). has_end q.to_server) c.self.view_is ∙ unended) in
     let queue = c.push-in-Server.ensures ∙ ap (pushed d.to_server) c.ending-in-Server.ensures in
-    subst (λ (q : Queue). IsSound (with_to_server f q)) (sym queue) (sound-swap _ (sound_end (swapped f) c.args.code (sound-swap f c.self.invariant) none))
+    subst (λ (q : Queue). IsSound (with_to_server f q)) (sym queue)
+    (sound-swap _ (sound_end (swapped f) c.args.code (sound-swap f c.self.invariant) none))

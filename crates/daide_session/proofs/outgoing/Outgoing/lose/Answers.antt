@@ -7,7 +7,8 @@ pub loop-preserved : goal.loop-preserved
 loop-preserved g c =
     let t = c.loop.self in
     let to = c.args.to in
-    let some : 0 < length (waiting t to) = omega (arith, c.loop.invariant.left, c.count-end.ensures.value, c.loop-test.true) in
+    let some : 0 < length (waiting t to) =
+    omega (arith, c.loop.invariant.left, c.count-end.ensures.value, c.loop-test.true) in
     let shorter = length-without_first t to some in
     let after : length (waiting c.drop_first.new.self to) + 1 ≡ length (waiting t to) =
     ap (λ (u : Traffic). length (waiting u to) + 1) c.drop_first.ensures ∙ shorter in

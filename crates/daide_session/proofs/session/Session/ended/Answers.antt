@@ -14,5 +14,6 @@ invariant_of-self g c =
 pub returns-clause-goes : goal.returns-clause-goes
 returns-clause-goes g c =
     let s = c.self.inside in
-    subst (λ (v : Gateway). Goes v (Ends c.args.side ∷ []) Notes.Nothing (gateway_of c.stop.new.self s.judges)) c.self.view_is
+    subst (λ (v : Gateway). Goes v (Ends c.args.side ∷ []) Notes.Nothing
+    (gateway_of c.stop.new.self s.judges)) c.self.view_is
     (goes_ended s.dialog c.stop.new.self s.judges c.args.side c.stop.ensures)

@@ -15,11 +15,14 @@ invariant_of-self g c =
 pub returns-then-time_out-clause-goes : goal.returns-then-time_out-clause-goes
 returns-then-time_out-clause-goes g c =
     let s = c.self.inside in
-    subst (λ (v : Gateway). Goes v (Pops ∷ []) (Notes.Fault ImTimeout) (gateway_of c.time_out.new.self s.judges)) c.self.view_is
-    (goes_popped s.dialog c.time_out.new.self s.judges (Notes.Fault ImTimeout) c.time_out.ensures.value (popped_note s.dialog.state (sym c.time_out.ensures.fault ∙ c.if-time_out.true)))
+    subst (λ (v : Gateway). Goes v (Pops ∷ []) (Notes.Fault ImTimeout)
+    (gateway_of c.time_out.new.self s.judges)) c.self.view_is
+    (goes_popped s.dialog c.time_out.new.self s.judges (Notes.Fault ImTimeout) c.time_out.ensures.value
+    (popped_note s.dialog.state (sym c.time_out.ensures.fault ∙ c.if-time_out.true)))
 
 pub returns-clause-goes : goal.returns-clause-goes
 returns-clause-goes g c =
     let s = c.self.inside in
     subst (λ (v : Gateway). Goes v (Pops ∷ []) Notes.Nothing (gateway_of c.time_out.new.self s.judges)) c.self.view_is
-    (goes_popped s.dialog c.time_out.new.self s.judges Notes.Nothing c.time_out.ensures.value (popped_quiet s.dialog.state (sym c.time_out.ensures.fault ∙ c.if-time_out.false)))
+    (goes_popped s.dialog c.time_out.new.self s.judges Notes.Nothing c.time_out.ensures.value
+    (popped_quiet s.dialog.state (sym c.time_out.ensures.fault ∙ c.if-time_out.false)))

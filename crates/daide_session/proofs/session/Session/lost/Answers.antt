@@ -12,11 +12,14 @@ pub invariant_of-self : goal.invariant_of-self
 invariant_of-self g c =
     let s = c.self.inside in
     together_freed c.stop.new.self c.lose.new.self s.judges c.forget_answered.new.judges
-    (λ one. subst (λ (f : Face). IsFreed c.stop.new.self f one) (sym c.lose.ensures) (lost_freed c.stop.new.self c.args.side one))
-    c.forget_answered.ensures.bot c.forget_answered.ensures.server (together_stopped s.dialog c.stop.new.self s.judges c.args.side c.stop.ensures c.self.invariant)
+    (λ one. subst (λ (f : Face). IsFreed c.stop.new.self f one) (sym c.lose.ensures)
+    (lost_freed c.stop.new.self c.args.side one))
+    c.forget_answered.ensures.bot c.forget_answered.ensures.server
+    (together_stopped s.dialog c.stop.new.self s.judges c.args.side c.stop.ensures c.self.invariant)
 
 pub returns-clause-lost : goal.returns-clause-lost
 returns-clause-lost g c =
     let s = c.self.inside in
     subst (λ (v : Gateway). Lost v c.args.side (gateway_of c.lose.new.self c.forget_answered.new.judges)) c.self.view_is
-    (lost_of s.dialog c.stop.new.self c.lose.new.self s.judges c.forget_answered.new.judges c.args.side c.stop.ensures c.lose.ensures)
+    (lost_of s.dialog c.stop.new.self c.lose.new.self s.judges c.forget_answered.new.judges c.args.side c.stop.ensures
+    c.lose.ensures)

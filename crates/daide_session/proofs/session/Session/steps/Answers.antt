@@ -9,4 +9,5 @@ pub returns-clause-steps : goal.returns-clause-steps
 returns-clause-steps g c =
     let s = c.self.inside in
     subst (λ (v : Gateway). c.steps.result ≤ steps_bound v c.args.side) c.self.view_is
-    (subst (λ (n : ℕ). n ≤ steps_bound (gateway_of s.dialog s.judges) c.args.side) (sym c.steps.ensures) (steps_few s.dialog s.judges c.args.side c.self.invariant))
+    (subst (λ (n : ℕ). n ≤ steps_bound (gateway_of s.dialog s.judges) c.args.side) (sym c.steps.ensures)
+    (steps_few s.dialog s.judges c.args.side c.self.invariant))

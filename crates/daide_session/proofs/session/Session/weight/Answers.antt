@@ -64,8 +64,10 @@ overflow_add-result-3 g c =
 pub returns-clause-value : goal.returns-clause-value
 returns-clause-value g c =
     let s = c.self.inside in
-    weight_is s.dialog s.judges c.held_len.result c.entries.result c.held_len-2.result c.entries-2.result c.count.result c.count-2.result
-    c.held_len.ensures.value c.entries.ensures.value c.held_len-2.ensures.value c.entries-2.ensures.value c.count.ensures.value c.count-2.ensures.value
+    weight_is s.dialog s.judges c.held_len.result c.entries.result c.held_len-2.result c.entries-2.result
+    c.count.result c.count-2.result
+    c.held_len.ensures.value c.entries.ensures.value c.held_len-2.ensures.value c.entries-2.ensures.value
+    c.count.ensures.value c.count-2.ensures.value
     ∙ ap weight_of c.self.view_is
 
 pub returns-clause-weight : goal.returns-clause-weight
@@ -75,10 +77,14 @@ returns-clause-weight g c =
     let within_bot = c.held_len.ensures.within in
     let cap_server = c.held_len-2.ensures.capped in
     let within_server = c.held_len-2.ensures.within in
-    subst (λ (v : Gateway). c.held_len.result + c.entries.result + (c.held_len-2.result + c.entries-2.result) + (c.count.result + c.count-2.result) ≤ weight_bound v) c.self.view_is
-    (weight_few s.dialog s.judges c.held_len.result c.entries.result c.held_len-2.result c.entries-2.result c.count.result c.count-2.result
-    (direction_of s.dialog Bot s.judges.bot c.held_len.result c.entries.result c.self.invariant.bot within_bot (omega (arith, cap_bot, within_bot)) c.entries.ensures.few)
-    (direction_of s.dialog Server s.judges.server c.held_len-2.result c.entries-2.result c.self.invariant.server within_server (omega (arith, cap_server, within_server)) c.entries-2.ensures.few)
+    subst (λ (v : Gateway). c.held_len.result + c.entries.result + (c.held_len-2.result + c.entries-2.result)
+    + (c.count.result + c.count-2.result) ≤ weight_bound v) c.self.view_is
+    (weight_few s.dialog s.judges c.held_len.result c.entries.result c.held_len-2.result c.entries-2.result
+    c.count.result c.count-2.result
+    (direction_of s.dialog Bot s.judges.bot c.held_len.result c.entries.result c.self.invariant.bot within_bot
+    (omega (arith, cap_bot, within_bot)) c.entries.ensures.few)
+    (direction_of s.dialog Server s.judges.server c.held_len-2.result c.entries-2.result c.self.invariant.server
+    within_server (omega (arith, cap_server, within_server)) c.entries-2.ensures.few)
     c.count.ensures.at_most_three c.count-2.ensures.at_most_three)
 
 pub returns-clause-tied : goal.returns-clause-tied
