@@ -1,6 +1,6 @@
 -- The frames by which a run goes are those of the cut of a side's bytes, and bytes of the next are missing.
 use Rattle.std.proofs.Common.{◌≡◌, ℕ, ◌+◌, ◌<◌, Bool, true, false, cond, ◌||◌, List, [], ◌∷◌, ◌++◌, ◌⊎◌, inl, inr}
-use Rattle.std.proofs.Common.{⊎_elim, Option, Some, None, Result, Ok, Err, length, refl, sym, ap, ◌∙◌, subst, arith}
+use Rattle.std.proofs.Common.{⊎_elim, Option, Some, None, Result, Ok, Err, refl, sym, ap, ◌∙◌, subst, arith}
 use Rattle.std.proofs.Common.{append_assoc, append-nil}
 use Rattle.daide_frame.specs.declared.side.Side.{Side}
 use Rattle.daide_frame.specs.declared.side.Side.TheVariants.{Bot, Server}
@@ -17,7 +17,7 @@ use Rattle.daide_machine.specs.declared.phase.Phase.{Phase}
 use Rattle.daide_machine.specs.declared.phase.Phase.TheVariants.{WaitIm, WaitRm, Open, Over}
 use Rattle.daide_machine.specs.Events.{Event, Comes, Ends, Loses, Pops, other}
 use Rattle.daide_machine.specs.Machine.{Limits, SessionState, Effect, Outcome, Step, Runs, opening, coming}
-use Rattle.daide_machine.specs.Machine.{with_pending, is_over, nothing, fault, end, begun, untimely, is_im, answered}
+use Rattle.daide_machine.specs.Machine.{with_pending, is_over, fault, end, begun, untimely, is_im, answered}
 use Rattle.daide_machine.specs.Machine.{im_answered, whole, item_outcome, items_outcome, popped, event_outcome}
 use Rattle.daide_machine.specs.Wires.{same_side}
 use Rattle.daide_machine.specs.Heard.{bytes_from, heard_at, items_heard}
