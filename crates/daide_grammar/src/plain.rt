@@ -125,14 +125,7 @@ fn may<const N: usize>(wanted: Class, class: Class, rest: [Sym; N]) -> Move
 
 /// What a token of the class means to the symbol. A closing bracket, the symbol that is met most
 /// often, is told before the jump.
-#[tactic(
-    auto,
-    unfolding(
-        crate::specs::Symbols::table_answer,
-        crate::specs::Symbols::entries,
-        crate::specs::Symbols::may_end_of
-    )
-)]
+#[tactic(auto, unfolding(crate::specs::Symbols::table_answer, crate::specs::Symbols::entries, crate::specs::Symbols::may_end_of))]
 fn move_of(sym: Sym, class: Class) -> Move
     ensures { answer_of result ≡ table_answer sym class }
 {
