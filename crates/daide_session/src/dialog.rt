@@ -16,7 +16,7 @@ ghost use Rattle.daide_session.specs.Dialog.{is_busy_face, is_waiting_for_im, is
 ghost use Rattle.daide_session.specs.Dialog.{after_losing};
 
 use crate::outgoing::Outgoing;
-use crate::rules::{destination, is_sent, level_after, may_reach, phase_after, untimely};
+use crate::rules::{destination, is_sent, level_after, may_reach, other, phase_after, untimely};
 use daide_frame::code::Code;
 use daide_frame::cutter::Step;
 use daide_frame::head::{Head, Kind};
@@ -100,13 +100,8 @@ impl<A: Allocator> Dialog<A> {
         ensures { self.new ≡ applied self.old (faulted self.old.state side code) }
     {
         self.wires.end(side, Some(code));
-        match side {
-            Side::Bot => {
-                if may_reach(self.phase, Side::Server) {
-                    self.wires.end(Side::Server, None);
-                }
-            }
-            Side::Server => self.wires.end(Side::Bot, None),
+        if may_reach(self.phase, other(side)) {
+            self.wires.end(other(side), None);
         }
         self.phase = Phase::Over;
         self.level = Level::L0;
@@ -117,13 +112,8 @@ impl<A: Allocator> Dialog<A> {
         requires { is_over_phase self.old.state.phase ≡ false }
         ensures { self.new ≡ applied self.old (at_end self.old.state side) }
     {
-        match side {
-            Side::Bot => {
-                if may_reach(self.phase, Side::Server) {
-                    self.wires.end(Side::Server, None);
-                }
-            }
-            Side::Server => self.wires.end(Side::Bot, None),
+        if may_reach(self.phase, other(side)) {
+            self.wires.end(other(side), None);
         }
         self.phase = Phase::Over;
         self.level = Level::L0;
