@@ -79,12 +79,11 @@ impl Token {
     }
 
     /// The token's class, by its category and, where the category has classes of one token, by its code.
-    //
-    // The brackets stand first: every other token or so is one, and a reader tests for them anyway.
     #[tactic(auto, unfolding(crate::specs::Class::class_of))]
     pub fn class(self) -> Class
         ensures { result ≡ class_of self }
     {
+        // the brackets stand first: every other token or so is one, and a reader tests for them anyway
         match self.code() {
             0x4000 => Class::Bra,
             0x4001 => Class::Ket,
