@@ -17,7 +17,8 @@ use Rattle.daide_machine.specs.declared.phase.Phase.{Phase}
 use Rattle.daide_machine.specs.declared.phase.Phase.TheVariants.{WaitIm, WaitRm, Open, Over}
 use Rattle.daide_machine.specs.Events.{Event, Comes, Ends, Loses, Pops, other}
 use Rattle.daide_machine.specs.Machine.{Limits, SessionState, Effect, Outcome, Step, Runs, opening, coming}
-use Rattle.daide_machine.specs.Machine.{with_pending, is_over, fault, end, begun, untimely, is_im, answered}
+use Rattle.daide_frame.specs.Head.{is_im}
+use Rattle.daide_machine.specs.Machine.{with_pending, is_over, fault, end, begun, untimely, answered}
 use Rattle.daide_machine.specs.Machine.{im_answered, whole, item_outcome, items_outcome, popped, event_outcome}
 use Rattle.daide_machine.specs.Wires.{same_side}
 use Rattle.daide_machine.specs.Heard.{bytes_from, heard_at, items_heard}

@@ -13,6 +13,7 @@ use Rattle.daide_frame.specs.declared.code.Code.{Code}
 use Rattle.daide_frame.specs.declared.code.Code.TheVariants.{ImTimeout, ImNotFirst, SecondIm, ImFromServer}
 use Rattle.daide_frame.specs.declared.code.Code.TheVariants.{UnknownMessage, DmBeforeRm, RmNotFirst, SecondRm, RmFromClient}
 use Rattle.daide_frame.specs.Code.{code_number}
+use Rattle.daide_frame.specs.Head.{is_im}
 use Rattle.daide_frame.specs.InitialMessage.{im_of}
 use Rattle.daide_frame.specs.Frames.{Item, Begun, Whole, Wrong, last_items}
 use Rattle.daide_grammar.specs.declared.level.Level.{Level}
@@ -205,13 +206,6 @@ begun state side None = nothing (with_noted state side state.level)
 begun state side (Some code) = fault state side code
 
 -- ---- a whole frame
-
-abbrev pub is_im : Kind → Bool
-is_im Im = true
-is_im Rm = false
-is_im Dm = false
-is_im Fm = false
-is_im Em = false
 
 abbrev pub is_dm : Kind → Bool
 is_dm Im = false
