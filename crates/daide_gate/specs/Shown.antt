@@ -1,5 +1,5 @@
 -- What `show` says of an input: the text of docs/FORMATS.md (own), and whether its frame would be relayed.
-use Rattle.std.specs.Prelude.{◌≡◌, ⊤, ℕ, ◌+◌, ◌*◌, ◌≤◌, ◌==◌, nat_lt, Bool, true, false, if◌then◌else◌}
+use Rattle.std.specs.Prelude.{◌≡◌, ⊤, ℕ, ◌+◌, ◌==◌, nat_lt, Bool, true, false, if◌then◌else◌}
 use Rattle.std.specs.Prelude.{List, [], ◌∷◌, ◌++◌, take, drop, length, codes, Option, Result, Ok, Err, MatchResult}
 use Rattle.std.specs.Bool.{MatchBool}
 use Rattle.std.specs.Fmt.{decimal}
@@ -105,12 +105,6 @@ message_shown len m verdict = record {
 -- what was shown stands after what was there
 abbrev pub Adds : List ℕ → List ℕ → Bool → Shown → Type 0
 Adds old new relayed shown = (new ≡ old ++ shown.text) × (relayed ≡ shown.relayed)
-
--- a verdict's place, if it has one, is no further than the body's tokens
-abbrev pub IsPlaceWithin : Verdict → ℕ → Type 0
-IsPlaceWithin Relay len = ⊤
-IsPlaceWithin Prn len = ⊤
-IsPlaceWithin (Huh place) len = 2 * place ≤ len
 
 -- what is shown of a whole frame; a DM by the verdict that its end's grammar has for its message
 abbrev pub IsFrameShownAs : Side2 → Level → Kind → ℕ → List ℕ → Shown → Type 0

@@ -1,23 +1,10 @@
 -- What a reader that stands after a whole message says of it.
-use Rattle.std.proofs.Common.{◌≡◌, ℕ, ◌+◌, ◌≤◌, Bool, true, false, List, Option, Some, refl, ap, ◌∙◌, arith}
+use Rattle.std.proofs.Common.{◌≡◌, ℕ, ◌+◌, ◌≤◌, Bool, true, false, List, Option, Some, refl, ap, ◌∙◌}
 use Rattle.std.specs.Prelude.{not, if◌then◌else◌}
 use Rattle.std.specs.Option.{unwrap_or}
-use Rattle.daide_token.specs.Token.{tokens_of}
 use Rattle.daide_grammar.specs.Depth.{open_brackets, closes_early}
 use Rattle.daide_grammar.specs.Paired.{begins_with_prn}
-use Rattle.daide_reader.specs.declared.verdict.Verdict.{Verdict}
-use Rattle.daide_reader.specs.declared.verdict.Verdict.TheVariants.{Relay, Prn, Huh}
-use Rattle.daide_reader.specs.Verdict.{HasVerdict}
 use Rattle.daide_grammar.specs.Brackets.{counted}
-use Rattle.daide_reader.proofs.BodyLemmas.{tokens_of-length}
-use Rattle.daide_session.specs.Direction.{IsPlaceIn}
-
-pub place_in : (message : List ℕ → Type 0) (max_depth : ℕ) (body : List ℕ) (v : Verdict) →
-    HasVerdict message max_depth (tokens_of body) v → IsPlaceIn body v
-unfolding HasVerdict
-place_in message max_depth body Relay h = tt
-place_in message max_depth body Prn h = tt
-place_in message max_depth body (Huh i) h = let within = h.2.within in omega (arith, within, tokens_of-length body)
 
 pub open_of : (o : Option ℕ) (p : List ℕ) → o ≡ (if begins_with_prn p then Some 0 else counted p) →
     unwrap_or o 0 ≡ open_brackets p

@@ -1,8 +1,8 @@
 -- What a direction holds: a side's frame as its bytes come, and the answer that this frame becomes.
-use Rattle.std.specs.Prelude.{◌≡◌, ℕ, ◌*◌, ◌<◌, ◌≤◌, List, [], ◌++◌, length, drop, Option, Some, None}
+use Rattle.std.specs.Prelude.{◌≡◌, ℕ, ◌<◌, List, [], ◌++◌, length, drop, Option, Some, None}
 use Rattle.daide_frame.specs.Frames.{Cut}
 use Rattle.daide_reader.specs.declared.verdict.Verdict.{Verdict}
-use Rattle.daide_reader.specs.declared.verdict.Verdict.TheVariants.{Relay, Prn, Huh}
+use Rattle.daide_reader.specs.Verdict.{IsPlaceIn}
 use Rattle.daide_machine.specs.Answers.{answer_body}
 
 -- the bytes of the frame that is held, and the whole answer to it, once it is answered
@@ -20,12 +20,6 @@ answer_of cut header (Some verdict) = Some (header ++ answer_body (drop 4 cut.by
 abbrev pub some_bytes : Option (List ℕ) → List ℕ
 some_bytes None = []
 some_bytes (Some bytes) = bytes
-
--- the place that a verdict tells is within the body
-abbrev pub IsPlaceIn : List ℕ → Verdict → Type 0
-IsPlaceIn body Relay = Unit {0}
-IsPlaceIn body Prn = Unit {0}
-IsPlaceIn body (Huh place) = 2 * place ≤ length body
 
 abbrev pub HasPlace : Cut → Option Verdict → Type 0
 HasPlace cut None = Unit {0}

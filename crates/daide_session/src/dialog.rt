@@ -10,7 +10,7 @@ ghost use Rattle.daide_machine.specs.Machine.{Limits, fault as faulted, end as a
 ghost use Rattle.daide_machine.specs.Machine.{untimely as untimely_code, is_sent as is_sent_to};
 ghost use Rattle.daide_machine.specs.Machine.{destination as destination_of, is_over as is_over_phase, popped};
 ghost use Rattle.daide_machine.specs.Wires.{awaits, IsFrontOf, first_len};
-ghost use Rattle.daide_session.specs.Direction.{IsPlaceIn};
+ghost use Rattle.daide_reader.specs.Verdict.{IsPlaceIn};
 ghost use Rattle.daide_session.specs.Dialog.{first_face, face_waiting, face_held, with_taken, held_if, applied};
 ghost use Rattle.daide_session.specs.Dialog.{is_busy_face, is_waiting_for_im, is_shut_face, stopped, after_writing};
 ghost use Rattle.daide_session.specs.Dialog.{after_losing};

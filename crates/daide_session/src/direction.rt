@@ -10,7 +10,8 @@ ghost use Rattle.daide_frame.specs.Frames.{fed, fed_items, told, IsFault, IsEnd,
 ghost use Rattle.daide_frame.specs.Frames.{announced};
 ghost use Rattle.daide_frame.specs.declared.cutter.Step.TheVariants.{Bodied};
 ghost use Rattle.daide_machine.specs.Answers.{answer_bytes};
-ghost use Rattle.daide_session.specs.Direction.{IsFront, IsPlaceIn, cleared, some_bytes};
+ghost use Rattle.daide_reader.specs.Verdict.{IsPlaceIn};
+ghost use Rattle.daide_session.specs.Direction.{IsFront, cleared, some_bytes};
 
 use daide_frame::cutter::{Cutter, Step};
 use daide_frame::head::{Head, Kind, write_head};

@@ -8,9 +8,8 @@ ghost use Rattle.daide_token.specs.Token.{tokens_of};
 ghost use Rattle.daide_grammar.specs.Depth.{open_brackets};
 ghost use Rattle.daide_grammar.specs.Messages.{IsMessage};
 ghost use Rattle.daide_grammar.specs.declared.level.Level.{Level};
-ghost use Rattle.daide_reader.specs.Verdict.{HasVerdict};
+ghost use Rattle.daide_reader.specs.Verdict.{HasVerdict, IsPlaceIn};
 ghost use Rattle.daide_machine.specs.Machine.{side2_of as side2_of_side};
-ghost use Rattle.daide_session.specs.Direction.{IsPlaceIn};
 ghost use Rattle.daide_session.specs.Judge.{Judging, Begins, IsIdle, steps_in};
 
 use daide_frame::side::Side;

@@ -8,7 +8,7 @@ ghost use Rattle.daide_grammar.specs.declared.level.Level.{Level};
 ghost use Rattle.daide_reader.specs.Verdict.{HasVerdict};
 ghost use Rattle.daide_machine.specs.Events.{other};
 ghost use Rattle.daide_machine.specs.Machine.{side2_of};
-ghost use Rattle.daide_session.specs.Direction.{IsPlaceIn};
+ghost use Rattle.daide_reader.specs.Verdict.{IsPlaceIn};
 ghost use Rattle.daide_session.specs.Judge.{judging, Begins, IsIdle, steps_in, IsFirst};
 
 use crate::judge::Judge;

@@ -12,7 +12,7 @@ ghost use Rattle.daide_frame.specs.declared.cutter.Step.TheVariants.{Bodied};
 ghost use Rattle.daide_machine.specs.Answers.{answer_bytes};
 ghost use Rattle.daide_machine.specs.Machine.{em_bytes};
 ghost use Rattle.daide_machine.specs.Wires.{IsFrontOf, first_len};
-ghost use Rattle.daide_session.specs.Direction.{IsPlaceIn};
+ghost use Rattle.daide_reader.specs.Verdict.{IsPlaceIn};
 ghost use Rattle.daide_session.specs.Outgoing.{ending_of, behind, size_of_first, bot_after, server_after};
 ghost use Rattle.daide_session.specs.Traffic.{Traffic, held, pending, with_bytes, answering, waiting, with_waiting};
 ghost use Rattle.daide_session.specs.Traffic.{posted, awaits_on, has_end, end_to, quiet, written, without_first, lost};

@@ -8,7 +8,7 @@ ghost use Rattle.daide_machine.specs.Events.{other};
 ghost use Rattle.daide_machine.specs.Machine.{untimely as untimely_code, begun, coming, is_over as is_over_phase};
 ghost use Rattle.daide_session.specs.Dialog.{applied, is_busy_face};
 ghost use Rattle.daide_session.specs.Judge.{judging, Begins, IsForgotten, IsIdle};
-ghost use Rattle.daide_session.specs.Direction.{IsPlaceIn};
+ghost use Rattle.daide_reader.specs.Verdict.{IsPlaceIn};
 ghost use Rattle.daide_session.specs.Session.{IsTogether, IsCompleted, IsJudged, IsJudgedAs, Reacts, Counts, check_of};
 
 use crate::dialog::Dialog;

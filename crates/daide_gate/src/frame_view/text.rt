@@ -4,7 +4,8 @@ ghost use Rattle.std.specs.Prelude.{◌≡◌, ◌≤◌, ◌*◌, ◌%◌, ◌+
 ghost use Rattle.daide_token.specs.Token.{tokens_of};
 ghost use Rattle.daide_token.specs.Text.{text_of};
 ghost use Rattle.daide_frame.specs.Head.{has_right_length};
-ghost use Rattle.daide_gate.specs.Shown.{Shown, Adds, IsFrameShownAs, IsPlaceWithin};
+ghost use Rattle.daide_gate.specs.Shown.{Shown, Adds, IsFrameShownAs};
+ghost use Rattle.daide_reader.specs.Verdict.{IsPlaceIn};
 ghost use Rattle.daide_gate.specs.Shown.{line, kind_line, name_of_kind, fault_shown, relayed_shown, im_shown};
 ghost use Rattle.daide_gate.specs.Shown.{verdict_lines, prn_answer, huh_answer, is_relay};
 ghost use Rattle.daide_frame.specs.InitialMessage.{im_of};
@@ -99,7 +100,7 @@ fn write_verdict<A: Allocator + Copy>(
     text: &mut Vec<u8, A>,
 ) -> io::Result<bool>
     requires even { length body.now % 2 ≡ 0 }
-    requires within { IsPlaceWithin verdict (length body.now) }
+    requires within { IsPlaceIn body.now verdict }
     ensures { IfOk result (λ relayed.
         (text.new.items ≡ text.old.items ++ verdict_lines verdict (tokens_of body.now))
         × (relayed ≡ is_relay verdict)) }

@@ -1,10 +1,10 @@
 //! The verdict of a message.
 
-ghost use Rattle.std.specs.Prelude.{◌≡◌, ◌≤◌, ◌%◌, length};
+ghost use Rattle.std.specs.Prelude.{◌≤◌, length};
 ghost use Rattle.daide_token.specs.Token.{tokens_of};
 ghost use Rattle.daide_grammar.specs.Messages.{IsMessage};
-ghost use Rattle.daide_reader.specs.Verdict.{HasVerdict};
-ghost use Rattle.daide_gate.specs.Shown.{IsPlaceWithin, deepest};
+ghost use Rattle.daide_reader.specs.Verdict.{HasVerdict, IsPlaceIn};
+ghost use Rattle.daide_gate.specs.Shown.{deepest};
 
 use daide_grammar::level::Level;
 use daide_grammar::plain::Plain;
@@ -17,10 +17,9 @@ const DEEPEST: u16 = 62;
 
 /// What becomes of the message of a body.
 pub(super) fn verdict_of(end: Side2, level: Level, body: &[u8]) -> Verdict
-    requires even { length body.now % 2 ≡ 0 }
     requires capped { length body.now ≤ 65526 }
     ensures verdict { HasVerdict (IsMessage end level) deepest (tokens_of body.now) result }
-    ensures within { IsPlaceWithin result (length body.now) }
+    ensures within { IsPlaceIn body.now result }
 {
     let mut reader: Reader<Plain, 512> = Reader::new(Plain::new(), DEEPEST);
     reader.start(end, level);

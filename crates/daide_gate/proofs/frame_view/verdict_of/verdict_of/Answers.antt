@@ -4,9 +4,9 @@ use Rattle.daide_grammar.specs.Symbols.{opening_of}
 use Rattle.daide_grammar.specs.Messages.{SymbolMatches}
 use Rattle.daide_reader.specs.ViablePrefix.{IsMessageOf}
 use Rattle.daide_reader.specs.Verdict.{HasVerdict}
+use Rattle.daide_reader.proofs.BodyLemmas.{place_in}
 use Rattle.daide_reader.proofs.PlainVerdicts.{plain_verdicts}
 use Rattle.daide_gate.specs.Shown.{deepest}
-use Rattle.daide_gate.proofs.Verdicts.{place_within}
 use Rattle.daide_gate.proofs.frame_view.verdict_of.verdict_of.Goals as goal
 
 pub returns-clause-verdict : goal.returns-clause-verdict
@@ -20,5 +20,5 @@ returns-clause-verdict c =
 
 pub returns-clause-within : goal.returns-clause-within
 returns-clause-within c =
-    place_within _ _ c.args.body.now c.read_body.result c.requires.even
+    place_in _ _ c.args.body.now c.read_body.result
     (c.read_body.ensures.verdict _ _ _ c.start.ensures.stands_after)

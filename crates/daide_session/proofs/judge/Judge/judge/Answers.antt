@@ -6,7 +6,8 @@ use Rattle.daide_reader.specs.Verdict.{HasVerdict}
 use Rattle.daide_reader.proofs.PlainVerdicts.{plain_verdicts}
 use Rattle.daide_machine.specs.Machine.{side2_of}
 use Rattle.daide_session.specs.Judge.{Judging}
-use Rattle.daide_session.proofs.JudgeLemmas.{place_in, open_of, unfinished, four_more}
+use Rattle.daide_reader.proofs.BodyLemmas.{place_in}
+use Rattle.daide_session.proofs.JudgeLemmas.{open_of, unfinished, four_more}
 use Rattle.daide_session.proofs.judge.Judge.judge.Goals as goal
 
 pub returns-clause-verdict : goal.returns-clause-verdict

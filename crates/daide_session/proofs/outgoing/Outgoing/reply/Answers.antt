@@ -2,7 +2,8 @@ use Rattle.std.proofs.Common.{◌≡◌, ℕ, List, drop, Some, sym, ap, ◌∙�
 use Rattle.daide_frame.specs.declared.side.Side.{Side}
 use Rattle.daide_frame.specs.declared.side.Side.TheVariants.{Bot, Server}
 use Rattle.daide_machine.specs.Answers.{answer_bytes}
-use Rattle.daide_session.specs.Direction.{HeldFrame, IsPlaceIn}
+use Rattle.daide_reader.specs.Verdict.{IsPlaceIn}
+use Rattle.daide_session.specs.Direction.{HeldFrame}
 use Rattle.daide_session.specs.Wire.{Queue}
 use Rattle.daide_session.specs.Traffic.{pending, answering, posted}
 use Rattle.daide_session.specs.Outgoing.{Fields, traffic_of, IsSound, presence}
