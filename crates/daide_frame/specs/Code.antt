@@ -1,7 +1,10 @@
 -- The protocol's error codes.
 use Rattle.std.specs.Prelude.{ℕ}
 use Rattle.daide_frame.specs.declared.code.Code.{Code}
-use Rattle.daide_frame.specs.declared.code.Code.TheVariants.{ImTimeout, ImNotFirst, WrongEndian, WrongMagic, WrongVersion, SecondIm, ImFromServer, UnknownMessage, WrongLength, DmBeforeRm, RmNotFirst, SecondRm, RmFromClient, InvalidToken}
+use Rattle.daide_frame.specs.declared.code.Code.TheVariants.{ImTimeout, ImNotFirst, WrongEndian, WrongMagic}
+use Rattle.daide_frame.specs.declared.code.Code.TheVariants.{WrongVersion, SecondIm, ImFromServer, UnknownMessage}
+use Rattle.daide_frame.specs.declared.code.Code.TheVariants.{WrongLength, DmBeforeRm, RmNotFirst, SecondRm}
+use Rattle.daide_frame.specs.declared.code.Code.TheVariants.{RmFromClient, InvalidToken}
 
 -- the number that an error message tells, by the protocol's table of errors
 abbrev pub code_number : Code → ℕ

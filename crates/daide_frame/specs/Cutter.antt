@@ -1,9 +1,11 @@
 -- What a cutter keeps of a frame.
-use Rattle.std.specs.Prelude.{ℕ, ◌≡◌, ◌<◌, ◌≤◌, ◌⊎◌, Bool, false, List, [], ◌++◌, length, take, drop, Option, None, Some, is_some, MatchOption}
+use Rattle.std.specs.Prelude.{ℕ, ◌≡◌, ◌<◌, ◌≤◌, ◌⊎◌, Bool, false, List, [], ◌++◌, length, take}
+use Rattle.std.specs.Prelude.{drop, Option, None, Some, is_some, MatchOption}
 use Rattle.daide_frame.specs.declared.head.Head.{Head}
 use Rattle.daide_frame.specs.declared.cutter.Step.{Step}
 use Rattle.daide_frame.specs.declared.cutter.Step.TheVariants.{Bodied}
-use Rattle.daide_frame.specs.Frames.{alien_in, head_in, missing, fed, fed_items, answer_to, told, IsFault, IsEnd, IsWholeBody}
+use Rattle.daide_frame.specs.Frames.{alien_in, head_in, missing, fed, fed_items, answer_to}
+use Rattle.daide_frame.specs.Frames.{told, IsFault, IsEnd, IsWholeBody}
 
 -- whether a body has an alien token
 abbrev pub has_alien : Option Head → List ℕ → Bool

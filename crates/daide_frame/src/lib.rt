@@ -11,3 +11,9 @@ pub mod laws;
 pub mod side;
 #[cfg(test)]
 mod tests;
+
+pub use code::Code;
+pub use cutter::{Cutter, Step};
+pub use head::{Head, Kind, read_head, write_head};
+pub use initial_message::check_im;
+pub use side::Side;

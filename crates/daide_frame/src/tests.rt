@@ -61,7 +61,7 @@ fn headers_are_written_high_byte_first(rt: HostRuntime) {
 }
 
 #[test]
-fn initial_messages_are_checked_in_order(rt: HostRuntime) {
+fn faults_of_the_initial_message(rt: HostRuntime) {
     let cases: [([u8; 4], Result<(), Code>); 6] = [
         ([0x00, 0x01, 0xDA, 0x10], Ok(())),
         ([0x00, 0x01, 0x10, 0xDA], Err(Code::WrongEndian)),
@@ -185,7 +185,7 @@ const FIRST_FRAMES: [(&[u8], Step, usize, usize); 12] = [
 ];
 
 #[test]
-fn first_frames_are_judged_in_any_pieces(rt: HostRuntime) -> Result<(), Fail> {
+fn faults_whole_and_by_bytes(rt: HostRuntime) -> Result<(), Fail> {
     for (bytes, step, end, body) in FIRST_FRAMES {
         for longest in 1..12usize {
             let mut cutter = Cutter::new(rt.alloc(), CAP)?;

@@ -3,3 +3,4 @@ pub mod NameLaws
 pub mod TokenLemmas
 pub mod WholeText
 mod StandardFacts
+mod SecondListing

@@ -23,22 +23,31 @@ is_name-same : (o : Option (List ℕ)) (name : List ℕ) → is_name o name ≡ 
 is_name-same None name e = absurd (cc)
 is_name-same (Some other) name e = ap Some ((bytes_eq-Decides other name).0 e)
 
-each_token_back : list_all (λ (row : Named). is_token (token_named row.1) row.0) names ≡ true
+-- whether a row's name has its token, and its token its name
+abbrev has_token : Named → Bool
+has_token row = is_token (token_named row.1) row.0
+
+abbrev has_name : Named → Bool
+has_name row = is_name (name_of row.0) row.1
+
+each_token_back : list_all has_token names ≡ true
 unfolding names token_named
 each_token_back = refl
 
-each_name_back : list_all (λ (row : Named). is_name (name_of row.0) row.1) names ≡ true
+each_name_back : list_all has_name names ≡ true
 unfolding names name_of
 each_name_back = refl
 
 pub token_named-name_of : (t : ℕ) (name : List ℕ) → name_of t ≡ Some name → token_named name ≡ Some t
 unfolding name_of
 token_named-name_of t name e =
-    found_passes (λ (row : Named). row.1) (λ row. row.0 == t) (λ row. is_token (token_named row.1) row.0) names name each_token_back e
+    found_passes (λ (row : Named). row.1) (λ row. row.0 == t) has_token names name each_token_back e
     (λ row same back here. ap token_named (sym here) ∙ is_token-same _ _ back ∙ ap Some (eqb-true _ _ same))
 
 pub name_of-token_named : (name : List ℕ) (t : ℕ) → token_named name ≡ Some t → name_of t ≡ Some name
 unfolding token_named
 name_of-token_named name t e =
-    found_passes (λ (row : Named). row.0) (λ row. bytes_eq row.1 name) (λ row. is_name (name_of row.0) row.1) names t each_name_back e
-    (λ row same back here. ap name_of (sym here) ∙ is_name-same _ _ back ∙ ap Some ((bytes_eq-Decides row.1 name).0 same))
+    found_passes (λ (row : Named). row.0) (λ row. bytes_eq row.1 name) has_name names t each_name_back e (
+    λ row same back here. let letters = (bytes_eq-Decides row.1 name).0 same in
+    ap name_of (sym here) ∙ is_name-same _ _ back ∙ ap Some letters
+    )

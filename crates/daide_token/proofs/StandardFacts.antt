@@ -1,4 +1,5 @@
--- Worked examples, computed from the definitions: a wrong table does not check.
+-- Worked examples, computed from the definitions: a wrong table does not check. (Each listed token stands in
+-- SecondListing.)
 use Rattle.std.proofs.Common.{◌≡◌, codes, None, Some, [], ◌∷◌, false, length, negsuc, pos, refl, true}
 use Rattle.std.specs.Fmt.{digits}
 use Rattle.daide_token.specs.declared.class.Class.TheVariants as class
@@ -6,119 +7,6 @@ use Rattle.daide_token.specs.Class.{class_of, has_known_category}
 use Rattle.daide_token.specs.Names.{name_of, names, token_named}
 use Rattle.daide_token.specs.Text.{text_of}
 use Rattle.daide_token.specs.Token.{bra, err, hlo, huh, ket, lvl, number_of, prn, token_of_number, tokens_of}
-
--- each listed token has its class and its name
-listed-bra : (class_of 0x4000 ≡ class.Bra) × (name_of 0x4000 ≡ Some (codes "BRA"))
-unfolding class_of name_of names
-listed-bra = (refl, refl)
-
-listed-ket : (class_of 0x4001 ≡ class.Ket) × (name_of 0x4001 ≡ Some (codes "KET"))
-unfolding class_of name_of names
-listed-ket = (refl, refl)
-
-listed-ger : (class_of 0x4103 ≡ class.Power) × (name_of 0x4103 ≡ Some (codes "GER"))
-unfolding class_of name_of names
-listed-ger = (refl, refl)
-
-listed-flt : (class_of 0x4201 ≡ class.Flt) × (name_of 0x4201 ≡ Some (codes "FLT"))
-unfolding class_of name_of names
-listed-flt = (refl, refl)
-
-listed-via : (class_of 0x4325 ≡ class.Via) × (name_of 0x4325 ≡ Some (codes "VIA"))
-unfolding class_of name_of names
-listed-via = (refl, refl)
-
-listed-rto : (class_of 0x4341 ≡ class.Rto) × (name_of 0x4341 ≡ Some (codes "RTO"))
-unfolding class_of name_of names
-listed-rto = (refl, refl)
-
-listed-wve : (class_of 0x4382 ≡ class.Wve) × (name_of 0x4382 ≡ Some (codes "WVE"))
-unfolding class_of name_of names
-listed-wve = (refl, refl)
-
-listed-nsp : (class_of 0x440E ≡ class.Note) × (name_of 0x440E ≡ Some (codes "NSP"))
-unfolding class_of name_of names
-listed-nsp = (refl, refl)
-
-listed-ysc : (class_of 0x4413 ≡ class.Note) × (name_of 0x4413 ≡ Some (codes "YSC"))
-unfolding class_of name_of names
-listed-ysc = (refl, refl)
-
-listed-ret : (class_of 0x4506 ≡ class.Outcome) × (name_of 0x4506 ≡ Some (codes "RET"))
-unfolding class_of name_of names
-listed-ret = (refl, refl)
-
-listed-swc : (class_of 0x460A ≡ class.Coast) × (name_of 0x460A ≡ Some (codes "SWC"))
-unfolding class_of name_of names
-listed-swc = (refl, refl)
-
-listed-win : (class_of 0x4704 ≡ class.Season) × (name_of 0x4704 ≡ Some (codes "WIN"))
-unfolding class_of name_of names
-listed-win = (refl, refl)
-
-listed-gof : (class_of 0x4803 ≡ class.Gof) × (name_of 0x4803 ≡ Some (codes "GOF"))
-unfolding class_of name_of names
-listed-gof = (refl, refl)
-
-listed-prn : (class_of 0x4813 ≡ class.Prn) × (name_of 0x4813 ≡ Some (codes "PRN"))
-unfolding class_of name_of names
-listed-prn = (refl, refl)
-
-listed-smr : (class_of 0x481E ≡ class.Smr) × (name_of 0x481E ≡ Some (codes "SMR"))
-unfolding class_of name_of names
-listed-smr = (refl, refl)
-
-listed-err : (class_of 0x4902 ≡ class.Param) × (name_of 0x4902 ≡ Some (codes "ERR"))
-unfolding class_of name_of names
-listed-err = (refl, refl)
-
-listed-lvl : (class_of 0x4903 ≡ class.Lvl) × (name_of 0x4903 ≡ Some (codes "LVL"))
-unfolding class_of name_of names
-listed-lvl = (refl, refl)
-
-listed-mrt : (class_of 0x4904 ≡ class.Mrt) × (name_of 0x4904 ≡ Some (codes "MRT"))
-unfolding class_of name_of names
-listed-mrt = (refl, refl)
-
-listed-uno : (class_of 0x490B ≡ class.Uno) × (name_of 0x490B ≡ Some (codes "UNO"))
-unfolding class_of name_of names
-listed-uno = (refl, refl)
-
-listed-dsd : (class_of 0x490D ≡ class.Param) × (name_of 0x490D ≡ Some (codes "DSD"))
-unfolding class_of name_of names
-listed-dsd = (refl, refl)
-
-listed-idk : (class_of 0x4A0A ≡ class.Idk) × (name_of 0x4A0A ≡ Some (codes "IDK"))
-unfolding class_of name_of names
-listed-idk = (refl, refl)
-
-listed-xdo : (class_of 0x4A1F ≡ class.Xdo) × (name_of 0x4A1F ≡ Some (codes "XDO"))
-unfolding class_of name_of names
-listed-xdo = (refl, refl)
-
-listed-ukr : (class_of 0x5006 ≡ class.Province) × (name_of 0x5006 ≡ Some (codes "UKR"))
-unfolding class_of name_of names
-listed-ukr = (refl, refl)
-
-listed-war : (class_of 0x510D ≡ class.Province) × (name_of 0x510D ≡ Some (codes "WAR"))
-unfolding class_of name_of names
-listed-war = (refl, refl)
-
-listed-wes : (class_of 0x5220 ≡ class.Province) × (name_of 0x5220 ≡ Some (codes "WES"))
-unfolding class_of name_of names
-listed-wes = (refl, refl)
-
-listed-yor : (class_of 0x542F ≡ class.Province) × (name_of 0x542F ≡ Some (codes "YOR"))
-unfolding class_of name_of names
-listed-yor = (refl, refl)
-
-listed-ven : (class_of 0x5547 ≡ class.Province) × (name_of 0x5547 ≡ Some (codes "VEN"))
-unfolding class_of name_of names
-listed-ven = (refl, refl)
-
-listed-stp : (class_of 0x574A ≡ class.Province) × (name_of 0x574A ≡ Some (codes "STP"))
-unfolding class_of name_of names
-listed-stp = (refl, refl)
 
 -- a token that no table lists has a class by its category, and no name
 unlisted-4002 : (class_of 0x4002 ≡ class.Other) × (name_of 0x4002 ≡ None)
@@ -173,25 +61,17 @@ unlisted-10000 : (class_of 0x10000 ≡ class.Alien) × (name_of 0x10000 ≡ None
 unfolding class_of name_of names
 unlisted-10000 = (refl, refl)
 
--- a token counts as its category's kind, listed or not
-unlisted-kinds : (class_of 0x0000 ≡ class.Num) × (class_of 0x3FFF ≡ class.Num) × (class_of 0x41FF ≡ class.Power)
-    × (class_of 0x4507 ≡ class.Outcome) × (class_of 0x4601 ≡ class.Coast) × (class_of 0x4705 ≡ class.Season)
-    × (class_of 0x4BFF ≡ class.Text) × (class_of 0x5600 ≡ class.Province) × (class_of 0x57FF ≡ class.Province)
-unfolding class_of
-unlisted-kinds = (refl, refl, refl, refl, refl, refl, refl, refl, refl)
-
--- where each listed token has its own class, the others have no rule
-unlisted-others : (class_of 0x4202 ≡ class.Other) × (class_of 0x4326 ≡ class.Other) × (class_of 0x4383 ≡ class.Other)
-    × (class_of 0x481F ≡ class.Other)
-unfolding class_of
-unlisted-others = (refl, refl, refl, refl)
-
 -- the categories that are known end at 4B and at 57
-categories : (has_known_category 0x4BFF ≡ true) × (has_known_category 0x4C00 ≡ false) × (has_known_category 0x4FFF ≡ false) × (has_known_category 0x5000 ≡ true) × (has_known_category 0x57FF ≡ true) × (has_known_category 0x5800 ≡ false)
+categories : (has_known_category 0x4BFF ≡ true) × (has_known_category 0x4C00 ≡ false)
+    × (has_known_category 0x4FFF ≡ false) × (has_known_category 0x5000 ≡ true)
+    × (has_known_category 0x57FF ≡ true) × (has_known_category 0x5800 ≡ false)
 categories = (refl, refl, refl, refl, refl, refl)
 
 -- the tokens that other definitions name
-named-constants : (token_named (codes "BRA") ≡ Some bra) × (token_named (codes "KET") ≡ Some ket) × (token_named (codes "HLO") ≡ Some hlo) × (token_named (codes "HUH") ≡ Some huh) × (token_named (codes "PRN") ≡ Some prn) × (token_named (codes "ERR") ≡ Some err) × (token_named (codes "LVL") ≡ Some lvl)
+named-constants : (token_named (codes "BRA") ≡ Some bra) × (token_named (codes "KET") ≡ Some ket)
+    × (token_named (codes "HLO") ≡ Some hlo) × (token_named (codes "HUH") ≡ Some huh)
+    × (token_named (codes "PRN") ≡ Some prn) × (token_named (codes "ERR") ≡ Some err)
+    × (token_named (codes "LVL") ≡ Some lvl)
 unfolding token_named names
 named-constants = (refl, refl, refl, refl, refl, refl, refl)
 
@@ -202,7 +82,8 @@ unfolding token_named names
 no-names = (refl, refl, refl, refl, refl)
 
 -- numbers turn negative at 2000
-numbers : (number_of 0x1FFF ≡ Some (pos 8191)) × (number_of 0x2000 ≡ Some (negsuc 8191)) × (number_of 0x3FFF ≡ Some (negsuc 0)) × (number_of 0x4000 ≡ None)
+numbers : (number_of 0x1FFF ≡ Some (pos 8191)) × (number_of 0x2000 ≡ Some (negsuc 8191))
+    × (number_of 0x3FFF ≡ Some (negsuc 0)) × (number_of 0x4000 ≡ None)
     × (token_of_number (pos 8191) ≡ Some 0x1FFF) × (token_of_number (pos 8192) ≡ None)
     × (token_of_number (negsuc 8191) ≡ Some 0x2000) × (token_of_number (negsuc 8192) ≡ None)
 numbers = (refl, refl, refl, refl, refl, refl, refl, refl)
@@ -216,7 +97,8 @@ text-runs : text_of (tokens_of (0x4B ∷ 0x49 ∷ 0x4B ∷ 0x27 ∷ 0x4B ∷ 0x6
 unfolding text_of name_of names
 text-runs = refl
 
-text-quotable : text_of (tokens_of (0x4B ∷ 0x1F ∷ 0x4B ∷ 0x20 ∷ 0x4B ∷ 0x7E ∷ 0x4B ∷ 0x7F ∷ [])) ≡ codes "#4b1f ' ~' #4b7f"
+text-quotable :
+    text_of (tokens_of (0x4B ∷ 0x1F ∷ 0x4B ∷ 0x20 ∷ 0x4B ∷ 0x7E ∷ 0x4B ∷ 0x7F ∷ [])) ≡ codes "#4b1f ' ~' #4b7f"
 unfolding text_of name_of names
 text-quotable = refl
 

@@ -29,4 +29,5 @@ pub found_passes : {X Y Z : Type 0} (f : X → Y) (p q : X → Bool) (xs : List 
     → ((x : X) → p x ≡ true → q x ≡ true → f x ≡ y → Z) → Z
 found_passes f p q [] y a s here = absurd (cc)
 found_passes f p q (x ∷ xs) y a s here =
-    passes f p q x (find p xs) y (list_all q xs) (p x) (q x) refl refl a s here (λ a s. found_passes f p q xs y a s here)
+    passes f p q x (find p xs) y (list_all q xs) (p x) (q x) refl refl a s here
+    (λ a s. found_passes f p q xs y a s here)

@@ -7,4 +7,5 @@ same_head s t ss ts e f = cc
 
 pub tokens_of_bytes_of_tokens : (ts : List ℕ) → tokens_of (bytes_of_tokens ts) ≡ ts
 tokens_of_bytes_of_tokens [] = refl
-tokens_of_bytes_of_tokens (t ∷ ts) = same_head (t / 256 * 256 + t % 256) t _ _ (omega arith) (tokens_of_bytes_of_tokens ts)
+tokens_of_bytes_of_tokens (t ∷ ts) =
+    same_head (t / 256 * 256 + t % 256) t _ _ (omega arith) (tokens_of_bytes_of_tokens ts)

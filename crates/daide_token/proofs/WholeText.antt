@@ -1,5 +1,6 @@
 -- The text that is written token by token is the items with spaces between them.
-use Rattle.std.proofs.Common.{◌≡◌, ℕ, ◌%◌, Bool, true, false, if◌then◌else◌, List, [], ◌∷◌, ◌++◌, map, refl, ap, append_assoc, ◌∙◌, sym}
+use Rattle.std.proofs.Common.{◌≡◌, ℕ, ◌%◌, Bool, true, false, if◌then◌else◌, List, [], ◌∷◌}
+use Rattle.std.proofs.Common.{◌++◌, map, refl, ap, append_assoc, ◌∙◌, sym}
 use Rattle.std.proofs.lemmas.List.{append-nil}
 use Rattle.std.specs.List.{join_with_byte}
 use Rattle.daide_token.specs.Text.{Item, Word, Quote, before_items, is_quotable, items_of, item_text, text_of, word_of}
@@ -34,18 +35,22 @@ join_with_byte-item_text (i ∷ []) = sym (append-nil (item_text i))
 join_with_byte-item_text (i ∷ j ∷ is) = ap (λ text. item_text i ++ (32 ∷ text)) (join_with_byte-item_text (j ∷ is))
 
 -- a character goes before the items, whatever stands first there
-character_first : (p : Place) (c : ℕ) (is : List Item) → before_character p ++ (c ∷ []) ++ after_quote is ≡ items_from p (before_items c is)
+character_first : (p : Place) (c : ℕ) (is : List Item) →
+    before_character p ++ (c ∷ []) ++ after_quote is ≡ items_from p (before_items c is)
 character_first place.Start c [] = refl
-character_first place.Start c (Quote cs ∷ is) = ap (λ text. 39 ∷ c ∷ text) (sym (append_assoc cs (39 ∷ []) (after_word is)))
+character_first place.Start c (Quote cs ∷ is) =
+    ap (λ text. 39 ∷ c ∷ text) (sym (append_assoc cs (39 ∷ []) (after_word is)))
 character_first place.Start c (Word t ∷ is) = refl
 character_first place.Word c [] = refl
-character_first place.Word c (Quote cs ∷ is) = ap (λ text. 32 ∷ 39 ∷ c ∷ text) (sym (append_assoc cs (39 ∷ []) (after_word is)))
+character_first place.Word c (Quote cs ∷ is) =
+    ap (λ text. 32 ∷ 39 ∷ c ∷ text) (sym (append_assoc cs (39 ∷ []) (after_word is)))
 character_first place.Word c (Word t ∷ is) = refl
 character_first place.Quote c [] = refl
 character_first place.Quote c (Quote cs ∷ is) = refl
 character_first place.Quote c (Word t ∷ is) = refl
 
-word_first : (p : Place) (t : ℕ) (is : List Item) → before_item p ++ word_of t ++ after_word is ≡ items_from p (Word t ∷ is)
+word_first : (p : Place) (t : ℕ) (is : List Item) →
+    before_item p ++ word_of t ++ after_word is ≡ items_from p (Word t ∷ is)
 word_first place.Start t is = refl
 word_first place.Word t is = refl
 word_first place.Quote t is = refl
@@ -53,7 +58,8 @@ word_first place.Quote t is = refl
 -- one token, by the test of whether it is a character
 token_first : (b : Bool) (p : Place) (t : ℕ) (ts : List ℕ)
     → ((q : Place) → rest_of_text q ts ≡ items_from q (items_of ts))
-    → (if b then before_character p ++ (t % 256) ∷ [] else before_item p ++ word_of t) ++ rest_of_text (if b then place.Quote else place.Word) ts
+    → (if b then before_character p ++ (t % 256) ∷ [] else before_item p ++ word_of t)
+    ++ rest_of_text (if b then place.Quote else place.Word) ts
     ≡ items_from p (if b then before_items (t % 256) (items_of ts) else Word t ∷ items_of ts)
 token_first true p t ts ih = rw (ih place.Quote) (character_first p (t % 256) (items_of ts))
 token_first false p t ts ih = rw (ih place.Word) (word_first p t (items_of ts))

@@ -1,8 +1,16 @@
 -- The classes of tokens: by category, the first byte, and there by code, the second byte. The protocol fixes
 -- the categories and codes; that each token of a category is of its kind, listed or not, is (own).
-use Rattle.std.specs.Prelude.{ℕ, ◌/◌, ◌%◌, ◌==◌, nat_lt, nat_le, ◌&&◌, ◌||◌, Bool, true, false, if◌then◌else◌, List, [], ◌∷◌}
+use Rattle.std.specs.Prelude.{ℕ, ◌/◌, ◌%◌, ◌==◌, nat_lt, nat_le, ◌&&◌, ◌||◌, Bool}
+use Rattle.std.specs.Prelude.{true, false, if◌then◌else◌, List, [], ◌∷◌}
 use Rattle.daide_token.specs.declared.class.Class.{Class}
-use Rattle.daide_token.specs.declared.class.Class.TheVariants.{Num, Bra, Ket, Power, Note, Outcome, Coast, Season, Text, Province, Amy, Flt, Cto, Cvy, Hld, Mto, Sup, Via, Dsb, Rto, Bld, Rem, Wve, Ccd, Drw, Frm, Gof, Hlo, Hst, Huh, Iam, Lod, Map, Mdf, Mis, Nme, Not, Now, Obs, Off, Ord, Out, Prn, Rej, Sco, Slo, Snd, Sub, Sve, Thx, Tme, Yes, Adm, Smr, Aly, And, Bwx, Dmz, Fct, Idk, Ins, Occ, Orr, Pce, Prp, Qry, Scd, Sry, Sug, Thk, Try, Vss, Xdo, Lvl, Mrt, Uno, Param, Other, Alien, Word}
+use Rattle.daide_token.specs.declared.class.Class.TheVariants.{Num, Bra, Ket, Power, Note, Outcome, Coast, Season}
+use Rattle.daide_token.specs.declared.class.Class.TheVariants.{Text, Province, Amy, Flt, Cto, Cvy, Hld, Mto, Sup, Via}
+use Rattle.daide_token.specs.declared.class.Class.TheVariants.{Dsb, Rto, Bld, Rem, Wve, Ccd, Drw, Frm, Gof, Hlo, Hst}
+use Rattle.daide_token.specs.declared.class.Class.TheVariants.{Huh, Iam, Lod, Map, Mdf, Mis, Nme, Not, Now, Obs, Off}
+use Rattle.daide_token.specs.declared.class.Class.TheVariants.{Ord, Out, Prn, Rej, Sco, Slo, Snd, Sub, Sve, Thx, Tme}
+use Rattle.daide_token.specs.declared.class.Class.TheVariants.{Yes, Adm, Smr, Aly, And, Bwx, Dmz, Fct, Idk, Ins, Occ}
+use Rattle.daide_token.specs.declared.class.Class.TheVariants.{Orr, Pce, Prp, Qry, Scd, Sry, Sug, Thk, Try, Vss, Xdo}
+use Rattle.daide_token.specs.declared.class.Class.TheVariants.{Lvl, Mrt, Uno, Param, Other, Alien, Word}
 
 -- the class beside a code in a table, or the class of all other codes
 abbrev pub listed : List (ℕ × Class) → Class → ℕ → Class

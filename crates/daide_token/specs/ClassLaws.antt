@@ -1,11 +1,14 @@
 -- A bracket is the only token of its class, and so is each other token that has a class to itself.
-use Rattle.std.proofs.Common.{◌≡◌, ℕ, ◌+◌, ◌*◌, ◌/◌, ◌%◌, ◌==◌, nat_lt, nat_le, ◌&&◌, Bool, true, false, not, if◌then◌else◌, List, [], ◌∷◌, refl, ap, sym, ◌∙◌, subst, arith}
+use Rattle.std.proofs.Common.{◌≡◌, ℕ, ◌+◌, ◌*◌, ◌/◌, ◌%◌, ◌==◌, nat_lt, nat_le, ◌&&◌, Bool, true, false, not}
+use Rattle.std.proofs.Common.{if◌then◌else◌, List, [], ◌∷◌, refl, ap, sym, ◌∙◌, subst, arith}
 use Rattle.std.proofs.lemmas.Bool.{eqb-true}
 use Rattle.std.specs.List.{list_all}
 use Rattle.daide_token.specs.declared.class.Class.{Class}
-use Rattle.daide_token.specs.declared.class.Class.TheVariants.{Num, Bra, Ket, Power, Note, Outcome, Coast, Season, Text, Province, Prn, Param, Other, Alien, Word}
+use Rattle.daide_token.specs.declared.class.Class.TheVariants.{Num, Bra, Ket, Power, Note, Outcome, Coast, Season, Text}
+use Rattle.daide_token.specs.declared.class.Class.TheVariants.{Province, Prn, Param, Other, Alien, Word}
 use Rattle.daide_token.specs.Token.{bra, ket, prn}
-use Rattle.daide_token.specs.Class.{brackets, class_in, class_of, commands, has_one_token, is_standard, listed, orders, parameters, press, token_of, units}
+use Rattle.daide_token.specs.Class.{brackets, class_in, class_of, commands, has_one_token, is_standard}
+use Rattle.daide_token.specs.Class.{listed, orders, parameters, press, token_of, units}
 
 -- a token's class: one that tokens have, and where it has one token alone, this one
 abbrev IsRight : ℕ → ℕ → Class → Type 0

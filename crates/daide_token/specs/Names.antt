@@ -35,7 +35,8 @@ names =
     from 0x460C (codes "WCS") ++
     from 0x460E (codes "NWC") ++
     from 0x4700 (codes "SPR SUM FAL AUT WIN") ++
-    from 0x4800 (codes "CCD DRW FRM GOF HLO HST HUH IAM LOD MAP MDF MIS NME NOT NOW OBS OFF ORD OUT PRN REJ SCO SLO SND SUB SVE THX TME YES ADM SMR") ++
+    from 0x4800 (codes "CCD DRW FRM GOF HLO HST HUH IAM LOD MAP MDF MIS NME NOT NOW OBS") ++
+    from 0x4810 (codes "OFF ORD OUT PRN REJ SCO SLO SND SUB SVE THX TME YES ADM SMR") ++
     from 0x4900 (codes "AOA BTL ERR LVL MRT MTL NPB NPR PDA PTL RTL UNO") ++
     from 0x490D (codes "DSD") ++
     from 0x4A00 (codes "ALY") ++
@@ -61,7 +62,8 @@ names =
     from 0x5107 (codes "BUD MOS MUN PAR SER VIE WAR") ++
     from 0x520E (codes "ADR AEG BAL BAR BLA EAS ECH GOB GOL HEL ION IRI MAO NAO NTH NWG SKA TYS WES") ++
     from 0x5421 (codes "ALB APU ARM CLY FIN GAS LVN NAF PIC PIE PRU SYR TUS WAL YOR") ++
-    from 0x5530 (codes "ANK BEL BER BRE CON DEN EDI GRE HOL KIE LON LVP MAR NAP NWY POR ROM RUM SEV SMY SWE TRI TUN VEN") ++
+    from 0x5530 (codes "ANK BEL BER BRE CON DEN EDI GRE HOL KIE LON LVP MAR NAP NWY POR") ++
+    from 0x5540 (codes "ROM RUM SEV SMY SWE TRI TUN VEN") ++
     from 0x5748 (codes "BUL SPA STP")
 
 -- the name of a token, its brackets too; a number, a character or an unlisted token has none

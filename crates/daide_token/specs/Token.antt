@@ -1,5 +1,6 @@
 -- Tokens as whole numbers, 0 to FFFF hexadecimal, as the protocol's token table has them.
-use Rattle.std.specs.Prelude.{ℕ, ℤ, pos, negsuc, ◌-ℤ◌, ◌-◌, nat_lt, if◌then◌else◌, Option, Some, None, ◌+◌, ◌*◌, ◌/◌, ◌%◌, List, [], ◌∷◌, ◌++◌, slice_index}
+use Rattle.std.specs.Prelude.{ℕ, ℤ, pos, negsuc, ◌-ℤ◌, ◌-◌, nat_lt, if◌then◌else◌, Option, Some, None}
+use Rattle.std.specs.Prelude.{◌+◌, ◌*◌, ◌/◌, ◌%◌, List, [], ◌∷◌, ◌++◌, slice_index}
 
 -- BRA, the opening bracket
 abbrev pub bra : ℕ

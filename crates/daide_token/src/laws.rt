@@ -4,7 +4,8 @@ ghost use Rattle.std.specs.Prelude.{[], true, ℕ, ℤ, List, ◌<◌, ◌∷◌
 ghost use Rattle.daide_token.specs.Class.{class_of, has_one_token, is_standard, token_of};
 ghost use Rattle.daide_token.specs.declared.class.Class.{Class};
 ghost use Rattle.daide_token.specs.Names.{name_of, token_named};
-ghost use Rattle.daide_token.specs.Token.{bytes_of, bytes_of_tokens, number_of, token_of_bytes, token_of_number, tokens_of};
+ghost use Rattle.daide_token.specs.Token.{bytes_of, bytes_of_tokens, number_of};
+ghost use Rattle.daide_token.specs.Token.{token_of_bytes, token_of_number, tokens_of};
 
 /// The bytes of a token, and of a list of tokens, give it back, and so do two bytes' token its bytes.
 #[tactic(auto, using(crate::proofs::TokenLemmas::tokens_of_bytes_of_tokens))]

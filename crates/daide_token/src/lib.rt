@@ -8,3 +8,7 @@ mod names;
 mod tests;
 pub mod text;
 pub mod token;
+
+pub use class::Class;
+pub use text::write_text;
+pub use token::Token;

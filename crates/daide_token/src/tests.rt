@@ -124,7 +124,7 @@ fn what_no_table_lists_has_none(rt: HostRuntime) {
 }
 
 #[test]
-fn text_is_items_with_single_spaces(rt: HostRuntime) -> Result<(), Fail> {
+fn printed_text(rt: HostRuntime) -> Result<(), Fail> {
     let cases: [(&[u8], &str); 6] = [
         (&[], ""),
         (&[0x1F, 0xFF, 0x20, 0x00, 0x3F, 0xFF], "8191 -8192 -1"),
