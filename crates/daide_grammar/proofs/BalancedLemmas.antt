@@ -14,7 +14,7 @@ use Rattle.daide_grammar.specs.Message.Lists.{any, anything}
 use Rattle.daide_grammar.specs.Matches.{rule, Matches, token, nothing, both, first, second, no_more, one_more, bracketed, by_name}
 use Rattle.daide_grammar.specs.Balanced.{IsBalanced}
 use Rattle.daide_grammar.specs.Balanced as Rules
-use Rattle.daide_grammar.specs.Messages.{message_form}
+use Rattle.daide_grammar.specs.SideMessages.{message_form}
 use Rattle.daide_grammar.specs.Proved.Alternatives.{both-pass}
 use Rattle.daide_grammar.specs.Proved.MovesAgree.{accepts-like, not-both}
 use Rattle.daide_grammar.specs.Proved.StacksInOrder.{number-Bra, number-Ket}
@@ -52,11 +52,11 @@ word-balanced d keeps t h = let p = no-bracket d keeps t h in Rules.plain t p.0 
 
 -- a token of a bracket's class is the bracket
 the-bra : (d : Dialect) → KeepsBrackets d → (t : ℕ) → accepts (is Bra) (d.class_of t) ≡ true → t ≡ bra
-the-bra d keeps t h = (keeps.bras t).0 (number-Bra (d.class_of t) (sym (eqb-true 1 (class_number (d.class_of t)) h)))
+the-bra d keeps t h = (keeps.bras t).0 (number-Bra (d.class_of t) (sym (eqb-true 0 (class_number (d.class_of t)) h)))
 
 -- and the same for KET
 the-ket : (d : Dialect) → KeepsBrackets d → (t : ℕ) → accepts (is Ket) (d.class_of t) ≡ true → t ≡ ket
-the-ket d keeps t h = (keeps.kets t).0 (number-Ket (d.class_of t) (sym (eqb-true 2 (class_number (d.class_of t)) h)))
+the-ket d keeps t h = (keeps.kets t).0 (number-Ket (d.class_of t) (sym (eqb-true 1 (class_number (d.class_of t)) h)))
 
 -- a balanced list between two tokens that are the brackets
 in-brackets : (b k : ℕ) (u : List ℕ) → b ≡ bra → k ≡ ket → IsBalanced u → IsBalanced (b ∷ (u ++ k ∷ []))

@@ -9,7 +9,7 @@ use Rattle.daide_grammar.specs.Classes.{class_number, same_class}
 -- the classes in the order of their numbers, but for the operator's words
 abbrev in_order : List Class
 in_order =
-    Num ∷ Bra ∷ Ket ∷ Power ∷ Note ∷ Outcome ∷ Coast ∷ Season ∷ Text ∷ Province ∷ Amy ∷ Flt ∷ Cto ∷ Cvy ∷
+    Bra ∷ Ket ∷ Num ∷ Power ∷ Note ∷ Outcome ∷ Coast ∷ Season ∷ Text ∷ Province ∷ Amy ∷ Flt ∷ Cto ∷ Cvy ∷
     Hld ∷ Mto ∷ Sup ∷ Via ∷ Dsb ∷ Rto ∷ Bld ∷ Rem ∷ Wve ∷ Ccd ∷ Drw ∷ Frm ∷ Gof ∷ Hlo ∷ Hst ∷ Huh ∷ Iam ∷
     Lod ∷ Map ∷ Mdf ∷ Mis ∷ Nme ∷ Not ∷ Now ∷ Obs ∷ Off ∷ Ord ∷ Out ∷ Prn ∷ Rej ∷ Sco ∷ Slo ∷ Snd ∷ Sub ∷
     Sve ∷ Thx ∷ Tme ∷ Yes ∷ Adm ∷ Smr ∷ Aly ∷ And ∷ Bwx ∷ Dmz ∷ Fct ∷ Idk ∷ Ins ∷ Occ ∷ Orr ∷ Pce ∷ Prp ∷

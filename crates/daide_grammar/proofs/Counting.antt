@@ -1,5 +1,7 @@
 -- Brackets counted from left to right.
-use Rattle.std.proofs.Common.{◌≡◌, ◌≢◌, ℕ, zero, suc, ◌+◌, ◌-◌, ◌≤◌, max, Bool, true, false, ◌||◌, nat_lt, cond, List, [], ◌∷◌, ◌++◌, map, Option, None, Some, refl, sym, ◌∙◌, ap, subst, arith, append_assoc, add-one, append-nil, if◌then◌else◌, ◌↔◌}
+use Rattle.std.proofs.Common.{◌≡◌, ◌≢◌, ℕ, zero, suc, ◌+◌, ◌-◌, ◌≤◌, max, Bool, true, false, ◌||◌, nat_lt}
+use Rattle.std.proofs.Common.{cond, List, [], ◌∷◌, ◌++◌, map, Option, None, Some, refl, sym, ◌∙◌, ap, subst}
+use Rattle.std.proofs.Common.{arith, append_assoc, add-one, append-nil, if◌then◌else◌, ◌↔◌}
 use Rattle.std.specs.List.{list_any}
 use Rattle.std.proofs.lemmas.List.{map-append}
 use Rattle.std.proofs.lemmas.List.Folds.{list_any-append}
@@ -26,14 +28,17 @@ from_the_end P none more p = go [] p none
 pub prefixes-snoc : (p : List ℕ) (t : ℕ) → prefixes (p ++ t ∷ []) ≡ prefixes p ++ (p ++ t ∷ []) ∷ []
 prefixes-snoc [] t = refl
 prefixes-snoc (x ∷ p) t =
-    ap (λ (ps : List (List ℕ)). [] ∷ map (λ q. x ∷ q) ps) (prefixes-snoc p t) ∙ ap (λ (ps : List (List ℕ)). [] ∷ ps) (map-append (λ q. x ∷ q) (prefixes p) ((p ++ t ∷ []) ∷ []))
+    ap (λ (ps : List (List ℕ)). [] ∷ map (λ q. x ∷ q) ps) (prefixes-snoc p t)
+    ∙ ap (λ (ps : List (List ℕ)). [] ∷ ps) (map-append (λ q. x ∷ q) (prefixes p) ((p ++ t ∷ []) ∷ []))
 
 -- one more token closes early where the tokens before did, or where it makes KET outnumber BRA
 pub closes_early-snoc : (p : List ℕ) (t : ℕ) →
     closes_early (p ++ t ∷ []) ≡ (closes_early p || nat_lt (bras (p ++ t ∷ [])) (kets (p ++ t ∷ [])))
 closes_early-snoc p t =
     let early : List ℕ → Bool = λ q. nat_lt (bras q) (kets q) in
-    ap (list_any early) (prefixes-snoc p t) ∙ (list_any-append early (prefixes p) ((p ++ t ∷ []) ∷ []) ∙ ap (λ b. closes_early p || b) (or-false (early (p ++ t ∷ []))))
+    ap (list_any early) (prefixes-snoc p t)
+    ∙ (list_any-append early (prefixes p) ((p ++ t ∷ []) ∷ [])
+    ∙ ap (λ b. closes_early p || b) (or-false (early (p ++ t ∷ []))))
 
 -- the greatest of a list with one more number
 greatest-snoc : (ns : List ℕ) (n : ℕ) → greatest (ns ++ n ∷ []) ≡ max (greatest ns) n
@@ -45,12 +50,14 @@ pub greatest_prefixes-snoc : (p : List ℕ) (t : ℕ) →
     greatest (map excess (prefixes (p ++ t ∷ []))) ≡ max (greatest (map excess (prefixes p))) (excess (p ++ t ∷ []))
 greatest_prefixes-snoc p t =
     ap (λ (ps : List (List ℕ)). greatest (map excess ps)) (prefixes-snoc p t)
-    ∙ (ap greatest (map-append excess (prefixes p) ((p ++ t ∷ []) ∷ [])) ∙ greatest-snoc (map excess (prefixes p)) (excess (p ++ t ∷ [])))
+    ∙ (ap greatest (map-append excess (prefixes p) ((p ++ t ∷ []) ∷ []))
+    ∙ greatest-snoc (map excess (prefixes p)) (excess (p ++ t ∷ [])))
 
 -- the depth of a list with one more token
 pub depth_of-snoc : (p : List ℕ) (t : ℕ) → begins_with_prn (p ++ t ∷ []) ≡ false →
     depth_of (p ++ t ∷ []) ≡ max (greatest (map excess (prefixes p))) (excess (p ++ t ∷ []))
-depth_of-snoc p t h = ap (λ b. if b then 0 else greatest (map excess (prefixes (p ++ t ∷ [])))) h ∙ greatest_prefixes-snoc p t
+depth_of-snoc p t h =
+    ap (λ b. if b then 0 else greatest (map excess (prefixes (p ++ t ∷ [])))) h ∙ greatest_prefixes-snoc p t
 
 -- how many BRA and how many KET there are with one more token
 pub bras-snoc : (p : List ℕ) (t : ℕ) → bras (p ++ t ∷ []) ≡ bras p + cond (is_bra t) 1 0
@@ -65,7 +72,8 @@ kets_le_bras p = from_the_end (λ p. closes_early p ≡ false → kets p ≤ bra
   where
     go : (p : List ℕ) (t : ℕ) → closes_early (p ++ t ∷ []) ≡ false → kets (p ++ t ∷ []) ≤ bras (p ++ t ∷ [])
     go p t h =
-        let both : (closes_early p || nat_lt (bras (p ++ t ∷ [])) (kets (p ++ t ∷ []))) ≡ false = sym (closes_early-snoc p t) ∙ h in
+        let both : (closes_early p || nat_lt (bras (p ++ t ∷ [])) (kets (p ++ t ∷ []))) ≡ false =
+        sym (closes_early-snoc p t) ∙ h in
         at_most (bras (p ++ t ∷ [])) (kets (p ++ t ∷ [])) (closes_early p) both
       where
         at_most : (a b : ℕ) (c : Bool) → (c || nat_lt a b) ≡ false → b ≤ a
@@ -74,14 +82,17 @@ kets_le_bras p = from_the_end (λ p. closes_early p ≡ false → kets p ≤ bra
 
 -- the count of one more token, over plain numbers and tests
 counted_numbers : (early opens closes : Bool) (b k : ℕ) → (early ≡ false → k ≤ b) → (opens ≡ true → closes ≡ false)
-    → (if (early || nat_lt (b + cond opens 1 0) (k + cond closes 1 0)) then None else Some ((b + cond opens 1 0) - (k + cond closes 1 0))) ≡ count_one opens closes (if early then None else Some (b - k))
+    → (if (early || nat_lt (b + cond opens 1 0) (k + cond closes 1 0)) then None
+    else Some ((b + cond opens 1 0) - (k + cond closes 1 0)))
+    ≡ count_one opens closes (if early then None else Some (b - k))
 counted_numbers true opens closes b k le one = refl
 counted_numbers false true true b k le one = let f : true ≡ false = one refl in absurd cc
 counted_numbers false true false b k le one = grind (arith, nat_tests, le refl)
 counted_numbers false false true b k le one = go (b - k) refl
   where
     go : (n : ℕ) → b - k ≡ n →
-        (if (false || nat_lt (b + 0) (k + 1)) then None else Some ((b + 0) - (k + 1))) ≡ count_one false true (Some (b - k))
+        (if (false || nat_lt (b + 0) (k + 1)) then None else Some ((b + 0) - (k + 1)))
+        ≡ count_one false true (Some (b - k))
     go zero e = rw e (grind (arith, nat_tests, le refl))
     go (suc n) e = rw e (grind (arith, nat_tests, le refl))
 counted_numbers false false false b k le one = grind (arith, nat_tests, le refl)
@@ -93,7 +104,8 @@ one_bracket t e = grind (arith, nat_tests)
 -- one more token counts as `count_one` says
 pub counted-snoc : (p : List ℕ) (t : ℕ) → counted (p ++ t ∷ []) ≡ count_one (is_bra t) (is_ket t) (counted p)
 counted-snoc p t =
-    rw (closes_early-snoc p t, bras-snoc p t, kets-snoc p t) (counted_numbers (closes_early p) (is_bra t) (is_ket t) (bras p) (kets p) (kets_le_bras p) (one_bracket t))
+    rw (closes_early-snoc p t, bras-snoc p t, kets-snoc p t)
+    (counted_numbers (closes_early p) (is_bra t) (is_ket t) (bras p) (kets p) (kets_le_bras p) (one_bracket t))
 
 -- the count after more tokens
 abbrev pub count_on : Option ℕ → List ℕ → Option ℕ
@@ -101,7 +113,7 @@ count_on n [] = n
 count_on n (t ∷ m) = count_on (count_one (is_bra t) (is_ket t) n) m
 
 -- the count after two lists, one after the other
-count_on-append : (n : Option ℕ) (a b : List ℕ) → count_on n (a ++ b) ≡ count_on (count_on n a) b
+pub count_on-append : (n : Option ℕ) (a b : List ℕ) → count_on n (a ++ b) ≡ count_on (count_on n a) b
 count_on-append n [] b = refl
 count_on-append n (t ∷ a) b = count_on-append (count_one (is_bra t) (is_ket t) n) a b
 
@@ -113,7 +125,12 @@ count_on_none (t ∷ m) = count_on_none m
 -- counting by fronts is counting from left to right
 pub counted_on : (p : List ℕ) → counted p ≡ count_on (Some 0) p
 counted_on p =
-    from_the_end (λ p. counted p ≡ count_on (Some 0) p) refl (λ p t h. counted-snoc p t ∙ (ap (count_one (is_bra t) (is_ket t)) h ∙ sym (count_on-append (Some 0) p (t ∷ [])))) p
+    from_the_end (λ p. counted p ≡ count_on (Some 0) p) refl more p
+  where
+    more : (p : List ℕ) (t : ℕ) → counted p ≡ count_on (Some 0) p →
+        counted (p ++ t ∷ []) ≡ count_on (Some 0) (p ++ t ∷ [])
+    more p t h =
+        counted-snoc p t ∙ (ap (count_one (is_bra t) (is_ket t)) h ∙ sym (count_on-append (Some 0) p (t ∷ [])))
 
 -- a token that is no bracket leaves the count as it is
 plain_counts : (t n : ℕ) → t ≢ bra → t ≢ ket → count_on (Some n) (t ∷ []) ≡ Some n
@@ -128,9 +145,11 @@ plain_counts t n b k = go (is_bra t) (is_ket t) refl refl
 pub balanced_counts : {m : List ℕ} → IsBalanced m → (n : ℕ) → count_on (Some n) m ≡ Some n
 balanced_counts empty n = refl
 balanced_counts (plain t b k) n = plain_counts t n b k
-balanced_counts (joined a b x y) n = count_on-append (Some n) a b ∙ (ap (λ c. count_on c b) (balanced_counts x n) ∙ balanced_counts y n)
+balanced_counts (joined a b x y) n =
+    count_on-append (Some n) a b ∙ (ap (λ c. count_on c b) (balanced_counts x n) ∙ balanced_counts y n)
 balanced_counts (bracketed a x) n =
-    count_on-append (Some (n + 1)) a (ket ∷ []) ∙ (ap (λ c. count_on c (ket ∷ [])) (balanced_counts x (n + 1)) ∙ rw add-one refl)
+    count_on-append (Some (n + 1)) a (ket ∷ [])
+    ∙ (ap (λ c. count_on c (ket ∷ [])) (balanced_counts x (n + 1)) ∙ rw add-one refl)
 
 -- balanced lists, the first k of them each with a KET after it
 abbrev Parts : ℕ → List ℕ → Type 0
@@ -140,7 +159,8 @@ Parts (suc k) m = (a b : List ℕ) × (m ≡ a ++ ket ∷ b) × IsBalanced a × 
 -- a balanced list in front joins the first of the balanced lists
 joined_parts : (k : ℕ) (c m : List ℕ) → IsBalanced c → Parts k m → Parts k (c ++ m)
 joined_parts zero c m x y = joined c m x y
-joined_parts (suc k) c m x (a, b, e, y, more) = (c ++ a, b, ap (λ z. c ++ z) e ∙ sym (append_assoc c a (ket ∷ b)), joined c a x y, more)
+joined_parts (suc k) c m x (a, b, e, y, more) =
+    (c ++ a, b, ap (λ z. c ++ z) e ∙ sym (append_assoc c a (ket ∷ b)), joined c a x y, more)
 
 -- what counts down to nothing is such a list
 counts_parts : (m : List ℕ) (k : ℕ) → count_on (Some k) m ≡ Some 0 → Parts k m
@@ -154,15 +174,20 @@ counts_parts (t ∷ m) k e = go (is_bra t) (is_ket t) refl refl k e (counts_part
         let deeper : count_on (Some (suc k)) m ≡ Some 0 = rw (x, count_on, add-one) at e in
         let inner = ih (suc k) deeper in
         let whole : t ∷ m ≡ (bra ∷ (inner.0 ++ ket ∷ [])) ++ inner.1 =
-        ap (λ (z : ℕ). z ∷ m) (eqb-true t bra x) ∙ (ap (λ z. bra ∷ z) (inner.2 ∙ sym (append_assoc inner.0 (ket ∷ []) inner.1))) in
-        subst (Parts k) (sym whole) (joined_parts k (bra ∷ (inner.0 ++ ket ∷ [])) inner.1 (bracketed inner.0 inner.3) inner.4)
+        ap (λ (z : ℕ). z ∷ m) (eqb-true t bra x)
+        ∙ (ap (λ z. bra ∷ z) (inner.2 ∙ sym (append_assoc inner.0 (ket ∷ []) inner.1))) in
+        subst (Parts k) (sym whole)
+        (joined_parts k (bra ∷ (inner.0 ++ ket ∷ [])) inner.1 (bracketed inner.0 inner.3) inner.4)
     go false true x y zero e ih =
         let down : count_on None m ≡ Some 0 = rw (x, y, count_on) at e in
         let none : ◌≡◌ {A = Option ℕ} None (Some 0) = sym (count_on_none m) ∙ down in
         absurd cc
-    go false true x y (suc k) e ih = ([], m, ap (λ (z : ℕ). z ∷ m) (eqb-true t ket y), empty, ih k (rw (x, y, count_on) at e))
+    go false true x y (suc k) e ih =
+        ([], m, ap (λ (z : ℕ). z ∷ m) (eqb-true t ket y), empty, ih k (rw (x, y, count_on) at e))
     go false false x y k e ih =
-        joined_parts k (t ∷ []) m (plain t (λ q. no-yes (is_bra t) (eq-eqb t bra q) x) (λ q. no-yes (is_ket t) (eq-eqb t ket q) y)) (ih k (rw (x, y, count_on) at e))
+        let word =
+        plain t (λ q. no-yes (is_bra t) (eq-eqb t bra q) x) (λ q. no-yes (is_ket t) (eq-eqb t ket q) y) in
+        joined_parts k (t ∷ []) m word (ih k (rw (x, y, count_on) at e))
 
 -- balanced exactly where no front closes what isn't open, and nothing is left open
 pub balanced_counted : (m : List ℕ) → IsBalanced m ↔ (counted m ≡ Some 0)

@@ -17,7 +17,7 @@ use Rattle.daide_grammar.specs.Balanced.{IsBalanced}
 use Rattle.daide_grammar.specs.Paired.{begins_with_prn, IsPrnReport, IsPaired}
 use Rattle.daide_grammar.specs.Answers.{Take, Stop}
 use Rattle.daide_grammar.specs.Symbols.{form_of, entries, may_end_of, table_answer, opening_of}
-use Rattle.daide_grammar.specs.Messages.{standard, message_form, IsMessage, SymbolMatches}
+use Rattle.daide_grammar.specs.SideMessages.{standard, message_form, IsMessage, SymbolMatches}
 use Rattle.daide_grammar.specs.Proved.PlainLaws.{only_bra, only_ket, plain_laws}
 use Rattle.daide_grammar.proofs.BalancedLemmas.{KeepsBrackets, message-balanced, any-balanced, paired, bra-accepted, ket-accepted}
 

@@ -13,7 +13,7 @@ use Rattle.daide_grammar.specs.Answers.{Answer, Take, Skip, Stop}
 use Rattle.daide_grammar.specs.Symbols.{Entry, entries, entry_at, may_end_of, table_answer}
 use Rattle.daide_grammar.specs.Stacks.{StackMatches, stack_after}
 use Rattle.daide_grammar.specs.LawfulStack.{IsLawful}
-use Rattle.daide_grammar.specs.Messages.{SymbolMatches, standard}
+use Rattle.daide_grammar.specs.SideMessages.{SymbolMatches, standard}
 use Rattle.daide_grammar.specs.Proved.Alternatives.{both-pass}
 use Rattle.daide_grammar.specs.Proved.RightEntries.{apart, all_apart}
 use Rattle.daide_grammar.specs.Proved.MovesAgree.{apart-sound, find-passes, take-entry, right_parts}

@@ -10,7 +10,7 @@ use Rattle.daide_grammar.specs.Answers.{Answer, Take, Skip, Stop}
 use Rattle.daide_grammar.specs.Symbols.{may_end_of, table_answer}
 use Rattle.daide_grammar.specs.Stacks.{StackMatches, stack_after}
 use Rattle.daide_grammar.specs.LawfulStack.{IsLawful}
-use Rattle.daide_grammar.specs.Messages.{SymbolMatches}
+use Rattle.daide_grammar.specs.SideMessages.{SymbolMatches}
 use Rattle.daide_grammar.specs.Proved.Alternatives.{both-pass}
 use Rattle.daide_grammar.specs.Proved.StacksInOrder.{number-Bra, number-Ket}
 use Rattle.daide_grammar.specs.Proved.MovesAgree.{no-yes}
@@ -52,8 +52,8 @@ sort_of : (c : Class) → Sort c
 sort_of c = go (same_class Bra c) (same_class Ket c) refl refl
   where
     go : (a b : Bool) → same_class Bra c ≡ a → same_class Ket c ≡ b → Sort c
-    go true b x y = opens (number-Bra c (sym (eqb-true 1 (class_number c) x)))
-    go false true x y = closes (number-Ket c (sym (eqb-true 2 (class_number c) y)))
+    go true b x y = opens (number-Bra c (sym (eqb-true 0 (class_number c) x)))
+    go false true x y = closes (number-Ket c (sym (eqb-true 1 (class_number c) y)))
     go false false x y =
         neither (λ e. no-yes (same_class Bra c) (ap (same_class Bra) e) x) (λ e. no-yes (same_class Ket c) (ap (same_class Ket) e) y)
 

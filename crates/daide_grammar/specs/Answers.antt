@@ -1,9 +1,9 @@
 -- What a token means to the symbol that is expected next. (own)
 use Rattle.std.specs.Prelude.{List, take}
 use Rattle.daide_grammar.specs.declared.symbol.Sym.{Sym}
-use Rattle.daide_grammar.specs.declared.predict.Rest.{Rest}
-use Rattle.daide_grammar.specs.declared.predict.Move.{Move}
-use Rattle.daide_grammar.specs.declared.predict.Move.TheVariants as Moves
+use Rattle.daide_grammar.specs.declared.meaning.Rest.{Rest}
+use Rattle.daide_grammar.specs.declared.meaning.Meaning.{Meaning}
+use Rattle.daide_grammar.specs.declared.meaning.Meaning.TheVariants as Meanings
 
 -- the answer of a table
 pub data Answer : Type 0 where
@@ -15,8 +15,8 @@ pub data Answer : Type 0 where
 abbrev pub symbols_of : Rest → List Sym
 symbols_of rest = take rest.len rest.symbols
 
--- the answer that a move of the code stands for
-abbrev pub answer_of : Move → Answer
-answer_of (Moves.Take rest) = Take (symbols_of rest)
-answer_of Moves.Skip = Skip
-answer_of Moves.Stop = Stop
+-- the answer that a meaning of the code stands for
+abbrev pub answer_of : Meaning → Answer
+answer_of (Meanings.Take rest) = Take (symbols_of rest)
+answer_of Meanings.Skip = Skip
+answer_of Meanings.Stop = Stop

@@ -3,11 +3,11 @@ use Rattle.std.specs.Prelude.{ℕ, ◌+◌, Bool, nat_eq}
 use Rattle.daide_token.specs.declared.class.Class.{Class}
 use Rattle.daide_token.specs.declared.class.Class.TheVariants.{Num, Bra, Ket, Power, Note, Outcome, Coast, Season, Text, Province, Amy, Flt, Cto, Cvy, Hld, Mto, Sup, Via, Dsb, Rto, Bld, Rem, Wve, Ccd, Drw, Frm, Gof, Hlo, Hst, Huh, Iam, Lod, Map, Mdf, Mis, Nme, Not, Now, Obs, Off, Ord, Out, Prn, Rej, Sco, Slo, Snd, Sub, Sve, Thx, Tme, Yes, Adm, Smr, Aly, And, Bwx, Dmz, Fct, Idk, Ins, Occ, Orr, Pce, Prp, Qry, Scd, Sry, Sug, Thk, Try, Vss, Xdo, Lvl, Mrt, Uno, Param, Other, Alien, Word}
 
--- the class's place in the list of classes; the operator's words come last
+-- the class's place in the list of classes: the brackets first, the operator's words last
 abbrev pub class_number : Class → ℕ
-class_number Num = 0
-class_number Bra = 1
-class_number Ket = 2
+class_number Bra = 0
+class_number Ket = 1
+class_number Num = 2
 class_number Power = 3
 class_number Note = 4
 class_number Outcome = 5

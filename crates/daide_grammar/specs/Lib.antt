@@ -10,8 +10,11 @@ pub mod Matches
 pub mod Answers
 pub mod AnswersGiven
 pub mod Symbols
-pub mod Messages
+pub mod Numbers
+pub mod Rules
+pub mod Cells
 pub mod Words
+pub mod SideMessages
 pub mod Stacks
 pub mod LawfulStack
 pub mod Laws

@@ -1,7 +1,9 @@
 -- The lists of tokens that match a form.
 use Rattle.std.specs.Prelude.{◌≡◌, ℕ, List, [], ◌∷◌, ◌++◌, IsTrue}
 use Rattle.daide_token.specs.declared.class.Class.TheVariants.{Bra, Ket}
-use Rattle.daide_grammar.specs.Forms.{Kind, is, accepts, Name, Any_name, Place_name, Unit_name, Order_name, Arrangement_name, Flat_name, Fact_name, Press_name, Send_name, Request_name, Added, Form, one, empty, ◌·◌, ◌∣◌, many, group, named, Dialect}
+use Rattle.daide_grammar.specs.Forms.{Kind, is, accepts, Name, Any_name, Place_name, Unit_name, Order_name}
+use Rattle.daide_grammar.specs.Forms.{Arrangement_name, Flat_name, Fact_name, Press_name, Send_name, Request_name}
+use Rattle.daide_grammar.specs.Forms.{Added, Form, one, empty, ◌·◌, ◌∣◌, many, group, named, Dialect}
 use Rattle.daide_grammar.specs.Message.Lists.{anything}
 use Rattle.daide_grammar.specs.Message.Places.{place_rule, unit_rule}
 use Rattle.daide_grammar.specs.Message.Orders.{order_rule}
@@ -33,7 +35,8 @@ pub data Matches (d : Dialect) : Form → List ℕ → Type 0 where
   no_more : {f : Form} → Matches d (many f) []
   one_more : {f : Form} {u v : List ℕ} → Matches d f u → Matches d (many f) v → Matches d (many f) (u ++ v)
   bracketed : {f : Form} {u : List ℕ} (b k : ℕ) →
-      IsTrue (accepts (is Bra) (d.class_of b)) → Matches d f u → IsTrue (accepts (is Ket) (d.class_of k)) → Matches d (group f) (b ∷ (u ++ k ∷ []))
+      IsTrue (accepts (is Bra) (d.class_of b)) → Matches d f u → IsTrue (accepts (is Ket) (d.class_of k)) →
+      Matches d (group f) (b ∷ (u ++ k ∷ []))
   by_name : {n : Name} {w : List ℕ} → Matches d (rule d n) w → Matches d (named n) w
 
 -- a list in parts that match the forms one after the other

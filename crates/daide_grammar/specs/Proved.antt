@@ -9,3 +9,4 @@ pub mod NoLanguageIsEmpty
 pub mod TableLaws
 pub mod StandardDialect
 pub mod PlainLaws
+pub mod Numbers

@@ -1,7 +1,20 @@
 -- Two values of each symbol, by which every stack is bounded.
 use Rattle.std.specs.Prelude.{ℕ, ◌+◌, Bool, true, false, List, [], ◌∷◌}
 use Rattle.daide_grammar.specs.declared.symbol.Sym.{Sym}
-use Rattle.daide_grammar.specs.declared.symbol.Sym.TheVariants.{Closing, OnePower, OneProvince, OneCoast, OneNumber, OneNote, Waived, ConvoyTo, Through, Against, TextGroup, PowerGroup, NumberGroup, TurnGroup, PowersGroup, ProvincesGroup, MaybeProvincesGroup, PlacesGroup, UnitGroup, OrderGroup, NoteGroup, OutcomesGroup, WordsGroup, AnyGroup, WhoGroup, ParamsGroup, ReplyGroup, CancelGroup, CivilDisorderGroup, CentresGroup, OwnersGroup, BordersGroup, ShareGroup, PressGroup, ArrangementGroup, FactGroup, OperandGroup, RequestGroup, SendGroup, OneUnit, UnitType, OnePlace, OneTurn, Who, OneOutcome, OneOrder, OrderTail, SubmitFirst, Reply, CivilDisorder, OneStand, MissingFirst, OneFleet, OnePlayer, Request, Client, SendTail, SendFirst, Send, Server, Arrangement, Operand, Fact}
+use Rattle.daide_grammar.specs.declared.symbol.Sym.TheVariants.{Closing, OnePower, OneProvince, OneCoast, OneNumber}
+use Rattle.daide_grammar.specs.declared.symbol.Sym.TheVariants.{OneNote, Waived, ConvoyTo, Through, Against, TextGroup}
+use Rattle.daide_grammar.specs.declared.symbol.Sym.TheVariants.{PowerGroup, NumberGroup, TurnGroup, PowersGroup}
+use Rattle.daide_grammar.specs.declared.symbol.Sym.TheVariants.{ProvincesGroup, MaybeProvincesGroup, PlacesGroup}
+use Rattle.daide_grammar.specs.declared.symbol.Sym.TheVariants.{UnitGroup, OrderGroup, NoteGroup, OutcomesGroup}
+use Rattle.daide_grammar.specs.declared.symbol.Sym.TheVariants.{WordsGroup, AnyGroup, WhoGroup, ParamsGroup, ReplyGroup}
+use Rattle.daide_grammar.specs.declared.symbol.Sym.TheVariants.{CancelGroup, CivilDisorderGroup, CentresGroup}
+use Rattle.daide_grammar.specs.declared.symbol.Sym.TheVariants.{OwnersGroup, BordersGroup, ShareGroup, PressGroup}
+use Rattle.daide_grammar.specs.declared.symbol.Sym.TheVariants.{ArrangementGroup, FactGroup, OperandGroup, RequestGroup}
+use Rattle.daide_grammar.specs.declared.symbol.Sym.TheVariants.{SendGroup, OneUnit, UnitType, OnePlace, OneTurn, Who}
+use Rattle.daide_grammar.specs.declared.symbol.Sym.TheVariants.{OneOutcome, OneOrder, OrderTail, SubmitFirst, Reply}
+use Rattle.daide_grammar.specs.declared.symbol.Sym.TheVariants.{CivilDisorder, OneStand, MissingFirst, OneFleet}
+use Rattle.daide_grammar.specs.declared.symbol.Sym.TheVariants.{OnePlayer, Request, Client, SendTail, SendFirst, Send}
+use Rattle.daide_grammar.specs.declared.symbol.Sym.TheVariants.{Server, Arrangement, Operand, Fact}
 
 -- the symbols that stand on the bottom or right above a closing bracket, and only there
 unfoldable pub is_last : Sym → Bool

@@ -3,16 +3,43 @@
 -- server.
 use Rattle.std.specs.Prelude.{Bool, true, false, nat_le, List, [], ◌∷◌, ◌++◌, Option, Some, None}
 use Rattle.daide_token.specs.declared.class.Class.{Class}
-use Rattle.daide_token.specs.declared.class.Class.TheVariants.{Num, Bra, Ket, Power, Note, Outcome, Coast, Season, Text, Province, Amy, Flt, Cto, Cvy, Hld, Mto, Sup, Via, Dsb, Rto, Bld, Rem, Wve, Ccd, Drw, Frm, Gof, Hlo, Hst, Huh, Iam, Lod, Map, Mdf, Mis, Nme, Not, Now, Obs, Off, Ord, Out, Rej, Sco, Slo, Snd, Sub, Sve, Thx, Tme, Yes, Adm, Smr, Aly, And, Bwx, Dmz, Fct, Idk, Ins, Occ, Orr, Pce, Prp, Qry, Scd, Sry, Sug, Thk, Try, Vss, Xdo, Lvl, Mrt, Uno, Param}
+use Rattle.daide_token.specs.declared.class.Class.TheVariants.{Num, Bra, Ket, Power, Note, Outcome, Coast, Season}
+use Rattle.daide_token.specs.declared.class.Class.TheVariants.{Text, Province, Amy, Flt, Cto, Cvy, Hld, Mto, Sup}
+use Rattle.daide_token.specs.declared.class.Class.TheVariants.{Via, Dsb, Rto, Bld, Rem, Wve, Ccd, Drw, Frm, Gof}
+use Rattle.daide_token.specs.declared.class.Class.TheVariants.{Hlo, Hst, Huh, Iam, Lod, Map, Mdf, Mis, Nme, Not}
+use Rattle.daide_token.specs.declared.class.Class.TheVariants.{Now, Obs, Off, Ord, Out, Rej, Sco, Slo, Snd, Sub}
+use Rattle.daide_token.specs.declared.class.Class.TheVariants.{Sve, Thx, Tme, Yes, Adm, Smr, Aly, And, Bwx, Dmz}
+use Rattle.daide_token.specs.declared.class.Class.TheVariants.{Fct, Idk, Ins, Occ, Orr, Pce, Prp, Qry, Scd, Sry}
+use Rattle.daide_token.specs.declared.class.Class.TheVariants.{Sug, Thk, Try, Vss, Xdo, Lvl, Mrt, Uno, Param}
 use Rattle.daide_grammar.specs.declared.level.Level.{Level}
 use Rattle.daide_grammar.specs.declared.level.Level.TheVariants.{L10, L20, L30, L40, L50, L60}
 use Rattle.daide_grammar.specs.declared.side.Side2.{Side2}
 use Rattle.daide_grammar.specs.declared.side.Side2.TheVariants.{Client as ClientSide, ServerEnd as ServerSide}
 use Rattle.daide_grammar.specs.declared.symbol.Sym.{Sym}
-use Rattle.daide_grammar.specs.declared.symbol.Sym.TheVariants.{Closing, OnePower, OneProvince, OneCoast, OneNumber, OneNote, OneFleet, Waived, ConvoyTo, Through, Against, TextGroup, Texts, PowerGroup, PowersGroup, MaybePowersGroup, Powers, NumberGroup, MaybeNumberGroup, MaybeNumber, ProvincesGroup, MaybeProvincesGroup, Provinces, TurnGroup, OneTurn, WordsGroup, WordList, AnyGroup, Any, OnePlace, PlacesGroup, Places, UnitGroup, UnitGroups, OneUnit, UnitType, OrderGroup, Orders, OneOrder, OrderTail, SupportTail, ArrangementGroup, Arrangement, FactGroup, Fact, OperandGroup, Operands, Operand, ShareGroup, Shares, PressGroup, Press, SendGroup, MaybeSendGroup, Send, SendTail, SendFirst, Client, RequestGroup, Request, SubmitTail, SubmitFirst, CancelGroup, Cancel, ReplyGroup, Reply, Server, WhoGroup, Who, ParamsGroup, Params, OneParam, CentresGroup, OwnersGroup, Owners, Owned, BordersGroup, BordersList, Borders, KindList, KindPlaces, Stands, OneStand, StandTail, MissingTail, MissingFirst, NoteGroup, OutcomesGroup, Outcomes, OneOutcome, CivilDisorderGroup, CivilDisorder, Players, OnePlayer}
+use Rattle.daide_grammar.specs.declared.symbol.Sym.TheVariants.{Closing, OnePower, OneProvince, OneCoast, OneNumber}
+use Rattle.daide_grammar.specs.declared.symbol.Sym.TheVariants.{OneNote, OneFleet, Waived, ConvoyTo, Through, Against}
+use Rattle.daide_grammar.specs.declared.symbol.Sym.TheVariants.{TextGroup, Texts, PowerGroup, PowersGroup}
+use Rattle.daide_grammar.specs.declared.symbol.Sym.TheVariants.{MaybePowersGroup, Powers, NumberGroup, MaybeNumberGroup}
+use Rattle.daide_grammar.specs.declared.symbol.Sym.TheVariants.{MaybeNumber, ProvincesGroup, MaybeProvincesGroup}
+use Rattle.daide_grammar.specs.declared.symbol.Sym.TheVariants.{Provinces, TurnGroup, OneTurn, WordsGroup, WordList}
+use Rattle.daide_grammar.specs.declared.symbol.Sym.TheVariants.{AnyGroup, Any, OnePlace, PlacesGroup, Places, UnitGroup}
+use Rattle.daide_grammar.specs.declared.symbol.Sym.TheVariants.{UnitGroups, OneUnit, UnitType, OrderGroup, Orders}
+use Rattle.daide_grammar.specs.declared.symbol.Sym.TheVariants.{OneOrder, OrderTail, SupportTail, ArrangementGroup}
+use Rattle.daide_grammar.specs.declared.symbol.Sym.TheVariants.{Arrangement, FactGroup, Fact, OperandGroup, Operands}
+use Rattle.daide_grammar.specs.declared.symbol.Sym.TheVariants.{Operand, ShareGroup, Shares, PressGroup, Press}
+use Rattle.daide_grammar.specs.declared.symbol.Sym.TheVariants.{SendGroup, MaybeSendGroup, Send, SendTail, SendFirst}
+use Rattle.daide_grammar.specs.declared.symbol.Sym.TheVariants.{Client, RequestGroup, Request, SubmitTail, SubmitFirst}
+use Rattle.daide_grammar.specs.declared.symbol.Sym.TheVariants.{CancelGroup, Cancel, ReplyGroup, Reply, Server}
+use Rattle.daide_grammar.specs.declared.symbol.Sym.TheVariants.{WhoGroup, Who, ParamsGroup, Params, OneParam}
+use Rattle.daide_grammar.specs.declared.symbol.Sym.TheVariants.{CentresGroup, OwnersGroup, Owners, Owned, BordersGroup}
+use Rattle.daide_grammar.specs.declared.symbol.Sym.TheVariants.{BordersList, Borders, KindList, KindPlaces, Stands}
+use Rattle.daide_grammar.specs.declared.symbol.Sym.TheVariants.{OneStand, StandTail, MissingTail, MissingFirst}
+use Rattle.daide_grammar.specs.declared.symbol.Sym.TheVariants.{NoteGroup, OutcomesGroup, Outcomes, OneOutcome}
+use Rattle.daide_grammar.specs.declared.symbol.Sym.TheVariants.{CivilDisorderGroup, CivilDisorder, Players, OnePlayer}
 use Rattle.daide_grammar.specs.Level.{level_number}
 use Rattle.daide_grammar.specs.Answers.{Answer, Take, Skip, Stop}
-use Rattle.daide_grammar.specs.Forms.{Slot, Press_slot, Arrangement_slot, Flat_slot, Kind, is, any_word, accepts, Form, empty, ◌·◌, ◌∣◌, many, tok, group, some, maybe, from}
+use Rattle.daide_grammar.specs.Forms.{Slot, Press_slot, Arrangement_slot, Flat_slot, Kind, is, any_word, accepts}
+use Rattle.daide_grammar.specs.Forms.{Form, empty, ◌·◌, ◌∣◌, many, tok, group, some, maybe, from}
 use Rattle.daide_grammar.specs.Message.Lists.{power, province, turn, text, words, any}
 use Rattle.daide_grammar.specs.Message.Places.{place, unit_type, unit}
 use Rattle.daide_grammar.specs.Message.Orders.{order, order_tail}

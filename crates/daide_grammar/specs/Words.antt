@@ -1,6 +1,14 @@
--- The words that an operator adds to the grammar. (own)
-use Rattle.std.specs.Prelude.{ℕ, List}
+-- The words that an operator adds to the grammar, and what each stands for. (own)
+use Rattle.std.specs.Prelude.{ℕ, Bool, false, not, ◌==◌, ◌||◌, List, [], ◌∷◌}
+use Rattle.std.specs.List.{list_all}
+use Rattle.daide_token.specs.declared.class.Class.TheVariants.{Word}
 use Rattle.daide_grammar.specs.declared.level.Level.{Level}
+use Rattle.daide_grammar.specs.Forms.{Slot, Press_slot, Arrangement_slot, Flat_slot, Form, never, ◌·◌, group, tok}
+use Rattle.daide_grammar.specs.Forms.{some, from}
+use Rattle.daide_grammar.specs.Message.Lists.{power, province}
+use Rattle.daide_grammar.specs.Message.Orders.{order}
+use Rattle.daide_grammar.specs.Message.Arrangements.{arrangement, flat_arrangement}
+use Rattle.daide_grammar.specs.Message.Press.{press}
 
 -- what a word makes with its operand
 pub data WordSlot : Type 0 where
@@ -26,3 +34,41 @@ pub record AddedWord : Type 0 where
 -- the words of an operator, in the order in which they were added; none without an operator's settings
 abbrev pub Words : Type 0
 Words = List AddedWord
+
+-- whether a token is the code of one of the words
+abbrev pub is_code : Words → ℕ → Bool
+is_code [] t = false
+is_code (word ∷ words) t = t == word.code || is_code words t
+
+-- whether a list has none of the words
+abbrev pub has_no_word : Words → List ℕ → Bool
+has_no_word words m = list_all (λ t. not (is_code words t)) m
+
+-- an arrangement that may stand in a slot: in that of the flat ones a flat one
+abbrev pub arrangement_in : Slot → Level → Form
+arrangement_in Press_slot l = arrangement l
+arrangement_in Arrangement_slot l = arrangement l
+arrangement_in Flat_slot l = flat_arrangement l
+
+-- the operand of a word that stands in a slot, without its brackets
+abbrev pub operand_in : WordOperand → Slot → Level → Form
+operand_in one_power slot l = power
+operand_in some_powers slot l = some power
+operand_in some_provinces slot l = some province
+operand_in an_order slot l = order
+operand_in an_arrangement slot l = arrangement_in slot l
+operand_in a_press slot l = press l
+
+-- what a word makes may stand in its slot: a press as a press, an arrangement as one, and as a flat one
+abbrev pub stands_in : WordSlot → Slot → Form → Form
+stands_in press_word Press_slot f = f
+stands_in press_word Arrangement_slot f = never
+stands_in press_word Flat_slot f = never
+stands_in arrangement_word Press_slot f = never
+stands_in arrangement_word Arrangement_slot f = f
+stands_in arrangement_word Flat_slot f = f
+
+-- the word of this place among the words, in a slot: from its level on, the word and its operand in brackets
+abbrev pub word_form : ℕ → AddedWord → Slot → Level → Form
+word_form place word slot l =
+    stands_in word.slot slot (from word.level l (tok (Word place) · group (operand_in word.operand slot l)))

@@ -1,14 +1,15 @@
 //! What holds of the grammar as a whole. Each law is a function whose contract says it; none has anything to do.
 
-ghost use Rattle.std.specs.Prelude.{◌≡◌, ◌≢◌, ◌↔◌, ℕ, ◌+◌, ◌*◌, ◌≤◌, List, [], ◌∷◌, ◌++◌, length, true, false};
+ghost use Rattle.std.specs.Prelude.{◌≡◌, ◌≢◌, ◌↔◌, ℕ, ◌+◌, ◌*◌, ◌≤◌, List, [], ◌∷◌, ◌++◌, length, take, drop, true, false};
 ghost use Rattle.std.specs.List.{count_by};
 ghost use Rattle.daide_token.specs.declared.class.Class.{Class};
 ghost use Rattle.daide_token.specs.declared.class.Class.TheVariants.{Bra, Ket};
 ghost use Rattle.daide_token.specs.Class.{class_of};
-ghost use Rattle.daide_token.specs.Token.{bra, ket, prn, huh};
+ghost use Rattle.daide_token.specs.Token.{bra, ket, prn, huh, err};
 ghost use Rattle.daide_grammar.specs.declared.level.Level.{Level};
 ghost use Rattle.daide_grammar.specs.declared.side.Side2.{Side2};
 ghost use Rattle.daide_grammar.specs.declared.symbol.Sym.{Sym};
+ghost use Rattle.daide_grammar.specs.Level.{level_number};
 ghost use Rattle.daide_grammar.specs.Message.Lists.{any};
 ghost use Rattle.daide_grammar.specs.Matches.{Matches};
 ghost use Rattle.daide_grammar.specs.Balanced.{IsBalanced};
@@ -20,7 +21,8 @@ ghost use Rattle.daide_grammar.specs.Answers.{Take, Skip, Stop};
 ghost use Rattle.daide_grammar.specs.Symbols.{entries, may_end_of, opening_of, table_answer};
 ghost use Rattle.daide_grammar.specs.Stacks.{StackMatches, skips_before, ends_asked};
 ghost use Rattle.daide_grammar.specs.LawfulStack.{IsLawful};
-ghost use Rattle.daide_grammar.specs.Messages.{IsMessage, SymbolMatches, standard};
+ghost use Rattle.daide_grammar.specs.SideMessages.{IsMessage, IsMessageOver, SymbolMatches, standard};
+ghost use Rattle.daide_grammar.specs.Words.{Words, has_no_word};
 
 /// The symbol that a reader starts with stands for the messages of its side and level, but for the
 /// report PRN, which is the reader's own case.
@@ -54,6 +56,22 @@ pub fn huh_answer_is_a_message()
         IsMessage side level (huh ∷ bra ∷ (a ++ ket ∷ [])) }
     ensures depth { (a : List ℕ) → IsBalanced a → begins_with_prn a ≡ false →
         depth_of (huh ∷ bra ∷ (a ++ ket ∷ [])) ≡ depth_of a + 1 }
+{}
+
+/// `HUH ( m )` with ERR put in before any token of m, or after the last, is a message of either side at
+/// every level where m's brackets balance, and ERR makes it no deeper. So an answer passes the next
+/// gateway too, where it is not too deep for it.
+pub fn huh_answer_with_err_is_a_message()
+    ensures message { (side : Side2) (level : Level) (m : List ℕ) (place : ℕ) → IsBalanced m →
+        IsMessage side level (huh ∷ bra ∷ ((take place m ++ err ∷ drop place m) ++ ket ∷ [])) }
+    ensures depth { (m : List ℕ) (place : ℕ) →
+        depth_of (huh ∷ bra ∷ ((take place m ++ err ∷ drop place m) ++ ket ∷ [])) ≡ depth_of (huh ∷ bra ∷ (m ++ ket ∷ [])) }
+{}
+
+/// A level only adds messages: what a side may say at a level, it may say at every higher one.
+pub fn levels_only_add()
+    ensures { (side : Side2) (low high : Level) (m : List ℕ) → level_number low ≤ level_number high →
+        IsMessage side low m → IsMessage side high m }
 {}
 
 /// The table's moves agree with what its symbols stand for. At a Take a list goes on as a list of the
@@ -126,4 +144,11 @@ pub fn few_questions()
     ensures skips { (stack : List Sym) (open_brackets : ℕ) (class : Class) → IsLawful table_answer stack open_brackets →
         skips_before table_answer class stack ≤ 3 }
     ensures ends { (stack : List Sym) → IsLawful table_answer stack 0 → ends_asked may_end_of stack ≤ 4 }
+{}
+
+/// An operator's words change no message but those that hold one: a list without them is a message exactly where
+/// it is one of the protocol's own.
+pub fn other_messages_stay()
+    ensures { (words : Words) (side : Side2) (level : Level) (m : List ℕ) → has_no_word words m ≡ true →
+        IsMessageOver words side level m ↔ IsMessage side level m }
 {}

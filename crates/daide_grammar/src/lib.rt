@@ -5,11 +5,24 @@
 //! `predict` what a reader may know of any table, and `laws` what holds of the grammar as a whole.
 #![tactic(auto)]
 
+mod class_number;
+pub mod column;
+pub mod dense;
 pub mod laws;
 pub mod level;
+pub mod meaning;
 pub mod plain;
 pub mod predict;
 pub mod side;
 pub mod symbol;
+mod table;
 #[cfg(test)]
 mod tests;
+
+pub use column::Column;
+pub use dense::Dense;
+pub use level::Level;
+pub use plain::Plain;
+pub use predict::{Move, Predict};
+pub use side::Side2;
+pub use symbol::{Sym, Symbol};

@@ -2,7 +2,8 @@
 //!
 //! `entry_of` has an arm for each symbol, in the order of `Sym`. A symbol that only one class may
 //! begin stands there whole; the others have a function of their own in the module of their part of
-//! the grammar. Nothing is looked up in memory: the matches are jumps.
+//! the grammar. Nothing is looked up in memory: the matches are jumps. That a `Move` is a rule's number
+//! is seen to last, in `rules`.
 
 ghost use Rattle.std.specs.Prelude.{◌≡◌, ◌≤◌, ◌+◌, ◌%◌, ◌^◌, [], if◌then◌else◌};
 ghost use Rattle.daide_grammar.specs.Answers.{Take, Skip, Stop, answer_of};
@@ -10,23 +11,26 @@ ghost use Rattle.daide_grammar.specs.AnswersGiven.{answers_given};
 ghost use Rattle.daide_grammar.specs.Classes.{same_class};
 ghost use Rattle.daide_grammar.specs.Symbols.{may_end_of, table_answer};
 
-mod class_number;
 mod orders;
 mod press;
 mod requests;
+mod rules;
 mod server;
 
+use crate::class_number::number_of;
+use crate::column::Column;
 use crate::level::Level;
-use crate::plain::class_number::number_of;
+use crate::meaning::{Meaning, Rest};
 use crate::plain::orders::{one_order, one_place, order_tail, places, unit_type};
 use crate::plain::press::{arrangement, fact, maybe_send_group, operand, press, send_first};
 use crate::plain::requests::{any, cancel, client, reply, request, submit_first, word_list};
+use crate::plain::rules::rule_of;
 use crate::plain::server::{
     kind_places, missing_first, one_outcome, one_param, outcomes, owned, server, who,
 };
-use crate::predict::{Move, Predict, Rest};
+use crate::predict::{Move, Predict};
 use crate::side::Side2;
-use crate::symbol::Sym;
+use crate::symbol::{Sym, Symbol};
 use daide_token::class::Class;
 use daide_token::token::Token;
 
@@ -49,7 +53,7 @@ impl Predict for Plain {
     ghost use Rattle.daide_token.specs.Class.{class_of};
     ghost use Rattle.daide_grammar.specs.AnswersGiven.{answers_given};
     ghost use Rattle.daide_grammar.specs.LawfulStack.{IsLawful};
-    ghost use Rattle.daide_grammar.specs.Messages.{SymbolMatches};
+    ghost use Rattle.daide_grammar.specs.SideMessages.{SymbolMatches};
     ghost use Rattle.daide_grammar.specs.Symbols.{may_end_of, opening_of, table_answer};
     ghost use Rattle.daide_grammar.specs.Proved.PlainLaws.{plain_laws, plain_begins};
 
@@ -69,24 +73,24 @@ impl Predict for Plain {
 
     ghost asked = { answers_given };
 
-    fn predict(&mut self, sym: Sym, class: Class) -> Move {
+    fn predict(&mut self, sym: Symbol, class: Column) -> Move {
         self.asked = self.asked.wrapping_add(1);
-        move_of(sym, class)
+        rule_of(meaning_of(sym.sym(), class.class()))
     }
 
-    fn may_end(&mut self, sym: Sym) -> bool {
+    fn may_end(&mut self, sym: Symbol) -> bool {
         self.asked = self.asked.wrapping_add(1);
-        is_optional(sym)
+        is_optional(sym.sym())
     }
 
-    fn class_of(&self, token: Token) -> Class {
-        token.class()
+    fn class_of(&self, token: Token) -> Column {
+        Column::named(token.class())
     }
 
-    fn start(&self, side: Side2, level: Level) -> Sym {
+    fn start(&self, side: Side2, level: Level) -> Symbol {
         match side {
-            Side2::Client => Sym::Client(level),
-            Side2::ServerEnd => Sym::Server(level),
+            Side2::Client => Symbol::named(Sym::Client(level)),
+            Side2::ServerEnd => Symbol::named(Sym::Server(level)),
         }
     }
 
@@ -100,33 +104,33 @@ impl Predict for Plain {
 }
 
 /// What a symbol does that must begin with one class: that class takes it, no other does.
-fn must<const N: usize>(wanted: Class, class: Class, rest: [Sym; N]) -> Move
+fn must<const N: usize>(wanted: Class, class: Class, rest: [Sym; N]) -> Meaning
     requires { N ≤ 5 }
     ensures { answer_of result ≡ (if same_class wanted class then Take rest.entry else Stop) }
 {
     if number_of(wanted) == number_of(class) {
-        Move::Take(Rest::of(rest))
+        Meaning::Take(Rest::of(rest))
     } else {
-        Move::Stop
+        Meaning::Stop
     }
 }
 
 /// What a symbol does that may be empty: one class takes it, at any other it is skipped.
-fn may<const N: usize>(wanted: Class, class: Class, rest: [Sym; N]) -> Move
+fn may<const N: usize>(wanted: Class, class: Class, rest: [Sym; N]) -> Meaning
     requires { N ≤ 5 }
     ensures { answer_of result ≡ (if same_class wanted class then Take rest.entry else Skip) }
 {
     if number_of(wanted) == number_of(class) {
-        Move::Take(Rest::of(rest))
+        Meaning::Take(Rest::of(rest))
     } else {
-        Move::Skip
+        Meaning::Skip
     }
 }
 
 /// What a token of the class means to the symbol. A closing bracket, the symbol that is met most
 /// often, is told before the jump.
 #[tactic(auto, unfolding(crate::specs::Symbols::table_answer, crate::specs::Symbols::entries, crate::specs::Symbols::may_end_of))]
-fn move_of(sym: Sym, class: Class) -> Move
+pub fn meaning_of(sym: Sym, class: Class) -> Meaning
     ensures { answer_of result ≡ table_answer sym class }
 {
     match sym {
@@ -150,7 +154,7 @@ fn move_of(sym: Sym, class: Class) -> Move
         crate::specs::Symbols::may_end_of
     )
 )]
-fn entry_of(sym: Sym, class: Class) -> Move
+fn entry_of(sym: Sym, class: Class) -> Meaning
     ensures { answer_of result ≡ table_answer sym class }
 {
     match sym {

@@ -5,61 +5,119 @@
 //! nothing else of it. What an operator added to the grammar is the table's `words`, which no
 //! answer changes; everything else that is said of a table is said of its words.
 
-ghost use Rattle.std.specs.Prelude.{◌≡◌, ℕ, ◌+◌, ◌%◌, ◌^◌, ◌≤◌, List, [], ◌∷◌, Bool};
+ghost use Rattle.std.specs.Prelude.{◌≡◌, ℕ, ◌+◌, ◌%◌, ◌^◌, ◌≤◌, ◌<◌, List, [], ◌∷◌, Bool, length, reverse, take};
 ghost use Rattle.daide_token.specs.declared.class.Class.{Class};
 ghost use Rattle.daide_grammar.specs.declared.level.Level.{Level};
 ghost use Rattle.daide_grammar.specs.declared.side.Side2.{Side2};
 ghost use Rattle.daide_grammar.specs.declared.symbol.Sym.{Sym};
-ghost use Rattle.daide_grammar.specs.Answers.{Answer, answer_of, symbols_of};
+ghost use Rattle.daide_grammar.specs.Answers.{Answer};
 ghost use Rattle.daide_grammar.specs.Words.{Words};
 ghost use Rattle.daide_grammar.specs.Laws.{PredictLaws};
+ghost use Rattle.daide_grammar.specs.Rules.{deed, is_stop, is_take, rest_of};
+ghost use Rattle.daide_grammar.specs.Cells.{cell_at, length_at};
+ghost use Rattle.daide_grammar.specs.Numbers.{symbol_at};
 
+use crate::column::Column;
 use crate::level::Level;
 use crate::side::Side2;
-use crate::symbol::Sym;
-use daide_token::class::Class;
+use crate::symbol::Symbol;
+use crate::table::rules::{LENGTHS, RESTS};
 use daide_token::token::Token;
+use std::marker::Model;
 
-/// At most five symbols, in the order in which they must follow. No rest of the grammar is longer.
-#[derive(Clone, Copy, Debug, PartialEq, Eq)]
-pub struct Rest {
-    len: u8,
-    symbols: [Sym; 5],
+/// What a token means to the symbol that is expected, by the number of a rule. A contract sees the answer.
+#[derive(Drop)]
+pub struct Move {
+    rule: u8,
 }
 
-impl Rest {
-    /// The symbols of an array.
-    pub fn of<const N: usize>(symbols: [Sym; N]) -> Rest
-        requires { N ≤ 5 }
-        ensures { symbols_of result ≡ symbols.entry }
+impl Model for Move {
+    ghost use Rattle.daide_grammar.specs.Answers.{Answer};
+    ghost use Rattle.daide_grammar.specs.Rules.{deed};
+
+    ghost Value = { Answer };
+
+    ghost view = { λ m. deed m.rule };
+}
+
+impl Move {
+    /// The answer of a rule.
+    #[inline(always)]
+    pub fn of(rule: u8) -> Move
+        ensures { result ≡ deed rule }
     {
-        let mut all = [Sym::Closing; 5];
-        for (i, symbol) in symbols.iter().enumerate() {
-            all[i] = *symbol;
-        }
-        Rest {
-            len: N as u8,
-            symbols: all,
-        }
+        Move { rule }
     }
 
-    /// The symbols, the next one first.
-    pub fn as_slice(&self) -> &[Sym]
-        ensures { result.now ≡ symbols_of self.now }
+    /// Whether the token begins the symbol.
+    #[inline(always)]
+    pub fn is_take(&self) -> bool
+        ensures { result ≡ is_take self.now }
     {
-        &self.symbols[..usize::from(self.len).min(5)]
+        self.rule >= 2
+    }
+
+    /// Whether no message continues so.
+    #[inline(always)]
+    pub fn is_stop(&self) -> bool
+        ensures { result ≡ is_stop self.now }
+    {
+        self.rule == 0
+    }
+
+    /// How many symbols must follow; none where nothing is taken.
+    #[inline(always)]
+    pub fn len(&self) -> usize
+        ensures len { result ≡ length (rest_of self.now) }
+        ensures few { result ≤ 8 }
+    {
+        length_at(self.rule) as usize
+    }
+
+    /// The symbols that must follow, the last first; what lies behind them has no meaning.
+    #[inline(always)]
+    pub fn cells(&self) -> [Symbol; 8]
+        ensures { take (length (rest_of self.now)) result ≡ reverse (rest_of self.now) }
+    {
+        [
+            cell_of(self.rule, 0),
+            cell_of(self.rule, 1),
+            cell_of(self.rule, 2),
+            cell_of(self.rule, 3),
+            cell_of(self.rule, 4),
+            cell_of(self.rule, 5),
+            cell_of(self.rule, 6),
+            cell_of(self.rule, 7),
+        ]
     }
 }
 
-/// What a token means to the symbol that is expected.
-#[derive(Clone, Copy, Debug, PartialEq, Eq)]
-pub enum Move {
-    /// The token begins the symbol, and these must follow.
-    Take(Rest),
-    /// The symbol is empty here.
-    Skip,
-    /// No message continues so.
-    Stop,
+/// A symbol of a rule's row.
+#[inline(always)]
+fn cell_of(rule: u8, place: usize) -> Symbol
+    requires { place < 8 }
+    ensures { result ≡ symbol_at (cell_at rule place) }
+{
+    Symbol::of(cell_at(rule, place))
+}
+
+/// A number of a rule's row.
+#[inline(always)]
+#[tactic(auto, unfolding(crate::specs::Cells::cell_at))]
+fn cell_at(rule: u8, place: usize) -> u8
+    requires { place < 8 }
+    ensures { result ≡ cell_at rule place }
+{
+    RESTS[rule as usize][place]
+}
+
+/// How many symbols a rule leaves.
+#[inline(always)]
+#[tactic(auto, unfolding(crate::specs::Cells::length_at))]
+fn length_at(rule: u8) -> u8
+    ensures { result ≡ length_at rule }
+{
+    LENGTHS[rule as usize]
 }
 
 /// A table that answers one question at a time, and counts its answers.
@@ -89,23 +147,23 @@ pub trait Predict {
     ghost asked: { Self → ℕ };
 
     /// What a token of the class means to the symbol.
-    fn predict(&mut self, sym: Sym, class: Class) -> Move
-        ensures answer { answer_of result ≡ moves (words self.old) sym class }
+    fn predict(&mut self, sym: Symbol, class: Column) -> Move
+        ensures answer { result ≡ moves (words self.old) sym class }
         ensures words_stay { words self.new ≡ words self.old }
         ensures counts_each_answer { asked self.new ≡ (asked self.old + 1) % 2 ^ 64 };
 
     /// Whether the symbol may be empty.
-    fn may_end(&mut self, sym: Sym) -> bool
+    fn may_end(&mut self, sym: Symbol) -> bool
         ensures answer { result ≡ ends (words self.old) sym }
         ensures words_stay { words self.new ≡ words self.old }
         ensures counts_each_answer { asked self.new ≡ (asked self.old + 1) % 2 ^ 64 };
 
     /// The class of a token. An operator's word has one of its own.
-    fn class_of(&self, token: Token) -> Class
+    fn class_of(&self, token: Token) -> Column
         ensures { result ≡ class_of (words self.now) token };
 
     /// The symbol of a side's messages at a level.
-    fn start(&self, side: Side2, level: Level) -> Sym
+    fn start(&self, side: Side2, level: Level) -> Symbol
         ensures { result ≡ opening side level };
 
     /// How many answers `predict` and `may_end` gave so far, modulo 2^64.

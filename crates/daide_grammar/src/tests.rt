@@ -1,13 +1,17 @@
 //! What no clause shows: numbers worked out by hand, each call once, and that answers are small.
 
+use crate::column::Column;
+use crate::dense::Dense;
 use crate::level::Level;
+use crate::meaning::Rest;
 use crate::plain::Plain;
-use crate::predict::{Move, Predict, Rest};
+use crate::predict::{Move, Predict};
 use crate::side::Side2;
-use crate::symbol::Sym;
+use crate::symbol::{Sym, Symbol};
 use daide_token::class::Class;
 use daide_token::token::Token;
 use std::mem::size_of;
+use std::process::Abort;
 
 #[test]
 fn levels_have_their_numbers(rt: HostRuntime) {
@@ -40,34 +44,42 @@ fn level_of_an_hlo_is_the_greatest_allowed(rt: HostRuntime) {
     }
 }
 
-#[test]
-fn plain_answers_and_counts(rt: HostRuntime) {
-    let mut table = Plain::new();
+/// A few cells by hand, of any table.
+fn answers_and_counts<T: Predict>(rt: &impl Abort, table: &mut T) {
     let client = table.start(Side2::Client, Level::L0);
-    assert_eq!(rt; client, Sym::Client(Level::L0));
+    assert_eq!(rt; client.sym(), Sym::Client(Level::L0));
     assert_eq!(rt;
-        table.start(Side2::ServerEnd, Level::L60),
+        table.start(Side2::ServerEnd, Level::L60).sym(),
         Sym::Server(Level::L60)
     );
 
     // OBS is a whole message, and nothing else may follow
     let obs = table.class_of(Token::from_code(0x480F));
-    assert_eq!(rt; obs, Class::Obs);
-    assert_eq!(rt; table.predict(client, obs), Move::Take(Rest::of([])));
-    assert_eq!(rt; table.predict(client, Class::Ket), Move::Stop);
+    assert_eq!(rt; obs.class(), Class::Obs);
+    let answer = table.predict(client, obs);
+    assert!(rt; answer.is_take() && answer.len() == 0);
+    assert!(rt; table.predict(client, Column::named(Class::Ket)).is_stop());
 
     // TME may stand alone, and HST may not
-    assert_eq!(rt;
-        table.predict(client, Class::Tme),
-        Move::Take(Rest::of([Sym::MaybeNumberGroup]))
-    );
-    assert_eq!(rt;
-        table.predict(Sym::MaybeNumberGroup, Class::Ket),
-        Move::Skip
-    );
-    assert!(rt; table.may_end(Sym::MaybeNumberGroup));
-    assert!(rt; !table.may_end(Sym::TurnGroup));
+    let answer = table.predict(client, Column::named(Class::Tme));
+    assert!(rt; answer.is_take() && answer.len() == 1);
+    let number = answer.cells()[0];
+    assert_eq!(rt; number.sym(), Sym::MaybeNumberGroup);
+    let answer = table.predict(number, Column::named(Class::Ket));
+    assert!(rt; !answer.is_take() && !answer.is_stop());
+    assert!(rt; table.may_end(number));
+    assert!(rt; !table.may_end(Symbol::named(Sym::TurnGroup)));
     assert_eq!(rt; table.asked(), 6);
+}
+
+#[test]
+fn plain_answers_and_counts(rt: HostRuntime) {
+    answers_and_counts(&rt, &mut Plain::new());
+}
+
+#[test]
+fn dense_answers_and_counts(rt: HostRuntime) {
+    answers_and_counts(&rt, &mut Dense::new());
 }
 
 #[test]
@@ -85,6 +97,7 @@ fn rests_tell_their_symbols(rt: HostRuntime) {
 
 #[test]
 fn answers_are_small(rt: HostRuntime) {
-    assert!(rt; size_of::<Sym>() <= 2);
-    assert!(rt; size_of::<Move>() <= 16);
+    assert_eq!(rt; size_of::<Symbol>(), 1);
+    assert_eq!(rt; size_of::<Column>(), 1);
+    assert_eq!(rt; size_of::<Move>(), 1);
 }

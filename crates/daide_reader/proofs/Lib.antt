@@ -5,3 +5,6 @@ pub mod ErrorPlaceLemmas
 pub mod ReadingLemmas
 pub mod VerdictLemmas
 pub mod PlainVerdicts
+pub mod SomeVerdict
+pub mod SliceLemmas
+pub mod CellLemmas

@@ -17,7 +17,7 @@ use Rattle.daide_grammar.specs.Brackets.{is_bra, is_ket, counted, count_one}
 use Rattle.daide_reader.specs.declared.outline.Outline.{Outline}
 use Rattle.daide_reader.specs.Stack.{IsRefused, steps_at}
 use Rattle.daide_reader.specs.Outline.{IsOutlineOf, with_token}
-use Rattle.daide_reader.specs.Reading.{Reading, StandsAfter, StackOrPlace, HasPlace, IsSteady, IsSettled, steps_since, brackets_open}
+use Rattle.daide_reader.specs.Reading.{Reading, IsRaised, StandsAfter, StackOrPlace, HasPlace, IsSteady, IsSettled, steps_since, brackets_open}
 use Rattle.daide_reader.proofs.StackLemmas.{after_plain, after_open, after_close, four_steps}
 use Rattle.daide_grammar.proofs.Counting.{counted-snoc}
 use Rattle.daide_reader.proofs.OutlineLemmas.{outline-snoc}
@@ -103,10 +103,10 @@ module _ {T : Type 0} (table : Ghosts T)
   few_steps c stack n asked ok few = omega (arith, few, four_steps _ _ _ _ _ (laws words) c stack n ok)
 
 -- nothing is open in a message that begins with PRN
-report_count : (u : Option ℕ) (p : List ℕ) (t : ℕ) → begins_with_prn (p ++ t ∷ []) ≡ true
+report_count : (u : Option ℕ) (p q : List ℕ) → begins_with_prn (p ++ q) ≡ true
     → u ≡ (if begins_with_prn p then Some 0 else counted p) → u ≡ Some 0
-report_count u [] t begins e = e
-report_count u (x ∷ p) t begins e = e ∙ ap (λ (b : Bool). if b then Some 0 else counted (x ∷ p)) begins
+report_count u [] q begins e = e
+report_count u (x ∷ p) q begins e = e ∙ ap (λ (b : Bool). if b then Some 0 else counted (x ∷ p)) begins
 
 -- no more brackets are open than tokens came
 pub counts_more : (u : Option ℕ) (m : ℕ) (opens closes : Bool) → IfSome u (λ n. n ≤ m)
@@ -241,24 +241,25 @@ module _ {T : Type 0} (table : Ghosts T) (words : Words) (first : Sym) (max_dept
           rw (moves.finished_same, length-append) (omega arith)
 
   -- a message that begins with PRN
-  pub stands_report : (old new : Reading T) (t : ℕ) (p : List ℕ) → new.table ≡ old.table
+  pub stands_report : (old new : Reading T) (p q : List ℕ) → new.table ≡ old.table
       → new.max_depth ≡ old.max_depth → new.finished ≡ old.finished → new.asked_before ≡ old.asked_before
       → new.unclosed ≡ old.unclosed
-      → new.outline ≡ with_token old.outline t → new.outline.is_prn ≡ true → StandsAfter table words first max_depth old p → StandsAfter table words first max_depth new (p ++ t ∷ [])
-  stands_report old new t p same depth_same finished_same asked_same unclosed_same more is_report h = record {
+      → (IsOutlineOf old.outline p → IsOutlineOf new.outline (p ++ q)) → new.outline.is_prn ≡ true
+      → StandsAfter table words first max_depth old p → StandsAfter table words first max_depth new (p ++ q)
+  stands_report old new p q same depth_same finished_same asked_same unclosed_same more is_report h = record {
     words_kept = ap table.words same ∙ h.words_kept;
     depth_kept = depth_same ∙ h.depth_kept;
     outline = outline;
-    unclosed = subst (λ (b : Bool). new.unclosed ≡ (if b then Some 0 else counted (p ++ t ∷ []))) (sym begins)
-        (unclosed_same ∙ report_count old.unclosed p t begins h.unclosed);
+    unclosed = subst (λ (b : Bool). new.unclosed ≡ (if b then Some 0 else counted (p ++ q))) (sym begins)
+        (unclosed_same ∙ report_count old.unclosed p q begins h.unclosed);
     place = λ not_prn. let f : true ≡ false = sym begins ∙ not_prn in absurd cc;
     steps = rw (same, asked_same, finished_same, length-append) (let few = h.steps in omega arith);
   }
     where
-      outline : IsOutlineOf new.outline (p ++ t ∷ [])
-      outline = subst (λ (o : Outline). IsOutlineOf o (p ++ t ∷ [])) (sym more) (outline-snoc old.outline p t h.outline)
+      outline : IsOutlineOf new.outline (p ++ q)
+      outline = more h.outline
 
-      begins : begins_with_prn (p ++ t ∷ []) ≡ true
+      begins : begins_with_prn (p ++ q) ≡ true
       begins = sym outline.begins ∙ is_report
 
   -- a place stays
@@ -272,7 +273,7 @@ module _ {T : Type 0} (table : Ghosts T) (words : Words) (first : Sym) (max_dept
       go : (o : Option ℕ) → true ≡ is_some o → StackOrPlace (table.language words) first max_depth old.stack o p
           → StackOrPlace (table.language words) first max_depth new.stack o (p ++ t ∷ [])
       go None e has = let f : true ≡ false = e in absurd cc
-      go (Some i) e has = place_kept (table.language words first) max_depth p t i has
+      go (Some i) e has = place_kept (table.language words first) max_depth p (t ∷ []) i has
 
 module _ {T : Type 0} (table : Ghosts T)
     (laws : (w : Words) → PredictLaws (table.class_of w) (table.language w) (table.moves w) (table.ends w) (table.lawful w))
@@ -390,6 +391,22 @@ four_ends may_end lawful few size max_depth stack o u place steady not_prn none 
     let nothing : here.0 ≡ 0 = (let f = sym here.1 ∙ even in cc) in
     few stack (subst (λ (n : ℕ). lawful stack n) nothing here.3)
 
+-- no more entries than the greatest depth allows
+pub entries_at_most : (lawful : List Sym → ℕ → Type 0)
+    → ((stack : List Sym) (k : ℕ) → lawful stack k → length stack ≤ 8 * k + 16)
+    → (size max_depth : ℕ) (stack : List Sym) (o : Outline) (u place : Option ℕ)
+    → IsSteady lawful size max_depth stack o u place → length stack ≤ 8 * max_depth + 16
+entries_at_most lawful few size max_depth stack o u place steady = go o.is_prn place refl refl
+  where
+    go : (b : Bool) (i : Option ℕ) → o.is_prn ≡ b → place ≡ i → length stack ≤ 8 * max_depth + 16
+    go true i is at = rw (steady.none_in_prn is) (omega arith)
+    go false (Some i) is at = rw (steady.none_left (rw at refl)) (omega arith)
+    go false None is at =
+        let here = steady.lawful_stack is at in
+        let shallow = here.2 in
+        let held = few stack here.0 here.3 in
+        omega (arith, shallow, held)
+
 -- no more entries than the open brackets allow
 pub entries_few : (lawful : List Sym → ℕ → Type 0)
     → ((stack : List Sym) (k : ℕ) → lawful stack k → length stack ≤ 8 * k + 16)
@@ -470,3 +487,21 @@ module _ {T : Type 0} (table : Ghosts T) (words : Words) (first : Sym) (max_dept
         steps_more = (0, omega arith, omega arith);
       })
       (stands_along table words first max_depth old v p same h)
+
+-- a table that was not asked
+pub raised_none : {most : ℕ} (old new : ℕ) → new ≡ old → IsRaised most old new
+raised_none old new same = record { by = 0; few = omega arith; sum = omega arith }
+
+-- a table that was asked n times
+pub raised_by : {most : ℕ} (n now old new : ℕ) → n ≤ most → now ≡ old → new % 2 ^ 64 ≡ (now + n) % 2 ^ 64
+    → IsRaised most old new
+raised_by n now old new few same sum = record { by = n; few = few; sum = rw same at sum }
+
+-- raised by two calls
+pub raised_more : (a b most old mid new : ℕ) → a + b ≤ most → IsRaised a old mid → IsRaised b mid new
+    → IsRaised most old new
+raised_more a b most old mid new few h k = record {
+  by = h.by + k.by;
+  few = (let p = h.few in let q = k.few in omega arith);
+  sum = (let p = h.sum in let q = k.sum in omega arith);
+}

@@ -1,8 +1,8 @@
 -- What is kept of a message's ends. (own)
-use Rattle.std.specs.Prelude.{◌≡◌, ℕ, ◌+◌, ◌==◌, ◌&&◌, nat_le, Bool, false, List, [], ◌∷◌, length, reverse, drop, if◌then◌else◌}
+use Rattle.std.specs.Prelude.{Option, ◌≡◌, ℕ, ◌+◌, ◌==◌, ◌&&◌, nat_le, Bool, false, List, [], ◌∷◌, length, reverse, drop, if◌then◌else◌}
 use Rattle.daide_token.specs.Token.{prn}
 use Rattle.daide_grammar.specs.Paired.{begins_with_prn}
-use Rattle.daide_grammar.specs.Brackets.{is_bra, is_ket}
+use Rattle.daide_grammar.specs.Brackets.{is_bra, is_ket, count_one}
 use Rattle.daide_reader.specs.declared.outline.Outline.{Outline}
 
 -- the token is PRN
@@ -33,3 +33,26 @@ with_token o t = record {
 -- a pair of brackets stands round everything after the first token
 abbrev pub has_outer_brackets : Outline → Bool
 has_outer_brackets o = nat_le 3 o.tokens && o.second_is_bra && o.last_is_ket
+
+-- the outline of some tokens
+abbrev pub outline_of : List ℕ → Outline
+outline_of p = record {
+  tokens = length p;
+  is_prn = begins_with_prn p;
+  second_is_bra = first_is is_bra (drop 1 p);
+  last_is_ket = first_is is_ket (reverse p);
+}
+
+-- the outline of all tokens of a message, where that of its first ones is known
+abbrev pub outline_on : Outline → List ℕ → Outline
+outline_on o m = record {
+  tokens = length m;
+  is_prn = if o.tokens == 0 then begins_with_prn m else o.is_prn;
+  second_is_bra = first_is is_bra (drop 1 m);
+  last_is_ket = first_is is_ket (reverse m);
+}
+
+-- the open brackets after more tokens
+abbrev pub count_all : Option ℕ → List ℕ → Option ℕ
+count_all unclosed [] = unclosed
+count_all unclosed (t ∷ q) = count_all (count_one (is_bra t) (is_ket t) unclosed) q

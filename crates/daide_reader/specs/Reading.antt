@@ -40,6 +40,12 @@ brackets_open v = unwrap_or v.unclosed 0
 abbrev pub steps_since : {T : Type 0} → (T → ℕ) → Reading T → ℕ
 steps_since asked v = (asked v.table + (2 ^ 64 - v.asked_before)) % 2 ^ 64
 
+-- a count that is told modulo 2^64 went up by at most so many
+pub record IsRaised (most old new : ℕ) : Type 0 where
+  pub by : ℕ
+  pub few : by ≤ most
+  pub sum : new % 2 ^ 64 ≡ (old + by) % 2 ^ 64
+
 -- the table has no say in what is left of the message: a place was found, or it begins with PRN (own)
 abbrev pub IsSettled : {T : Type 0} → Reading T → Type 0
 IsSettled v = IsSome v.place ⊎ (v.outline.is_prn ≡ true)
@@ -84,3 +90,16 @@ pub record IsSteady (lawful : List Sym → ℕ → Type 0) (size max_depth : ℕ
       → (n : ℕ) × (unclosed ≡ Some n) × (n ≤ max_depth) × lawful stack n
   pub none_left : IsSome place → stack ≡ []
   pub none_in_prn : outline.is_prn ≡ true → stack ≡ []
+
+-- a reader in the midst of a message
+abbrev pub reading : {T : Type 0} → T → ℕ → List Sym → Outline → Option ℕ → Option ℕ → ℕ → Reading T
+reading table max_depth stack outline unclosed place asked_before = record {
+  table = table;
+  max_depth = max_depth;
+  stack = stack;
+  outline = outline;
+  unclosed = unclosed;
+  place = place;
+  asked_before = asked_before;
+  finished = false;
+}

@@ -1,6 +1,6 @@
-//! A whole message, by the body that holds its tokens.
+//! A message by the body that holds its tokens, as it comes or whole.
 
-ghost use Rattle.std.specs.Prelude.{◌≡◌, ◌≤◌, [], ℕ, false, true, length};
+ghost use Rattle.std.specs.Prelude.{◌≡◌, ◌-◌, ◌*◌, ◌/◌, ◌≤◌, ◌<◌, ◌+◌, ◌++◌, ◌∷◌, [], ℕ, false, true, length, take, drop};
 ghost use Rattle.daide_token.specs.Token.{tokens_of};
 ghost use Rattle.daide_grammar.specs.declared.symbol.Sym.{Sym};
 ghost use Rattle.daide_grammar.specs.Words.{Words};
@@ -14,9 +14,8 @@ use daide_grammar::predict::Predict;
 use daide_token::token::Token;
 
 impl<T: Predict, const N: usize> Reader<T, N> {
-    /// Reads the message that a body holds, after `start`: each of its tokens once, in their order, and
-    /// the end. A token is two bytes, high byte first, and an odd byte at the end is none. A body has at
-    /// most 65,534 bytes.
+    /// Reads the message that a whole body holds, after `start`, and ends it: `read` and `finish`. An odd
+    /// byte at the end is no token. A body has at most 65,534 bytes.
     pub fn read_body(&mut self, body: &[u8]) -> Verdict
         requires unread { tokens_read self.old ≡ 0 }
         requires unfinished { self.old.finished ≡ false }
@@ -32,9 +31,18 @@ impl<T: Predict, const N: usize> Reader<T, N> {
         ensures base { self.new.asked_before ≡ self.old.asked_before }
         ensures finished { self.new.finished ≡ true }
     {
-        for i in 0..body.len() / 2 {
-            self.push(Token::from_be([body[2 * i], body[2 * i + 1]]));
-        }
+        self.read(body);
         self.finish()
     }
+}
+
+/// The token at a place of a body: two bytes, high byte first.
+#[inline(always)]
+pub fn token_at(body: &[u8], place: usize) -> Token
+    requires inside { 2 * place + 1 < length body.now }
+    requires small { length body.now ≤ 65534 }
+    ensures front { take (place + 1) (tokens_of body.now) ≡ take place (tokens_of body.now) ++ result ∷ [] }
+    ensures rest { drop place (tokens_of body.now) ≡ result ∷ drop (place + 1) (tokens_of body.now) }
+{
+    Token::from_be([body[2 * place], body[2 * place + 1]])
 }

@@ -4,13 +4,17 @@
 //! table: also after a token that no message continues, and in the words that the table takes
 //! for plain ones.
 
-ghost use Rattle.std.specs.Prelude.{◌≡◌, ◌<◌, ◌==◌, ◌↔◌, IsTrue, true, Some, IfSome};
+ghost use Rattle.std.specs.Prelude.{◌≡◌, ◌≢◌, ◌<◌, ◌==◌, ◌↔◌, ◌||◌, IsTrue, true, false, Some, IsSome, IfSome, IfNone};
 ghost use Rattle.daide_grammar.specs.Brackets.{is_bra as is_bra_token, is_ket as is_ket_token, count_one};
+ghost use Rattle.daide_grammar.specs.Numbers.{is_bracket};
+ghost use Rattle.daide_reader.specs.Stack.{open_count};
 ghost use Rattle.daide_reader.specs.Outline.{is_prn as is_prn_token};
 
+use daide_grammar::column::Column;
 use daide_token::token::Token;
 
 /// Whether the token opens a bracket.
+#[inline(always)]
 pub fn is_bra(token: Token) -> bool
     ensures { result ≡ is_bra_token token }
 {
@@ -18,6 +22,7 @@ pub fn is_bra(token: Token) -> bool
 }
 
 /// Whether the token closes a bracket.
+#[inline(always)]
 pub fn is_ket(token: Token) -> bool
     ensures { result ≡ is_ket_token token }
 {
@@ -25,6 +30,7 @@ pub fn is_ket(token: Token) -> bool
 }
 
 /// Whether the token is PRN.
+#[inline(always)]
 pub fn is_prn(token: Token) -> bool
     ensures { result ≡ is_prn_token token }
 {
@@ -33,6 +39,7 @@ pub fn is_prn(token: Token) -> bool
 
 /// Counts one more token: the open brackets after it, or `None` once a KET came with nothing open.
 /// Only a bracket writes.
+#[inline(always)]
 pub fn count(unclosed: &mut Option<u16>, token: Token)
     requires { IfSome unclosed.old (λ n. n < 65535) }
     ensures { unclosed.new ≡ count_one (is_bra_token token) (is_ket_token token) unclosed.old }
@@ -49,6 +56,7 @@ pub fn count(unclosed: &mut Option<u16>, token: Token)
 }
 
 /// Whether just so many brackets are open.
+#[inline(always)]
 pub fn are_open(unclosed: Option<u16>, count: u16) -> bool
     ensures { IsTrue result ↔ (unclosed ≡ Some count) }
 {
@@ -56,8 +64,30 @@ pub fn are_open(unclosed: Option<u16>, count: u16) -> bool
 }
 
 /// Whether the token opens a bracket where just so many are open.
+#[inline(always)]
 pub fn opens_at(unclosed: Option<u16>, token: Token, count: u16) -> bool
     ensures { IsTrue result ↔ ((is_bra_token token ≡ true) × (unclosed ≡ Some count)) }
 {
     is_bra(token) && are_open(unclosed, count)
+}
+
+/// Counts one more token, and answers whether it doesn't open one bracket too many. The class tells
+/// most tokens apart from brackets. The count wraps once a KET comes with nothing open.
+#[inline(always)]
+pub fn recount(opened: &mut u16, token: Token, class: Column, deepest: u16) -> bool
+    requires low { opened.old < 65534 }
+    requires told { is_bracket class ≡ (is_bra_token token || is_ket_token token) }
+    ensures fits { result ≡ true → is_bra_token token ≡ true → opened.old ≢ deepest }
+    ensures counted { count_one (is_bra_token token) (is_ket_token token) (Some opened.old) ≡ open_count opened.new }
+    ensures refused { result ≡ false → (is_bra_token token ≡ true) × (opened.old ≡ deepest) }
+{
+    if class.is_bracket() {
+        if is_bra(token) {
+            let fits = *opened != deepest;
+            *opened += 1;
+            return fits;
+        }
+        *opened = opened.wrapping_sub(1);
+    }
+    true
 }

@@ -1,16 +1,16 @@
 //! What holds of every verdict.
 
-ghost use Rattle.std.specs.Prelude.{◌≡◌, ◌↔◌, List, ℕ};
+ghost use Rattle.std.specs.Prelude.{◌≡◌, ◌↔◌, List, [], ℕ};
 ghost use Rattle.daide_grammar.specs.declared.level.Level.{Level};
 ghost use Rattle.daide_grammar.specs.declared.side.Side2.{Side2};
 ghost use Rattle.daide_grammar.specs.declared.symbol.Sym.{Sym};
-ghost use Rattle.daide_grammar.specs.Messages.{IsMessage, SymbolMatches};
-ghost use Rattle.daide_grammar.specs.Symbols.{opening_of};
+ghost use Rattle.daide_grammar.specs.SideMessages.{IsMessage, IsMessageOver};
 ghost use Rattle.daide_grammar.specs.Words.{Words};
 ghost use Rattle.daide_reader.specs.declared.verdict.Verdict.{Verdict};
 ghost use Rattle.daide_reader.specs.ViablePrefix.{IsMessageOf};
 ghost use Rattle.daide_reader.specs.Verdict.{HasVerdict};
 
+use daide_grammar::plain::Plain;
 use daide_grammar::predict::Predict;
 
 /// A message has one verdict, its place with it.
@@ -22,11 +22,24 @@ pub fn message_has_one_verdict<T: Predict>()
         v ≡ w }
 {}
 
-/// The verdicts of a reader over `Plain` are those of the grammar: its messages are the messages of
-/// the side at the level.
-#[tactic(auto, using(crate::proofs::PlainVerdicts::plain_verdicts))]
+/// Each list of tokens has a verdict, by the messages of any table: one that no reader need compute.
+pub fn message_has_a_verdict<T: Predict>()
+    ensures { (words : Words) (side : Side2) (level : Level) (max_depth : ℕ) (m : List ℕ) →
+        (v : Verdict) × HasVerdict (IsMessageOf (T.language words (T.opening side level))) max_depth m v }
+{}
+
+/// So has each list of tokens by the grammar: whatever a side says at whatever level.
+pub fn grammar_has_a_verdict()
+    ensures { (side : Side2) (level : Level) (max_depth : ℕ) (m : List ℕ) →
+        (v : Verdict) × HasVerdict (IsMessage side level) max_depth m v }
+{}
+
+/// The verdicts of a reader over `Plain` are those of the grammar with the table's words, which are none: its
+/// messages are the messages of the side at the level.
 pub fn plain_verdicts_are_the_grammars()
-    ensures { (side : Side2) (level : Level) (max_depth : ℕ) (m : List ℕ) (v : Verdict) →
-        HasVerdict (IsMessageOf (SymbolMatches (opening_of side level))) max_depth m v
-        ↔ HasVerdict (IsMessage side level) max_depth m v }
+    ensures { (table : Plain) (side : Side2) (level : Level) (max_depth : ℕ) (m : List ℕ) (v : Verdict) →
+        let words = ⟦<Plain as Predict>⟧.words table in
+        let first = ⟦<Plain as Predict>⟧.opening side level in
+        HasVerdict (IsMessageOf (⟦<Plain as Predict>⟧.language words first)) max_depth m v
+        ↔ HasVerdict (IsMessageOver words side level) max_depth m v }
 {}

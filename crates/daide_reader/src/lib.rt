@@ -8,8 +8,14 @@
 
 mod body;
 mod brackets;
+mod cells;
 pub mod laws;
 mod outline;
 pub mod reader;
+mod slice;
 mod stack;
+mod symbols;
 pub mod verdict;
+
+pub use reader::Reader;
+pub use verdict::Verdict;

@@ -3,42 +3,44 @@
 //! Where no message continues, the place is kept and the stack dropped; the brackets are counted to
 //! the end, since a message that is not paired is answered as such wherever it went wrong before.
 
-ghost use Rattle.std.specs.Prelude.{◌≡◌, ◌≤◌, ◌<◌, ◌+◌, ◌-◌, ◌*◌, ◌%◌, ◌^◌, ◌++◌, [], ◌∷◌, List, ℕ, Option, None, Some, IsSome, IsTrue, ◌↔◌, ◌⊎◌, if◌then◌else◌, false, true, length};
+ghost use Rattle.std.specs.Prelude.{◌≡◌, ◌≤◌, ◌<◌, ◌+◌, ◌-◌, ◌*◌, ◌/◌, ◌%◌, ◌^◌, ◌++◌, [], ◌∷◌, List, ℕ, Option, None, Some, IsSome, IsTrue, ◌↔◌, ◌⊎◌, if◌then◌else◌, false, true, length, take};
+ghost use Rattle.daide_token.specs.Token.{tokens_of};
 ghost use Rattle.daide_grammar.specs.declared.symbol.Sym.{Sym};
 ghost use Rattle.daide_grammar.specs.Depth.{open_brackets};
 ghost use Rattle.daide_grammar.specs.Words.{Words};
 ghost use Rattle.daide_reader.specs.ViablePrefix.{IsMessageOf};
 ghost use Rattle.daide_reader.specs.Verdict.{HasVerdict};
-ghost use Rattle.daide_reader.specs.Reading.{StandsAfter, IsSettled, tokens_read, brackets_open, steps_since};
+ghost use Rattle.daide_reader.specs.Reading.{StandsAfter, IsSettled, IsRaised, tokens_read, brackets_open, steps_since};
 ghost use Rattle.daide_reader.specs.declared.verdict.Verdict.TheVariants.{Prn};
 
 use crate::brackets::{are_open, count, opens_at};
 use crate::outline::Outline;
+use crate::slice::count_from;
 use crate::stack::{may_all_end, take};
+use crate::symbols::Symbols;
 use crate::verdict::Verdict;
-use arrayvec::ArrayVec;
 use daide_grammar::level::Level;
 use daide_grammar::predict::Predict;
 use daide_grammar::side::Side2;
-use daide_grammar::symbol::Sym;
+use daide_grammar::symbol::Symbol;
 use daide_token::token::Token;
 use std::marker::Model;
 
-/// Reads messages token by token, over a table `T` and with room for `N` symbols.
+/// Reads messages as their tokens come, over a table `T` and with room for `N` symbols.
 ///
-/// A message goes from `start` over `push`, once for each token, to `finish`; then the next one may
-/// start. A contract sees a reader as a `Reading`, and `StandsAfter` is what that says of the tokens
-/// since `start`. No call takes memory, and none refuses.
+/// A message goes from `start` over `push`, once for each token, or `read`, once for each piece of its
+/// body, to `finish`; then the next one may start. A contract sees a reader as a `Reading`, and
+/// `StandsAfter` is what that says of the tokens since `start`. No call takes memory, and none refuses.
 #[derive(Drop)]
 pub struct Reader<T: Predict, const N: usize> {
-    table: T,
     max_depth: u16,
-    stack: ArrayVec<Sym, N>,
+    stack: Symbols<Symbol, N>,
     outline: Outline,
     unclosed: Option<u16>,
     place: Option<u16>,
     asked_before: u64,
     finished: bool,
+    table: T,
 }
 
 impl<T: Predict, const N: usize> Model for Reader<T, N> {
@@ -50,7 +52,7 @@ impl<T: Predict, const N: usize> Model for Reader<T, N> {
     ghost view = { λ r. record {
       table = r.table;
       max_depth = r.max_depth;
-      stack = reverse r.stack.items;
+      stack = reverse r.stack;
       outline = r.outline;
       unclosed = r.unclosed;
       place = r.place;
@@ -59,7 +61,7 @@ impl<T: Predict, const N: usize> Model for Reader<T, N> {
     } };
 
     ghost invariant = { λ r.
-        IsSteady (T.lawful (T.words r.table)) N r.max_depth (reverse r.stack.items) r.outline r.unclosed r.place };
+        IsSteady (T.lawful (T.words r.table)) N r.max_depth (reverse r.stack) r.outline r.unclosed r.place };
 }
 
 impl<T: Predict, const N: usize> Reader<T, N> {
@@ -77,7 +79,7 @@ impl<T: Predict, const N: usize> Reader<T, N> {
     {
         let first = table.start(Side2::Client, Level::L0);
         let asked_before = table.asked();
-        let mut stack = ArrayVec::new();
+        let mut stack = Symbols::new(Symbol::closing());
         stack.push(first);
         Reader {
             table,
@@ -111,6 +113,7 @@ impl<T: Predict, const N: usize> Reader<T, N> {
     }
 
     /// Reads a token. A message has at most 32,767; `is_full` is the test.
+    #[inline(never)]
     pub fn push(&mut self, token: Token)
         requires room { tokens_read self.old < 32767 }
         requires unfinished { self.old.finished ≡ false }
@@ -121,6 +124,7 @@ impl<T: Predict, const N: usize> Reader<T, N> {
         ensures words { T.words self.new.table ≡ T.words self.old.table }
         ensures depth { self.new.max_depth ≡ self.old.max_depth }
         ensures base { self.new.asked_before ≡ self.old.asked_before }
+        ensures raised { IsRaised 4 (T.asked self.old.table) (T.asked self.new.table) }
         ensures unasked { IsSettled self.old → self.new.table ≡ self.old.table }
         ensures unfinished { self.new.finished ≡ false }
     {
@@ -142,6 +146,48 @@ impl<T: Predict, const N: usize> Reader<T, N> {
         self.place = Some(index);
     }
 
+    /// Reads what has come of a body so far: the tokens that were not read yet, each once and in their
+    /// order. The body begins with the bytes that were read before; a token is two bytes, high byte
+    /// first, and an odd byte at the end waits for its other half. With no whole token more nothing
+    /// changes. A body has at most 65,534 bytes.
+    pub fn read(&mut self, body: &[u8])
+        requires unfinished { self.old.finished ≡ false }
+        requires read_before { 2 * tokens_read self.old ≤ length body.now }
+        requires room { length body.now ≤ 65534 }
+        ensures stands_after { (words : Words) (first : Sym) (max_depth : ℕ) →
+            StandsAfter T.Predict words first max_depth self.old
+            (tokens_of (take (2 * tokens_read self.old) body.now)) →
+            StandsAfter T.Predict words first max_depth self.new (tokens_of body.now) }
+        ensures unchanged { tokens_read self.old ≡ length body.now / 2 → self.new ≡ self.old }
+        ensures tokens { tokens_read self.new ≡ length body.now / 2 }
+        ensures words { T.words self.new.table ≡ T.words self.old.table }
+        ensures depth { self.new.max_depth ≡ self.old.max_depth }
+        ensures base { self.new.asked_before ≡ self.old.asked_before }
+        ensures raised { IsRaised (4 * (length body.now / 2 - tokens_read self.old)) (T.asked self.old.table)
+            (T.asked self.new.table) }
+        ensures unfinished { self.new.finished ≡ false }
+    {
+        let read = self.outline.tokens as usize;
+        if read == body.len() / 2 {
+            return;
+        }
+        self.outline = self.outline.on(body);
+        if self.outline.is_prn {
+            self.stack.clear();
+            return;
+        }
+        if self.place.is_some() {
+            self.unclosed = count_from(self.unclosed, body, read);
+            return;
+        }
+        let open = self.unclosed.unwrap_or(0);
+        let reached = self
+            .stack
+            .run(&mut self.table, body, read, open, self.max_depth);
+        self.place = reached.place;
+        self.unclosed = count_from(reached.unclosed, body, reached.tokens);
+    }
+
     /// Ends the message, and says what becomes of it. Unpaired brackets are answered first, then the
     /// place of the first fault.
     pub fn finish(&mut self) -> Verdict
@@ -155,6 +201,7 @@ impl<T: Predict, const N: usize> Reader<T, N> {
         ensures words { T.words self.new.table ≡ T.words self.old.table }
         ensures depth { self.new.max_depth ≡ self.old.max_depth }
         ensures base { self.new.asked_before ≡ self.old.asked_before }
+        ensures raised { IsRaised 4 (T.asked self.old.table) (T.asked self.new.table) }
         ensures unasked { IsSettled self.old ⊎ (result ≡ Prn) → self.new.table ≡ self.old.table }
         ensures finished { self.new.finished ≡ true }
     {
@@ -175,6 +222,13 @@ impl<T: Predict, const N: usize> Reader<T, N> {
             return Verdict::Huh(self.outline.tokens);
         }
         Verdict::Relay
+    }
+
+    /// How many tokens were read since the last `start`.
+    pub fn tokens(&self) -> usize
+        ensures { result ≡ tokens_read self.now }
+    {
+        self.outline.tokens as usize
     }
 
     /// Whether as many tokens were read as a message may have.
@@ -198,6 +252,7 @@ impl<T: Predict, const N: usize> Reader<T, N> {
     pub fn entries(&self) -> usize
         ensures exact { result ≡ length self.now.stack }
         ensures few { result ≤ 8 * brackets_open self.now + 16 }
+        ensures at_most { result ≤ 8 * self.now.max_depth + 16 }
         ensures entries { (words : Words) (first : Sym) (max_depth : ℕ) (p : List ℕ) →
             StandsAfter T.Predict words first max_depth self.now p → result ≤ 8 * open_brackets p + 16 }
         ensures empty_once_placed { IsSome self.now.place → result ≡ 0 }
@@ -212,7 +267,8 @@ impl<T: Predict, const N: usize> Reader<T, N> {
         &self.table
     }
 
-    /// The table's answers so far, modulo 2^64. `push` and `finish` alone raise it.
+    /// The table's answers so far, modulo 2^64. `push`, `read` and `finish` alone raise it, by at most
+    /// four for each token and at the end.
     pub fn total(&self) -> u64
         ensures { result ≡ T.asked self.now.table }
     {

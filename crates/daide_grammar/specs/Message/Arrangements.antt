@@ -1,10 +1,12 @@
 -- Arrangements, which press proposes, and facts, which press states. At which level a form enters is our own reading.
 use Rattle.std.specs.Prelude.{true, false, nat_le}
-use Rattle.daide_token.specs.declared.class.Class.TheVariants.{Aly, And, Dmz, Drw, Not, Occ, Orr, Pce, Qry, Scd, Slo, Vss, Xdo}
+use Rattle.daide_token.specs.declared.class.Class.TheVariants.{Aly, And, Dmz, Drw, Not, Occ, Orr, Pce}
+use Rattle.daide_token.specs.declared.class.Class.TheVariants.{Qry, Scd, Slo, Vss, Xdo}
 use Rattle.daide_grammar.specs.declared.level.Level.{Level}
 use Rattle.daide_grammar.specs.declared.level.Level.TheVariants.{L20, L30, L40, L60}
 use Rattle.daide_grammar.specs.Level.{level_number}
-use Rattle.daide_grammar.specs.Forms.{Arrangement_slot, Flat_slot, Arrangement_name, Flat_name, Fact_name, Added, Form, ◌·◌, ◌∣◌, many, group, named, tok, some, maybe, from}
+use Rattle.daide_grammar.specs.Forms.{Arrangement_slot, Flat_slot, Arrangement_name, Flat_name, Fact_name, Added}
+use Rattle.daide_grammar.specs.Forms.{Form, ◌·◌, ◌∣◌, many, group, named, tok, some, maybe, from}
 use Rattle.daide_grammar.specs.Message.Lists.{power, province}
 use Rattle.daide_grammar.specs.Message.Places.{unit}
 use Rattle.daide_grammar.specs.Message.Orders.{order}

@@ -1,5 +1,7 @@
 -- What a client says: requests, replies and the report HUH. (The report PRN stands in Message.)
-use Rattle.daide_token.specs.declared.class.Class.TheVariants.{Adm, Gof, Hlo, Hst, Huh, Iam, Lod, Map, Mdf, Mis, Nme, Not, Now, Num, Obs, Ord, Rej, Sco, Sub, Sve, Tme, Yes}
+use Rattle.daide_token.specs.declared.class.Class.TheVariants.{Adm, Gof, Hlo, Hst, Huh, Iam, Lod, Map, Mdf}
+use Rattle.daide_token.specs.declared.class.Class.TheVariants.{Mis, Nme, Not, Now, Num, Obs, Ord, Rej, Sco}
+use Rattle.daide_token.specs.declared.class.Class.TheVariants.{Sub, Sve, Tme, Yes}
 use Rattle.daide_grammar.specs.declared.level.Level.{Level}
 use Rattle.daide_grammar.specs.declared.level.Level.TheVariants.{L10}
 use Rattle.daide_grammar.specs.Forms.{Request_name, Form, ◌·◌, ◌∣◌, many, group, named, tok, maybe, from}

@@ -1,8 +1,10 @@
 -- Press, and how a client sends it. At which level a form enters is our own reading.
-use Rattle.daide_token.specs.declared.class.Class.TheVariants.{Bwx, Fct, Huh, Idk, Ins, Prp, Qry, Rej, Snd, Sry, Sug, Thk, Try, Yes}
+use Rattle.daide_token.specs.declared.class.Class.TheVariants.{Bwx, Fct, Huh, Idk, Ins, Prp, Qry, Rej, Snd}
+use Rattle.daide_token.specs.declared.class.Class.TheVariants.{Sry, Sug, Thk, Try, Yes}
 use Rattle.daide_grammar.specs.declared.level.Level.{Level}
 use Rattle.daide_grammar.specs.declared.level.Level.TheVariants.{L60}
-use Rattle.daide_grammar.specs.Forms.{Press_slot, Press_name, Send_name, Added, Form, ◌·◌, ◌∣◌, group, named, tok, some, maybe, from}
+use Rattle.daide_grammar.specs.Forms.{Press_slot, Press_name, Send_name, Added, Form, ◌·◌, ◌∣◌}
+use Rattle.daide_grammar.specs.Forms.{group, named, tok, some, maybe, from}
 use Rattle.daide_grammar.specs.Message.Lists.{power, turn, words, any}
 use Rattle.daide_grammar.specs.Message.Arrangements.{arrangement, fact}
 

@@ -1,5 +1,8 @@
 -- What a server says, and the report HUH. (The report PRN stands in Message.)
-use Rattle.daide_token.specs.declared.class.Class.TheVariants.{Adm, Ccd, Coast, Flt, Frm, Hlo, Lod, Lvl, Map, Mdf, Mis, Mrt, Not, Note, Now, Num, Off, Ord, Out, Outcome, Param, Rej, Sco, Slo, Smr, Sve, Thx, Tme, Uno, Yes}
+use Rattle.daide_token.specs.declared.class.Class.TheVariants.{Adm, Ccd, Coast, Flt, Frm, Hlo, Lod, Lvl, Map}
+use Rattle.daide_token.specs.declared.class.Class.TheVariants.{Mdf, Mis, Mrt, Not, Note, Now, Num, Off, Ord}
+use Rattle.daide_token.specs.declared.class.Class.TheVariants.{Out, Outcome, Param, Rej, Sco, Slo, Smr, Sve}
+use Rattle.daide_token.specs.declared.class.Class.TheVariants.{Thx, Tme, Uno, Yes}
 use Rattle.daide_grammar.specs.declared.level.Level.{Level}
 use Rattle.daide_grammar.specs.declared.level.Level.TheVariants.{L10}
 use Rattle.daide_grammar.specs.Forms.{Form, ◌·◌, ◌∣◌, many, group, tok, some, maybe, from}

@@ -12,7 +12,7 @@ use Rattle.daide_grammar.specs.Forms.{Kind, is, any_word, accepts, Slot, Press_s
 use Rattle.daide_grammar.specs.Matches.{rule, Matches, by_name, MatchAll}
 use Rattle.daide_grammar.specs.Symbols.{form_of, Entry, entries, this_or, entry_at, forms, may_end_of, slot_of, answer_by, table_answer}
 use Rattle.daide_grammar.specs.Answers.{Take, Skip, Stop}
-use Rattle.daide_grammar.specs.Messages.{SymbolMatchesIn}
+use Rattle.daide_grammar.specs.SideMessages.{SymbolMatchesIn}
 use Rattle.daide_grammar.specs.Proved.Reading.{Reads, Head, starts, ends, unopened, HeadReads, heads, heads-cover, heads-sound, Some-of, Some-first, Some-second, Some-split, MatchAll_from_Reads, Reads_from_MatchAll}
 use Rattle.daide_grammar.specs.Proved.Alternatives.{same_level, same_level-means, same_kind, same_kind-sound, parts_all, parts_all-cover, parts_all-sound, covers, covers-sound, both-pass, either-passes, alone, unalone}
 use Rattle.daide_grammar.specs.Proved.RightEntries.{after, apart, all_apart, is_added, same_slot, added_right, if_same, known, entry_right, is_end, right_by, right, all_right}
@@ -62,7 +62,7 @@ not-both false e h = cc
 -- a class is accepted where one of its number is
 pub accepts-like : (k : Kind) (c d : Class) → class_number c ≡ class_number d → accepts k c ≡ accepts k d
 accepts-like (is a) c d e = ap (nat_eq (class_number a)) e
-accepts-like any_word c d e = ap (λ n. not (nat_eq 1 n) && not (nat_eq 2 n)) e
+accepts-like any_word c d e = ap (λ n. not (nat_eq 0 n) && not (nat_eq 1 n)) e
 
 -- kinds that are apart accept no class in common
 pub apart-sound : (k m : Kind) (c : Class) → apart k m ≡ true → IsTrue (accepts k c) → IsTrue (accepts m c) → ⊥

@@ -10,7 +10,7 @@ use Rattle.daide_grammar.specs.Classes.{class_number}
 use Rattle.daide_grammar.specs.Forms.{Kind, is, any_word, accepts, Form, Dialect}
 use Rattle.daide_grammar.specs.Matches.{MatchAll}
 use Rattle.daide_grammar.specs.Symbols.{form_of, Entry, entries, entry_at, this_or, forms, may_end_of, slot_of}
-use Rattle.daide_grammar.specs.Messages.{SymbolMatchesIn}
+use Rattle.daide_grammar.specs.SideMessages.{SymbolMatchesIn}
 use Rattle.daide_grammar.specs.Proved.Alternatives.{both-pass, MatchAll-split}
 use Rattle.daide_grammar.specs.Proved.MovesAgree.{Proper, IsStandard, standard-no-word, AllMatchIn, entry-law, may_end-law}
 

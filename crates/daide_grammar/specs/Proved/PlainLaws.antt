@@ -7,7 +7,7 @@ use Rattle.daide_token.specs.ClassLaws.{class_bra, class_ket, class_of-bra, clas
 use Rattle.daide_grammar.specs.declared.side.Side2.{Side2}
 use Rattle.daide_grammar.specs.declared.level.Level.{Level}
 use Rattle.daide_grammar.specs.Symbols.{slot_of, may_end_of, table_answer, opening_of}
-use Rattle.daide_grammar.specs.Messages.{standard, SymbolMatches}
+use Rattle.daide_grammar.specs.SideMessages.{standard, SymbolMatches}
 use Rattle.daide_grammar.specs.LawfulStack.{IsLawful, opening}
 use Rattle.daide_grammar.specs.Laws.{PredictLaws}
 use Rattle.daide_grammar.specs.Proved.StandardDialect.{standard-proper, standard-words}

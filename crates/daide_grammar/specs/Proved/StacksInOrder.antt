@@ -78,12 +78,12 @@ all_ordered _ = refl
 -- ---- the entries keep the order
 
 -- the classes of the brackets are known by their numbers
-pub number-Bra : (c : Class) → class_number c ≡ 1 → c ≡ Bra
+pub number-Bra : (c : Class) → class_number c ≡ 0 → c ≡ Bra
 number-Bra Bra e = refl
 number-Bra (Word k) e = absurd (omega arith)
 number-Bra _ e = cc
 
-pub number-Ket : (c : Class) → class_number c ≡ 2 → c ≡ Ket
+pub number-Ket : (c : Class) → class_number c ≡ 1 → c ≡ Ket
 number-Ket Ket e = refl
 number-Ket (Word k) e = absurd (omega arith)
 number-Ket _ e = cc
@@ -164,7 +164,7 @@ sized-Bra any_word xs ys h e = cc
 
 pub sized-Ket : (k : Kind) (xs ys : List ℕ) → accepts k Ket ≡ true → sized k xs ys ≡ true → fits_tail xs ys ≡ true
 unfolding sized
-sized-Ket (is c) xs ys h e = subst (λ (m : ℕ). sized_by (nat_eq m 1) (nat_eq m 2) xs ys ≡ true) (eqb-true (class_number c) 2 h) e
+sized-Ket (is c) xs ys h e = subst (λ (m : ℕ). sized_by (nat_eq m 0) (nat_eq m 1) xs ys ≡ true) (eqb-true (class_number c) 1 h) e
 sized-Ket any_word xs ys h e = cc
 
 -- a test that doesn't pass
@@ -176,8 +176,8 @@ pub sized-word : (k : Kind) (c : Class) (xs ys : List ℕ) → c ≢ Bra → c �
 unfolding sized
 sized-word (is d) c xs ys b n h e =
     let same = eqb-true (class_number d) (class_number c) h in
-    let p : same_class d Bra ≡ false = not-so (same_class d Bra) (λ t. b (number-Bra c (sym same ∙ eqb-true (class_number d) 1 t))) in
-    let q : same_class d Ket ≡ false = not-so (same_class d Ket) (λ t. n (number-Ket c (sym same ∙ eqb-true (class_number d) 2 t))) in
+    let p : same_class d Bra ≡ false = not-so (same_class d Bra) (λ t. b (number-Bra c (sym same ∙ eqb-true (class_number d) 0 t))) in
+    let q : same_class d Ket ≡ false = not-so (same_class d Ket) (λ t. n (number-Ket c (sym same ∙ eqb-true (class_number d) 1 t))) in
     subst (λ (x : Bool). sized_by false x xs ys ≡ true) q (subst (λ (x : Bool). sized_by x (same_class d Ket) xs ys ≡ true) p e)
 sized-word any_word c xs ys b n h e = e
 
@@ -236,7 +236,7 @@ closed-by false e = refl
 -- a closing bracket's symbol takes nothing else
 table-closes : (c : Class) → c ≢ Ket → table_answer Closing c ≡ Stop
 unfolding table_answer entries may_end_of
-table-closes c n = closed-by (same_class Ket c) (not-so (same_class Ket c) (λ t. n (number-Ket c (sym (eqb-true 2 (class_number c) t)))))
+table-closes c n = closed-by (same_class Ket c) (not-so (same_class Ket c) (λ t. n (number-Ket c (sym (eqb-true 1 (class_number c) t)))))
 
 pub table-moves : GoodMoves table_answer
 table-moves = record { take = table-take; skips = skip-ends; closes = table-closes }

@@ -7,7 +7,7 @@ use Rattle.daide_token.specs.ClassLaws.{class_of-token_of}
 use Rattle.daide_grammar.specs.declared.level.Level.{Level}
 use Rattle.daide_grammar.specs.Classes.{class_number}
 use Rattle.daide_grammar.specs.Forms.{Slot}
-use Rattle.daide_grammar.specs.Messages.{standard}
+use Rattle.daide_grammar.specs.SideMessages.{standard}
 use Rattle.daide_grammar.specs.Proved.MovesAgree.{Proper, NoWord}
 
 -- the classes with a number below 79 are those of tokens

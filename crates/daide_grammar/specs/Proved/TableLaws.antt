@@ -8,7 +8,7 @@ use Rattle.daide_grammar.specs.Stacks.{StackMatches}
 use Rattle.daide_grammar.specs.LawfulStack.{IsLawful, word, skip}
 use Rattle.daide_grammar.specs.Laws.{PredictLaws}
 use Rattle.daide_token.specs.Token.{bra, ket}
-use Rattle.daide_grammar.specs.Messages.{SymbolMatchesIn}
+use Rattle.daide_grammar.specs.SideMessages.{SymbolMatchesIn}
 use Rattle.daide_grammar.specs.Proved.MovesAgree.{Proper, NoWord, AllMatchIn, take-law, skip-law, stop-law, may_end-law}
 use Rattle.daide_grammar.specs.Proved.StacksInOrder.{table-moves}
 use Rattle.daide_grammar.specs.Proved.StacksStaySmall.{Lawful-short, Lawful-apart, Lawful-open, Lawful-close, Lawful-skips, Lawful-ends}

@@ -5,73 +5,77 @@ ghost use Rattle.std.specs.Prelude.{◌≡◌};
 ghost use Rattle.daide_grammar.specs.Answers.{answer_of};
 ghost use Rattle.daide_grammar.specs.Symbols.{table_answer};
 
-use crate::predict::{Move, Rest};
+use crate::meaning::{Meaning, Rest};
 use crate::symbol::Sym;
 use daide_token::class::Class;
 
 /// A province, or a province and a coast in brackets.
 #[inline(always)]
-pub fn one_place(class: Class) -> Move
+pub fn one_place(class: Class) -> Meaning
     ensures { answer_of result ≡ table_answer Sym.OnePlace class }
 {
     match class {
-        Class::Province => Move::Take(Rest::of([])),
-        Class::Bra => Move::Take(Rest::of([Sym::OneProvince, Sym::OneCoast, Sym::Closing])),
-        _ => Move::Stop,
+        Class::Province => Meaning::Take(Rest::of([])),
+        Class::Bra => Meaning::Take(Rest::of([Sym::OneProvince, Sym::OneCoast, Sym::Closing])),
+        _ => Meaning::Stop,
     }
 }
 
 /// Places, none or more.
 #[inline(always)]
-pub fn places(class: Class) -> Move
+pub fn places(class: Class) -> Meaning
     ensures { answer_of result ≡ table_answer Sym.Places class }
 {
     match class {
-        Class::Province => Move::Take(Rest::of([Sym::Places])),
-        Class::Bra => Move::Take(Rest::of([
+        Class::Province => Meaning::Take(Rest::of([Sym::Places])),
+        Class::Bra => Meaning::Take(Rest::of([
             Sym::OneProvince,
             Sym::OneCoast,
             Sym::Closing,
             Sym::Places,
         ])),
-        _ => Move::Skip,
+        _ => Meaning::Skip,
     }
 }
 
 /// An army or a fleet.
 #[inline(always)]
-pub fn unit_type(class: Class) -> Move
+pub fn unit_type(class: Class) -> Meaning
     ensures { answer_of result ≡ table_answer Sym.UnitType class }
 {
     match class {
-        Class::Amy | Class::Flt => Move::Take(Rest::of([])),
-        _ => Move::Stop,
+        Class::Amy | Class::Flt => Meaning::Take(Rest::of([])),
+        _ => Meaning::Stop,
     }
 }
 
 /// A unit in brackets and what it shall do, or a power that waives a build.
 #[inline(always)]
-pub fn one_order(class: Class) -> Move
+pub fn one_order(class: Class) -> Meaning
     ensures { answer_of result ≡ table_answer Sym.OneOrder class }
 {
     match class {
-        Class::Bra => Move::Take(Rest::of([Sym::OneUnit, Sym::Closing, Sym::OrderTail])),
-        Class::Power => Move::Take(Rest::of([Sym::Waived])),
-        _ => Move::Stop,
+        Class::Bra => Meaning::Take(Rest::of([Sym::OneUnit, Sym::Closing, Sym::OrderTail])),
+        Class::Power => Meaning::Take(Rest::of([Sym::Waived])),
+        _ => Meaning::Stop,
     }
 }
 
 /// What a unit shall do. The target of a supported move is a province and no coast.
 #[inline(always)]
-pub fn order_tail(class: Class) -> Move
+pub fn order_tail(class: Class) -> Meaning
     ensures { answer_of result ≡ table_answer Sym.OrderTail class }
 {
     match class {
-        Class::Hld | Class::Dsb | Class::Bld | Class::Rem => Move::Take(Rest::of([])),
-        Class::Mto | Class::Rto => Move::Take(Rest::of([Sym::OnePlace])),
-        Class::Sup => Move::Take(Rest::of([Sym::UnitGroup, Sym::SupportTail])),
-        Class::Cvy => Move::Take(Rest::of([Sym::UnitGroup, Sym::ConvoyTo, Sym::OneProvince])),
-        Class::Cto => Move::Take(Rest::of([Sym::OneProvince, Sym::Through, Sym::ProvincesGroup])),
-        _ => Move::Stop,
+        Class::Hld | Class::Dsb | Class::Bld | Class::Rem => Meaning::Take(Rest::of([])),
+        Class::Mto | Class::Rto => Meaning::Take(Rest::of([Sym::OnePlace])),
+        Class::Sup => Meaning::Take(Rest::of([Sym::UnitGroup, Sym::SupportTail])),
+        Class::Cvy => Meaning::Take(Rest::of([Sym::UnitGroup, Sym::ConvoyTo, Sym::OneProvince])),
+        Class::Cto => Meaning::Take(Rest::of([
+            Sym::OneProvince,
+            Sym::Through,
+            Sym::ProvincesGroup,
+        ])),
+        _ => Meaning::Stop,
     }
 }

@@ -7,7 +7,7 @@ ghost use Rattle.daide_grammar.specs.Answers.{Take, answer_of};
 ghost use Rattle.daide_grammar.specs.Symbols.{answer_by, entry_at, simple_entries, table_answer};
 
 use crate::level::Level;
-use crate::predict::{Move, Rest};
+use crate::meaning::{Meaning, Rest};
 use crate::symbol::Sym;
 use daide_token::class::Class;
 
@@ -15,35 +15,38 @@ use daide_token::class::Class;
 //
 // It stands in line in its callers, so that the first token of an arrangement costs no call.
 #[inline(always)]
-fn simple(level: Level, inside: Sym, class: Class) -> Move
+fn simple(level: Level, inside: Sym, class: Class) -> Meaning
     ensures { answer_of result ≡ answer_by (entry_at class (simple_entries level inside)) false }
 {
     match class {
-        Class::Pce => Move::Take(Rest::of([Sym::PowersGroup])),
-        Class::Aly => Move::Take(Rest::of([Sym::PowersGroup, Sym::Against, Sym::PowersGroup])),
-        Class::Drw => Move::Take(Rest::of([Sym::MaybePowersGroup])),
-        Class::Slo => Move::Take(Rest::of([Sym::PowerGroup])),
-        Class::Not => Move::Take(Rest::of([inside])),
-        Class::Xdo if level.number() >= 20 => Move::Take(Rest::of([Sym::OrderGroup])),
-        Class::Dmz if level.number() >= 20 => Move::Take(Rest::of([
+        Class::Pce => Meaning::Take(Rest::of([Sym::PowersGroup])),
+        Class::Aly => Meaning::Take(Rest::of([Sym::PowersGroup, Sym::Against, Sym::PowersGroup])),
+        Class::Drw => Meaning::Take(Rest::of([Sym::MaybePowersGroup])),
+        Class::Slo => Meaning::Take(Rest::of([Sym::PowerGroup])),
+        Class::Not => Meaning::Take(Rest::of([inside])),
+        Class::Xdo if level.number() >= 20 => Meaning::Take(Rest::of([Sym::OrderGroup])),
+        Class::Dmz if level.number() >= 20 => Meaning::Take(Rest::of([
             Sym::PowersGroup,
             Sym::ProvincesGroup,
         ])),
-        Class::Scd if level.number() >= 40 => Move::Take(Rest::of([Sym::ShareGroup, Sym::Shares])),
-        Class::Occ if level.number() >= 40 => Move::Take(Rest::of([
+        Class::Scd if level.number() >= 40 => Meaning::Take(Rest::of([
+            Sym::ShareGroup,
+            Sym::Shares,
+        ])),
+        Class::Occ if level.number() >= 40 => Meaning::Take(Rest::of([
             Sym::UnitGroup,
             Sym::UnitGroups,
         ])),
-        _ => Move::Stop,
+        _ => Meaning::Stop,
     }
 }
 
 /// What follows AND and ORR: two operands at least.
 #[inline(always)]
-fn joined(level: Level) -> Move
+fn joined(level: Level) -> Meaning
     ensures { answer_of result ≡ Take (OperandGroup level ∷ OperandGroup level ∷ Operands level ∷ []) }
 {
-    Move::Take(Rest::of([
+    Meaning::Take(Rest::of([
         Sym::OperandGroup(level),
         Sym::OperandGroup(level),
         Sym::Operands(level),
@@ -52,7 +55,7 @@ fn joined(level: Level) -> Move
 
 /// An arrangement. AND and ORR come from level 30 on.
 #[inline(always)]
-pub fn arrangement(level: Level, class: Class) -> Move
+pub fn arrangement(level: Level, class: Class) -> Meaning
     ensures { answer_of result ≡ table_answer (Sym.Arrangement level) class }
 {
     match class {
@@ -63,7 +66,7 @@ pub fn arrangement(level: Level, class: Class) -> Move
 
 /// What AND and ORR join: an AND or ORR among them only from level 50 on, at any depth of NOT.
 #[inline(always)]
-pub fn operand(level: Level, class: Class) -> Move
+pub fn operand(level: Level, class: Class) -> Meaning
     ensures { answer_of result ≡ table_answer (Sym.Operand level) class }
 {
     match class {
@@ -74,65 +77,71 @@ pub fn operand(level: Level, class: Class) -> Move
 
 /// A fact: an arrangement, and at level 60 also a query and the negation of a fact.
 #[inline(always)]
-pub fn fact(level: Level, class: Class) -> Move
+pub fn fact(level: Level, class: Class) -> Meaning
     ensures { answer_of result ≡ table_answer (Sym.Fact level) class }
 {
     match class {
-        Class::Not if level.number() >= 60 => Move::Take(Rest::of([Sym::FactGroup(level)])),
-        Class::Qry if level.number() >= 60 => Move::Take(Rest::of([Sym::ArrangementGroup(level)])),
+        Class::Not if level.number() >= 60 => Meaning::Take(Rest::of([Sym::FactGroup(level)])),
+        Class::Qry if level.number() >= 60 => Meaning::Take(Rest::of([Sym::ArrangementGroup(
+            level,
+        )])),
         _ => arrangement(level, class),
     }
 }
 
 /// A press: what is said, and at level 60 also what is asked, insisted on and believed.
 #[inline(always)]
-pub fn press(level: Level, class: Class) -> Move
+pub fn press(level: Level, class: Class) -> Meaning
     ensures { answer_of result ≡ table_answer (Sym.Press level) class }
 {
     match class {
-        Class::Prp => Move::Take(Rest::of([Sym::ArrangementGroup(level)])),
-        Class::Fct => Move::Take(Rest::of([Sym::FactGroup(level)])),
-        Class::Try => Move::Take(Rest::of([Sym::WordsGroup])),
-        Class::Yes | Class::Rej | Class::Bwx => Move::Take(Rest::of([Sym::PressGroup(level)])),
-        Class::Huh => Move::Take(Rest::of([Sym::AnyGroup])),
+        Class::Prp => Meaning::Take(Rest::of([Sym::ArrangementGroup(level)])),
+        Class::Fct => Meaning::Take(Rest::of([Sym::FactGroup(level)])),
+        Class::Try => Meaning::Take(Rest::of([Sym::WordsGroup])),
+        Class::Yes | Class::Rej | Class::Bwx => Meaning::Take(Rest::of([Sym::PressGroup(level)])),
+        Class::Huh => Meaning::Take(Rest::of([Sym::AnyGroup])),
         Class::Ins | Class::Qry | Class::Sug if level.number() >= 60 => {
-            Move::Take(Rest::of([Sym::ArrangementGroup(level)]))
+            Meaning::Take(Rest::of([Sym::ArrangementGroup(level)]))
         }
-        Class::Thk if level.number() >= 60 => Move::Take(Rest::of([Sym::FactGroup(level)])),
-        Class::Idk | Class::Sry if level.number() >= 60 => Move::Take(Rest::of([Sym::PressGroup(
+        Class::Thk if level.number() >= 60 => Meaning::Take(Rest::of([Sym::FactGroup(level)])),
+        Class::Idk | Class::Sry if level.number() >= 60 => Meaning::Take(Rest::of([Sym::PressGroup(
             level,
         )])),
-        _ => Move::Stop,
+        _ => Meaning::Stop,
     }
 }
 
 /// A send in brackets, which may stand from level 10 on.
 #[inline(always)]
-pub fn maybe_send_group(level: Level, class: Class) -> Move
+pub fn maybe_send_group(level: Level, class: Class) -> Meaning
     ensures { answer_of result ≡ table_answer (Sym.MaybeSendGroup level) class }
 {
     match class {
-        Class::Bra if level.number() >= 10 => Move::Take(Rest::of([
+        Class::Bra if level.number() >= 10 => Meaning::Take(Rest::of([
             Sym::Send(level),
             Sym::Closing,
         ])),
-        _ => Move::Skip,
+        _ => Meaning::Skip,
     }
 }
 
 /// What follows the first bracket of a send: its turn, or already the powers.
 #[inline(always)]
-pub fn send_first(level: Level, class: Class) -> Move
+pub fn send_first(level: Level, class: Class) -> Meaning
     ensures { answer_of result ≡ table_answer (Sym.SendFirst level) class }
 {
     match class {
-        Class::Season => Move::Take(Rest::of([
+        Class::Season => Meaning::Take(Rest::of([
             Sym::OneNumber,
             Sym::Closing,
             Sym::PowersGroup,
             Sym::PressGroup(level),
         ])),
-        Class::Power => Move::Take(Rest::of([Sym::Powers, Sym::Closing, Sym::PressGroup(level)])),
-        _ => Move::Stop,
+        Class::Power => Meaning::Take(Rest::of([
+            Sym::Powers,
+            Sym::Closing,
+            Sym::PressGroup(level),
+        ])),
+        _ => Meaning::Stop,
     }
 }

@@ -6,105 +6,107 @@ ghost use Rattle.daide_grammar.specs.Answers.{answer_of};
 ghost use Rattle.daide_grammar.specs.Symbols.{table_answer};
 
 use crate::level::Level;
-use crate::predict::{Move, Rest};
+use crate::meaning::{Meaning, Rest};
 use crate::symbol::Sym;
 use daide_token::class::Class;
 
 /// Words: any tokens but the brackets.
 #[inline(always)]
-pub fn word_list(class: Class) -> Move
+pub fn word_list(class: Class) -> Meaning
     ensures { answer_of result ≡ table_answer Sym.WordList class }
 {
     match class {
-        Class::Bra | Class::Ket => Move::Skip,
-        _ => Move::Take(Rest::of([Sym::WordList])),
+        Class::Bra | Class::Ket => Meaning::Skip,
+        _ => Meaning::Take(Rest::of([Sym::WordList])),
     }
 }
 
 /// Any tokens whose brackets balance.
 #[inline(always)]
-pub fn any(class: Class) -> Move
+pub fn any(class: Class) -> Meaning
     ensures { answer_of result ≡ table_answer Sym.Any class }
 {
     match class {
-        Class::Bra => Move::Take(Rest::of([Sym::Any, Sym::Closing, Sym::Any])),
-        Class::Ket => Move::Skip,
-        _ => Move::Take(Rest::of([Sym::Any])),
+        Class::Bra => Meaning::Take(Rest::of([Sym::Any, Sym::Closing, Sym::Any])),
+        Class::Ket => Meaning::Skip,
+        _ => Meaning::Take(Rest::of([Sym::Any])),
     }
 }
 
 /// A client request. Press is sent from level 10 on.
 #[inline(always)]
-pub fn request(level: Level, class: Class) -> Move
+pub fn request(level: Level, class: Class) -> Meaning
     ensures { answer_of result ≡ table_answer (Sym.Request level) class }
 {
     match class {
-        Class::Nme | Class::Adm => Move::Take(Rest::of([Sym::TextGroup, Sym::TextGroup])),
-        Class::Iam => Move::Take(Rest::of([Sym::PowerGroup, Sym::NumberGroup])),
-        Class::Obs | Class::Hlo | Class::Map | Class::Mdf | Class::Sco => Move::Take(Rest::of([])),
-        Class::Now | Class::Ord | Class::Mis | Class::Gof => Move::Take(Rest::of([])),
-        Class::Hst => Move::Take(Rest::of([Sym::TurnGroup])),
-        Class::Sub => Move::Take(Rest::of([Sym::SubmitTail])),
-        Class::Tme => Move::Take(Rest::of([Sym::MaybeNumberGroup])),
-        Class::Drw => Move::Take(Rest::of([Sym::MaybePowersGroup])),
-        Class::Not => Move::Take(Rest::of([Sym::CancelGroup])),
-        Class::Snd if level.number() >= 10 => Move::Take(Rest::of([Sym::SendTail(level)])),
-        _ => Move::Stop,
+        Class::Nme | Class::Adm => Meaning::Take(Rest::of([Sym::TextGroup, Sym::TextGroup])),
+        Class::Iam => Meaning::Take(Rest::of([Sym::PowerGroup, Sym::NumberGroup])),
+        Class::Obs | Class::Hlo | Class::Map | Class::Mdf | Class::Sco => Meaning::Take(Rest::of(
+            [],
+        )),
+        Class::Now | Class::Ord | Class::Mis | Class::Gof => Meaning::Take(Rest::of([])),
+        Class::Hst => Meaning::Take(Rest::of([Sym::TurnGroup])),
+        Class::Sub => Meaning::Take(Rest::of([Sym::SubmitTail])),
+        Class::Tme => Meaning::Take(Rest::of([Sym::MaybeNumberGroup])),
+        Class::Drw => Meaning::Take(Rest::of([Sym::MaybePowersGroup])),
+        Class::Not => Meaning::Take(Rest::of([Sym::CancelGroup])),
+        Class::Snd if level.number() >= 10 => Meaning::Take(Rest::of([Sym::SendTail(level)])),
+        _ => Meaning::Stop,
     }
 }
 
 /// A client's message: a request, a reply, or the report HUH.
 #[inline(always)]
-pub fn client(level: Level, class: Class) -> Move
+pub fn client(level: Level, class: Class) -> Meaning
     ensures { answer_of result ≡ table_answer (Sym.Client level) class }
 {
     match class {
-        Class::Yes | Class::Rej => Move::Take(Rest::of([Sym::ReplyGroup])),
-        Class::Huh => Move::Take(Rest::of([Sym::AnyGroup])),
+        Class::Yes | Class::Rej => Meaning::Take(Rest::of([Sym::ReplyGroup])),
+        Class::Huh => Meaning::Take(Rest::of([Sym::AnyGroup])),
         _ => request(level, class),
     }
 }
 
 /// What follows the first bracket of a SUB: its turn, or already an order.
 #[inline(always)]
-pub fn submit_first(class: Class) -> Move
+pub fn submit_first(class: Class) -> Meaning
     ensures { answer_of result ≡ table_answer Sym.SubmitFirst class }
 {
     match class {
-        Class::Season => Move::Take(Rest::of([Sym::OneNumber, Sym::Closing, Sym::Orders])),
-        Class::Bra => Move::Take(Rest::of([
+        Class::Season => Meaning::Take(Rest::of([Sym::OneNumber, Sym::Closing, Sym::Orders])),
+        Class::Bra => Meaning::Take(Rest::of([
             Sym::OneUnit,
             Sym::Closing,
             Sym::OrderTail,
             Sym::Closing,
             Sym::Orders,
         ])),
-        Class::Power => Move::Take(Rest::of([Sym::Waived, Sym::Closing, Sym::Orders])),
-        _ => Move::Stop,
+        Class::Power => Meaning::Take(Rest::of([Sym::Waived, Sym::Closing, Sym::Orders])),
+        _ => Meaning::Stop,
     }
 }
 
 /// What a client may take back.
 #[inline(always)]
-pub fn cancel(class: Class) -> Move
+pub fn cancel(class: Class) -> Meaning
     ensures { answer_of result ≡ table_answer Sym.Cancel class }
 {
     match class {
-        Class::Sub => Move::Take(Rest::of([Sym::SubmitTail])),
-        Class::Gof => Move::Take(Rest::of([])),
-        Class::Tme => Move::Take(Rest::of([Sym::MaybeNumberGroup])),
-        Class::Drw => Move::Take(Rest::of([Sym::MaybePowersGroup])),
-        _ => Move::Stop,
+        Class::Sub => Meaning::Take(Rest::of([Sym::SubmitTail])),
+        Class::Gof => Meaning::Take(Rest::of([])),
+        Class::Tme => Meaning::Take(Rest::of([Sym::MaybeNumberGroup])),
+        Class::Drw => Meaning::Take(Rest::of([Sym::MaybePowersGroup])),
+        _ => Meaning::Stop,
     }
 }
 
 /// What a client says yes or no to.
 #[inline(always)]
-pub fn reply(class: Class) -> Move
+pub fn reply(class: Class) -> Meaning
     ensures { answer_of result ≡ table_answer Sym.Reply class }
 {
     match class {
-        Class::Map | Class::Sve | Class::Lod => Move::Take(Rest::of([Sym::TextGroup])),
-        _ => Move::Stop,
+        Class::Map | Class::Sve | Class::Lod => Meaning::Take(Rest::of([Sym::TextGroup])),
+        _ => Meaning::Stop,
     }
 }

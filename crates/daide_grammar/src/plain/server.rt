@@ -6,142 +6,146 @@ ghost use Rattle.daide_grammar.specs.Answers.{answer_of};
 ghost use Rattle.daide_grammar.specs.Symbols.{table_answer};
 
 use crate::level::Level;
-use crate::predict::{Move, Rest};
+use crate::meaning::{Meaning, Rest};
 use crate::symbol::Sym;
 use daide_token::class::Class;
 
 /// A server's message. CCD and OUT may hand back a send, and FRM hands on a press, from level 10 on.
 #[inline(always)]
-pub fn server(level: Level, class: Class) -> Move
+pub fn server(level: Level, class: Class) -> Meaning
     ensures { answer_of result ≡ table_answer (Sym.Server level) class }
 {
     match class {
-        Class::Map | Class::Sve | Class::Lod => Move::Take(Rest::of([Sym::TextGroup])),
-        Class::Mdf => Move::Take(Rest::of([
+        Class::Map | Class::Sve | Class::Lod => Meaning::Take(Rest::of([Sym::TextGroup])),
+        Class::Mdf => Meaning::Take(Rest::of([
             Sym::PowersGroup,
             Sym::CentresGroup,
             Sym::BordersGroup,
         ])),
-        Class::Hlo => Move::Take(Rest::of([Sym::WhoGroup, Sym::NumberGroup, Sym::ParamsGroup])),
-        Class::Sco => Move::Take(Rest::of([Sym::Owners])),
-        Class::Now => Move::Take(Rest::of([Sym::TurnGroup, Sym::Stands])),
-        Class::Thx => Move::Take(Rest::of([Sym::OrderGroup, Sym::NoteGroup])),
-        Class::Mis => Move::Take(Rest::of([Sym::MissingTail])),
-        Class::Ord => Move::Take(Rest::of([Sym::TurnGroup, Sym::OrderGroup, Sym::OutcomesGroup])),
-        Class::Tme => Move::Take(Rest::of([Sym::NumberGroup])),
-        Class::Yes | Class::Rej => Move::Take(Rest::of([Sym::RequestGroup(level)])),
-        Class::Ccd | Class::Out => Move::Take(Rest::of([
+        Class::Hlo => Meaning::Take(Rest::of([Sym::WhoGroup, Sym::NumberGroup, Sym::ParamsGroup])),
+        Class::Sco => Meaning::Take(Rest::of([Sym::Owners])),
+        Class::Now => Meaning::Take(Rest::of([Sym::TurnGroup, Sym::Stands])),
+        Class::Thx => Meaning::Take(Rest::of([Sym::OrderGroup, Sym::NoteGroup])),
+        Class::Mis => Meaning::Take(Rest::of([Sym::MissingTail])),
+        Class::Ord => Meaning::Take(Rest::of([
+            Sym::TurnGroup,
+            Sym::OrderGroup,
+            Sym::OutcomesGroup,
+        ])),
+        Class::Tme => Meaning::Take(Rest::of([Sym::NumberGroup])),
+        Class::Yes | Class::Rej => Meaning::Take(Rest::of([Sym::RequestGroup(level)])),
+        Class::Ccd | Class::Out => Meaning::Take(Rest::of([
             Sym::PowerGroup,
             Sym::MaybeSendGroup(level),
         ])),
-        Class::Not => Move::Take(Rest::of([Sym::CivilDisorderGroup])),
-        Class::Slo => Move::Take(Rest::of([Sym::PowerGroup])),
-        Class::Drw => Move::Take(Rest::of([Sym::MaybePowersGroup])),
-        Class::Off => Move::Take(Rest::of([])),
-        Class::Smr => Move::Take(Rest::of([Sym::TurnGroup, Sym::Players])),
-        Class::Adm => Move::Take(Rest::of([Sym::TextGroup, Sym::TextGroup])),
-        Class::Huh => Move::Take(Rest::of([Sym::AnyGroup])),
+        Class::Not => Meaning::Take(Rest::of([Sym::CivilDisorderGroup])),
+        Class::Slo => Meaning::Take(Rest::of([Sym::PowerGroup])),
+        Class::Drw => Meaning::Take(Rest::of([Sym::MaybePowersGroup])),
+        Class::Off => Meaning::Take(Rest::of([])),
+        Class::Smr => Meaning::Take(Rest::of([Sym::TurnGroup, Sym::Players])),
+        Class::Adm => Meaning::Take(Rest::of([Sym::TextGroup, Sym::TextGroup])),
+        Class::Huh => Meaning::Take(Rest::of([Sym::AnyGroup])),
         Class::Frm if level.number() >= 10 => {
-            Move::Take(Rest::of([Sym::PowerGroup, Sym::PowersGroup, Sym::PressGroup(level)]))
+            Meaning::Take(Rest::of([Sym::PowerGroup, Sym::PowersGroup, Sym::PressGroup(level)]))
         }
-        _ => Move::Stop,
+        _ => Meaning::Stop,
     }
 }
 
 /// Whom the server greets: a power, or nobody.
 #[inline(always)]
-pub fn who(class: Class) -> Move
+pub fn who(class: Class) -> Meaning
     ensures { answer_of result ≡ table_answer Sym.Who class }
 {
     match class {
-        Class::Power | Class::Uno => Move::Take(Rest::of([])),
-        _ => Move::Stop,
+        Class::Power | Class::Uno => Meaning::Take(Rest::of([])),
+        _ => Meaning::Stop,
     }
 }
 
 /// An option of the game.
 #[inline(always)]
-pub fn one_param(class: Class) -> Move
+pub fn one_param(class: Class) -> Meaning
     ensures { answer_of result ≡ table_answer Sym.OneParam class }
 {
     match class {
-        Class::Lvl | Class::Mrt | Class::Uno | Class::Param => Move::Take(Rest::of([
+        Class::Lvl | Class::Mrt | Class::Uno | Class::Param => Meaning::Take(Rest::of([
             Sym::MaybeNumber,
         ])),
-        _ => Move::Stop,
+        _ => Meaning::Stop,
     }
 }
 
 /// An owner, one power or several or nobody, and its supply centres.
 #[inline(always)]
-pub fn owned(class: Class) -> Move
+pub fn owned(class: Class) -> Meaning
     ensures { answer_of result ≡ table_answer Sym.Owned class }
 {
     match class {
-        Class::Power | Class::Uno => Move::Take(Rest::of([Sym::Provinces])),
-        Class::Bra => Move::Take(Rest::of([
+        Class::Power | Class::Uno => Meaning::Take(Rest::of([Sym::Provinces])),
+        Class::Bra => Meaning::Take(Rest::of([
             Sym::OnePower,
             Sym::Powers,
             Sym::Closing,
             Sym::Provinces,
         ])),
-        _ => Move::Stop,
+        _ => Meaning::Stop,
     }
 }
 
 /// A kind of unit, or a fleet at a coast, and the places where it can go.
 #[inline(always)]
-pub fn kind_places(class: Class) -> Move
+pub fn kind_places(class: Class) -> Meaning
     ensures { answer_of result ≡ table_answer Sym.KindPlaces class }
 {
     match class {
-        Class::Amy | Class::Flt => Move::Take(Rest::of([Sym::Places])),
-        Class::Bra => Move::Take(Rest::of([
+        Class::Amy | Class::Flt => Meaning::Take(Rest::of([Sym::Places])),
+        Class::Bra => Meaning::Take(Rest::of([
             Sym::OneFleet,
             Sym::OneCoast,
             Sym::Closing,
             Sym::Places,
         ])),
-        _ => Move::Stop,
+        _ => Meaning::Stop,
     }
 }
 
 /// What follows the first bracket of a MIS: a number, or already a unit.
 #[inline(always)]
-pub fn missing_first(class: Class) -> Move
+pub fn missing_first(class: Class) -> Meaning
     ensures { answer_of result ≡ table_answer Sym.MissingFirst class }
 {
     match class {
-        Class::Num => Move::Take(Rest::of([Sym::Closing])),
-        Class::Power => Move::Take(Rest::of([
+        Class::Num => Meaning::Take(Rest::of([Sym::Closing])),
+        Class::Power => Meaning::Take(Rest::of([
             Sym::UnitType,
             Sym::OnePlace,
             Sym::StandTail,
             Sym::Closing,
             Sym::Stands,
         ])),
-        _ => Move::Stop,
+        _ => Meaning::Stop,
     }
 }
 
 /// What became of an order, once more or no more.
 #[inline(always)]
-pub fn outcomes(class: Class) -> Move
+pub fn outcomes(class: Class) -> Meaning
     ensures { answer_of result ≡ table_answer Sym.Outcomes class }
 {
     match class {
-        Class::Note | Class::Outcome => Move::Take(Rest::of([Sym::Outcomes])),
-        _ => Move::Skip,
+        Class::Note | Class::Outcome => Meaning::Take(Rest::of([Sym::Outcomes])),
+        _ => Meaning::Skip,
     }
 }
 
 /// What became of an order.
 #[inline(always)]
-pub fn one_outcome(class: Class) -> Move
+pub fn one_outcome(class: Class) -> Meaning
     ensures { answer_of result ≡ table_answer Sym.OneOutcome class }
 {
     match class {
-        Class::Note | Class::Outcome => Move::Take(Rest::of([])),
-        _ => Move::Stop,
+        Class::Note | Class::Outcome => Meaning::Take(Rest::of([])),
+        _ => Meaning::Stop,
     }
 }

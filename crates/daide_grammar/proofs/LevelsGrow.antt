@@ -1,0 +1,175 @@
+-- A message of a level is one of every higher level: each rule of the higher level has the alternatives of the lower
+-- one, with forms of the higher level in the places of those of the lower one.
+use Rattle.std.proofs.Common.{◌≡◌, ◌≤◌, ℕ, Bool, true, false, nat_le, List, inl, inr, refl, arith}
+use Rattle.std.proofs.lemmas.Bool.Decides.{nat_tests}
+use Rattle.daide_grammar.specs.declared.level.Level.{Level}
+use Rattle.daide_grammar.specs.declared.level.Level.TheVariants.{L10, L20, L30, L40, L60}
+use Rattle.daide_grammar.specs.declared.side.Side2.{Side2}
+use Rattle.daide_grammar.specs.declared.side.Side2.TheVariants.{Client, ServerEnd}
+use Rattle.daide_grammar.specs.Level.{level_number}
+use Rattle.daide_grammar.specs.Forms.{Form, never, ◌·◌, ◌∣◌, many, group, named, from, Dialect}
+use Rattle.daide_grammar.specs.Forms.{Slot, Flat_slot, Arrangement_slot, Added}
+use Rattle.daide_grammar.specs.Forms.{Name, Arrangement_name, Flat_name, Fact_name, Press_name, Send_name, Request_name}
+use Rattle.daide_grammar.specs.Message.Arrangements.{operand, simple, joined}
+use Rattle.daide_grammar.specs.Message.Press.{asking_press}
+use Rattle.daide_grammar.specs.Message.Server.{press_message}
+use Rattle.daide_grammar.specs.Matches.{rule, Matches, both, first, second, no_more, one_more, bracketed, by_name}
+use Rattle.daide_grammar.specs.SideMessages.{standard, message_form, IsMessageIn, IsMessage}
+
+-- ---- forms that a higher level only widens
+
+-- the first level is not above the second
+infixl 20 ◌⊑◌
+abbrev pub ◌⊑◌ : Level → Level → Type 0
+low ⊑ high = level_number low ≤ level_number high
+
+-- a place for an operator's word that is within another
+pub data SlotWithin : Slot → Slot → Type 0 where
+  same_slot : {s : Slot} → SlotWithin s s
+  flat_slot : SlotWithin Flat_slot Arrangement_slot
+
+-- a name that stands for less than another: the same of a lower level, or a flat arrangement for any
+pub data NameWithin : Name → Name → Type 0 where
+  arrangements : {a b : Level} → a ⊑ b → NameWithin (Arrangement_name a) (Arrangement_name b)
+  flats : {a b : Level} → a ⊑ b → NameWithin (Flat_name a) (Flat_name b)
+  flat_arrangements : {a b : Level} → a ⊑ b → NameWithin (Flat_name a) (Arrangement_name b)
+  facts : {a b : Level} → a ⊑ b → NameWithin (Fact_name a) (Fact_name b)
+  presses : {a b : Level} → a ⊑ b → NameWithin (Press_name a) (Press_name b)
+  sends : {a b : Level} → a ⊑ b → NameWithin (Send_name a) (Send_name b)
+  requests : {a b : Level} → a ⊑ b → NameWithin (Request_name a) (Request_name b)
+  words : {s t : Slot} {a b : Level} → SlotWithin s t → a ⊑ b → NameWithin (Added s a) (Added t b)
+
+-- a form that is built as another, part for part, but for names that stand for less and alternatives that are missing
+infixr 60 ◌··◌
+infixr 55 ◌∣∣◌
+pub data Within : Form → Form → Type 0 where
+  same : {f : Form} → Within f f
+  missing : {f : Form} → Within never f
+  ◌··◌ : {f f' g g' : Form} → Within f f' → Within g g' → Within (f · g) (f' · g')
+  ◌∣∣◌ : {f f' g g' : Form} → Within f f' → Within g g' → Within (f ∣ g) (f' ∣ g')
+  and_one_more : {f f' g h k : Form} → Within f f' → Within g k → Within (f ∣ g) (f' ∣ h ∣ k)
+  each : {f f' : Form} → Within f f' → Within (many f) (many f')
+  inside : {f f' : Form} → Within f f' → Within (group f) (group f')
+  name : {n n' : Name} → NameWithin n n' → Within (named n) (named n')
+
+-- the words of a dialect stand at a level where they stand at a lower one
+abbrev pub WordsGrow : Dialect → Type 0
+WordsGrow d = (s t : Slot) (a b : Level) → SlotWithin s t → a ⊑ b → Within (d.added s a) (d.added t b)
+
+-- ---- every rule is one of them
+
+-- a form that depends on whether the level reaches a number is within that of a higher level, where each branch is, and
+-- the second is within the first
+by-level : (n : ℕ) (a b : Level) {f f' g g' : Form} → a ⊑ b → Within f g → Within f' g' → Within f' g →
+    Within
+    (elim (nat_le n (level_number a)) [ true ↦ f | false ↦ f' ])
+    (elim (nat_le n (level_number b)) [ true ↦ g | false ↦ g' ])
+by-level n a b {f} {f'} {g} {g'} h x y z =
+    go (nat_le n (level_number a)) (nat_le n (level_number b)) (λ e. grind (arith, nat_tests, h, e))
+  where
+    go : (p q : Bool) → (p ≡ true → q ≡ true) →
+        Within (elim p [ true ↦ f | false ↦ f' ]) (elim q [ true ↦ g | false ↦ g' ])
+    go true true e = x
+    go true false e = let no : false ≡ true = e refl in cc
+    go false true e = z
+    go false false e = y
+
+-- what stands from a level on stands at every higher one
+from-within : (x a b : Level) {f g : Form} → a ⊑ b → Within f g → Within (from x a f) (from x b g)
+from-within x a b h k = by-level (level_number x) a b h k missing missing
+
+-- operands are flat arrangements at first, and then any
+operand-within : (a b : Level) → a ⊑ b → Within (operand a) (operand b)
+operand-within a b h = by-level _ a b h (name (arrangements h)) (name (flats h)) (name (flat_arrangements h))
+
+joined-within : (a b : Level) → a ⊑ b → Within (joined a) (joined b)
+joined-within a b h =
+    let operands = inside (operand-within a b h) in
+    (same ·· operands ·· operands ·· each operands) ∣∣ (same ·· operands ·· operands ·· each operands)
+
+simple-within : (a b : Level) {f g : Form} → a ⊑ b → Within f g → Within (simple a f) (simple b g)
+simple-within a b h k =
+    same ∣∣ same ∣∣ same ∣∣ same ∣∣ same ·· inside k ∣∣ from-within L20 a b h same ∣∣ from-within L40 a b h same
+
+asking-within : (a b : Level) → a ⊑ b → Within (asking_press a) (asking_press b)
+asking-within a b h =
+    let arrangement = inside (name (arrangements h)) in
+    let press = inside (name (presses h)) in
+    same ·· arrangement
+    ∣∣ same ·· arrangement
+    ∣∣ same ·· arrangement
+    ∣∣ same ·· inside (name (facts h))
+    ∣∣ same ·· press
+    ∣∣ same ·· press
+
+press-message-within : (a b : Level) → a ⊑ b → Within (press_message a) (press_message b)
+press-message-within a b h =
+    let send = inside (name (sends h)) in
+    same ·· same ·· same ·· inside (name (presses h)) ∣∣ same ·· same ·· send ∣∣ same ·· same ·· send
+
+-- the rule of a name is within that of every name for more
+rule-within : (d : Dialect) → WordsGrow d → {n n' : Name} → NameWithin n n' → Within (rule d n) (rule d n')
+rule-within d grow (arrangements {a} {b} h) =
+    simple-within a b h (name (arrangements h))
+    ∣∣ from-within L30 a b h (joined-within a b h)
+    ∣∣ name (words same_slot h)
+rule-within d grow (flats {a} {b} h) = simple-within a b h (name (flats h)) ∣∣ name (words same_slot h)
+rule-within d grow (flat_arrangements {a} {b} h) =
+    and_one_more (simple-within a b h (name (flat_arrangements h))) (name (words flat_slot h))
+rule-within d grow (facts {a} {b} h) =
+    name (arrangements h)
+    ∣∣ from-within L60 a b h (same ·· inside (name (arrangements h)) ∣∣ same ·· inside (name (facts h)))
+rule-within d grow (presses {a} {b} h) =
+    let arrangement = inside (name (arrangements h)) in
+    let fact = inside (name (facts h)) in
+    let press = inside (name (presses h)) in
+    same ·· arrangement
+    ∣∣ same ·· fact
+    ∣∣ same
+    ∣∣ same ·· press ∣∣ same ·· press ∣∣ same ·· press
+    ∣∣ same
+    ∣∣ from-within L60 a b h (asking-within a b h)
+    ∣∣ name (words same_slot h)
+rule-within d grow (sends h) = same ·· same ·· same ·· inside (name (presses h))
+rule-within d grow (requests {a} {b} h) =
+    same ∣∣ same ∣∣ same ∣∣ same ∣∣ same ∣∣ same ∣∣ same ∣∣ same ∣∣ same ∣∣ same
+    ∣∣ same ∣∣ same ∣∣ same ∣∣ same ∣∣ same ∣∣ same ∣∣ same ∣∣ from-within L10 a b h (name (sends h))
+rule-within d grow (words {s} {t} {a} {b} k h) = grow s t a b k h
+
+-- so is what a side says
+message-within : (side : Side2) (a b : Level) → a ⊑ b → Within (message_form side a) (message_form side b)
+message-within Client a b h = name (requests h) ∣∣ same
+message-within ServerEnd a b h =
+    let request = inside (name (requests h)) in
+    same ∣∣ same ∣∣ same ∣∣ same ∣∣ same ∣∣ same ∣∣ same ∣∣ same ∣∣ same ∣∣ same
+    ∣∣ same ·· request
+    ∣∣ same ·· request
+    ∣∣ same ∣∣ same ∣∣ same ∣∣ same ∣∣ same ∣∣ same ∣∣ same ∣∣ same ∣∣ same ∣∣ same
+    ∣∣ from-within L10 a b h (press-message-within a b h)
+    ∣∣ same
+
+-- ---- what matches a form matches every form that it is within
+
+matches-grow : (d : Dialect) → WordsGrow d → {f g : Form} {w : List ℕ} → Within f g → Matches d f w → Matches d g w
+matches-grow d grow same m = m
+matches-grow d grow missing m = elim m [ ]
+matches-grow d grow (h ·· k) (both m n) = both (matches-grow d grow h m) (matches-grow d grow k n)
+matches-grow d grow (h ∣∣ k) (first m) = first (matches-grow d grow h m)
+matches-grow d grow (h ∣∣ k) (second m) = second (matches-grow d grow k m)
+matches-grow d grow (and_one_more h k) (first m) = first (matches-grow d grow h m)
+matches-grow d grow (and_one_more h k) (second m) = second (second (matches-grow d grow k m))
+matches-grow d grow (each h) no_more = no_more
+matches-grow d grow (each h) (one_more m n) = one_more (matches-grow d grow h m) (matches-grow d grow (each h) n)
+matches-grow d grow (inside h) (bracketed b k o m c) = bracketed b k o (matches-grow d grow h m) c
+matches-grow d grow (name h) (by_name m) = by_name (matches-grow d grow (rule-within d grow h) m)
+
+-- in any dialect whose words stand on, a message of a level is one of every higher level
+pub message-grows : (d : Dialect) → WordsGrow d → (side : Side2) (a b : Level) (m : List ℕ) → a ⊑ b →
+    IsMessageIn d side a m → IsMessageIn d side b m
+message-grows d grow side a b m h (inl report) = inl report
+message-grows d grow side a b m h (inr f) = inr (matches-grow d grow (message-within side a b h) f)
+
+-- and so in the protocol's own, which has no words
+pub levels-only-add : (side : Side2) (low high : Level) (m : List ℕ) → level_number low ≤ level_number high →
+    IsMessage side low m → IsMessage side high m
+levels-only-add = message-grows standard (λ s t a b k h. missing)

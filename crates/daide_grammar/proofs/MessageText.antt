@@ -1,0 +1,54 @@
+-- A message read from its text form, so that facts of single messages can be written as the protocol writes them. What
+-- is read wrong makes no fact: there the message's own text form is held against the text.
+use Rattle.std.specs.Prelude.{ℕ, ◌+◌, ◌-◌, ◌*◌, ◌==◌, nat_le, Bool, true, false, ◌&&◌}
+use Rattle.std.specs.Prelude.{List, [], ◌∷◌, ◌++◌, Option, None, Some}
+use Rattle.daide_token.specs.Token.{bra, ket}
+use Rattle.daide_token.specs.Names.{token_named}
+
+-- a text cut at its spaces
+abbrev with_letter : Bool → ℕ → List (List ℕ) → List (List ℕ)
+with_letter true c words = [] ∷ words
+with_letter false c [] = (c ∷ []) ∷ []
+with_letter false c (word ∷ words) = (c ∷ word) ∷ words
+
+abbrev words_of : List ℕ → List (List ℕ)
+words_of [] = []
+words_of (c ∷ text) = with_letter (c == 32) c (words_of text)
+
+-- the number of some digits, after those before
+abbrev decimal : ℕ → List ℕ → ℕ
+decimal n [] = n
+decimal n (c ∷ digits) = decimal (10 * n + (c - 48)) digits
+
+-- the characters up to the closing quote
+abbrev characters : List ℕ → List ℕ
+characters [] = []
+characters (c ∷ word) = elim (c == 39) [ true ↦ [] | false ↦ (0x4B00 + c) ∷ characters word ]
+
+-- the token of a name; none where nothing is named so
+abbrev named : Option ℕ → List ℕ
+named None = []
+named (Some t) = t ∷ []
+
+-- the tokens of a word, by whether it begins with (, with ), with a quote, with a minus, or with a digit: else a name
+abbrev by_sign : Bool → Bool → Bool → Bool → Bool → List ℕ → List ℕ → List ℕ
+by_sign true k q m d word rest = bra ∷ []
+by_sign false true q m d word rest = ket ∷ []
+by_sign false false true m d word rest = characters rest
+by_sign false false false true d word rest = (0x4000 - decimal 0 rest) ∷ []
+by_sign false false false false true word rest = decimal 0 word ∷ []
+by_sign false false false false false word rest = named (token_named word)
+
+abbrev tokens_of_word : List ℕ → List ℕ
+tokens_of_word [] = []
+tokens_of_word (c ∷ rest) =
+    by_sign (c == 40) (c == 41) (c == 39) (c == 45) (nat_le 48 c && nat_le c 57) (c ∷ rest) rest
+
+-- the tokens of some words
+abbrev tokens_of_words : List (List ℕ) → List ℕ
+tokens_of_words [] = []
+tokens_of_words (word ∷ words) = tokens_of_word word ++ tokens_of_words words
+
+-- the tokens of a text
+abbrev pub tokens_of_text : List ℕ → List ℕ
+tokens_of_text text = tokens_of_words (words_of text)

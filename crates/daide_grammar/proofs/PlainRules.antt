@@ -1,0 +1,65 @@
+-- A rule that leaves a meaning's symbols is found by comparing their numbers.
+use Rattle.std.proofs.Common.{◌≡◌, ℕ, zero, suc, ◌+◌, ◌-◌, ◌<◌, ◌≤◌, nat_eq, Bool, true, false, List, length, get_or, take, reverse, refl, sym, ap, subst, ◌∙◌, arith}
+use Rattle.std.proofs.Math.Seq.{take-suc}
+use Rattle.std.proofs.lemmas.List.{get_or-take, get_or-reverse, take_all}
+use Rattle.std.proofs.lemmas.Bool.{eqb-true}
+use Rattle.std.proofs.lemmas.Bool.Decides.{nat_tests}
+use Rattle.daide_grammar.specs.declared.symbol.Sym.{Sym}
+use Rattle.daide_grammar.specs.Answers.{Take}
+use Rattle.daide_grammar.specs.Numbers.{symbol_at, symbol_number}
+use Rattle.daide_grammar.specs.Rules.{deed, rest_of}
+use Rattle.daide_grammar.proofs.NumberLemmas.{symbol_back}
+
+-- symbols of one number are one symbol
+pub same_symbol : (s t : Sym) → symbol_number s ≡ symbol_number t → s ≡ t
+same_symbol s t e = sym (symbol_back s) ∙ ap symbol_at e ∙ symbol_back t
+
+-- the cells hold the rest from its end
+pub turned : (cells rest : List Sym) (place : ℕ) (d : Sym) →
+    take (length rest) cells ≡ reverse rest → place < length rest →
+    get_or cells (length rest - 1 - place) d ≡ get_or rest place d
+turned cells rest place d h less =
+    let k = length rest - 1 - place in
+    let low : k < length rest = omega arith in
+    let back : length rest - 1 - k ≡ place = omega arith in
+    sym (get_or-take (length rest) cells k d low) ∙ ap (λ xs. get_or xs k d) h
+    ∙ get_or-reverse rest k d low ∙ ap (λ i. get_or rest i d) back
+
+-- one symbol more is the same
+pub one_more : (xs ys : List Sym) (place : ℕ) (d : Sym) → length xs ≡ length ys → place < length xs →
+    take place xs ≡ take place ys → get_or xs place d ≡ get_or ys place d → take (place + 1) xs ≡ take (place + 1) ys
+one_more xs ys place d many less same next =
+    let one : place + 1 ≡ suc place = omega arith in
+    let there : place < length ys = omega (arith, many) in
+    rw one (take-suc xs place d less ∙ rw same (rw next (sym (take-suc ys place d there))))
+
+-- and all are the same
+pub all_same : (xs ys : List Sym) (place : ℕ) → length xs ≡ length ys → length xs ≤ place →
+    take place xs ≡ take place ys → xs ≡ ys
+all_same xs ys place many less same = sym (take_all place xs less) ∙ same ∙ take_all place ys (omega (arith, many))
+
+-- a rule from 2 on takes
+pub takes_rest : (n : ℕ) → 2 ≤ n → deed n ≡ Take (rest_of (deed n))
+unfolding deed
+takes_rest n h =
+    let not_none : nat_eq n 0 ≡ false = grind (arith, nat_tests) in
+    let not_one : nat_eq n 1 ≡ false = grind (arith, nat_tests) in
+    rw not_none (rw not_one refl)
+
+-- and one that takes is from 2 on
+pub from_two : (n : ℕ) (rest : List Sym) → deed n ≡ Take rest → 2 ≤ n
+unfolding deed
+from_two zero rest e = absurd cc
+from_two (suc zero) rest e = absurd cc
+from_two (suc (suc n)) rest e = omega arith
+
+-- what no number so far has, and the next has not either, no number up to it has
+pub none_yet : (P : ℕ → Type 0) (next : ℕ) → ((n : ℕ) → 2 ≤ n → n < next → ¬ P n) → ¬ P next →
+    (n : ℕ) → 2 ≤ n → n < next + 1 → ¬ P n
+none_yet P next before not_here n low less p = by_test (nat_eq n next) refl
+  where
+    by_test : (b : Bool) → nat_eq n next ≡ b → ⊥
+    by_test true e = not_here (subst P (eqb-true n next e) p)
+    by_test false e =
+        let earlier : n < next = grind (arith, nat_tests) in
+        before n low earlier p

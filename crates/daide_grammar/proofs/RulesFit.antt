@@ -1,0 +1,84 @@
+-- Each rule's row of the table holds its rest, the last symbol first.
+use Rattle.std.proofs.Common.{◌≡◌, ℕ, zero, suc, ◌<◌, ◌≤◌, Bool, true, false, nat_eq, nat_le, nat_lt, leb-true, ltb-true, List, [], ◌∷◌, length, map, take, reverse, refl, arith}
+use Rattle.std.proofs.lemmas.Bool.Decides.{nat_tests}
+use Rattle.std.specs.Prelude.{slice_index_or}
+use Rattle.std.specs.List.{list_all, range_with_len}
+use Rattle.daide_grammar.specs.declared.symbol.Sym.{Sym}
+use Rattle.daide_grammar.specs.declared.table.rules.TheConstants.{RESTS}
+use Rattle.daide_grammar.specs.Cells.{cell_at, length_at}
+use Rattle.daide_grammar.specs.Numbers.{symbol_at}
+use Rattle.daide_grammar.specs.Rules.{deed, rest_at, rest_of, is_take, is_stop}
+use Rattle.daide_grammar.proofs.Alike.{alike, passes_at}
+
+-- the rule's length is that of its rest
+rest_length : ℕ → ℕ
+rest_length n = length (rest_of (deed n))
+
+lengths : map length_at (range_with_len 0 256) ≡ map rest_length (range_with_len 0 256)
+unfolding rest_length deed rest_at length_at
+lengths = refl
+
+pub length_fits : (n : ℕ) → n < 256 → length_at n ≡ length (rest_of (deed n))
+unfolding rest_length
+length_fits n less = alike length_at rest_length 256 lengths n less
+
+-- no rest is longer than a row
+short_row : ℕ → Bool
+short_row n = nat_le (length_at n) 8
+
+short_rows : map short_row (range_with_len 0 256) ≡ map (λ n. true) (range_with_len 0 256)
+unfolding short_row length_at
+short_rows = refl
+
+pub length_small : (n : ℕ) → n < 256 → length_at n ≤ 8
+unfolding short_row
+length_small n less = leb-true (length_at n) 8 (alike short_row (λ n. true) 256 short_rows n less)
+
+-- the eight cells of a rule
+abbrev pub eight : ℕ → List Sym
+eight n =
+    symbol_at (cell_at n 0) ∷ symbol_at (cell_at n 1) ∷ symbol_at (cell_at n 2) ∷ symbol_at (cell_at n 3) ∷
+    symbol_at (cell_at n 4) ∷ symbol_at (cell_at n 5) ∷ symbol_at (cell_at n 6) ∷ symbol_at (cell_at n 7) ∷ []
+
+front : ℕ → List Sym
+front n = take (length (rest_of (deed n))) (eight n)
+
+turned : ℕ → List Sym
+turned n = reverse (rest_of (deed n))
+
+fronts : map front (range_with_len 0 256) ≡ map turned (range_with_len 0 256)
+unfolding front turned deed rest_at cell_at
+fronts = refl
+
+pub cells_hold : (n : ℕ) → n < 256 → take (length (rest_of (deed n))) (eight n) ≡ reverse (rest_of (deed n))
+unfolding front turned
+cells_hold n less = alike front turned 256 fronts n less
+
+-- a cell's number is a symbol's
+few : list_all (list_all (λ n. nat_lt n 202)) RESTS ≡ true
+few = refl
+
+pub cell_small : (n place : ℕ) → cell_at n place < 202
+unfolding cell_at
+cell_small n place =
+    let row = passes_at (list_all (λ n. nat_lt n 202)) RESTS n [] few refl in
+    ltb-true (cell_at n place) 202 (passes_at (λ n. nat_lt n 202) (slice_index_or RESTS n []) place 0 row refl)
+
+pub take_told : (n : ℕ) → nat_le 2 n ≡ is_take (deed n)
+unfolding deed
+take_told zero = refl
+take_told (suc zero) = refl
+take_told (suc (suc n)) =
+    let not_none : nat_eq (suc (suc n)) 0 ≡ false = grind (arith, nat_tests) in
+    let not_one : nat_eq (suc (suc n)) 1 ≡ false = grind (arith, nat_tests) in
+    let more : nat_le 2 (suc (suc n)) ≡ true = grind (arith, nat_tests) in
+    rw not_none (rw not_one (rw more refl))
+
+pub stop_told : (n : ℕ) → nat_eq n 0 ≡ is_stop (deed n)
+unfolding deed
+stop_told zero = refl
+stop_told (suc zero) = refl
+stop_told (suc (suc n)) =
+    let not_none : nat_eq (suc (suc n)) 0 ≡ false = grind (arith, nat_tests) in
+    let not_one : nat_eq (suc (suc n)) 1 ≡ false = grind (arith, nat_tests) in
+    rw not_none (rw not_one refl)

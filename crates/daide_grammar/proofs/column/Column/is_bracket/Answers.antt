@@ -1,0 +1,7 @@
+use Rattle.std.proofs.Common.{ap, ◌∙◌}
+use Rattle.daide_grammar.specs.Numbers.{is_bracket}
+use Rattle.daide_grammar.proofs.WordColumns.{bracket_told}
+use Rattle.daide_grammar.proofs.column.Column.is_bracket.Goals as goal
+
+pub returns : goal.returns
+returns c = bracket_told c.self.inside.number c.self.invariant ∙ ap is_bracket c.self.view_is

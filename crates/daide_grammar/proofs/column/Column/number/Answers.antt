@@ -1,0 +1,7 @@
+use Rattle.std.proofs.Common.{sym, ap, ◌∙◌}
+use Rattle.daide_grammar.specs.Classes.{class_number}
+use Rattle.daide_grammar.specs.Proved.Numbers.{class_number_back}
+use Rattle.daide_grammar.proofs.column.Column.number.Goals as goal
+
+pub returns-clause-number : goal.returns-clause-number
+returns-clause-number c = sym (class_number_back c.self.inside.number c.self.invariant) ∙ ap class_number c.self.view_is

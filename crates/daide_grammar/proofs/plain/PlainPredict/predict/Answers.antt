@@ -1,0 +1,8 @@
+use Rattle.std.proofs.Common.{sym, subst}
+use Rattle.daide_grammar.specs.Rules.{HasRule}
+use Rattle.daide_grammar.proofs.RowsAgree.{has_rule}
+use Rattle.daide_grammar.proofs.plain.PlainPredict.predict.Goals as goal
+
+pub rule_of-requires : goal.rule_of-requires
+rule_of-requires c =
+    subst HasRule (sym c.meaning_of.ensures) (has_rule c.sym.result c.class.result c.class.ensures.few)

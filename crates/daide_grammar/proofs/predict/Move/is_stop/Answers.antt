@@ -1,0 +1,7 @@
+use Rattle.std.proofs.Common.{ap, ◌∙◌}
+use Rattle.daide_grammar.specs.Rules.{is_stop}
+use Rattle.daide_grammar.proofs.RulesFit.{stop_told}
+use Rattle.daide_grammar.proofs.predict.Move.is_stop.Goals as goal
+
+pub returns : goal.returns
+returns c = stop_told c.self.inside.rule ∙ ap is_stop c.self.view_is

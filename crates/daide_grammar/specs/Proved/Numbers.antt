@@ -1,0 +1,49 @@
+-- A symbol and a class of a number have that very number.
+use Rattle.std.proofs.Common.{◌≡◌, ℕ, zero, suc, ◌+◌, ◌<◌, Bool, true, ◌&&◌, nat_eq, List, [], ◌∷◌, length, get_or, refl, ◌∙◌, arith}
+use Rattle.std.proofs.lemmas.Bool.{and_parts, eqb-true}
+use Rattle.daide_token.specs.declared.class.Class.{Class}
+use Rattle.daide_token.specs.declared.class.Class.TheVariants.{Num, Word}
+use Rattle.daide_grammar.specs.declared.symbol.Sym.TheVariants.{Closing}
+use Rattle.daide_grammar.specs.Classes.{class_number}
+use Rattle.daide_grammar.specs.Numbers.{symbols, symbol_number, symbol_at, classes, class_at}
+
+-- whether each item of a list has its place as its number, the first one's being given
+abbrev in_order : {X : Type 0} → (X → ℕ) → ℕ → List X → Bool
+in_order number place [] = true
+in_order number place (x ∷ xs) = nat_eq (number x) place && in_order number (suc place) xs
+
+-- then the item at a place has that number
+numbered : {X : Type 0} (number : X → ℕ) (place k : ℕ) (xs : List X) (d : X) →
+    in_order number place xs ≡ true → k < length xs → number (get_or xs k d) ≡ place + k
+numbered number place k [] d h less = absurd (omega arith)
+numbered number place zero (x ∷ xs) d h less =
+    let at : place ≡ place + 0 = omega arith in
+    eqb-true (number x) place (and_parts (nat_eq (number x) place) (in_order number (suc place) xs) h).0 ∙ at
+numbered number place (suc k) (x ∷ xs) d h less =
+    let at : suc place + k ≡ place + suc k = omega arith in
+    let rest = (and_parts (nat_eq (number x) place) (in_order number (suc place) xs) h).1 in
+    numbered number (suc place) k xs d rest (omega arith) ∙ at
+
+symbols_in_order : in_order symbol_number 0 symbols ≡ true
+symbols_in_order = refl
+
+all_symbols : length symbols ≡ 202
+all_symbols = refl
+
+pub number_back : (n : ℕ) → n < 202 → symbol_number (symbol_at n) ≡ n
+number_back n h =
+    let at : 0 + n ≡ n = omega arith in
+    numbered symbol_number 0 n symbols Closing symbols_in_order (rw all_symbols h) ∙ at
+
+all_classes : length classes ≡ 95
+all_classes = refl
+
+pub class_number_back : (n : ℕ) → n < 95 → class_number (class_at n) ≡ n
+class_number_back n h =
+    let at : 0 + n ≡ n = omega arith in
+    numbered class_number 0 n classes Num refl (rw all_classes h) ∙ at
+
+-- a class of the protocol's own is that of its number
+pub class_back : (c : Class) → class_number c < 79 → class_at (class_number c) ≡ c
+class_back (Word k) h = absurd (omega arith)
+class_back _ h = refl

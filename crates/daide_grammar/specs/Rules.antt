@@ -1,0 +1,31 @@
+-- The rules of the constant table: what a token may mean to a symbol, each meaning by its number. (own)
+use Rattle.std.specs.Prelude.{◌≡◌, ℕ, ◌<◌, nat_eq, List, [], map, take, reverse, slice_index, slice_index_or, if◌then◌else◌, Bool, true, false}
+use Rattle.daide_grammar.specs.declared.symbol.Sym.{Sym}
+use Rattle.daide_grammar.specs.declared.table.rules.TheConstants.{LENGTHS, RESTS}
+use Rattle.daide_grammar.specs.Answers.{Answer, Take, Skip, Stop}
+use Rattle.daide_grammar.specs.Numbers.{symbol_at}
+
+-- the symbols that a rule leaves: its row of the table holds their numbers, the last one's first
+unfoldable pub rest_at : ℕ → List Sym
+rest_at rule = reverse (map symbol_at (take (slice_index LENGTHS rule) (slice_index_or RESTS rule [])))
+
+-- what a rule does: rule 0 stops, rule 1 skips, and every other takes
+unfoldable pub deed : ℕ → Answer
+deed rule = if nat_eq rule 0 then Stop else if nat_eq rule 1 then Skip else Take (rest_at rule)
+
+abbrev pub is_take : Answer → Bool
+is_take (Take rest) = true
+is_take _ = false
+
+abbrev pub is_stop : Answer → Bool
+is_stop Stop = true
+is_stop _ = false
+
+-- the symbols that must follow; none where nothing is taken
+abbrev pub rest_of : Answer → List Sym
+rest_of (Take rest) = rest
+rest_of _ = []
+
+-- the table has a rule for the answer
+abbrev pub HasRule : Answer → Type 0
+HasRule answer = (rule : ℕ) × (rule < 256) × (deed rule ≡ answer)

@@ -1,0 +1,60 @@
+-- The messages of either side at each level, and what the table's symbols stand for.
+use Rattle.std.specs.Prelude.{ℕ, suc, ◌==◌, List, [], ◌∷◌, ◌⊎◌, if◌then◌else◌}
+use Rattle.daide_token.specs.declared.class.Class.TheVariants.{Word}
+use Rattle.daide_token.specs.Class.{class_of}
+use Rattle.daide_grammar.specs.declared.level.Level.{Level}
+use Rattle.daide_grammar.specs.declared.side.Side2.{Side2}
+use Rattle.daide_grammar.specs.declared.side.Side2.TheVariants.{Client, ServerEnd}
+use Rattle.daide_grammar.specs.declared.symbol.Sym.{Sym}
+use Rattle.daide_grammar.specs.Forms.{Dialect, Form, never, ◌∣◌}
+use Rattle.daide_grammar.specs.Message.Client.{client}
+use Rattle.daide_grammar.specs.Message.Server.{server}
+use Rattle.daide_grammar.specs.Matches.{Matches}
+use Rattle.daide_grammar.specs.Paired.{IsPrnReport}
+use Rattle.daide_grammar.specs.Symbols.{form_of}
+use Rattle.daide_grammar.specs.Words.{AddedWord, Words, word_form}
+
+-- the protocol's own tokens and forms, to which no operator added words
+abbrev pub standard : Dialect
+standard = record { class_of = class_of; added = λ _ _. never }
+
+-- a dialect with one word more, of this place among the words: its code is its own class, and its form one more
+abbrev pub with_word : ℕ → AddedWord → Dialect → Dialect
+with_word place word d = record {
+  class_of = λ t. if t == word.code then Word place else d.class_of t;
+  added = λ slot l. word_form place word slot l ∣ d.added slot l;
+}
+
+-- the standard with these words, the first of which has this place
+abbrev pub dialect_from : ℕ → Words → Dialect
+dialect_from place [] = standard
+dialect_from place (word ∷ words) = with_word place word (dialect_from (suc place) words)
+
+-- the standard with an operator's words
+abbrev pub dialect_of : Words → Dialect
+dialect_of = dialect_from 0
+
+-- what a side may say at a level, but for the report PRN
+abbrev pub message_form : Side2 → Level → Form
+message_form Client l = client l
+message_form ServerEnd l = server l
+
+-- the messages of a side at a level, in a dialect: those of its form, and the report PRN round any tokens at all
+abbrev pub IsMessageIn : Dialect → Side2 → Level → List ℕ → Type 0
+IsMessageIn d side l m = IsPrnReport m ⊎ Matches d (message_form side l) m
+
+-- the messages of a side at a level, with an operator's words
+abbrev pub IsMessageOver : Words → Side2 → Level → List ℕ → Type 0
+IsMessageOver words = IsMessageIn (dialect_of words)
+
+-- the messages of a side at a level
+abbrev pub IsMessage : Side2 → Level → List ℕ → Type 0
+IsMessage = IsMessageOver []
+
+-- the lists of tokens that match a symbol's form, in a dialect
+abbrev pub SymbolMatchesIn : Dialect → Sym → List ℕ → Type 0
+SymbolMatchesIn d s m = Matches d (form_of s) m
+
+-- the lists of tokens that a symbol of the table stands for
+abbrev pub SymbolMatches : Sym → List ℕ → Type 0
+SymbolMatches = SymbolMatchesIn standard

@@ -1,0 +1,114 @@
+//! A class of tokens, by its number.
+
+ghost use Rattle.std.specs.Prelude.{◌≡◌, ◌<◌};
+ghost use Rattle.daide_token.specs.declared.class.Class.TheVariants.{Word};
+ghost use Rattle.daide_grammar.specs.Classes.{class_number};
+ghost use Rattle.daide_grammar.specs.Numbers.{class_at, is_bracket, word_number};
+
+use crate::class_number::number_of;
+use crate::table::names::CLASSES;
+use daide_token::class::Class;
+use std::marker::Model;
+
+/// A class, by its number, which is its column of the constant table. A contract sees the class. The brackets come
+/// first, and the sixteen words that an operator may add last.
+#[derive(Clone, Copy)]
+pub struct Column {
+    number: u8,
+}
+
+impl Model for Column {
+    ghost use Rattle.std.specs.Prelude.{◌≡◌, ◌<◌, ℕ};
+    ghost use Rattle.std.proofs.Common.{ap};
+    ghost use Rattle.daide_token.specs.declared.class.Class.{Class};
+    ghost use Rattle.daide_grammar.specs.Classes.{class_number};
+    ghost use Rattle.daide_grammar.specs.Numbers.{class_at};
+    ghost use Rattle.daide_grammar.specs.Proved.Numbers.{class_number_back};
+
+    ghost Value = { Class };
+
+    ghost view = { λ c. class_at c.number };
+
+    ghost invariant = { λ c. c.number < 95 };
+
+    ghost inverse = { λ c. record { number = class_number c } };
+
+    ghost inverse_ok = { λ c h. ap (λ (n : ℕ). record { number = n }) (class_number_back c.number h) };
+}
+
+impl Column {
+    /// The class of a number.
+    #[inline(always)]
+    pub fn of(number: u8) -> Column
+        requires { number < 95 }
+        ensures { result ≡ class_at number }
+    {
+        Column { number }
+    }
+
+    /// The class of a name.
+    #[tactic(auto, using(crate::proofs::WordColumns::class_told))]
+    pub fn named(class: Class) -> Column
+        requires { class_number class < 95 }
+        ensures { result ≡ class }
+    {
+        Column {
+            number: number_of(class) as u8,
+        }
+    }
+
+    /// The class of an added word, by its place among the words.
+    #[inline(always)]
+    #[tactic(auto, using(crate::proofs::WordColumns::word_at))]
+    pub fn word(place: u8) -> Column
+        requires { place < 16 }
+        ensures { result ≡ Word place }
+    {
+        Column { number: 79 + place }
+    }
+
+    /// The class by its name.
+    pub fn class(self) -> Class
+        ensures class { result ≡ self }
+        ensures few { class_number result < 95 }
+    {
+        listed(self.number)
+    }
+
+    /// The class's number.
+    #[inline(always)]
+    pub fn number(self) -> u8
+        ensures number { result ≡ class_number self }
+        ensures class { class_at result ≡ self }
+        ensures below { result < 95 }
+    {
+        self.number
+    }
+
+    /// Whether it is that of a bracket.
+    #[inline(always)]
+    pub fn is_bracket(self) -> bool
+        ensures { result ≡ is_bracket self }
+    {
+        self.number <= 1
+    }
+
+    /// The place of the added word that it is the class of.
+    #[inline(always)]
+    pub fn word_number(self) -> Option<u8>
+        ensures { result ≡ word_number self }
+    {
+        if self.number >= 79 {
+            return Some(self.number - 79);
+        }
+        None
+    }
+}
+
+/// The class at a place of the list of classes.
+fn listed(number: u8) -> Class
+    requires { number < 95 }
+    ensures { result ≡ class_at number }
+{
+    CLASSES[number as usize]
+}

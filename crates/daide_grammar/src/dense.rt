@@ -1,0 +1,154 @@
+//! The grammar's predictions, by one look-up in a constant table.
+//!
+//! The table stands in `table`, laid out to be read; the check shows of each of its cells that it says what the
+//! entries of the symbol say, so the laws of prediction hold of it as they hold of `Plain`.
+
+ghost use Rattle.std.specs.Prelude.{◌≡◌, ◌<◌, ◌+◌, ◌%◌, ◌/◌, ◌^◌, []};
+ghost use Rattle.daide_token.specs.Class.{class_of};
+ghost use Rattle.daide_grammar.specs.Symbols.{may_end_of, opening_of, table_answer};
+ghost use Rattle.daide_grammar.specs.AnswersGiven.{look_ups};
+ghost use Rattle.daide_grammar.specs.Cells.{code_at, page_at, rule_at};
+
+use crate::column::Column;
+use crate::level::Level;
+use crate::predict::{Move, Predict};
+use crate::side::Side2;
+use crate::symbol::{Symbol, level_place};
+use crate::table::classes::{CODES, PAGES};
+use crate::table::rows::ROWS;
+use daide_token::token::Token;
+
+/// Predicts by a table, and counts its answers. It knows the protocol's own grammar, at every level.
+#[derive(Debug, Drop)]
+pub struct Dense {
+    asked: u64,
+}
+
+impl Dense {
+    /// A table that was never asked.
+    pub fn new() -> Dense
+        ensures { look_ups result ≡ 0 }
+    {
+        Dense { asked: 0 }
+    }
+}
+
+/// What a token of the class means to the symbol.
+#[inline(always)]
+fn move_of(sym: Symbol, class: Column) -> Move
+    ensures { result ≡ table_answer sym class }
+{
+    Move::of(rule_at(class.number(), sym.number()))
+}
+
+/// A rule of the table.
+#[inline(always)]
+#[tactic(auto, unfolding(crate::specs::Cells::rule_at))]
+fn rule_at(class: u8, symbol: u8) -> u8
+    requires class { class < 95 }
+    requires symbol { symbol < 202 }
+    ensures { result ≡ rule_at class symbol }
+{
+    ROWS[class as usize][symbol as usize]
+}
+
+/// The class of a token.
+#[inline(always)]
+fn class_of(token: Token) -> Column
+    ensures { result ≡ class_of token }
+{
+    let bits = token.code();
+    Column::of(code_at(page_at((bits / 256) as u8), (bits % 256) as u8))
+}
+
+/// The page of a category.
+#[inline(always)]
+#[tactic(auto, unfolding(crate::specs::Cells::page_at))]
+fn page_at(category: u8) -> u8
+    ensures { result ≡ page_at category }
+{
+    PAGES[category as usize]
+}
+
+/// The number of the class of a code on a page.
+#[inline(always)]
+#[tactic(auto, unfolding(crate::specs::Cells::code_at))]
+fn code_at(page: u8, code: u8) -> u8
+    requires { page < 15 }
+    ensures { result ≡ code_at page code }
+{
+    CODES[page as usize][code as usize]
+}
+
+/// Whether a symbol may be empty: whether a closing bracket skips it.
+#[tactic(auto, using(crate::proofs::RowsAgree::ends_told))]
+fn is_optional(sym: Symbol) -> bool
+    ensures { result ≡ may_end_of sym }
+{
+    rule_at(1, sym.number()) == 1
+}
+
+/// The symbol of a side's messages.
+#[tactic(auto, using(crate::proofs::Starts::client_start, crate::proofs::Starts::server_start))]
+fn opening(side: Side2, level: Level) -> Symbol
+    ensures { result ≡ opening_of side level }
+{
+    let place = level_place(level);
+    match side {
+        Side2::Client => Symbol::of(174 + place),
+        Side2::ServerEnd => Symbol::of(195 + place),
+    }
+}
+
+impl Predict for Dense {
+    ghost use Rattle.daide_token.specs.Class.{class_of};
+    ghost use Rattle.daide_grammar.specs.LawfulStack.{IsLawful};
+    ghost use Rattle.daide_grammar.specs.SideMessages.{SymbolMatches};
+    ghost use Rattle.daide_grammar.specs.Symbols.{may_end_of, opening_of, table_answer};
+    ghost use Rattle.daide_grammar.specs.Proved.PlainLaws.{plain_laws, plain_begins};
+    ghost use Rattle.daide_grammar.specs.AnswersGiven.{look_ups};
+
+    ghost words = { λ _. [] };
+
+    ghost class_of = { λ _. class_of };
+
+    ghost language = { λ _. SymbolMatches };
+
+    ghost moves = { λ _. table_answer };
+
+    ghost ends = { λ _. may_end_of };
+
+    ghost opening = { opening_of };
+
+    ghost lawful = { λ _. IsLawful table_answer };
+
+    ghost asked = { look_ups };
+
+    #[inline(always)]
+    fn predict(&mut self, sym: Symbol, class: Column) -> Move {
+        self.asked = self.asked.wrapping_add(1);
+        move_of(sym, class)
+    }
+
+    fn may_end(&mut self, sym: Symbol) -> bool {
+        self.asked = self.asked.wrapping_add(1);
+        is_optional(sym)
+    }
+
+    #[inline(always)]
+    fn class_of(&self, token: Token) -> Column {
+        class_of(token)
+    }
+
+    fn start(&self, side: Side2, level: Level) -> Symbol {
+        opening(side, level)
+    }
+
+    fn asked(&self) -> u64 {
+        self.asked
+    }
+
+    ghost laws = { λ _. plain_laws };
+
+    ghost begins = { λ _ side level. plain_begins side level };
+}

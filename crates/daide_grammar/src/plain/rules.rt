@@ -1,0 +1,54 @@
+//! A meaning's rule: the number by which a move holds it.
+
+ghost use Rattle.std.specs.Prelude.{◌≡◌, ◌<◌, ◌≤◌};
+ghost use Rattle.std.specs.Bool.{Decides};
+ghost use Rattle.daide_grammar.specs.Answers.{Take, answer_of, symbols_of};
+ghost use Rattle.daide_grammar.specs.Rules.{HasRule, deed, rest_of};
+
+use crate::meaning::{Meaning, Rest};
+use crate::predict::Move;
+use crate::symbol::{Sym, Symbol};
+
+/// The move that says what a meaning says. The rules are gone through: nobody asks this table who is in a hurry.
+#[tactic(auto, unfolding(crate::specs::Rules::deed))]
+pub(super) fn rule_of(meaning: Meaning) -> Move
+    requires { HasRule (answer_of meaning) }
+    ensures { result ≡ answer_of meaning }
+{
+    match meaning {
+        Meaning::Take(rest) => rule_of_rest(&rest),
+        Meaning::Skip => Move::of(1),
+        Meaning::Stop => Move::of(0),
+    }
+}
+
+/// The move that takes a token and leaves these symbols.
+fn rule_of_rest(rest: &Rest) -> Move
+    requires { HasRule (Take (symbols_of rest.now)) }
+    ensures { result ≡ Take (symbols_of rest.now) }
+{
+    let wanted = rest.as_slice();
+    for rule in 2..256u16 {
+        if leaves(rule as u8, wanted) {
+            return Move::of(rule as u8);
+        }
+    }
+    Move::of(0)
+}
+
+/// Whether a rule leaves these symbols and no others.
+fn leaves(rule: u8, wanted: &[Sym]) -> bool
+    ensures { Decides result (rest_of (deed rule) ≡ wanted.now) }
+{
+    let answer = Move::of(rule);
+    if answer.len() != wanted.len() {
+        return false;
+    }
+    let cells = answer.cells();
+    for (place, symbol) in wanted.iter().enumerate() {
+        if cells[wanted.len() - 1 - place].number() != Symbol::named(*symbol).number() {
+            return false;
+        }
+    }
+    true
+}

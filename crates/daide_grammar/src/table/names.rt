@@ -1,0 +1,80 @@
+//! The symbols and classes in the order of their numbers.
+
+use crate::level::Level;
+use crate::symbol::Sym;
+use daide_token::class::Class;
+
+/// The symbols: those without a level, then each of the others level by level.
+#[rattlefmt::skip]
+pub(crate) static SYMBOLS: [Sym; 202] = [
+    Sym::Closing, Sym::OnePower, Sym::OneProvince, Sym::OneCoast, Sym::OneNumber, Sym::OneNote, Sym::OneFleet,
+    Sym::Waived, Sym::ConvoyTo, Sym::Through, Sym::Against, Sym::TextGroup, Sym::Texts, Sym::PowerGroup,
+    Sym::PowersGroup, Sym::MaybePowersGroup, Sym::Powers, Sym::NumberGroup, Sym::MaybeNumberGroup, Sym::MaybeNumber,
+    Sym::ProvincesGroup, Sym::MaybeProvincesGroup, Sym::Provinces, Sym::TurnGroup, Sym::OneTurn, Sym::WordsGroup,
+    Sym::WordList, Sym::AnyGroup, Sym::Any, Sym::OnePlace, Sym::PlacesGroup, Sym::Places, Sym::UnitGroup,
+    Sym::UnitGroups, Sym::OneUnit, Sym::UnitType, Sym::OrderGroup, Sym::Orders, Sym::OneOrder, Sym::OrderTail,
+    Sym::SupportTail, Sym::ShareGroup, Sym::Shares, Sym::SubmitTail, Sym::SubmitFirst, Sym::CancelGroup, Sym::Cancel,
+    Sym::ReplyGroup, Sym::Reply, Sym::WhoGroup, Sym::Who, Sym::ParamsGroup, Sym::Params, Sym::OneParam,
+    Sym::CentresGroup, Sym::OwnersGroup, Sym::Owners, Sym::Owned, Sym::BordersGroup, Sym::BordersList, Sym::Borders,
+    Sym::KindList, Sym::KindPlaces, Sym::Stands, Sym::OneStand, Sym::StandTail, Sym::MissingTail, Sym::MissingFirst,
+    Sym::NoteGroup, Sym::OutcomesGroup, Sym::Outcomes, Sym::OneOutcome, Sym::CivilDisorderGroup, Sym::CivilDisorder,
+    Sym::Players, Sym::OnePlayer,
+    Sym::ArrangementGroup(Level::L0), Sym::ArrangementGroup(Level::L10), Sym::ArrangementGroup(Level::L20),
+    Sym::ArrangementGroup(Level::L30), Sym::ArrangementGroup(Level::L40), Sym::ArrangementGroup(Level::L50),
+    Sym::ArrangementGroup(Level::L60),
+    Sym::Arrangement(Level::L0), Sym::Arrangement(Level::L10), Sym::Arrangement(Level::L20),
+    Sym::Arrangement(Level::L30), Sym::Arrangement(Level::L40), Sym::Arrangement(Level::L50),
+    Sym::Arrangement(Level::L60),
+    Sym::FactGroup(Level::L0), Sym::FactGroup(Level::L10), Sym::FactGroup(Level::L20), Sym::FactGroup(Level::L30),
+    Sym::FactGroup(Level::L40), Sym::FactGroup(Level::L50), Sym::FactGroup(Level::L60),
+    Sym::Fact(Level::L0), Sym::Fact(Level::L10), Sym::Fact(Level::L20), Sym::Fact(Level::L30), Sym::Fact(Level::L40),
+    Sym::Fact(Level::L50), Sym::Fact(Level::L60),
+    Sym::OperandGroup(Level::L0), Sym::OperandGroup(Level::L10), Sym::OperandGroup(Level::L20),
+    Sym::OperandGroup(Level::L30), Sym::OperandGroup(Level::L40), Sym::OperandGroup(Level::L50),
+    Sym::OperandGroup(Level::L60),
+    Sym::Operands(Level::L0), Sym::Operands(Level::L10), Sym::Operands(Level::L20), Sym::Operands(Level::L30),
+    Sym::Operands(Level::L40), Sym::Operands(Level::L50), Sym::Operands(Level::L60),
+    Sym::Operand(Level::L0), Sym::Operand(Level::L10), Sym::Operand(Level::L20), Sym::Operand(Level::L30),
+    Sym::Operand(Level::L40), Sym::Operand(Level::L50), Sym::Operand(Level::L60),
+    Sym::PressGroup(Level::L0), Sym::PressGroup(Level::L10), Sym::PressGroup(Level::L20), Sym::PressGroup(Level::L30),
+    Sym::PressGroup(Level::L40), Sym::PressGroup(Level::L50), Sym::PressGroup(Level::L60),
+    Sym::Press(Level::L0), Sym::Press(Level::L10), Sym::Press(Level::L20), Sym::Press(Level::L30),
+    Sym::Press(Level::L40), Sym::Press(Level::L50), Sym::Press(Level::L60),
+    Sym::SendGroup(Level::L0), Sym::SendGroup(Level::L10), Sym::SendGroup(Level::L20), Sym::SendGroup(Level::L30),
+    Sym::SendGroup(Level::L40), Sym::SendGroup(Level::L50), Sym::SendGroup(Level::L60),
+    Sym::MaybeSendGroup(Level::L0), Sym::MaybeSendGroup(Level::L10), Sym::MaybeSendGroup(Level::L20),
+    Sym::MaybeSendGroup(Level::L30), Sym::MaybeSendGroup(Level::L40), Sym::MaybeSendGroup(Level::L50),
+    Sym::MaybeSendGroup(Level::L60),
+    Sym::Send(Level::L0), Sym::Send(Level::L10), Sym::Send(Level::L20), Sym::Send(Level::L30), Sym::Send(Level::L40),
+    Sym::Send(Level::L50), Sym::Send(Level::L60),
+    Sym::SendTail(Level::L0), Sym::SendTail(Level::L10), Sym::SendTail(Level::L20), Sym::SendTail(Level::L30),
+    Sym::SendTail(Level::L40), Sym::SendTail(Level::L50), Sym::SendTail(Level::L60),
+    Sym::SendFirst(Level::L0), Sym::SendFirst(Level::L10), Sym::SendFirst(Level::L20), Sym::SendFirst(Level::L30),
+    Sym::SendFirst(Level::L40), Sym::SendFirst(Level::L50), Sym::SendFirst(Level::L60),
+    Sym::Client(Level::L0), Sym::Client(Level::L10), Sym::Client(Level::L20), Sym::Client(Level::L30),
+    Sym::Client(Level::L40), Sym::Client(Level::L50), Sym::Client(Level::L60),
+    Sym::RequestGroup(Level::L0), Sym::RequestGroup(Level::L10), Sym::RequestGroup(Level::L20),
+    Sym::RequestGroup(Level::L30), Sym::RequestGroup(Level::L40), Sym::RequestGroup(Level::L50),
+    Sym::RequestGroup(Level::L60),
+    Sym::Request(Level::L0), Sym::Request(Level::L10), Sym::Request(Level::L20), Sym::Request(Level::L30),
+    Sym::Request(Level::L40), Sym::Request(Level::L50), Sym::Request(Level::L60),
+    Sym::Server(Level::L0), Sym::Server(Level::L10), Sym::Server(Level::L20), Sym::Server(Level::L30),
+    Sym::Server(Level::L40), Sym::Server(Level::L50), Sym::Server(Level::L60),
+];
+
+/// The classes, and then those of sixteen words.
+#[rattlefmt::skip]
+pub(crate) static CLASSES: [Class; 95] = [
+    Class::Bra, Class::Ket, Class::Num, Class::Power, Class::Note, Class::Outcome, Class::Coast, Class::Season,
+    Class::Text, Class::Province, Class::Amy, Class::Flt, Class::Cto, Class::Cvy, Class::Hld, Class::Mto, Class::Sup,
+    Class::Via, Class::Dsb, Class::Rto, Class::Bld, Class::Rem, Class::Wve, Class::Ccd, Class::Drw, Class::Frm,
+    Class::Gof, Class::Hlo, Class::Hst, Class::Huh, Class::Iam, Class::Lod, Class::Map, Class::Mdf, Class::Mis,
+    Class::Nme, Class::Not, Class::Now, Class::Obs, Class::Off, Class::Ord, Class::Out, Class::Prn, Class::Rej,
+    Class::Sco, Class::Slo, Class::Snd, Class::Sub, Class::Sve, Class::Thx, Class::Tme, Class::Yes, Class::Adm,
+    Class::Smr, Class::Aly, Class::And, Class::Bwx, Class::Dmz, Class::Fct, Class::Idk, Class::Ins, Class::Occ,
+    Class::Orr, Class::Pce, Class::Prp, Class::Qry, Class::Scd, Class::Sry, Class::Sug, Class::Thk, Class::Try,
+    Class::Vss, Class::Xdo, Class::Lvl, Class::Mrt, Class::Uno, Class::Param, Class::Other, Class::Alien,
+    Class::Word(0), Class::Word(1), Class::Word(2), Class::Word(3), Class::Word(4), Class::Word(5), Class::Word(6),
+    Class::Word(7), Class::Word(8), Class::Word(9), Class::Word(10), Class::Word(11), Class::Word(12),
+    Class::Word(13), Class::Word(14), Class::Word(15),
+];

@@ -1,0 +1,291 @@
+-- A reader that is in locals, after one more token of a body.
+use Rattle.std.proofs.Common.{◌≡◌, ◌≢◌, ℕ, zero, suc, ◌+◌, ◌*◌, ◌/◌, ◌%◌, ◌^◌, ◌≤◌, ◌<◌, Bool, true, false, List, [], ◌∷◌, ◌++◌, length, get_or, take, Option, None, Some, IfSome, IsSome, drop, refl, sym, ◌∙◌, ap, subst, arith, ◌⊎◌, append_assoc, append-nil, add-zero}
+use Rattle.std.proofs.lemmas.List.{length-append, length-drop}
+use Rattle.std.proofs.Math.Seq.{drop-length, take-length}
+use Rattle.daide_token.specs.Token.{tokens_of}
+use Rattle.daide_grammar.specs.declared.symbol.Sym.{Sym}
+use Rattle.daide_grammar.specs.declared.predict.Predict.{Ghosts}
+use Rattle.daide_grammar.specs.Words.{Words}
+use Rattle.daide_grammar.specs.Stacks.{stack_after}
+use Rattle.daide_grammar.specs.Laws.{PredictLaws}
+use Rattle.daide_grammar.specs.Paired.{begins_with_prn}
+use Rattle.daide_grammar.specs.Brackets.{is_bra, is_ket, counted, count_one}
+use Rattle.daide_reader.specs.declared.outline.Outline.{Outline}
+use Rattle.daide_reader.specs.Outline.{IsOutlineOf, with_token, outline_of, outline_on, count_all}
+use Rattle.daide_reader.specs.Reading.{Reading, StandsAfter, StackOrPlace, IsSteady, reading, tokens_read}
+use Rattle.std.specs.Prelude.{nat_eq, if◌then◌else◌}
+use Rattle.std.specs.Option.{unwrap_or}
+use Rattle.daide_reader.specs.Stack.{open_count}
+use Rattle.daide_reader.proofs.OutlineLemmas.{outline-snoc, same_outline, outline_of-is}
+use Rattle.daide_reader.proofs.ErrorPlaceLemmas.{place_kept}
+use Rattle.daide_grammar.proofs.Counting.{counted-snoc}
+use Rattle.daide_reader.proofs.ReadingLemmas.{counted_now, counts_more, stands_report, stands_taken, stands_refused}
+
+-- one token more of the tokens of a body
+pub tokens_of-next : (i : ℕ) (b : List ℕ) → 2 * i + 1 < length b
+    → take (i + 1) (tokens_of b) ≡ take i (tokens_of b) ++ (get_or b (2 * i) 0 * 256 + get_or b (2 * i + 1) 0) ∷ []
+tokens_of-next zero [] h = absurd (omega arith)
+tokens_of-next zero (x ∷ []) h = absurd (omega arith)
+tokens_of-next zero (x ∷ y ∷ b) h = refl
+tokens_of-next (suc i) [] h = absurd (omega arith)
+tokens_of-next (suc i) (x ∷ []) h = absurd (omega arith)
+tokens_of-next (suc i) (x ∷ y ∷ b) h =
+    let next : suc i + 1 ≡ suc (i + 1) = omega arith in
+    let here : 2 * suc i ≡ suc (suc (2 * i)) = omega arith in
+    let low : 2 * suc i + 1 ≡ suc (suc (2 * i + 1)) = omega arith in
+    rw (next, low, here) (ap (λ (ts : List ℕ). (x * 256 + y) ∷ ts) (tokens_of-next i b (omega arith)))
+
+-- the tokens from one on
+pub tokens_of-rest : (i : ℕ) (b : List ℕ) → 2 * i + 1 < length b
+    → drop i (tokens_of b) ≡ (get_or b (2 * i) 0 * 256 + get_or b (2 * i + 1) 0) ∷ drop (i + 1) (tokens_of b)
+tokens_of-rest zero [] h = absurd (omega arith)
+tokens_of-rest zero (x ∷ []) h = absurd (omega arith)
+tokens_of-rest zero (x ∷ y ∷ b) h = refl
+tokens_of-rest (suc i) [] h = absurd (omega arith)
+tokens_of-rest (suc i) (x ∷ []) h = absurd (omega arith)
+tokens_of-rest (suc i) (x ∷ y ∷ b) h =
+    let next : suc i + 1 ≡ suc (i + 1) = omega arith in
+    let here : 2 * suc i ≡ suc (suc (2 * i)) = omega arith in
+    let low : 2 * suc i + 1 ≡ suc (suc (2 * i + 1)) = omega arith in
+    rw (next, low, here) (tokens_of-rest i b (omega arith))
+
+-- the tokens of a body's first pairs
+pub tokens_of-front : (i : ℕ) (b : List ℕ) → tokens_of (take (2 * i) b) ≡ take i (tokens_of b)
+tokens_of-front zero b = refl
+tokens_of-front (suc i) [] = let next : 2 * suc i ≡ suc (suc (2 * i)) = omega arith in rw next refl
+tokens_of-front (suc i) (x ∷ []) = let next : 2 * suc i ≡ suc (suc (2 * i)) = omega arith in rw next refl
+tokens_of-front (suc i) (x ∷ y ∷ b) =
+    let next : 2 * suc i ≡ suc (suc (2 * i)) = omega arith in
+    rw next (ap (λ (ts : List ℕ). (x * 256 + y) ∷ ts) (tokens_of-front i b))
+
+-- a front of a list that does not begin with PRN does not either
+pub front_not_prn : (i : ℕ) (m : List ℕ) → begins_with_prn m ≡ false → begins_with_prn (take i m) ≡ false
+front_not_prn zero m h = refl
+front_not_prn (suc i) [] h = refl
+front_not_prn (suc i) (t ∷ m) h = h
+
+pub length_front : (i : ℕ) (m : List ℕ) → i ≤ length m → i ≡ length (take i m)
+length_front zero m h = refl
+length_front (suc i) [] h = absurd (omega arith)
+length_front (suc i) (t ∷ m) h = ap suc (length_front i m (omega arith))
+
+pub outline_of-snoc : (p : List ℕ) (t : ℕ) → outline_of (p ++ t ∷ []) ≡ with_token (outline_of p) t
+outline_of-snoc p t = same_outline (with_token (outline_of p) t) (p ++ t ∷ [])
+    (outline-snoc (outline_of p) p t (record { tokens = refl; begins = refl; second = refl; last = refl }))
+
+module _ {T : Type 0} (table : Ghosts T)
+    (laws : (w : Words) → PredictLaws (table.class_of w) (table.language w) (table.moves w) (table.ends w) (table.lawful w))
+    (words : Words) (first : Sym) (depth base : ℕ) where
+  pub run_taken : (old new : T) (max_depth : ℕ) (stack after : List Sym) (p : List ℕ) (t n k : ℕ)
+      → begins_with_prn (p ++ t ∷ []) ≡ false → table.words new ≡ table.words old
+      → table.lawful (table.words old) stack n → n ≤ max_depth → (is_bra t ≡ true → n ≢ max_depth)
+      → stack_after (table.moves (table.words old)) (table.class_of (table.words old) t) stack ≡ Some after
+      → count_one (is_bra t) (is_ket t) (Some n) ≡ Some k
+      → (m : ℕ) × (m ≤ 4) × (table.asked new % 2 ^ 64 ≡ (table.asked old + m) % 2 ^ 64)
+      → StandsAfter table words first depth (reading old max_depth stack (outline_of p) (Some n) None base) p
+      → StandsAfter table words first depth (reading new max_depth after (outline_of (p ++ t ∷ [])) (Some k) None base) (p ++ t ∷ [])
+  run_taken old new max_depth stack after p t n k not_prn same ok deep fits advances counts steps h =
+      stands_taken table laws words first depth
+      (reading old max_depth stack (outline_of p) (Some n) None base)
+      (reading new max_depth after (outline_of (p ++ t ∷ [])) (Some k) None base) t n p
+      (record {
+        words_same = same;
+        depth_same = refl;
+        finished_same = refl;
+        asked_same = refl;
+        outline_more = outline_of-snoc p t;
+        not_prn = not_prn;
+        unclosed_more = sym counts;
+        steps_more = steps;
+      })
+      (record { no_place = refl; unclosed = refl; deep = deep; lawful_stack = ok })
+      fits advances refl h
+
+  pub run_refused : (old new : T) (max_depth : ℕ) (stack after : List Sym) (p : List ℕ) (t n i : ℕ) (unclosed : Option ℕ)
+      → begins_with_prn (p ++ t ∷ []) ≡ false → table.words new ≡ table.words old
+      → table.lawful (table.words old) stack n → n ≤ max_depth
+      → ((is_bra t ≡ true) × (n ≡ max_depth)) ⊎ (stack_after (table.moves (table.words old)) (table.class_of (table.words old) t) stack ≡ None)
+      → unclosed ≡ count_one (is_bra t) (is_ket t) (Some n) → i ≡ length p
+      → (m : ℕ) × (m ≤ 4) × (table.asked new % 2 ^ 64 ≡ (table.asked old + m) % 2 ^ 64)
+      → StandsAfter table words first depth (reading old max_depth stack (outline_of p) (Some n) None base) p
+      → StandsAfter table words first depth (reading new max_depth after (outline_of (p ++ t ∷ [])) unclosed (Some i) base) (p ++ t ∷ [])
+  run_refused old new max_depth stack after p t n i unclosed not_prn same ok deep why counts place steps h =
+      stands_refused table laws words first depth
+      (reading old max_depth stack (outline_of p) (Some n) None base)
+      (reading new max_depth after (outline_of (p ++ t ∷ [])) unclosed (Some i) base) t n p
+      (record {
+        words_same = same;
+        depth_same = refl;
+        finished_same = refl;
+        asked_same = refl;
+        outline_more = outline_of-snoc p t;
+        not_prn = not_prn;
+        unclosed_more = counts;
+        steps_more = steps;
+      })
+      (record { no_place = refl; unclosed = refl; deep = deep; lawful_stack = ok })
+      why (ap (λ (k : ℕ). Some k) place) h
+
+none_counted : (opens closes : Bool) → count_one opens closes None ≡ None
+none_counted true closes = refl
+none_counted false true = refl
+none_counted false false = refl
+
+-- the count of open brackets over more tokens
+pub count_all-none : (q : List ℕ) → count_all None q ≡ None
+count_all-none [] = refl
+count_all-none (t ∷ q) =
+    ap (λ (u : Option ℕ). count_all u q) (none_counted (is_bra t) (is_ket t)) ∙ count_all-none q
+
+pub count_all-counted : (p q : List ℕ) → count_all (counted p) q ≡ counted (p ++ q)
+count_all-counted p [] = ap counted (sym (append-nil p))
+count_all-counted p (t ∷ q) =
+    ap (λ (u : Option ℕ). count_all u q) (sym (counted-snoc p t)) ∙ count_all-counted (p ++ t ∷ []) q
+    ∙ ap counted (append_assoc p (t ∷ []) q)
+
+pub count_all-few : (u : Option ℕ) (n : ℕ) (q : List ℕ) → IfSome u (λ k. k ≤ n) → IfSome (count_all u q) (λ k. k ≤ n + length q)
+count_all-few u n [] few = rw (add-zero) few
+count_all-few u n (t ∷ q) few =
+    let more = count_all-few (count_one (is_bra t) (is_ket t) u) (n + 1) q (counts_more u n (is_bra t) (is_ket t) few) in
+    let same : n + 1 + length q ≡ n + suc (length q) = omega arith in
+    rw same at more
+
+-- a reader with no place, in locals
+pub as_reading : {T : Type 0} (table : Ghosts T) (words : Words) (first : Sym) (depth n : ℕ) (v : Reading T) (p : List ℕ)
+    → v.place ≡ None → v.unclosed ≡ Some n → v.finished ≡ false → StandsAfter table words first depth v p
+    → StandsAfter table words first depth (reading v.table v.max_depth v.stack (outline_of p) (Some n) None v.asked_before) p
+as_reading table words first depth n v p none here unfinished h = record {
+  words_kept = h.words_kept;
+  depth_kept = h.depth_kept;
+  outline = outline_of-is p;
+  unclosed = sym here ∙ h.unclosed;
+  place = λ e. rw none at (h.place e);
+  steps = rw unfinished at h.steps;
+}
+
+module _ {T : Type 0} (table : Ghosts T) (words : Words) (first : Sym) (max_depth : ℕ) where
+  -- a reader that goes on to count brackets, or not at all where it has no place
+  pub record GoesOn (old new : Reading T) (p q m : List ℕ) : Type 0 where
+    pub whole : p ++ q ≡ m
+    pub table_same : new.table ≡ old.table
+    pub stack_same : new.stack ≡ old.stack
+    pub depth_same : new.max_depth ≡ old.max_depth
+    pub finished_same : new.finished ≡ old.finished
+    pub asked_same : new.asked_before ≡ old.asked_before
+    pub place_same : new.place ≡ old.place
+    pub outline_more : IsOutlineOf old.outline p → IsOutlineOf new.outline m
+    pub not_prn : new.outline.is_prn ≡ false
+    pub unclosed_more : new.unclosed ≡ count_all old.unclosed q
+    pub all_read : old.place ≡ None → q ≡ []
+
+  plain_front : (p q : List ℕ) → begins_with_prn (p ++ q) ≡ false → begins_with_prn p ≡ false
+  plain_front [] q h = refl
+  plain_front (x ∷ p) q h = h
+
+  pub stands_on : (old new : Reading T) (p q m : List ℕ) → GoesOn old new p q m → StandsAfter table words first max_depth old p
+      → StandsAfter table words first max_depth new m
+  stands_on old new p q m on h = subst (λ (r : List ℕ). StandsAfter table words first max_depth new r) on.whole (record {
+    words_kept = ap table.words on.table_same ∙ h.words_kept;
+    depth_kept = on.depth_same ∙ h.depth_kept;
+    outline = outline;
+    unclosed = subst (λ (b : Bool). new.unclosed ≡ (if b then Some 0 else counted (p ++ q))) (sym plain)
+        (on.unclosed_more ∙ ap (λ (u : Option ℕ). count_all u q) before ∙ count_all-counted p q);
+    place = λ _. rw (on.stack_same, on.place_same) (go old.place refl (h.place (plain_front p q plain)));
+    steps = rw (on.table_same, on.asked_same, on.finished_same, length-append) (let few = h.steps in omega arith);
+  })
+    where
+      outline : IsOutlineOf new.outline (p ++ q)
+      outline = subst (λ (r : List ℕ). IsOutlineOf new.outline r) (sym on.whole) (on.outline_more h.outline)
+
+      plain : begins_with_prn (p ++ q) ≡ false
+      plain = sym outline.begins ∙ on.not_prn
+
+      before : old.unclosed ≡ counted p
+      before = counted_now old.unclosed p (plain_front p q plain) h.unclosed
+
+      go : (o : Option ℕ) → old.place ≡ o → StackOrPlace (table.language words) first max_depth old.stack o p
+          → StackOrPlace (table.language words) first max_depth old.stack o (p ++ q)
+      go None is has = rw (on.all_read is, append-nil p) has
+      go (Some i) is has = place_kept (table.language words first) max_depth p q i has
+
+  -- a message that begins with PRN
+  pub stands_report_on : (old new : Reading T) (p q m : List ℕ) → p ++ q ≡ m → new.table ≡ old.table
+      → new.max_depth ≡ old.max_depth → new.finished ≡ old.finished → new.asked_before ≡ old.asked_before
+      → new.unclosed ≡ old.unclosed
+      → (IsOutlineOf old.outline p → IsOutlineOf new.outline m) → new.outline.is_prn ≡ true
+      → StandsAfter table words first max_depth old p → StandsAfter table words first max_depth new m
+  stands_report_on old new p q m whole same depth_same finished_same asked_same unclosed_same more is_report h =
+      subst (λ (r : List ℕ). StandsAfter table words first max_depth new r) whole
+      (stands_report table words first max_depth old new p q same depth_same finished_same asked_same unclosed_same
+      (λ o. subst (λ (r : List ℕ). IsOutlineOf new.outline r) (sym whole) (more o)) is_report h)
+
+-- a reader stays steady with the outline of all tokens of a body
+pub steady_on : (old_lawful lawful : List Sym → ℕ → Type 0) (size max_depth : ℕ) (old_stack stack : List Sym) (old : Outline) (m : List ℕ)
+    (old_unclosed old_place unclosed place : Option ℕ)
+    → IsSteady old_lawful size max_depth old_stack old old_unclosed old_place → old.tokens < length m → length m ≤ 32767
+    → IfSome unclosed (λ n. n ≤ length m)
+    → ((outline_on old m).is_prn ≡ false → place ≡ None
+    → (n : ℕ) × (unclosed ≡ Some n) × (n ≤ max_depth) × lawful stack n)
+    → (IsSome place → stack ≡ []) → ((outline_on old m).is_prn ≡ true → stack ≡ [])
+    → IsSteady lawful size max_depth stack (outline_on old m) unclosed place
+steady_on old_lawful lawful size max_depth old_stack stack old m old_unclosed old_place unclosed place steady more short counts ok placed report =
+    record {
+      small = steady.small;
+      deepest = steady.deepest;
+      counts = counts;
+      tokens = short;
+      fresh = λ none. absurd (omega (arith, none, more));
+      lawful_stack = ok;
+      none_left = placed;
+      none_in_prn = report;
+    }
+
+pub open_told : (n k : ℕ) → open_count n ≡ Some k → n ≡ k
+open_told n k e = go (nat_eq n 65535) e
+  where
+    go : (b : Bool) → (if b then None else Some n) ≡ Some k → n ≡ k
+    go true e = cc
+    go false e = cc
+
+-- the tokens of a body that a reader stands after, by its own count
+pub stands_before : {T : Type 0} (table : Ghosts T) (words : Words) (first : Sym) (max_depth : ℕ) (v old : Reading T) (b : List ℕ)
+    → v ≡ old → StandsAfter table words first max_depth old (tokens_of (take (2 * tokens_read old) b))
+    → StandsAfter table words first max_depth v (take v.outline.tokens (tokens_of b))
+stands_before {T = T} table words first max_depth v old b same h =
+    subst (λ (r : Reading T). StandsAfter table words first max_depth r (take r.outline.tokens (tokens_of b))) (sym same)
+    (subst (λ (p : List ℕ). StandsAfter table words first max_depth old p) (tokens_of-front (tokens_read old) b) h)
+
+-- no token came
+pub stands_still : {T : Type 0} (table : Ghosts T) (words : Words) (first : Sym) (max_depth : ℕ) (v old : Reading T) (b : List ℕ)
+    → v ≡ old → v.outline.tokens ≡ length (tokens_of b)
+    → StandsAfter table words first max_depth old (tokens_of (take (2 * tokens_read old) b))
+    → StandsAfter table words first max_depth old (tokens_of b)
+stands_still {T = T} table words first max_depth v old b same all h =
+    subst (λ (r : Reading T). StandsAfter table words first max_depth r (tokens_of b)) same
+    (subst (λ (p : List ℕ). StandsAfter table words first max_depth v p)
+    (ap (λ (k : ℕ). take k (tokens_of b)) all ∙ take-length (tokens_of b))
+    (stands_before table words first max_depth v old b same h))
+
+-- there are more tokens than were read
+pub more_tokens : (read told bytes tokens : ℕ) → read ≡ told → 2 * told ≤ bytes → tokens ≡ bytes / 2 → read ≢ bytes / 2 → read < tokens
+more_tokens read told bytes tokens same few size unread = omega arith
+
+pub counts_up : (u : Option ℕ) (a b : ℕ) → a ≤ b → IfSome u (λ n. n ≤ a) → IfSome u (λ n. n ≤ b)
+counts_up None a b le h = tt
+counts_up (Some n) a b le h = omega arith
+
+-- the count of a reader with no place
+pub count_is : (u : Option ℕ) (n count : ℕ) → u ≡ Some n → count ≡ unwrap_or u 0 → count ≡ n
+count_is u n count is e = rw is at e
+
+pub count_all-end : (u : Option ℕ) (n : ℕ) (m : List ℕ) → n ≡ length m → count_all u (drop n m) ≡ u
+count_all-end u n m e = rw (e, drop-length m) refl
+
+pub closed_early : (opens closes : Bool) (n : ℕ) → opens ≡ false → closes ≡ true → n ≡ 0 → count_one opens closes (Some n) ≡ None
+closed_early opens closes n is_no is_ket none = rw (is_no, is_ket, none) refl
+
+-- the count over the tokens from one on
+pub counts_past : (n : ℕ) (m : List ℕ) → n ≤ length m → (u : Option ℕ) → IfSome u (λ k. k ≤ n) → IfSome (count_all u (drop n m)) (λ k. k ≤ length m)
+counts_past n m inside u few =
+    let size : n + length (drop n m) ≡ length m = rw length-drop (omega arith) in
+    subst (λ (k : ℕ). IfSome (count_all u (drop n m)) (λ j. j ≤ k)) size (count_all-few u n (drop n m) few)

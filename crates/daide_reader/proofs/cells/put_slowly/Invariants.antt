@@ -1,0 +1,12 @@
+use Rattle.std.proofs.Common.{◌≡◌, ◌≤◌, ◌+◌, ◌-◌, ◌++◌, take, length}
+use Rattle.daide_reader.proofs.cells.put_slowly.Given as goal
+
+abbrev pub invariant-loop-done : goal.invariant-loop-done
+invariant-loop-done g l = record {
+  few : l.done ≤ l.count;
+  room : length l.cells ≡ g.row.N;
+  items : take (l.at + l.done) l.cells ≡ take l.at l.fn.cells ++ take l.done l.rest;
+}
+
+abbrev pub decreases-loop-done : goal.decreases-loop-done
+decreases-loop-done g l = l.count - l.done

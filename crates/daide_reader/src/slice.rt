@@ -1,0 +1,171 @@
+//! The tokens of a slice in one loop, with all that changes at a token in a local.
+//!
+//! What belongs to the message or to the slice is not looked at in the loop: whether the message
+//! begins with PRN, its outline, and whether a place was found.
+
+ghost use Rattle.std.specs.Prelude.{◌≡◌, ◌≢◌, ◌≤◌, ◌<◌, ◌+◌, ◌-◌, ◌*◌, ◌/◌, ◌%◌, ◌^◌, ◌⊎◌, List, ℕ, None, Some, IsSome, IfSome, IfNone, take, drop, length, reverse, false, true};
+ghost use Rattle.daide_token.specs.Token.{tokens_of};
+ghost use Rattle.daide_grammar.specs.declared.symbol.Sym.{Sym};
+ghost use Rattle.daide_grammar.specs.Paired.{begins_with_prn};
+ghost use Rattle.daide_grammar.specs.Brackets.{is_bra as is_bra_token, is_ket as is_ket_token, count_one};
+ghost use Rattle.daide_grammar.specs.Stacks.{stack_after};
+ghost use Rattle.daide_grammar.specs.Words.{Words};
+ghost use Rattle.daide_reader.specs.Outline.{count_all, outline_of};
+ghost use Rattle.daide_reader.specs.Reading.{IsRaised, StandsAfter, reading};
+ghost use Rattle.daide_reader.specs.Stack.{open_count, steps_at};
+
+use crate::body::token_at;
+use crate::brackets::{is_bra, is_ket, recount};
+use crate::cells::follow;
+use daide_grammar::predict::Predict;
+use daide_grammar::symbol::Symbol;
+use daide_token::token::Token;
+
+/// How far the tokens of a body were read: all of them, or up to the first that no message continues.
+#[derive(Clone, Copy)]
+pub struct Reached {
+    pub tokens: usize,
+    pub unclosed: Option<u16>,
+    pub place: Option<u16>,
+    /// The cells of the stack.
+    pub count: usize,
+}
+
+/// One token against the stack of the first `count` cells, with the open brackets before it: how many
+/// cells the stack has then, and the open brackets, where the token is taken.
+#[inline(always)]
+fn step<T: Predict, const N: usize>(
+    table: &mut T,
+    cells: &mut [Symbol; N],
+    count: usize,
+    opened: &mut u16,
+    token: Token,
+    deepest: u16,
+) -> Option<usize>
+    requires size { N ≤ 4096 }
+    requires count { count ≤ N }
+    requires low { opened.old < 65534 }
+    requires room { (is_bra_token token ≡ true → opened.old ≢ deepest) →
+        IfSome (stack_after (T.moves (T.words table.old)) (T.class_of (T.words table.old) token)
+        (reverse (take count cells.old))) (λ after. length after ≤ N) }
+    ensures fits { IsSome result → is_bra_token token ≡ true → opened.old ≢ deepest }
+    ensures taken { IfSome result (λ r.
+        stack_after (T.moves (T.words table.old)) (T.class_of (T.words table.old) token)
+        (reverse (take count cells.old))
+        ≡ Some (reverse (take r cells.new))) }
+    ensures inside { IfSome result (λ r. r ≤ N) }
+    ensures counted { count_one (is_bra_token token) (is_ket_token token) (Some opened.old) ≡ open_count opened.new }
+    ensures refused { IfNone result (((is_bra_token token ≡ true) × (opened.old ≡ deepest))
+        ⊎ (stack_after (T.moves (T.words table.old)) (T.class_of (T.words table.old) token)
+        (reverse (take count cells.old)) ≡ None)) }
+    ensures words { T.words table.new ≡ T.words table.old }
+    ensures steps { (n : ℕ)
+        × (n ≤ steps_at (T.moves (T.words table.old)) (T.class_of (T.words table.old) token)
+        (reverse (take count cells.old)))
+        × (T.asked table.new % 2 ^ 64 ≡ (T.asked table.old + n) % 2 ^ 64) }
+{
+    let class = table.class_of(token);
+    if !recount(opened, token, class, deepest) {
+        return None;
+    }
+    follow(table, cells, count, class)
+}
+
+/// Where reading ends at a token that is not taken, which is counted.
+#[inline(never)]
+fn refused(opened: u16, place: usize) -> Reached
+    requires { place < 32767 }
+    ensures tokens { result.tokens ≡ place + 1 }
+    ensures unclosed { result.unclosed ≡ open_count opened }
+    ensures place { result.place ≡ Some place }
+    ensures count { result.count ≡ 0 }
+{
+    Reached {
+        tokens: place + 1,
+        unclosed: if opened == 65535 { None } else { Some(opened) },
+        place: Some(place as u16),
+        count: 0,
+    }
+}
+
+/// Reads the tokens of a body from one on, with the stack and the open brackets of those before it.
+#[inline(always)]
+pub fn run<T: Predict, const N: usize>(
+    table: &mut T,
+    cells: &mut [Symbol; N],
+    count: usize,
+    body: &[u8],
+    read: usize,
+    unclosed: u16,
+    max_depth: u16,
+) -> Reached
+    requires size { N ≤ 4096 }
+    requires count { count ≤ N }
+    requires deepest { 8 * max_depth + 16 ≤ N }
+    requires room { length body.now ≤ 65534 }
+    requires read { read ≤ length body.now / 2 }
+    requires few { unclosed ≤ read }
+    requires deep { unclosed ≤ max_depth }
+    requires lawful { T.lawful (T.words table.old) (reverse (take count cells.old)) unclosed }
+    ensures inside { result.count ≤ N }
+    ensures goes_on { read ≤ result.tokens }
+    ensures tokens { result.tokens ≤ length body.now / 2 }
+    ensures all { result.place ≡ None → result.tokens ≡ length body.now / 2 }
+    ensures words { T.words table.new ≡ T.words table.old }
+    ensures counts { IfSome result.unclosed (λ n. n ≤ result.tokens) }
+    ensures lawful { result.place ≡ None → (n : ℕ) × (result.unclosed ≡ Some n) × (n ≤ max_depth)
+        × T.lawful (T.words table.new) (reverse (take result.count cells.new)) n }
+    ensures none_left { IsSome result.place → result.count ≡ 0 }
+    ensures raised { IsRaised (4 * (result.tokens - read)) (T.asked table.old) (T.asked table.new) }
+    ensures stands_after { (words : Words) (first : Sym) (depth base : ℕ) →
+        begins_with_prn (tokens_of body.now) ≡ false →
+        StandsAfter T.Predict words first depth
+        (reading table.old max_depth (reverse (take count cells.old))
+        (outline_of (take read (tokens_of body.now))) (Some unclosed) None base)
+        (take read (tokens_of body.now)) →
+        StandsAfter T.Predict words first depth
+        (reading table.new max_depth (reverse (take result.count cells.new))
+        (outline_of (take result.tokens (tokens_of body.now))) result.unclosed result.place base)
+        (take result.tokens (tokens_of body.now)) }
+{
+    let mut opened = unclosed;
+    let mut left = count;
+    for i in read..body.len() / 2 {
+        let token = token_at(body, i);
+        let Some(now) = step(table, cells, left, &mut opened, token, max_depth) else {
+            return refused(opened, i);
+        };
+        left = now;
+    }
+    Reached {
+        tokens: body.len() / 2,
+        unclosed: Some(opened),
+        place: None,
+        count: left,
+    }
+}
+
+/// Counts the open brackets over the tokens of a body from one on.
+pub fn count_from(unclosed: Option<u16>, body: &[u8], next: usize) -> Option<u16>
+    requires room { length body.now ≤ 65534 }
+    requires next { next ≤ length body.now / 2 }
+    requires few { IfSome unclosed (λ n. n ≤ next) }
+    ensures count { result ≡ count_all unclosed (drop next (tokens_of body.now)) }
+{
+    let Some(before) = unclosed else {
+        return None;
+    };
+    let mut opened = before;
+    for i in next..body.len() / 2 {
+        let token = token_at(body, i);
+        if is_bra(token) {
+            opened += 1;
+        } else if is_ket(token) {
+            if opened == 0 {
+                return None;
+            }
+            opened -= 1;
+        }
+    }
+    Some(opened)
+}
