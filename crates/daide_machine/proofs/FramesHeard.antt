@@ -40,7 +40,7 @@ items_of-placed : (n : ℕ) (items : List Item) (more : List Placed) →
 items_of-placed n [] more = refl
 items_of-placed n (item ∷ items) more = ap (λ (t : List Item). item ∷ t) (items_of-placed n items more)
 
-not_both : (b : Bool) → b ≡ true → b ≡ false → ⊥
+pub not_both : (b : Bool) → b ≡ true → b ≡ false → ⊥
 not_both true e f = absurd (cc)
 not_both false e f = absurd (cc)
 
@@ -208,7 +208,7 @@ item_limits s side (Begun head) v = begun_limits s side (untimely s.phase side h
 item_limits s side (Whole head body) v = whole_limits s side head body v (is_im head.kind)
 item_limits s side (Wrong code) v = refl
 
-items_limits : (s : SessionState) (side : Side) (items : List Item) (v : Verdict) →
+pub items_limits : (s : SessionState) (side : Side) (items : List Item) (v : Verdict) →
     (items_outcome s side items v).state.limits ≡ s.limits
 items_limits s side [] v = refl
 items_limits s side (item ∷ items) v =
@@ -222,7 +222,7 @@ items_limits s side (item ∷ items) v =
     go true e later = rw e refl
     go false e later = rw e (later ∙ item_limits s side item v)
 
-with_limits : (s : SessionState) (side : Side) (bytes : List ℕ) → (with_pending s side bytes).limits ≡ s.limits
+pub with_limits : (s : SessionState) (side : Side) (bytes : List ℕ) → (with_pending s side bytes).limits ≡ s.limits
 with_limits s Bot bytes = refl
 with_limits s Server bytes = refl
 
@@ -314,7 +314,7 @@ over_hears side s (e ∷ events) effects new run o =
     rw (hears_nothing side s e o)
     (over_hears side run.0 events run.2 new run.4 (ap (λ (q : SessionState). is_over q.phase) same ∙ o))
 
-over_for_good : (s : SessionState) (events : List Event) (effects : List Effect) (new : SessionState) →
+pub over_for_good : (s : SessionState) (events : List Event) (effects : List Effect) (new : SessionState) →
     Runs s events effects new →
     is_over s.phase ≡ true → is_over new.phase ≡ true
 over_for_good s events effects new run o =
@@ -425,7 +425,7 @@ popped_is WaitRm s = inr refl
 popped_is Open s = inr refl
 popped_is Over s = inr refl
 
-pops : (s : SessionState) (effects : List Effect) (m : SessionState) → Step s Pops effects m →
+pub pops : (s : SessionState) (effects : List Effect) (m : SessionState) → Step s Pops effects m →
     (is_over m.phase ≡ true) ⊎ (m ≡ s)
 pops s effects m t =
     let came : m ≡ (popped s.phase s).state = ap (λ (q : Outcome). q.state) (sym t.outcome) in
@@ -434,13 +434,13 @@ pops s effects m t =
     (λ (h : (popped s.phase s).state ≡ s). inr (came ∙ h))
     (popped_is s.phase s)
 
-ended : (s : SessionState) (side : Side) (effects : List Effect) (m : SessionState) → Step s (Ends side) effects m →
+pub ended : (s : SessionState) (side : Side) (effects : List Effect) (m : SessionState) → Step s (Ends side) effects m →
     is_over s.phase ≡ false → is_over m.phase ≡ true
 ended s side effects m t o =
     let came : event_outcome s (Ends side) t.verdict ≡ end s side = rw o refl in
     ap (λ (q : Outcome). is_over q.state.phase) (sym t.outcome ∙ came)
 
-lost : (s : SessionState) (side : Side) (effects : List Effect) (m : SessionState) → Step s (Loses side) effects m →
+pub lost : (s : SessionState) (side : Side) (effects : List Effect) (m : SessionState) → Step s (Loses side) effects m →
     is_over s.phase ≡ false → is_over m.phase ≡ true
 lost s side effects m t o =
     let came : event_outcome s (Loses side) t.verdict ≡ end s side = rw o refl in
@@ -500,7 +500,7 @@ frames_heard Server limits events effects new run =
 -- ---- room
 
 -- bytes of each side's next frame are missing
-abbrev IsWaitedFor : SessionState → Type 0
+abbrev pub IsWaitedFor : SessionState → Type 0
 IsWaitedFor s = (side : Side) → 0 < missing s.limits.cap (coming s side).pending
 
 by_sides : (P : Side → Type 0) (one : Side) → P one → P (other one) → (side : Side) → P side
@@ -547,7 +547,7 @@ step_waits s Pops effects m t o p wait = ⊎_elim
     (λ (h : m ≡ s). subst IsWaitedFor (sym h) wait)
     (pops s effects m t)
 
-run_waits : (s : SessionState) (events : List Event) (effects : List Effect) (new : SessionState) →
+pub run_waits : (s : SessionState) (events : List Event) (effects : List Effect) (new : SessionState) →
     Runs s events effects new →
     is_over new.phase ≡ false → IsWaitedFor s → IsWaitedFor new
 run_waits s [] effects new run p wait = subst IsWaitedFor (sym run.1) wait

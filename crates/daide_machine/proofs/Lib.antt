@@ -1,5 +1,11 @@
 pub mod PieceRuns
 pub mod OneRun
+pub mod SomeRun
 pub mod WireLemmas
 pub mod FramesHeard
+pub mod CallLemmas
+pub mod HloLemmas
+pub mod LimitsKept
 pub mod StandardFacts
+pub mod GatewayFacts
+pub mod SessionFacts

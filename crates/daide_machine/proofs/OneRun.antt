@@ -2,17 +2,19 @@
 use Rattle.std.proofs.Common.{◌≡◌, ℕ, List, [], ◌∷◌, ◌++◌, Option, Some, None, sym, ap, ◌∙◌, subst, append_assoc}
 use Rattle.daide_reader.specs.declared.verdict.Verdict.{Verdict}
 use Rattle.daide_reader.proofs.VerdictLemmas.{verdict_is_one}
-use Rattle.daide_grammar.specs.Messages.{IsMessage}
+use Rattle.daide_grammar.specs.SideMessages.{IsMessageOver}
+use Rattle.daide_grammar.specs.Words.{Words}
 use Rattle.daide_machine.specs.Events.{Event}
 use Rattle.daide_machine.specs.Machine.{SessionState, Effect, Outcome, Question, Step, Runs, IsRight, question}
 use Rattle.daide_machine.specs.Machine.{side2_of, event_outcome}
 
 -- ---- one verdict
 
-one_right : (max_depth : ℕ) (q : Option Question) (v w : Verdict) → IsRight max_depth q v → IsRight max_depth q w →
-    v ≡ w
-one_right max_depth None v w a b = a ∙ sym b
-one_right max_depth (Some q) v w a b = verdict_is_one (IsMessage (side2_of q.side) q.level) max_depth q.message v w a b
+one_right : (words : Words) (max_depth : ℕ) (q : Option Question) (v w : Verdict) →
+    IsRight words max_depth q v → IsRight words max_depth q w → v ≡ w
+one_right words max_depth None v w a b = a ∙ sym b
+one_right words max_depth (Some q) v w a b =
+    verdict_is_one (IsMessageOver words (side2_of q.side) q.level) max_depth q.message v w a b
 
 -- ---- one run
 
@@ -20,7 +22,8 @@ one_step : (old : SessionState) (event : Event) (a b : List Effect) (new other :
     Step old event a new → Step old event b other →
     ◌≡◌ {A = Outcome} (record { state = new; effects = a }) (record { state = other; effects = b })
 one_step old event a b new other s t =
-    let same = one_right old.limits.max_depth (question old event) s.verdict t.verdict s.right t.right in
+    let same = one_right old.limits.words old.limits.max_depth (question old event) s.verdict t.verdict
+    s.right t.right in
     sym s.outcome ∙ (ap (event_outcome old event) same ∙ t.outcome)
 
 pub one_run : (events : List Event) (old : SessionState) (a b : List Effect) (new other : SessionState) →

@@ -10,7 +10,7 @@ use Rattle.daide_reader.specs.declared.verdict.Verdict.TheVariants.{Relay}
 use Rattle.daide_machine.specs.declared.phase.Phase.{Phase}
 use Rattle.daide_machine.specs.declared.phase.Phase.TheVariants.{WaitIm, WaitRm, Open, Over}
 use Rattle.daide_machine.specs.Events.{Event, Comes, Ends, Loses, Pops, bytes_come}
-use Rattle.daide_machine.specs.Machine.{SessionState, Outcome, Question, Step, Runs, coming, with_pending}
+use Rattle.daide_machine.specs.Machine.{Limits, SessionState, Outcome, Question, Step, Runs, coming, with_pending}
 use Rattle.daide_machine.specs.Machine.{items_outcome, asked_by, question, IsRight, event_outcome, nothing, is_over}
 use Rattle.daide_machine.specs.Machine.{popped}
 
@@ -39,7 +39,8 @@ over_asks s Pops h = refl
 pub over_stays : (s : SessionState) (es : List Event) → is_over s.phase ≡ true → Runs s es [] s
 over_stays s [] h = (refl, refl)
 over_stays s (e ∷ es) h =
-    let right = subst (λ (q : Option Question). IsRight s.limits.max_depth q Relay) (sym (over_asks s e h)) refl in
+    let right = subst (λ (q : Option Question). IsRight s.limits.words s.limits.max_depth q Relay)
+    (sym (over_asks s e h)) refl in
     (s, [], [], record { verdict = Relay; right = right; outcome = over_outcome s e Relay h }, over_stays s es h, refl)
 
 -- ---- the bytes of a side, changed again
@@ -52,9 +53,9 @@ phase_is : (s : SessionState) (side : Side) (a : List ℕ) → (with_pending s s
 phase_is s Bot a = refl
 phase_is s Server a = refl
 
-depth_is : (s : SessionState) (side : Side) (a : List ℕ) → (with_pending s side a).limits.max_depth ≡ s.limits.max_depth
-depth_is s Bot a = refl
-depth_is s Server a = refl
+limits_are : (s : SessionState) (side : Side) (a : List ℕ) → (with_pending s side a).limits ≡ s.limits
+limits_are s Bot a = refl
+limits_are s Server a = refl
 
 same_pending : (s : SessionState) (side : Side) → with_pending s side (coming s side).pending ≡ s
 same_pending s Bot = refl
@@ -121,7 +122,7 @@ quiet_step s side x o n = record {
 -- a byte that ends something
 
 loud_step : (s : SessionState) (side : Side) (x : ℕ) (v : Verdict) → is_over s.phase ≡ false →
-    IsRight s.limits.max_depth (asked_by s side (items_at s side x)) v →
+    IsRight s.limits.words s.limits.max_depth (asked_by s side (items_at s side x)) v →
     let r = items_outcome (with_pending s side (with_byte s side x)) side (items_at s side x) v in
     Step s (Comes side x) r.effects r.state
 loud_step s side x v o r = record {
@@ -153,7 +154,7 @@ rest_runs s side (x ∷ piece) e = absurd (omega arith)
 
 -- the run over the bytes of a piece
 pub piece_runs : (piece : List ℕ) (s : SessionState) (side : Side) (v : Verdict) → is_over s.phase ≡ false →
-    IsTaken s side piece v → IsRight s.limits.max_depth (piece_asks s side piece) v →
+    IsTaken s side piece v → IsRight s.limits.words s.limits.max_depth (piece_asks s side piece) v →
     Runs s (bytes_come side piece) (piece_outcome s side piece v).effects (piece_outcome s side piece v).state
 piece_runs [] s side v o t r = (refl, same_pending s side)
 piece_runs (x ∷ piece) s side v o t r =
@@ -164,7 +165,7 @@ piece_runs (x ∷ piece) s side v o t r =
 
     Later : Type 0
     Later = (s' : SessionState) (v' : Verdict) → is_over s'.phase ≡ false → IsTaken s' side piece v' →
-        IsRight s'.limits.max_depth (piece_asks s' side piece) v' →
+        IsRight s'.limits.words s'.limits.max_depth (piece_asks s' side piece) v' →
         Runs s' (bytes_come side piece) (piece_outcome s' side piece v').effects (piece_outcome s' side piece v').state
 
     go : (n : Bool) → is_nothing (items_at s side x) ≡ n → Later →
@@ -178,10 +179,10 @@ piece_runs (x ∷ piece) s side v o t r =
         (λ (h : is_over (piece_outcome s side (x ∷ piece) v).state.phase ≡ true). inr
         (ap (λ (q : Outcome). is_over q.state.phase) same ∙ h))
         t in
-        let asks = subst (λ (q : Option Question). IsRight s.limits.max_depth q v)
+        let asks = subst (λ (q : Option Question). IsRight s.limits.words s.limits.max_depth q v)
         (sym (later_asks s side x piece e)) r in
-        let asks_there = subst (λ (d : ℕ). IsRight d (piece_asks next side piece) v)
-        (sym (depth_is s side (with_byte s side x))) asks in
+        let asks_there = subst (λ (l : Limits). IsRight l.words l.max_depth (piece_asks next side piece) v)
+        (sym (limits_are s side (with_byte s side x))) asks in
         let more = later next v (ap is_over (phase_is s side (with_byte s side x)) ∙ o) taken asks_there in (
           next,
           [],
@@ -193,7 +194,8 @@ piece_runs (x ∷ piece) s side v o t r =
     go false e later =
         let result = items_outcome next side (items_at s side x) v in
         let same : piece_outcome s side (x ∷ piece) v ≡ result = loud_outcome s side x piece v e in
-        let asks = subst (λ (q : Option Question). IsRight s.limits.max_depth q v) (loud_asks s side x piece e) r in
+        let asks = subst (λ (q : Option Question). IsRight s.limits.words s.limits.max_depth q v)
+        (loud_asks s side x piece e) r in
         let rest : Runs result.state (bytes_come side piece) [] result.state = ⊎_elim
         (λ (h : fed s.limits.cap (coming s side).pending (x ∷ piece)
         ≡ (coming s side).pending ++ x ∷ piece). rest_runs result.state side piece

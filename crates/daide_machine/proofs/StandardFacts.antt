@@ -351,7 +351,7 @@ other_message = refl
 -- ---- what the last byte of a frame makes
 
 abbrev small : Limits
-small = record { cap = 512; top_level = L60; max_depth = 62 }
+small = record { cap = 512; top_level = L60; max_depth = 62; words = [] }
 
 -- these bytes of the bot are pending, in this phase at level 30, and the last header came at level 10
 abbrev pending_in : Phase → List ℕ → SessionState

@@ -1,8 +1,10 @@
+pub mod Bounds
 pub mod Events
 pub mod Answers
 pub mod HloLevel
 pub mod Machine
 pub mod Wires
 pub mod Weight
+pub mod Calls
 pub mod Heard
 pub mod Laws

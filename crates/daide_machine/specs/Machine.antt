@@ -22,7 +22,8 @@ use Rattle.daide_reader.specs.declared.verdict.Verdict.{Verdict}
 use Rattle.daide_reader.specs.declared.verdict.Verdict.TheVariants.{Relay, Prn, Huh}
 use Rattle.daide_grammar.specs.declared.side.Side2.{Side2}
 use Rattle.daide_grammar.specs.declared.side.Side2.TheVariants.{Client, ServerEnd}
-use Rattle.daide_grammar.specs.Messages.{IsMessage}
+use Rattle.daide_grammar.specs.SideMessages.{IsMessageOver}
+use Rattle.daide_grammar.specs.Words.{Words}
 use Rattle.daide_reader.specs.Verdict.{HasVerdict}
 use Rattle.daide_machine.specs.declared.phase.Phase.{Phase}
 use Rattle.daide_machine.specs.declared.phase.Phase.TheVariants.{WaitIm, WaitRm, Open, Over}
@@ -36,11 +37,13 @@ use Rattle.daide_machine.specs.HloLevel.{level_told}
 
 -- ---- the state
 
--- what the operator set: the longest body, the highest level of press, the most brackets open at once
+-- what the operator set: the longest body, the highest level of press, the most brackets open at once, and the
+-- press words that were added to the grammar
 pub record Limits : Type 0 where
   pub cap : ℕ
   pub top_level : Level
   pub max_depth : ℕ
+  pub words : Words
 
 -- a side's messages: the bytes since its last whole frame, and the level that held when the header of
 -- its last message became whole
@@ -354,17 +357,18 @@ abbrev pub side2_of : Side → Side2
 side2_of Bot = Client
 side2_of Server = ServerEnd
 
--- the verdict is the grammar's where a message is judged
-abbrev pub IsRight : ℕ → Option Question → Verdict → Type 0
-IsRight max_depth None verdict = verdict ≡ Relay
-IsRight max_depth (Some q) verdict = HasVerdict (IsMessage (side2_of q.side) q.level) max_depth q.message verdict
+-- the verdict is that of the grammar with the operator's words, where a message is judged
+abbrev pub IsRight : Words → ℕ → Option Question → Verdict → Type 0
+IsRight words max_depth None verdict = verdict ≡ Relay
+IsRight words max_depth (Some q) verdict =
+    HasVerdict (IsMessageOver words (side2_of q.side) q.level) max_depth q.message verdict
 
 -- ---- runs
 
 -- the machine goes by this event from old to new with these moves
 pub record Step (old : SessionState) (event : Event) (effects : List Effect) (new : SessionState) : Type 0 where
   pub verdict : Verdict
-  pub right : IsRight old.limits.max_depth (question old event) verdict
+  pub right : IsRight old.limits.words old.limits.max_depth (question old event) verdict
   pub outcome : event_outcome old event verdict ≡ record { state = new; effects = effects }
 
 -- the machine goes by these events from old to new with these moves

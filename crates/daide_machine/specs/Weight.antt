@@ -1,11 +1,11 @@
 -- What a session holds, and its bound.
-use Rattle.std.specs.Prelude.{◌≡◌, ℕ, ◌+◌, ◌*◌, false, min, List, [], length, drop, if◌then◌else◌}
+use Rattle.std.specs.Prelude.{◌≡◌, ℕ, ◌+◌, ◌*◌, ◌≤◌, false, min, List, [], length, drop, if◌then◌else◌}
 use Rattle.daide_token.specs.Token.{tokens_of}
 use Rattle.daide_frame.specs.declared.side.Side.{Side}
 use Rattle.daide_frame.specs.Frames.{announced, head_in}
 use Rattle.daide_grammar.specs.Depth.{open_brackets}
 use Rattle.daide_machine.specs.Machine.{coming}
-use Rattle.daide_machine.specs.Wires.{Gateway, holding, is_answering, is_dm_head}
+use Rattle.daide_machine.specs.Wires.{Gateway, Holding, holding, is_answering, is_dm_head}
 
 -- the lengths of the six collections: two bodies, two stacks, two lists of frames that wait
 unfoldable pub weight_of : Gateway → ℕ
@@ -25,6 +25,11 @@ direction_bound cap held = min (announced cap held) cap + 8 * open_brackets (tok
 -- both, and 64 together
 unfoldable pub weight_bound : Gateway → ℕ
 weight_bound g = direction_bound g.state.limits.cap g.bot.held + direction_bound g.state.limits.cap g.server.held + 64
+
+-- what is held in one direction is within these: the announced length, capped, and the entries
+pub record IsKeptSmall (cap : ℕ) (h : Holding) : Type 0 where
+  pub bytes : length (drop 4 h.held) ≤ min (announced cap h.held) cap
+  pub entries : h.entries ≤ 8 * open_brackets (tokens_held cap h.held) + 16
 
 -- the table's answers that a side's message may take: four a token, and four at its end
 abbrev pub steps_bound : Gateway → Side → ℕ

@@ -1,11 +1,12 @@
 -- A session as its callers see it: its state, the frames that wait for each wire, and what it holds of
 -- each side; and what each call does to these.
-use Rattle.std.specs.Prelude.{◌≡◌, ℕ, ◌+◌, ◌-◌, ◌%◌, ◌^◌, ◌<◌, Bool, true, false, ◌||◌, ◌&&◌, nat_lt}
+use Rattle.std.specs.Prelude.{◌≡◌, ℕ, ◌+◌, ◌-◌, ◌*◌, ◌/◌, ◌%◌, ◌^◌, ◌<◌, Bool, true, false, ◌||◌, ◌&&◌, nat_lt}
 use Rattle.std.specs.Prelude.{List, [], ◌∷◌, ◌++◌, length, drop, Option, Some, None, if◌then◌else◌}
 use Rattle.daide_frame.specs.declared.side.Side.{Side}
 use Rattle.daide_frame.specs.declared.side.Side.TheVariants.{Bot, Server}
 use Rattle.daide_frame.specs.declared.head.Head.{Head}
 use Rattle.daide_frame.specs.Frames.{fed, head_in, missing}
+use Rattle.daide_reader.specs.Reading.{IsRaised}
 use Rattle.daide_machine.specs.declared.note.Deed.TheVariants as Deeds
 use Rattle.daide_machine.specs.declared.note.Note.{Note}
 use Rattle.daide_machine.specs.declared.note.Note.TheVariants as Notes
@@ -62,12 +63,19 @@ pub record Gateway : Type 0 where
   -- the frames that wait for each wire, the first perhaps in part
   pub to_bot : List Sent
   pub to_server : List Sent
+  -- what is handed to each wire next: a front of its first frame; empty exactly where none waits
+  pub bot_front : List ℕ
+  pub server_front : List ℕ
   pub bot : Holding
   pub server : Holding
 
 abbrev pub waiting : Gateway → Side → List Sent
 waiting g Bot = g.to_bot
 waiting g Server = g.to_server
+
+abbrev pub front_of : Gateway → Side → List ℕ
+front_of g Bot = g.bot_front
+front_of g Server = g.server_front
 
 abbrev pub holding : Gateway → Side → Holding
 holding g Bot = g.bot
@@ -137,6 +145,12 @@ pub record Goes (old : Gateway) (events : List Event) (told : Note) (new : Gatew
   pub kept : (side : Side) → waiting new side ≡ waiting old side ++ sent_to side effects
   pub note : told ≡ note_of effects
 
+-- What is held of a side whose answer is gone: nothing; of any other, what was held. No table was asked.
+pub record LetsGo (old new : Gateway) : Type 0 where
+  pub gone : (side : Side) → is_answering old side ≡ true → is_answering new side ≡ false →
+      ((holding new side).held ≡ []) × ((holding new side).total ≡ (holding old side).total)
+  pub kept : (side : Side) → is_answering new side ≡ is_answering old side → holding new side ≡ holding old side
+
 -- One event, after which the session is over and nothing waits for the wire that failed.
 pub record Lost (old : Gateway) (side : Side) (new : Gateway) : Type 0 where
   pub effects : List Effect
@@ -144,12 +158,15 @@ pub record Lost (old : Gateway) (side : Side) (new : Gateway) : Type 0 where
   pub dropped : waiting new side ≡ []
   pub other_wire : waiting new (other side) ≡ waiting old (other side) ++ sent_to (other side) effects
   pub over : is_over new.state.phase ≡ true
+  pub held : LetsGo old new
 
 -- n bytes of what waited for a wire were taken, and nothing else changed of the state and the wires
 pub record Wrote (old : Gateway) (side : Side) (n : ℕ) (new : Gateway) : Type 0 where
   pub same_state : new.state ≡ old.state
   pub taken : waiting new side ≡ without n (waiting old side)
+  pub front_bytes : bytes_of (waiting new side) ≡ drop n (bytes_of (waiting old side))
   pub other_wire : waiting new (other side) ≡ waiting old (other side)
+  pub held : LetsGo old new
 
 -- ---- what is held after a call
 
@@ -184,8 +201,14 @@ grown g side piece = fed g.state.limits.cap (holding g side).held piece
 abbrev pub head_by : Gateway → List ℕ → Option Head
 head_by g bytes = head_in g.state.limits.cap bytes
 
--- Bytes of a side came: its frame has them, its table was asked for a message alone, each token once,
--- and nothing changed of what is held of the other side. Where no byte came, nothing changed at all.
+-- the most that a table is asked for a piece: four answers for each token that it ends or begins, and four
+-- at a message's end
+abbrev pub asked_at_most : List ℕ → ℕ
+asked_at_most piece = 4 * (length piece / 2 + 1) + 4
+
+-- Bytes of a side came: its frame has them, its table was asked for a message alone, each token once and
+-- as it came, and nothing changed of what is held of the other side. Where no byte came, nothing changed
+-- at all.
 pub record Takes (old : Gateway) (side : Side) (piece : List ℕ) (told : Note) (new : Gateway) : Type 0 where
   pub nothing : piece ≡ [] → holding new side ≡ holding old side
   pub bytes : (holding new side).held ≡ held_after told (grown old side piece)
@@ -193,6 +216,7 @@ pub record Takes (old : Gateway) (side : Side) (piece : List ℕ) (told : Note) 
       ≡ counts_from (head_by old (holding old side).held) (head_by old (grown old side piece)) (holding old side)
   pub no_message : is_dm_head (head_by old (grown old side piece)) ≡ false →
       (holding new side).total ≡ (holding old side).total
+  pub raised : IsRaised (asked_at_most piece) (holding old side).total (holding new side).total
   pub other_side : holding new (other side) ≡ holding old (other side)
 
 -- nothing changed of what is held

@@ -1,7 +1,45 @@
 //! Laws of the machine: functions with no parameters and an empty body, whose contracts are the laws.
 
+ghost use Rattle.std.specs.Prelude.{◌≡◌, ◌+◌, ◌*◌};
+ghost use Rattle.daide_machine.specs.Bounds.{longest_body, deepest};
+ghost use Rattle.daide_machine.specs.Answers.{prn_open, huh_open, err_word, close_word};
+ghost use Rattle.daide_machine.specs.Machine.{fm_bytes};
+ghost use Rattle.daide_machine.specs.Laws.{EachEventHasAStep, EventsHaveARun};
 ghost use Rattle.daide_machine.specs.Laws.{AnswersAreUnique, RunsJoin, AnswersJoin, PiecesDoNotMatter};
+ghost use Rattle.daide_machine.specs.Laws.{CallsDeliverTheAnswers, EachWireGetsTheAnswers, OnlyEventsMatter};
 ghost use Rattle.daide_machine.specs.Laws.{NothingAfterTheEnd, FramesAreThoseOfTheCut, EachSideIsWaitedFor};
+
+use crate::answers::{CLOSE_WORD, ERR_WORD, FM, HUH_OPEN, PRN_OPEN};
+use crate::bounds::{MAX_BODY, MAX_DEPTH, STACK_ENTRIES};
+
+/// The words round an answer, and the final message, have the bytes that the definitions give them.
+pub fn words_are_those_of_the_definitions()
+    ensures prn { PRN_OPEN ≡ prn_open }
+    ensures huh { HUH_OPEN ≡ huh_open }
+    ensures err { ERR_WORD ≡ err_word }
+    ensures close { CLOSE_WORD ≡ close_word }
+    ensures fm { FM ≡ fm_bytes }
+{}
+
+/// The bounds are those of the definitions, and a reader's stack has the room that a message of the greatest
+/// depth may need.
+pub fn bounds_are_those_of_the_definitions()
+    ensures body { MAX_BODY ≡ longest_body }
+    ensures depth { MAX_DEPTH ≡ deepest }
+    ensures entries { STACK_ENTRIES ≡ 8 * deepest + 16 }
+{}
+
+/// Whatever happens in whatever state has a step, so no table of the machine has a row left out, and no
+/// message is without a verdict.
+pub fn each_event_has_a_step()
+    ensures { EachEventHasAStep }
+{}
+
+/// Each list of events has a run from each state. Since it has one only, the answers are a function of what
+/// comes.
+pub fn events_have_a_run()
+    ensures { EventsHaveARun }
+{}
 
 /// A state and a list of events have one run: the same moves, so the same frames for each wire, and the
 /// same state after.
@@ -22,6 +60,24 @@ pub fn answers_join()
 /// Two pieces of a side's bytes are the same events as the piece that they make together.
 pub fn pieces_do_not_matter()
     ensures { PiecesDoNotMatter }
+{}
+
+/// Whatever is called in whatever order: what a wire took, and then what waits for it, are the frames of the
+/// run of all that the session was told. A wire that failed took a front of these.
+pub fn calls_deliver_the_answers()
+    ensures { CallsDeliverTheAnswers }
+{}
+
+/// From a session's start to any time, a wire that did not fail got the machine's frames, but for those that
+/// still wait for it.
+pub fn each_wire_gets_the_answers()
+    ensures { EachWireGetsTheAnswers }
+{}
+
+/// What a session was told decides its state and what its wires get, in whatever pieces the bytes came and
+/// however fast the wires took them.
+pub fn only_events_matter()
+    ensures { OnlyEventsMatter }
 {}
 
 /// Once over, a session sends nothing and stays as it is, whatever happens.

@@ -1,10 +1,19 @@
-//! What a session does, as definitions: a machine over events, and the frames that wait for the wires.
+//! What a session does, as definitions: a machine over events, and the frames that wait for the wires; and its
+//! tables in code.
 //!
-//! `specs/` has the definitions, in the order Events, Answers, HloLevel, Machine, Wires, Weight, Heard.
-//! There is no code here but for the plain types that both the definitions and the session speak of, so that a
-//! session, and all that drives one, can be proved over the same words.
+//! `specs/` has the definitions, in the order Bounds, Events, Answers, HloLevel, Machine, Wires, Weight, Calls,
+//! Heard, Laws. The code decides and holds nothing: `rules` and `hlo` answer what the machine's tables say, and
+//! `answers` has the words round an answer; so a session, and all that drives one, is proved over the same words.
 #![tactic(auto)]
 
+pub mod answers;
+pub mod bounds;
+pub mod hlo;
 pub mod laws;
 pub mod note;
 pub mod phase;
+pub mod rules;
+
+pub use bounds::{MAX_BODY, MAX_DEPTH, STACK_ENTRIES};
+pub use note::{Deed, Note};
+pub use phase::Phase;

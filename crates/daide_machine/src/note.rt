@@ -1,7 +1,6 @@
 //! What a call of a session made of the bytes that came.
 
-use daide_frame::code::Code;
-use daide_frame::head::Head;
+use daide_frame::{Code, Head};
 
 /// What became of a whole frame.
 #[derive(Clone, Copy, Debug, PartialEq, Eq)]

@@ -1,0 +1,332 @@
+-- What calls in a row come to on each wire.
+use Rattle.std.proofs.Common.{◌≡◌, ℕ, Bool, true, false, ◌||◌, List, [], ◌∷◌, ◌++◌, length, nat_lt}
+use Rattle.std.proofs.Common.{refl, sym, ap, ◌∙◌, subst, append_assoc, append-nil, arith, if◌then◌else◌}
+use Rattle.std.proofs.lemmas.Bool.Decides.{nat_tests}
+use Rattle.std.proofs.lemmas.List.{length-append}
+use Rattle.std.proofs.Math.Seq.{drop-append_seam}
+use Rattle.daide_frame.specs.declared.side.Side.{Side}
+use Rattle.daide_frame.specs.declared.side.Side.TheVariants.{Bot, Server}
+use Rattle.daide_machine.specs.declared.note.Note.{Note}
+use Rattle.daide_machine.specs.Events.{Event, Ends, Loses, Pops, bytes_come, other}
+use Rattle.daide_machine.specs.Machine.{Limits, Sent, SessionState, Effect, Runs, is_over, opening}
+use Rattle.daide_machine.specs.Wires.{Gateway, IsNew, Goes, Lost, Wrote, waiting, same_side, sent_to, bytes_of, without}
+use Rattle.daide_machine.specs.Calls.{Call, Feeds, Stops, TimesOut, Fails, Puts, first_bytes, IsCall, AreCalls}
+use Rattle.daide_machine.specs.Calls.{events_of, taken_by, fails, Delivers}
+use Rattle.daide_machine.proofs.OneRun.{one_run, runs_join}
+use Rattle.daide_machine.proofs.PieceRuns.{over_stays}
+use Rattle.daide_machine.proofs.WireLemmas.{sent_to-append, bytes_of-append}
+
+-- ---- what a wire takes
+
+first_left : (frame : Sent) (frames : List Sent) (bytes rest : List ℕ) (less : Bool) →
+    nat_lt (length bytes) (length (bytes ++ rest)) ≡ less →
+    bytes ++ bytes_of
+    (if less then record { to = frame.to; answers = frame.answers; bytes = rest } ∷ frames else frames)
+    ≡ (bytes ++ rest) ++ bytes_of frames
+first_left frame frames bytes rest true e = sym (append_assoc bytes rest (bytes_of frames))
+first_left frame frames bytes [] false e = ap (λ (x : List ℕ). x ++ bytes_of frames) (sym (append-nil bytes))
+first_left frame frames bytes (x ∷ rest) false e =
+    let len = length-append bytes (x ∷ rest) in
+    let f : nat_lt (length bytes) (length (bytes ++ x ∷ rest)) ≡ true = grind (arith, nat_tests) in
+    absurd cc
+
+-- the bytes that were taken of the first frame, and what waits then, are what waited
+taken_first : (bytes rest : List ℕ) (frames : List Sent) → first_bytes frames ≡ bytes ++ rest →
+    bytes ++ bytes_of (without (length bytes) frames) ≡ bytes_of frames
+taken_first [] rest [] e = refl
+taken_first (x ∷ bytes) rest [] e = absurd cc
+taken_first bytes rest (frame ∷ frames) e =
+    rw (e, drop-append_seam)
+    (first_left frame frames bytes rest (nat_lt (length bytes) (length (bytes ++ rest))) refl)
+
+-- ---- after the end
+
+is_other : (to side : Side) → same_side to side ≡ false → side ≡ other to
+is_other Bot Bot e = absurd cc
+is_other Bot Server e = refl
+is_other Server Bot e = refl
+is_other Server Server e = absurd cc
+
+is_same : (to side : Side) → same_side to side ≡ true → side ≡ to
+is_same Bot Bot e = refl
+is_same Bot Server e = absurd cc
+is_same Server Bot e = absurd cc
+is_same Server Server e = refl
+
+-- a session that is over, with nothing that waits for a wire
+record IsShut (g : Gateway) (side : Side) : Type 0 where
+  over : is_over g.state.phase ≡ true
+  empty : waiting g side ≡ []
+
+goes_shut : (old : Gateway) (events : List Event) (told : Note) (new : Gateway) (side : Side) → IsShut old side →
+    Goes old events told new → IsShut new side
+goes_shut old events told new side shut goes =
+    let none = one_run events old.state goes.effects [] new.state old.state goes.run
+    (over_stays old.state events shut.over) in
+    record {
+      over = ap (λ (s : SessionState). is_over s.phase) none.1 ∙ shut.over;
+      empty = goes.kept side ∙ (ap (λ (e : List Effect). waiting old side ++ sent_to side e) none.0
+          ∙ (append-nil (waiting old side) ∙ shut.empty));
+    }
+
+lost_shut : (old : Gateway) (to : Side) (new : Gateway) (side : Side) → IsShut old side → Lost old to new →
+    IsShut new side
+lost_shut old to new side shut lost = record { over = lost.over; empty = go (same_side to side) refl }
+  where
+    none : (lost.effects ≡ []) × (new.state ≡ old.state)
+    none = one_run (Loses to ∷ []) old.state lost.effects [] new.state old.state lost.run
+        (over_stays old.state (Loses to ∷ []) shut.over)
+
+    go : (b : Bool) → same_side to side ≡ b → waiting new side ≡ []
+    go true e = subst (λ (s : Side). waiting new s ≡ []) (sym (is_same to side e)) lost.dropped
+    go false e =
+        let beside = subst (λ (s : Side). waiting new s ≡ waiting old s ++ sent_to s lost.effects)
+        (sym (is_other to side e)) lost.other_wire in
+        beside ∙ (ap (λ (e : List Effect). waiting old side ++ sent_to side e) none.0
+        ∙ (append-nil (waiting old side) ∙ shut.empty))
+
+wrote_shut : (old : Gateway) (to : Side) (n : ℕ) (new : Gateway) (side : Side) → IsShut old side →
+    Wrote old to n new → IsShut new side
+wrote_shut old to n new side shut wrote = record {
+  over = ap (λ (s : SessionState). is_over s.phase) wrote.same_state ∙ shut.over;
+  empty = go (same_side to side) refl;
+}
+  where
+    go : (b : Bool) → same_side to side ≡ b → waiting new side ≡ []
+    go true e =
+        let its = subst (λ (s : Side). waiting new s ≡ without n (waiting old s))
+        (sym (is_same to side e)) wrote.taken in
+        its ∙ ap (without n) shut.empty
+    go false e =
+        let beside = subst (λ (s : Side). waiting new s ≡ waiting old s) (sym (is_other to side e)) wrote.other_wire in
+        beside ∙ shut.empty
+
+call_shut : (old : Gateway) (call : Call) (new : Gateway) (side : Side) → IsShut old side → IsCall old call new →
+    IsShut new side
+call_shut old (Feeds from piece) new side shut (told, goes) =
+    goes_shut old (bytes_come from piece) told new side shut goes
+call_shut old (Stops from) new side shut (told, goes) = goes_shut old (Ends from ∷ []) told new side shut goes
+call_shut old TimesOut new side shut (told, goes) = goes_shut old (Pops ∷ []) told new side shut goes
+call_shut old (Fails to) new side shut lost = lost_shut old to new side shut lost
+call_shut old (Puts to bytes) new side shut (front, wrote) = wrote_shut old to (length bytes) new side shut wrote
+
+-- then that wire takes nothing more, and nothing waits for it again
+nothing_taken : (side : Side) (calls : List Call) (old new : Gateway) → IsShut old side → AreCalls old calls new →
+    (taken_by side calls ≡ []) × (waiting new side ≡ [])
+nothing_taken side [] old new shut same = (refl, ap (λ (g : Gateway). waiting g side) same ∙ shut.empty)
+nothing_taken side (call ∷ calls) old new shut (mid, one, more) =
+    go call one (nothing_taken side calls mid new (call_shut old call mid side shut one) more)
+  where
+    left_nil : (bytes rest : List ℕ) → [] ≡ bytes ++ rest → bytes ≡ []
+    left_nil [] rest e = refl
+    left_nil (x ∷ bytes) rest e = absurd cc
+
+    go : (call : Call) → IsCall old call mid → (taken_by side calls ≡ []) × (waiting new side ≡ []) →
+        (taken_by side (call ∷ calls) ≡ []) × (waiting new side ≡ [])
+    go (Feeds from piece) one ih = ih
+    go (Stops from) one ih = ih
+    go TimesOut one ih = ih
+    go (Fails to) one ih = ih
+    go (Puts to bytes) ((rest, front), wrote) ih = (here (same_side to side) refl, ih.1)
+      where
+        here : (b : Bool) → same_side to side ≡ b →
+            (if same_side to side then bytes ++ taken_by side calls else taken_by side calls) ≡ []
+        here true e =
+            let at_side = subst (λ (s : Side). first_bytes (waiting old s) ≡ bytes ++ rest)
+            (sym (is_same to side e)) front in
+            let none = left_nil bytes rest (sym (ap first_bytes shut.empty) ∙ at_side) in
+            rw (e, none) ih.0
+        here false e = rw e ih.0
+
+-- ---- what the first call adds
+
+-- these frames were for the wire, of which the calls took what the law says
+abbrev IsTakenOf : Side → List Call → Gateway → List Sent → Type 0
+IsTakenOf side calls new frames =
+    (fails side calls ≡ false → taken_by side calls ++ bytes_of (waiting new side) ≡ bytes_of frames)
+    × (fails side calls ≡ true → (waiting new side ≡ [])
+    × ((rest : List ℕ) × (taken_by side calls ++ rest ≡ bytes_of frames)))
+
+its_wire : (old : Gateway) (calls : List Call) (new : Gateway) (d : Delivers old calls new) (side : Side) →
+    IsTakenOf side calls new (waiting old side ++ sent_to side d.effects)
+its_wire old calls new d side = (d.delivered side, d.cut_off side)
+
+-- what waited, and what the first call's moves and the later ones send
+both_sent : (side : Side) (now later : List Sent) (a b : List Effect) → later ≡ now ++ sent_to side a →
+    later ++ sent_to side b ≡ now ++ sent_to side (a ++ b)
+both_sent side now later a b first =
+    ap (λ (x : List Sent). x ++ sent_to side b) first
+    ∙ (append_assoc now (sent_to side a) (sent_to side b)
+    ∙ ap (λ (x : List Sent). now ++ x) (sym (sent_to-append side a b)))
+
+goes_on : (calls : List Call) (old mid new : Gateway) (events : List Event) (told : Note)
+    (goes : Goes old events told mid) (d : Delivers mid calls new) (side : Side) →
+    IsTakenOf side calls new (waiting old side ++ sent_to side (goes.effects ++ d.effects))
+goes_on calls old mid new events told goes d side =
+    subst (IsTakenOf side calls new)
+    (both_sent side (waiting old side) (waiting mid side) goes.effects d.effects (goes.kept side))
+    (its_wire mid calls new d side)
+
+not_both : {A : Type 0} → true ≡ false → A
+not_both e = absurd cc
+
+fails_on : (calls : List Call) (old mid new : Gateway) (to : Side) (lost : Lost old to mid)
+    (d : Delivers mid calls new) → AreCalls mid calls new → (side : Side) →
+    IsTakenOf side (Fails to ∷ calls) new (waiting old side ++ sent_to side (lost.effects ++ d.effects))
+fails_on calls old mid new to lost d are side = go (same_side to side) refl
+  where
+    frames : List Sent
+    frames = waiting old side ++ sent_to side (lost.effects ++ d.effects)
+
+    go : (b : Bool) → same_side to side ≡ b → IsTakenOf side (Fails to ∷ calls) new frames
+    go true e =
+        let empty = subst (λ (s : Side). waiting mid s ≡ []) (sym (is_same to side e)) lost.dropped in
+        let after = nothing_taken side calls mid new (record { over = lost.over; empty = empty }) are in (
+          (λ live. not_both (subst (λ (b : Bool). (b || fails side calls) ≡ false) e live)),
+          (λ failed. (after.1, (bytes_of frames, ap (λ (x : List ℕ). x ++ bytes_of frames) after.0))),
+        )
+    go false e =
+        let beside = subst (λ (s : Side). waiting mid s ≡ waiting old s ++ sent_to s lost.effects)
+        (sym (is_other to side e)) lost.other_wire in
+        let later = subst (IsTakenOf side calls new)
+        (both_sent side (waiting old side) (waiting mid side) lost.effects d.effects beside)
+        (its_wire mid calls new d side) in (
+          (λ live. later.0 (subst (λ (b : Bool). (b || fails side calls) ≡ false) e live)),
+          (λ failed. later.1 (subst (λ (b : Bool). (b || fails side calls) ≡ true) e failed)),
+        )
+
+-- the bytes that a wire took, before what it took later
+taken_and_more : (bytes taken left : List ℕ) (now later sent : List Sent) → bytes ++ bytes_of later ≡ bytes_of now →
+    taken ++ left ≡ bytes_of (later ++ sent) → (bytes ++ taken) ++ left ≡ bytes_of (now ++ sent)
+taken_and_more bytes taken left now later sent first more =
+    append_assoc bytes taken left
+    ∙ (ap (λ (x : List ℕ). bytes ++ x) (more ∙ bytes_of-append later sent)
+    ∙ (sym (append_assoc bytes (bytes_of later) (bytes_of sent))
+    ∙ (ap (λ (x : List ℕ). x ++ bytes_of sent) first ∙ sym (bytes_of-append now sent))))
+
+puts_on : (calls : List Call) (old mid new : Gateway) (to : Side) (bytes rest : List ℕ) →
+    first_bytes (waiting old to) ≡ bytes ++ rest → Wrote old to (length bytes) mid → (d : Delivers mid calls new) →
+    (side : Side) → IsTakenOf side (Puts to bytes ∷ calls) new (waiting old side ++ sent_to side d.effects)
+puts_on calls old mid new to bytes rest front wrote d side = go (same_side to side) refl
+  where
+    sent : List Sent
+    sent = sent_to side d.effects
+
+    go : (b : Bool) → same_side to side ≡ b → IsTakenOf side (Puts to bytes ∷ calls) new (waiting old side ++ sent)
+    go true e =
+        let at_side = subst (λ (s : Side). first_bytes (waiting old s) ≡ bytes ++ rest)
+        (sym (is_same to side e)) front in
+        let left = subst (λ (s : Side). waiting mid s ≡ without (length bytes) (waiting old s))
+        (sym (is_same to side e)) wrote.taken in
+        let first : bytes ++ bytes_of (waiting mid side) ≡ bytes_of (waiting old side) =
+        ap (λ (x : List Sent). bytes ++ bytes_of x) left ∙ taken_first bytes rest (waiting old side) at_side in
+        rw e (
+          (λ live. taken_and_more bytes (taken_by side calls) (bytes_of (waiting new side)) (waiting old side)
+              (waiting mid side) sent first (d.delivered side live)),
+          (λ failed.
+              let later = d.cut_off side failed in (
+                later.0,
+                (
+                  later.1.0,
+                  taken_and_more bytes (taken_by side calls) later.1.0 (waiting old side)
+                      (waiting mid side) sent first later.1.1,
+                ),
+              )),
+        )
+    go false e =
+        let beside = subst (λ (s : Side). waiting mid s ≡ waiting old s) (sym (is_other to side e)) wrote.other_wire in
+        rw e (subst (λ (x : List Sent). IsTakenOf side calls new (x ++ sent)) beside (its_wire mid calls new d side))
+
+-- ---- all calls
+
+by_wires : (old : Gateway) (calls : List Call) (new : Gateway) (effects : List Effect) →
+    Runs old.state (events_of calls) effects new.state →
+    ((side : Side) → IsTakenOf side calls new (waiting old side ++ sent_to side effects)) → Delivers old calls new
+by_wires old calls new effects run wires = record {
+  effects = effects;
+  run = run;
+  delivered = λ side. (wires side).0;
+  cut_off = λ side. (wires side).1;
+}
+
+then_runs : (old mid : Gateway) (events : List Event) (told : Note) (goes : Goes old events told mid)
+    (calls : List Call) (new : Gateway) (d : Delivers mid calls new) →
+    Runs old.state (events ++ events_of calls) (goes.effects ++ d.effects) new.state
+then_runs old mid events told goes calls new d =
+    runs_join events (events_of calls) old.state mid.state new.state goes.effects d.effects goes.run d.run
+
+-- one call, and the later ones
+first_call : (old mid new : Gateway) (call : Call) (calls : List Call) → IsCall old call mid → AreCalls mid calls new →
+    Delivers mid calls new → Delivers old (call ∷ calls) new
+first_call old mid new (Feeds from piece) calls (told, goes) are d =
+    by_wires old (Feeds from piece ∷ calls) new (goes.effects ++ d.effects)
+    (then_runs old mid (bytes_come from piece) told goes calls new d)
+    (goes_on calls old mid new (bytes_come from piece) told goes d)
+first_call old mid new (Stops from) calls (told, goes) are d =
+    by_wires old (Stops from ∷ calls) new (goes.effects ++ d.effects)
+    (then_runs old mid (Ends from ∷ []) told goes calls new d)
+    (goes_on calls old mid new (Ends from ∷ []) told goes d)
+first_call old mid new TimesOut calls (told, goes) are d =
+    by_wires old (TimesOut ∷ calls) new (goes.effects ++ d.effects)
+    (then_runs old mid (Pops ∷ []) told goes calls new d)
+    (goes_on calls old mid new (Pops ∷ []) told goes d)
+first_call old mid new (Fails to) calls lost are d =
+    by_wires old (Fails to ∷ calls) new (lost.effects ++ d.effects)
+    (runs_join (Loses to ∷ []) (events_of calls) old.state mid.state new.state lost.effects d.effects lost.run d.run)
+    (fails_on calls old mid new to lost d are)
+first_call old mid new (Puts to bytes) calls ((rest, front), wrote) are d =
+    by_wires old (Puts to bytes ∷ calls) new d.effects
+    (subst (λ (s : SessionState). Runs s (events_of calls) d.effects new.state) wrote.same_state d.run)
+    (puts_on calls old mid new to bytes rest front wrote d)
+
+-- what each wire took, and what waits, are what waited and the frames of the run
+pub calls_deliver : (calls : List Call) (old new : Gateway) → AreCalls old calls new → Delivers old calls new
+calls_deliver [] old new same =
+    by_wires old [] new [] (refl, ap (λ (g : Gateway). g.state) same) (λ side. (
+      (λ live.
+          ap (λ (g : Gateway). bytes_of (waiting g side)) same ∙ sym (ap bytes_of (append-nil (waiting old side)))),
+      (λ failed. absurd cc),
+    ))
+calls_deliver (call ∷ calls) old new (mid, one, more) =
+    first_call old mid new call calls one more (calls_deliver calls mid new more)
+
+-- ---- from a session's start
+
+starts_empty : (limits : Limits) (g : Gateway) (side : Side) → IsNew limits g → waiting g side ≡ []
+starts_empty limits g Bot new = new.to_bot
+starts_empty limits g Server new = new.to_server
+
+-- from the start a wire got what is sent
+pub from_the_start : (limits : Limits) (old new : Gateway) (calls : List Call) (start : IsNew limits old)
+    (d : Delivers old calls new) (side : Side) → fails side calls ≡ false →
+    taken_by side calls ++ bytes_of (waiting new side) ≡ bytes_of (sent_to side d.effects)
+from_the_start limits old new calls start d side live =
+    d.delivered side live
+    ∙ ap (λ (x : List Sent). bytes_of (x ++ sent_to side d.effects)) (starts_empty limits old side start)
+
+pub wires_get_answers : (limits : Limits) (old new : Gateway) (calls : List Call) → IsNew limits old →
+    AreCalls old calls new → (effects : List Effect) × Runs (opening limits) (events_of calls) effects new.state
+    × ((side : Side) → fails side calls ≡ false →
+    taken_by side calls ++ bytes_of (waiting new side) ≡ bytes_of (sent_to side effects))
+wires_get_answers limits old new calls start are =
+    let d = calls_deliver calls old new are in (
+      d.effects,
+      subst (λ (s : SessionState). Runs s (events_of calls) d.effects new.state) start.state d.run,
+      from_the_start limits old new calls start d,
+    )
+
+pub events_alone : (limits : Limits) (one other one_new other_new : Gateway) (calls more : List Call) →
+    IsNew limits one → IsNew limits other → AreCalls one calls one_new → AreCalls other more other_new →
+    events_of calls ≡ events_of more → (one_new.state ≡ other_new.state)
+    × ((side : Side) → fails side calls ≡ false → fails side more ≡ false →
+    taken_by side calls ++ bytes_of (waiting one_new side) ≡ taken_by side more ++ bytes_of (waiting other_new side))
+events_alone limits one other one_new other_new calls more one_start other_start one_are other_are same =
+    let a = wires_get_answers limits one one_new calls one_start one_are in
+    let b = wires_get_answers limits other other_new more other_start other_are in
+    let its_run = subst (λ (es : List Event). Runs (opening limits) es a.0 one_new.state) same a.1 in
+    let runs = one_run (events_of more) (opening limits) a.0 b.0 one_new.state other_new.state its_run b.1 in (
+      runs.1,
+      (λ side one_live other_live.
+          a.2 side one_live
+          ∙ (ap (λ (e : List Effect). bytes_of (sent_to side e)) runs.0 ∙ sym (b.2 side other_live))),
+    )
