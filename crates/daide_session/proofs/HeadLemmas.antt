@@ -1,15 +1,14 @@
 -- What a whole header says of lengths.
 use Rattle.std.proofs.Common.{◌≡◌, ℕ, ◌≤◌, Bool, true, false, List, [], ◌∷◌, length, Option, Some, None, Result, Ok}
-use Rattle.std.proofs.Common.{Err, refl, ap, ◌∙◌, subst, arith}
+use Rattle.std.proofs.Common.{Err, refl, ap, arith}
 use Rattle.std.specs.Prelude.{nat_lt, ◌&&◌, ◌==◌, slice_index}
 use Rattle.std.specs.Int.{w16, from_be_bytes}
 use Rattle.std.proofs.lemmas.Bool.Decides.{nat_tests}
 use Rattle.daide_frame.specs.declared.head.Kind.{Kind}
-use Rattle.daide_frame.specs.declared.head.Kind.TheVariants.{Im}
 use Rattle.daide_frame.specs.declared.head.Head.{Head}
 use Rattle.daide_frame.specs.declared.code.Code.{Code}
 use Rattle.daide_frame.specs.Head.{judged, kind_of, has_right_length, is_im, head_of}
-use Rattle.daide_frame.specs.Frames.{head_in, head_part, IsWholeBody}
+use Rattle.daide_frame.specs.Frames.{head_in, head_part}
 
 not_above : (limit n : ℕ) → nat_lt limit n ≡ false → n ≤ limit
 not_above limit n e = grind (arith, nat_tests)
@@ -52,12 +51,3 @@ head_capped limit bytes h e = go (nat_lt (length bytes) 4) refl
     go : (b : Bool) → nat_lt (length bytes) 4 ≡ b → h.len ≤ limit
     go true f = let bad = rw f at e in absurd (cc)
     go false f = let good = rw f at e in whole_capped limit bytes h (part_is (head_of bytes limit) h good)
-
-is_four : (n : ℕ) → (n == 4) ≡ true → n ≡ 4
-is_four n e = grind (arith, nat_tests)
-
--- an IM has four bytes
-pub im_is_four : (head : Head) (body : List ℕ) → IsWholeBody (Some head) body → head.kind ≡ Im → length body ≡ 4
-im_is_four head body h k =
-    let right : has_right_length Im head.len ≡ true = subst (λ (x : Kind). has_right_length x head.len ≡ true) k h.0 in
-    h.1 ∙ is_four head.len right

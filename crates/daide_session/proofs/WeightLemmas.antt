@@ -1,6 +1,6 @@
 -- What a session weighs, and what its readers' tables were asked.
-use Rattle.std.proofs.Common.{◌≡◌, ℕ, ◌+◌, ◌*◌, ◌≤◌, Bool, true, false, cond, List, length, drop, refl, sym, ◌∙◌, arith}
-use Rattle.std.proofs.Common.{⊎_elim}
+use Rattle.std.proofs.Common.{◌≡◌, ℕ, ◌+◌, ◌*◌, ◌≤◌, Bool, true, false, cond, List, length, drop, refl, sym, ap, ◌∙◌}
+use Rattle.std.proofs.Common.{subst, arith}
 use Rattle.std.specs.Prelude.{min, ◌||◌, ◌==◌}
 use Rattle.std.proofs.lemmas.List.Sums.{count_by-le-length}
 use Rattle.daide_token.specs.Token.{bra}
@@ -10,21 +10,16 @@ use Rattle.daide_frame.specs.Frames.{announced, head_in}
 use Rattle.daide_grammar.specs.Paired.{begins_with_prn}
 use Rattle.daide_grammar.specs.Depth.{open_brackets, closes_early, bras}
 use Rattle.daide_reader.proofs.BodyLemmas.{tokens_of-length}
-use Rattle.daide_machine.specs.Wires.{is_answering, is_dm_head}
+use Rattle.daide_machine.specs.Wires.{Holding, is_answering, is_dm_head}
 use Rattle.daide_machine.specs.Weight.{tokens_held, direction_bound, weight_of, weight_bound, steps_bound, IsTied}
-use Rattle.daide_session.specs.Dialog.{Face, face_held}
-use Rattle.daide_session.specs.Judge.{Judging, Judgings, judging, steps_in, IsIdle}
-use Rattle.daide_session.specs.Session.{gateway_of, IsHeard, IsTold, IsTogether}
-use Rattle.daide_session.proofs.SessionLemmas.{answering_is}
+use Rattle.daide_session.specs.declared.stage.Stage.{Stage}
+use Rattle.daide_session.specs.Both.{at}
+use Rattle.daide_session.specs.Traffic.{Traffic, pending, is_awaited}
+use Rattle.daide_session.specs.Session.{gateway_of}
+use Rattle.daide_session.proofs.MovesLemmas.{answering_is}
+use Rattle.daide_session.proofs.ReactionLemmas.{holding_at}
 
 -- ---- the open brackets of a message that is held
-
-pub unclosed_of : (f : Face) (side : Side) (j : Judging) → IsHeard f side j →
-    j.unclosed ≤ open_brackets (tokens_held f.state.limits.cap (face_held f side))
-unclosed_of f side j h = ⊎_elim
-    (λ (i : IsIdle j). let none = i.unclosed in omega (arith, none))
-    (λ (t : IsTold f side j). let same = t.unclosed in omega (arith, same))
-    h.read
 
 bras_few : (p : List ℕ) → bras p ≤ length p
 bras_few p = count_by-le-length (λ t. t == bra) p
@@ -43,59 +38,61 @@ held_few limit held = go (is_dm_head (head_in limit held)) refl
     go true e = rw e (let half = tokens_of-length (drop 4 held) in omega (arith, half))
     go false e = rw e (omega arith)
 
--- no more brackets are open than bytes are held
-pub unclosed_few : (f : Face) (side : Side) (j : Judging) → IsHeard f side j →
-    j.unclosed ≤ length (drop 4 (face_held f side))
-unclosed_few f side j h =
-    let a = unclosed_of f side j h in
-    let b = open_few (tokens_held f.state.limits.cap (face_held f side)) in
-    let c = held_few f.state.limits.cap (face_held f side) in
-    omega (arith, a, b, c)
+-- ---- one direction
+
+-- a body, and the entries of its reader's stack
+pub record IsLight (limit : ℕ) (held : List ℕ) (bytes entries : ℕ) : Type 0 where
+  pub within : bytes + entries ≤ direction_bound limit held
+  pub small : bytes + entries ≤ 655260
+
+pub light : (limit : ℕ) (held body : List ℕ) (entries : ℕ) → body ≡ drop 4 held → length body ≤ announced limit held →
+    announced limit held ≤ limit → length body ≤ 65526 →
+    entries ≤ 8 * open_brackets (tokens_held limit held) + 16 → IsLight limit held (length body) entries
+light limit held body entries same within capped short few =
+    let brackets = open_few (tokens_held limit held) in
+    let tokens = held_few limit held in
+    let len = ap length same in
+    record {
+      within = (let fits : length body ≤ limit = omega (arith, within, capped) in
+          let least = within_min (length body) (announced limit held) limit within fits in
+          omega (arith, least, few));
+      small = omega (arith, len, brackets, tokens, few, short);
+    }
+  where
+    within_min : (a b c : ℕ) → a ≤ b → a ≤ c → a ≤ min b c
+    within_min a b c h k = omega (arith, h, k)
 
 -- ---- the weight
 
-within_min : (a b c : ℕ) → a ≤ b → a ≤ c → a ≤ min b c
-within_min a b c h k = omega (arith, h, k)
+pub weight_is : (t : Traffic) (s : Stage) (x y : List ℕ) (a b k l : ℕ) →
+    x ≡ drop 4 t.sides.bot.holding.held → a ≡ t.sides.bot.holding.entries →
+    y ≡ drop 4 t.sides.server.holding.held → b ≡ t.sides.server.holding.entries →
+    k ≡ length t.waiting.bot → l ≡ length t.waiting.server →
+    length x + a + (length y + b) + (k + l) ≡ weight_of (gateway_of t s)
+unfolding weight_of
+weight_is t s x y a b k l ex ea ey eb ek el = rw (ex, ea, ey, eb, ek, el) refl
 
-pub direction_of : (f : Face) (side : Side) (j : Judging) (bytes entries : ℕ) → IsHeard f side j →
-    bytes ≤ announced f.state.limits.cap (face_held f side) → bytes ≤ f.state.limits.cap →
-    entries ≤ 8 * j.unclosed + 16 → bytes + entries ≤ direction_bound f.state.limits.cap (face_held f side)
-direction_of f side j bytes entries h within capped few =
-    let unclosed = unclosed_of f side j h in
-    let least = within_min bytes (announced f.state.limits.cap (face_held f side)) f.state.limits.cap within capped in
-    omega (arith, unclosed, least, few)
+pub weight_few : (t : Traffic) (s : Stage) (a b c d k l : ℕ) → a + b ≤ direction_bound t.cap t.sides.bot.holding.held →
+    c + d ≤ direction_bound t.cap t.sides.server.holding.held → k ≤ 3 → l ≤ 3 →
+    a + b + (c + d) + (k + l) ≤ weight_bound (gateway_of t s)
+unfolding weight_bound
+weight_few t s a b c d k l x y m n = omega (arith, x, y, m, n)
 
-pub tied_of : (f : Face) (js : Judgings) → IsTogether f js → IsTied (gateway_of f js)
-tied_of f js t Bot free = t.bot.tied (sym (answering_is f js Bot) ∙ free)
-tied_of f js t Server free = t.server.tied (sym (answering_is f js Server) ∙ free)
+-- what is held of a side that waits for no answer, as both its calls tell it
+pub tied_by : (t : Traffic) (s : Stage) →
+    (is_awaited t Bot ≡ false → t.sides.bot.holding.held ≡ pending t Bot) →
+    (is_awaited t Server ≡ false → t.sides.server.holding.held ≡ pending t Server) → IsTied (gateway_of t s)
+tied_by t s bot server Bot free = bot (sym (answering_is t s Bot) ∙ free)
+tied_by t s bot server Server free = server (sym (answering_is t s Server) ∙ free)
 
 -- ---- the steps
 
-four_if : (b : Bool) (n k : ℕ) → b ≡ true → k ≤ n + 4 → k ≤ n + cond b 4 0
-four_if true n k e h = h
-four_if false n k e h = absurd (cc)
-
-pub steps_few : (f : Face) (js : Judgings) (side : Side) → IsTogether f js →
-    steps_in (judging js side) ≤ steps_bound (gateway_of f js) side
-steps_few f js Bot t = ⊎_elim
-    (λ (i : IsIdle js.bot). let none = i.steps in omega (arith, none))
-    (λ (t : IsTold f Bot js.bot). four_if (is_answering (gateway_of f js) Bot) _ _ (answering_is f js Bot
-    ∙ t.busy) t.steps)
-    t.bot.read
-steps_few f js Server t = ⊎_elim
-    (λ (i : IsIdle js.server). let none = i.steps in omega (arith, none))
-    (λ (t : IsTold f Server js.server). four_if (is_answering (gateway_of f js) Server) _ _ (answering_is f js Server
-    ∙ t.busy) t.steps)
-    t.server.read
-
-pub weight_is : (f : Face) (js : Judgings) (a b c d k l : ℕ) → a ≡ length (drop 4 f.bot_held) → b ≡ js.bot.entries →
-    c ≡ length (drop 4 f.server_held) → d ≡ js.server.entries → k ≡ length f.to_bot → l ≡ length f.to_server →
-    a + b + (c + d) + (k + l) ≡ weight_of (gateway_of f js)
-unfolding weight_of
-weight_is f js a b c d k l ea eb ec ed ek el = rw (ea, eb, ec, ed, ek, el) refl
-
-pub weight_few : (f : Face) (js : Judgings) (a b c d k l : ℕ) →
-    a + b ≤ direction_bound f.state.limits.cap f.bot_held → c + d ≤ direction_bound f.state.limits.cap f.server_held →
-    k ≤ 3 → l ≤ 3 → a + b + (c + d) + (k + l) ≤ weight_bound (gateway_of f js)
-unfolding weight_bound
-weight_few f js a b c d k l x y m n = omega (arith, x, y, m, n)
+pub steps_few : (t : Traffic) (s : Stage) (side : Side) (steps : ℕ) →
+    steps ≤ 4 * length (tokens_held t.cap (at t.sides side).holding.held) + cond (is_awaited t side) 4 0 →
+    steps ≤ steps_bound (gateway_of t s) side
+steps_few t s side steps few =
+    subst (λ (h : Holding).
+    steps ≤ 4 * length (tokens_held t.cap h.held) + cond (is_answering (gateway_of t s) side) 4 0)
+    (sym (holding_at t s side))
+    (subst (λ (b : Bool). steps ≤ 4 * length (tokens_held t.cap (at t.sides side).holding.held) + cond b 4 0)
+    (sym (answering_is t s side)) few)

@@ -1,80 +1,111 @@
--- What a session's rings hold: the bytes that came from each side, and the frames that wait for each wire.
-use Rattle.std.specs.Prelude.{ℕ, Bool, true, false, ◌||◌, List, [], ◌∷◌, ◌++◌, length}
-use Rattle.std.specs.Prelude.{Option, Some, None, if◌then◌else◌, nat_lt}
+-- Both sides' frames, and the frames that wait for the two wires.
+use Rattle.std.specs.Prelude.{◌≡◌, ℕ, ◌+◌, ◌<◌, ◌≤◌, Bool, true, false, ◌||◌, List, [], ◌∷◌, ◌++◌, length, drop, map}
+use Rattle.std.specs.Prelude.{Option, Some, None, if◌then◌else◌}
 use Rattle.daide_frame.specs.declared.side.Side.{Side}
 use Rattle.daide_frame.specs.declared.side.Side.TheVariants.{Bot, Server}
 use Rattle.daide_frame.specs.declared.code.Code.{Code}
-use Rattle.daide_machine.specs.Machine.{Sent, fm_bytes, em_bytes}
-use Rattle.daide_machine.specs.Wires.{awaits, without}
+use Rattle.daide_frame.specs.Frames.{head_in}
+use Rattle.daide_grammar.specs.declared.level.Level.{Level}
+use Rattle.daide_grammar.specs.declared.level.Level.TheVariants.{L0}
+use Rattle.daide_reader.specs.declared.verdict.Verdict.{Verdict}
+use Rattle.daide_machine.specs.Events.{other}
+use Rattle.daide_machine.specs.Machine.{Coming, Sent, fm_bytes, em_bytes}
+use Rattle.daide_machine.specs.Wires.{Holding, same_side, is_answer, awaits, is_dm_head}
+use Rattle.daide_session.specs.declared.wire.Waiting.{Waiting}
+use Rattle.daide_session.specs.declared.wire.Waiting.TheVariants.{Answer, Fm, Em}
+use Rattle.daide_session.specs.Both.{Both, at, put}
+use Rattle.daide_session.specs.Inbound.{Inbound, Begins, answer_of, front_after}
+use Rattle.daide_session.specs.Wire.{Queue}
 
--- what came from a side: the bytes of the frame that is now held, also while its answer waits, and
--- the bytes since its last whole frame, none while an answer waits
+-- what came of a side: the bytes since its last whole frame with the level noted at its last header, and what is
+-- held, also while the answer to its last frame waits
 pub record Arrival : Type 0 where
-  pub held : List ℕ
-  pub pending : List ℕ
+  pub coming : Coming
+  pub holding : Holding
 
--- what came from either side, and the frames that wait for each wire, the first perhaps in part
 pub record Traffic : Type 0 where
   pub cap : ℕ
-  pub bot : Arrival
-  pub server : Arrival
-  pub to_bot : List Sent
-  pub to_server : List Sent
-
--- nothing came, and nothing waits
-abbrev pub quiet : ℕ → Traffic
-quiet cap = record {
-  cap = cap;
-  bot = record { held = []; pending = [] };
-  server = record { held = []; pending = [] };
-  to_bot = [];
-  to_server = [];
-}
-
-abbrev pub arrival : Traffic → Side → Arrival
-arrival t Bot = t.bot
-arrival t Server = t.server
-
-abbrev pub held : Traffic → Side → List ℕ
-held t side = (arrival t side).held
+  pub max_depth : ℕ
+  pub sides : Both Arrival
+  -- the frames that wait for each wire, the first perhaps in part
+  pub waiting : Both (List Sent)
+  -- what is handed to each wire next
+  pub fronts : Both (List ℕ)
 
 abbrev pub pending : Traffic → Side → List ℕ
-pending t side = (arrival t side).pending
+pending t side = (at t.sides side).coming.pending
 
-abbrev pub with_arrival : Traffic → Side → Arrival → Traffic
-with_arrival t Bot a = record { cap = t.cap; bot = a; server = t.server; to_bot = t.to_bot; to_server = t.to_server }
-with_arrival t Server a = record { cap = t.cap; bot = t.bot; server = a; to_bot = t.to_bot; to_server = t.to_server }
+abbrev pub noted : Traffic → Side → Level
+noted t side = (at t.sides side).coming.noted
 
--- these bytes of a side's frame came, and no more
-abbrev pub with_bytes : Traffic → Side → List ℕ → Traffic
-with_bytes t side bytes = with_arrival t side (record { held = bytes; pending = bytes })
+abbrev pub holding : Traffic → Side → Holding
+holding t side = (at t.sides side).holding
 
--- a side's frame is whole, and becomes its answer
-abbrev pub answering : Traffic → Side → Traffic
-answering t side = with_arrival t side (record { held = held t side; pending = [] })
+-- whether an answer to a side's last frame waits for a wire
+unfoldable pub is_awaited : Traffic → Side → Bool
+is_awaited t side = awaits side t.waiting.bot || awaits side t.waiting.server
 
--- nothing of the side's last frame is held any more
-abbrev pub released : Traffic → Option Side → Traffic
-released t None = t
-released t (Some side) = with_arrival t side (record { held = []; pending = pending t side })
+-- ---- what the calls do
 
-abbrev pub waiting : Traffic → Side → List Sent
-waiting t Bot = t.to_bot
-waiting t Server = t.to_server
+-- nothing came, and nothing waits
+pub record IsQuiet (cap max_depth : ℕ) (t : Traffic) : Type 0 where
+  pub cap_set : t.cap ≡ cap
+  pub depth_set : t.max_depth ≡ max_depth
+  pub coming : (side : Side) → (at t.sides side).coming ≡ record { pending = []; noted = L0 }
+  pub held : (side : Side) → (holding t side).held ≡ []
+  pub unasked : (side : Side) → (holding t side).total ≡ 0
+  pub waiting : (to : Side) → at t.waiting to ≡ []
 
-abbrev pub with_waiting : Traffic → Side → List Sent → Traffic
-with_waiting t Bot frames =
-    record { cap = t.cap; bot = t.bot; server = t.server; to_bot = frames; to_server = t.to_server }
-with_waiting t Server frames =
-    record { cap = t.cap; bot = t.bot; server = t.server; to_bot = t.to_bot; to_server = frames }
+-- the limits stay, and what came of the other side
+pub record Keeps (side : Side) (old new : Traffic) : Type 0 where
+  pub cap : new.cap ≡ old.cap
+  pub max_depth : new.max_depth ≡ old.max_depth
+  pub other_side : at new.sides (other side) ≡ at old.sides (other side)
+
+-- a side's frame has these bytes now, and its message was read on. A table is asked for the tokens of a message alone.
+pub record IsGrown (cap : ℕ) (old : Arrival) (bytes : List ℕ) (new : Arrival) : Type 0 where
+  pub coming : new.coming ≡ record { pending = bytes; noted = old.coming.noted }
+  pub held : new.holding.held ≡ bytes
+  pub held_before : old.holding.held ≡ old.coming.pending
+  pub base : new.holding.total_before ≡ old.holding.total_before
+  pub no_message : is_dm_head (head_in cap bytes) ≡ false → new.holding.total ≡ old.holding.total
+  pub bodiless : drop 4 bytes ≡ [] → new.holding.total ≡ old.holding.total
+  pub uncounted : is_dm_head (head_in cap old.coming.pending) ≡ false → old.holding.total_before ≡ old.holding.total
+
+-- a side's message begins at a level
+pub record IsStarted (old : Arrival) (level : Level) (new : Arrival) : Type 0 where
+  pub coming : new.coming ≡ record { pending = old.coming.pending; noted = level }
+  pub held : new.holding.held ≡ old.holding.held
+  pub total : new.holding.total ≡ old.holding.total
+  pub base : new.holding.total_before ≡ old.holding.total
+
+-- a side's frame was answered
+pub record IsAnswered (old new : Arrival) : Type 0 where
+  pub coming : new.coming ≡ record { pending = []; noted = old.coming.noted }
+  pub held : new.holding.held ≡ old.holding.held
+  pub base : new.holding.total_before ≡ old.holding.total_before
+
+-- a side's frame was dropped
+pub record IsCleared (old new : Arrival) : Type 0 where
+  pub coming : new.coming ≡ record { pending = []; noted = old.coming.noted }
+  pub held : new.holding.held ≡ []
+  pub total : new.holding.total ≡ old.holding.total
+  pub base : new.holding.total_before ≡ old.holding.total
+
+-- Frames that waited are gone: nothing is held of a side whose answer was among them, and of any other what was held.
+-- No table was asked.
+pub record LetsGo (old new : Traffic) : Type 0 where
+  pub cap : new.cap ≡ old.cap
+  pub max_depth : new.max_depth ≡ old.max_depth
+  pub coming : (side : Side) → (at new.sides side).coming ≡ (at old.sides side).coming
+  pub total : (side : Side) → (holding new side).total ≡ (holding old side).total
+  pub fewer : (side : Side) → is_awaited old side ≡ false → is_awaited new side ≡ false
+  pub gone : (side : Side) → is_awaited old side ≡ true → is_awaited new side ≡ false → (holding new side).held ≡ []
+  pub kept : (side : Side) → is_awaited new side ≡ is_awaited old side → holding new side ≡ holding old side
 
 -- a frame waits behind the others for its wire
-abbrev pub posted : Traffic → Sent → Traffic
-posted t frame = with_waiting t frame.to (waiting t frame.to ++ frame ∷ [])
-
--- whether an answer to a side's last frame waits
-unfoldable pub awaits_on : Traffic → Side → Bool
-awaits_on t side = awaits side t.to_bot || awaits side t.to_server
+abbrev pub posted : Both (List Sent) → Sent → Both (List Sent)
+posted waiting frame = put waiting frame.to (at waiting frame.to ++ frame ∷ [])
 
 abbrev pub is_end : Option Side → Bool
 is_end None = true
@@ -93,34 +124,132 @@ ending_bytes (Some code) = em_bytes code
 abbrev pub end_to : Side → Option Code → Sent
 end_to to code = record { to = to; answers = None; bytes = ending_bytes code }
 
--- whose frame the first answers, and the others
-abbrev pub first_answers : List Sent → Option Side
-first_answers [] = None
-first_answers (frame ∷ frames) = frame.answers
+-- ---- what the fields stand for
+
+pub record Fields : Type 0 where
+  pub sides : Both Inbound
+  pub wires : Both Queue
+
+abbrev pub fields : Inbound → Inbound → Queue → Queue → Fields
+fields bot server to_bot to_server = record {
+  sides = record { bot = bot; server = server };
+  wires = record { bot = to_bot; server = to_server };
+}
+
+-- the bytes of a side's answer
+abbrev pub answer_at : Both Inbound → Side → List ℕ
+answer_at sides side = answer_of (at sides side)
+
+abbrev pub answers_of : Waiting → Option Side
+answers_of (Answer side) = Some side
+answers_of Fm = None
+answers_of (Em code) = None
+
+abbrev pub bytes_in : (Side → List ℕ) → Waiting → List ℕ
+bytes_in answers (Answer side) = answers side
+bytes_in answers Fm = fm_bytes
+bytes_in answers (Em code) = em_bytes code
+
+abbrev pub frame_of : Side → (Side → List ℕ) → Waiting → Sent
+frame_of to answers item = record { to = to; answers = answers_of item; bytes = bytes_in answers item }
+
+-- the first frame without its first n bytes
+abbrev pub behind : ℕ → List Sent → List Sent
+behind n [] = []
+behind n (frame ∷ frames) = record { to = frame.to; answers = frame.answers; bytes = drop n frame.bytes } ∷ frames
+
+abbrev pub frames_of : Side → (Side → List ℕ) → Queue → List Sent
+frames_of to answers queue = behind queue.written (map (frame_of to answers) queue.items)
+
+abbrev pub frames_to : Fields → Side → List Sent
+frames_to f to = frames_of to (answer_at f.sides) (at f.wires to)
+
+-- what is left of the first frame, or of the part of an answer that is sent now
+abbrev pub front_of : Both Inbound → ℕ → List Waiting → List ℕ
+front_of sides gone [] = []
+front_of sides gone (Answer side ∷ items) = front_after (at sides side) gone
+front_of sides gone (Fm ∷ items) = drop gone fm_bytes
+front_of sides gone (Em code ∷ items) = drop gone (em_bytes code)
+
+abbrev pub front_to : Fields → Side → List ℕ
+front_to f to = front_of f.sides (at f.wires to).written (at f.wires to).items
+
+-- while an answer waits, no byte of the next frame came
+abbrev pub pending_by : Option Verdict → List ℕ → List ℕ
+pending_by None bytes = bytes
+pending_by (Some verdict) bytes = []
+
+abbrev pub arrival_of : Inbound → Arrival
+arrival_of i = record {
+  coming = record { pending = pending_by i.verdict i.held; noted = i.level };
+  holding = record { held = i.held; entries = i.entries; total = i.total; total_before = i.total_before };
+}
+
+abbrev pub traffic_of : Fields → Traffic
+traffic_of f = record {
+  cap = f.sides.bot.cap;
+  max_depth = f.sides.bot.max_depth;
+  sides = record { bot = arrival_of f.sides.bot; server = arrival_of f.sides.server };
+  waiting = record { bot = frames_to f Bot; server = frames_to f Server };
+  fronts = record { bot = front_to f Bot; server = front_to f Server };
+}
+
+-- how often a side's answer waits, and how many frames that are no answers
+abbrev pub answer_mark : Side → Waiting → ℕ
+answer_mark side (Answer one) = if same_side one side then 1 else 0
+answer_mark side Fm = 0
+answer_mark side (Em code) = 0
+
+abbrev pub end_mark : Waiting → ℕ
+end_mark (Answer side) = 0
+end_mark Fm = 1
+end_mark (Em code) = 1
+
+abbrev pub count_of : (Waiting → ℕ) → List Waiting → ℕ
+count_of mark [] = 0
+count_of mark (item ∷ items) = mark item + count_of mark items
+
+abbrev pub presence : Option Verdict → ℕ
+presence None = 0
+presence (Some verdict) = 1
+
+-- less than the whole first frame is gone
+abbrev pub IsBegun : (Side → List ℕ) → ℕ → List Waiting → Type 0
+IsBegun answers n [] = n ≡ 0
+IsBegun answers n (item ∷ items) = n < length (bytes_in answers item)
+
+-- A side's answer waits once, where the side has one, and nowhere else; at most one frame ends the session on each
+-- wire; so at most three wait for a wire.
+pub record IsSound (f : Fields) : Type 0 where
+  pub its_side : (side : Side) → (at f.sides side).side ≡ side
+  pub same_cap : f.sides.server.cap ≡ f.sides.bot.cap
+  pub same_depth : f.sides.server.max_depth ≡ f.sides.bot.max_depth
+  pub once : (side : Side) → count_of (answer_mark side) (at f.wires Bot).items
+      + count_of (answer_mark side) (at f.wires Server).items ≡ presence (at f.sides side).verdict
+  pub ends : (to : Side) → count_of end_mark (at f.wires to).items ≤ 1
+  pub filled : (side : Side) → presence (at f.sides side).verdict ≡ 1 → 0 < length (answer_at f.sides side)
+  pub begun : (to : Side) → IsBegun (answer_at f.sides) (at f.wires to).written (at f.wires to).items
+
+-- how many bytes the first frame has in all
+abbrev pub size_of_first : (Side → List ℕ) → List Waiting → ℕ
+size_of_first answers [] = 0
+size_of_first answers (item ∷ items) = length (bytes_in answers item)
 
 abbrev pub others : List Sent → List Sent
 others [] = []
 others (frame ∷ frames) = frames
 
--- whose frame is held no longer once n bytes of what waits were taken: the one that the first
--- frame answers, where all of it is gone
-abbrev pub gone : ℕ → List Sent → Option Side
-gone n [] = None
-gone n (frame ∷ frames) = if nat_lt n (length frame.bytes) then None else frame.answers
+-- whose frame is held no longer, where this one is gone
+abbrev pub answered_by : Option Waiting → Option Side
+answered_by None = None
+answered_by (Some item) = answers_of item
 
--- n bytes of what waits for a wire were taken
-abbrev pub written : Traffic → Side → ℕ → Traffic
-written t to n = with_waiting (released t (gone n (waiting t to))) to (without n (waiting t to))
+-- the side whose answer is gone begins its next frame, and the other is the same
+pub record IsReleased (gone : Option Side) (one : Side) (old new : Inbound) : Type 0 where
+  pub its : is_answer one gone ≡ true → Begins old old.level [] new
+  pub kept : is_answer one gone ≡ false → new ≡ old
 
--- the first frame that waits for a wire is gone
-abbrev pub without_first : Traffic → Side → Traffic
-without_first t to = with_waiting (released t (first_answers (waiting t to))) to (others (waiting t to))
-
--- released, for each of these frames
-abbrev pub released_by : Traffic → List Sent → Traffic
-released_by t [] = t
-released_by t (frame ∷ frames) = released_by (released t frame.answers) frames
-
--- a wire failed: what waits for it is dropped
-abbrev pub lost : Traffic → Side → Traffic
-lost t to = with_waiting (released_by t (waiting t to)) to []
+-- how an FM waits, or an EM with a code
+abbrev pub ending_of : Option Code → Waiting
+ending_of None = Fm
+ending_of (Some code) = Em code

@@ -4,6 +4,7 @@ ghost use Rattle.std.specs.Prelude.{◌≡◌};
 ghost use Rattle.daide_session.specs.Config.{config_fault};
 
 use daide_grammar::level::Level;
+use daide_machine::bounds::{MAX_BODY, MAX_DEPTH};
 
 /// The limits of a session.
 #[derive(Clone, Copy, Debug, PartialEq, Eq)]
@@ -35,10 +36,10 @@ impl Config {
         if Level::of(self.top_level).is_none() {
             return Err(ConfigError::Level);
         }
-        if self.max_body % 2 == 1 || self.max_body < 512 || self.max_body > 65526 {
+        if self.max_body % 2 == 1 || self.max_body < 512 || self.max_body > MAX_BODY {
             return Err(ConfigError::Body);
         }
-        if self.max_depth < 4 || self.max_depth > 62 {
+        if self.max_depth < 4 || self.max_depth > MAX_DEPTH {
             return Err(ConfigError::Depth);
         }
         Ok(())

@@ -1,26 +1,27 @@
-//! What the last byte of a piece makes of a dialog and of both sides' readers.
+//! What the last byte of a piece makes of a session.
 
-ghost use Rattle.std.specs.Prelude.{◌≡◌, ℕ, ◌≤◌, Bool, true, false, length, drop, None, Some, IsSome};
-ghost use Rattle.daide_frame.specs.Frames.{head_in, told, IsWholeBody};
+ghost use Rattle.std.specs.Prelude.{◌≡◌, false, [], ◌∷◌, length, drop, Some, None, Ok};
+ghost use Rattle.daide_frame.specs.declared.side.Side.{Side};
+ghost use Rattle.daide_frame.specs.declared.head.Head.{Head};
 ghost use Rattle.daide_frame.specs.declared.head.Kind.TheVariants as Kinds;
-ghost use Rattle.daide_frame.specs.declared.cutter.Step.TheVariants.{Bodied};
-ghost use Rattle.daide_machine.specs.Events.{other};
-ghost use Rattle.daide_machine.specs.Machine.{untimely as untimely_code, begun, coming, is_over as is_over_phase};
-ghost use Rattle.daide_session.specs.Dialog.{applied, is_busy_face};
-ghost use Rattle.daide_session.specs.Judge.{judging, Begins, IsForgotten, IsIdle};
-ghost use Rattle.daide_reader.specs.Verdict.{IsPlaceIn};
-ghost use Rattle.daide_session.specs.Session.{IsTogether, IsCompleted, IsJudged, IsJudgedAs, Reacts, Counts, check_of};
+ghost use Rattle.daide_frame.specs.declared.cutter.Step.TheVariants.{Headed, Bodied};
+ghost use Rattle.daide_frame.specs.Frames.{Begun, Whole, head_in, told, IsWholeBody};
+ghost use Rattle.daide_machine.specs.Machine.{untimely as untimely_code, is_over as is_over_phase};
+ghost use Rattle.daide_session.specs.Both.{at};
+ghost use Rattle.daide_session.specs.Traffic.{pending, holding, is_awaited, has_end};
+ghost use Rattle.daide_session.specs.Session.{gateway_of};
+ghost use Rattle.daide_session.specs.Reaction.{Reacts, IsBegun, note_by, check_of};
 
-use crate::dialog::Dialog;
-use crate::judges::Judges;
-use crate::rules::deed_of;
+use crate::stage::{Stage, fail};
+use crate::traffic::Traffic;
 use daide_frame::code::Code;
 use daide_frame::cutter::Step;
 use daide_frame::head::{Head, Kind};
 use daide_frame::initial_message::check_im;
 use daide_frame::side::Side;
-use daide_machine::note::Note;
-use daide_reader::verdict::Verdict;
+use daide_grammar::level::Level;
+use daide_machine::note::{Deed, Note};
+use daide_machine::rules::{deed_of, is_sent, level_after, other, phase_after, untimely};
 use std::alloc::Allocator;
 
 /// Checks a whole frame by its body: an IM must have the protocol's magic number and version.
@@ -37,130 +38,109 @@ fn check_frame(kind: Kind, body: &[u8]) -> Result<(), Code>
 
 /// A side's header is whole: it is untimely, which ends the session, or its message is begun at the
 /// level that holds now.
-fn begin<A: Allocator>(
-    dialog: &mut Dialog<A>,
-    judges: &mut Judges,
-    side: Side,
-    kind: Kind,
-) -> Option<Code>
-    requires live { is_over_phase dialog.old.state.phase ≡ false }
-    requires free { is_busy_face dialog.old side ≡ false }
-    requires together { IsTogether dialog.old judges.old }
-    ensures code { result ≡ untimely_code dialog.old.state.phase side kind }
-    ensures value { dialog.new
-        ≡ applied dialog.old (begun dialog.old.state side (untimely_code dialog.old.state.phase side kind)) }
-    ensures begins { result ≡ None → Begins (judging judges.old side) dialog.old.state.level (judging judges.new side) }
-    ensures refused { IsSome result → judging judges.new side ≡ judging judges.old side }
-    ensures other_side { judging judges.new (other side) ≡ judging judges.old (other side) }
-    ensures together { IsTogether dialog.new judges.new }
+fn begin<A: Allocator>(traffic: &mut Traffic<A>, stage: &mut Stage, side: Side, head: Head) -> Note
+    requires live { is_over_phase stage.old.phase ≡ false }
+    requires no_end { (wire : Side) → has_end (at traffic.old.waiting wire) ≡ false }
+    requires free { is_awaited traffic.old side ≡ false }
+    requires bodiless { drop 4 (pending traffic.old side) ≡ [] }
+    requires tied { (holding traffic.old side).held ≡ pending traffic.old side }
+    ensures reacts { Reacts (gateway_of traffic.old stage.old) side (Begun head ∷ []) result
+        (gateway_of traffic.new stage.new) }
+    ensures note { result ≡ note_by (untimely_code stage.old.phase side head.kind) }
+    ensures begun { untimely_code stage.old.phase side head.kind ≡ None →
+        IsBegun side traffic.old stage.old traffic.new stage.new }
 {
-    let level = dialog.level();
-    if let Some(code) = dialog.begin(side, kind) {
-        return Some(code);
+    if let Some(code) = untimely(stage.phase, side, head.kind) {
+        return fail(traffic, stage, side, code);
     }
-    judges.begin(side, level);
-    None
+    traffic.begin(side, stage.level);
+    Note::Nothing
 }
 
-/// Judges a side's whole frame: a message by the grammar, and any other frame is to be relayed.
-fn verdict_of(judges: &mut Judges, side: Side, kind: Kind, body: &[u8]) -> Verdict
-    requires idle { IsIdle (judging judges.old side) }
-    requires len { length body.now ≤ 65526 }
-    ensures right { IsJudgedAs (judging judges.old side) kind body.now result }
-    ensures place { IsPlaceIn body.now result }
-    ensures judged { IsJudged kind body.now (judging judges.old side) (judging judges.new side) }
-    ensures other_side { judging judges.new (other side) ≡ judging judges.old (other side) }
+/// A side's frame is whole and its check went well: it is judged, and the answer waits for its wire; or the
+/// frame is dropped, where the answer may not go out.
+fn answer<A: Allocator>(traffic: &mut Traffic<A>, stage: &mut Stage, side: Side, head: Head) -> Note
+    requires live { is_over_phase stage.old.phase ≡ false }
+    requires free { is_awaited traffic.old side ≡ false }
+    requires tied { (holding traffic.old side).held ≡ pending traffic.old side }
+    requires head { head_in traffic.old.cap (pending traffic.old side) ≡ Some head }
+    requires good { check_of head.kind (drop 4 (pending traffic.old side)) ≡ Ok tt }
+    ensures { Reacts (gateway_of traffic.old stage.old) side (Whole head (drop 4 (pending traffic.old side)) ∷ [])
+        result (gateway_of traffic.new stage.new) }
 {
-    if kind == Kind::Dm {
-        judges.judge(side, body)
-    } else {
-        Verdict::Relay
+    // Only an FM or EM may not go out, and these are relayed.
+    if !is_sent(stage.phase, head.kind, other(side)) {
+        traffic.clear(side);
+        stage.phase = phase_after(head.kind, stage.phase);
+        stage.level = Level::L0;
+        return Note::Frame(head, Deed::Dropped);
     }
+    let verdict = traffic.reply(side, head);
+    stage.level = level_after(
+        stage.top_level,
+        head.kind,
+        side,
+        verdict,
+        traffic.body(side),
+        stage.level,
+    );
+    stage.phase = phase_after(head.kind, stage.phase);
+    Note::Frame(head, deed_of(true, verdict))
 }
 
-/// A side's frame is whole: an IM is checked, a message is judged, and the answer waits for its wire.
+/// A side's frame is whole: an IM is checked, and then the frame is answered.
 fn complete<A: Allocator>(
-    dialog: &mut Dialog<A>,
-    judges: &mut Judges,
+    traffic: &mut Traffic<A>,
+    stage: &mut Stage,
     side: Side,
     head: Head,
 ) -> Note
-    requires live { is_over_phase dialog.old.state.phase ≡ false }
-    requires free { is_busy_face dialog.old side ≡ false }
-    requires head { head_in dialog.old.state.limits.cap (coming dialog.old.state side).pending ≡ Some head }
-    requires full { IsWholeBody (Some head) (drop 4 (coming dialog.old.state side).pending) }
-    requires together { IsTogether dialog.old judges.old }
-    ensures value { IsCompleted dialog.old (judging judges.old side) side head
-        (drop 4 (coming dialog.old.state side).pending) result dialog.new }
-    ensures judged { IsJudged head.kind (drop 4 (coming dialog.old.state side).pending) (judging judges.old side)
-        (judging judges.new side) }
-    ensures other_side { judging judges.new (other side) ≡ judging judges.old (other side) }
-    ensures together { IsTogether dialog.new judges.new }
+    requires live { is_over_phase stage.old.phase ≡ false }
+    requires no_end { (wire : Side) → has_end (at traffic.old.waiting wire) ≡ false }
+    requires free { is_awaited traffic.old side ≡ false }
+    requires tied { (holding traffic.old side).held ≡ pending traffic.old side }
+    requires head { head_in traffic.old.cap (pending traffic.old side) ≡ Some head }
+    requires full { IsWholeBody (Some head) (drop 4 (pending traffic.old side)) }
+    ensures { Reacts (gateway_of traffic.old stage.old) side (Whole head (drop 4 (pending traffic.old side)) ∷ [])
+        result (gateway_of traffic.new stage.new) }
 {
-    match check_frame(head.kind, dialog.body(side)) {
-        Err(code) => {
-            dialog.fail(side, code);
-            Note::Fault(code)
-        }
-        Ok(()) => {
-            let verdict = verdict_of(judges, side, head.kind, dialog.body(side));
-            let goes = dialog.answer(side, head, verdict);
-            Note::Frame(head, deed_of(goes, verdict))
-        }
+    match check_frame(head.kind, traffic.body(side)) {
+        Err(code) => fail(traffic, stage, side, code),
+        Ok(()) => answer(traffic, stage, side, head),
     }
 }
 
 /// Goes by what the last byte of a piece made of a side's frame.
 pub fn react<A: Allocator>(
-    dialog: &mut Dialog<A>,
-    judges: &mut Judges,
+    traffic: &mut Traffic<A>,
+    stage: &mut Stage,
     side: Side,
     step: Step,
 ) -> Note
-    requires live { is_over_phase dialog.old.state.phase ≡ false }
-    requires free { is_busy_face dialog.old side ≡ false }
-    requires full { step ≡ Bodied →
-        IsWholeBody (head_in dialog.old.state.limits.cap (coming dialog.old.state side).pending)
-        (drop 4 (coming dialog.old.state side).pending) }
-    requires together { IsTogether dialog.old judges.old }
-    ensures reacts { Reacts dialog.old side
-        (told step (head_in dialog.old.state.limits.cap (coming dialog.old.state side).pending)
-        (drop 4 (coming dialog.old.state side).pending)) result dialog.new }
-    ensures counts { Counts dialog.old side judges.old judges.new }
-    ensures together { IsTogether dialog.new judges.new }
+    requires live { is_over_phase stage.old.phase ≡ false }
+    requires no_end { (wire : Side) → has_end (at traffic.old.waiting wire) ≡ false }
+    requires free { is_awaited traffic.old side ≡ false }
+    requires tied { (holding traffic.old side).held ≡ pending traffic.old side }
+    requires bodiless { (head : Head) → step ≡ Headed → head_in traffic.old.cap (pending traffic.old side) ≡ Some head
+        → drop 4 (pending traffic.old side) ≡ [] }
+    requires full { step ≡ Bodied → IsWholeBody (head_in traffic.old.cap (pending traffic.old side))
+        (drop 4 (pending traffic.old side)) }
+    ensures { Reacts (gateway_of traffic.old stage.old) side
+        (told step (head_in traffic.old.cap (pending traffic.old side)) (drop 4 (pending traffic.old side))) result
+        (gateway_of traffic.new stage.new) }
 {
-    let head = dialog.head(side);
-    match (step, head) {
-        (Step::Fault(code), _) => {
-            dialog.fail(side, code);
-            Note::Fault(code)
-        }
-        (Step::Headed, Some(head)) => match begin(dialog, judges, side, head.kind) {
-            Some(code) => Note::Fault(code),
-            None => Note::Nothing,
-        },
+    match (step, traffic.head(side)) {
+        (Step::Fault(code), _) => fail(traffic, stage, side, code),
+        (Step::Headed, Some(head)) => begin(traffic, stage, side, head),
         (Step::Bodied, Some(head)) => {
             if head.len > 0 {
-                return complete(dialog, judges, side, head);
+                return complete(traffic, stage, side, head);
             }
-            match begin(dialog, judges, side, head.kind) {
-                Some(code) => Note::Fault(code),
-                None => complete(dialog, judges, side, head),
+            match begin(traffic, stage, side, head) {
+                Note::Nothing => complete(traffic, stage, side, head),
+                fault => fault,
             }
         }
         _ => Note::Nothing,
-    }
-}
-
-/// Lets each side's reader forget a message of which no byte is held, since its answer is gone.
-pub fn forget_answered<A: Allocator>(dialog: &Dialog<A>, judges: &mut Judges)
-    ensures bot { IsForgotten (length (drop 4 dialog.now.bot_held)) judges.old.bot judges.new.bot }
-    ensures server { IsForgotten (length (drop 4 dialog.now.server_held)) judges.old.server judges.new.server }
-{
-    if dialog.held_len(Side::Bot) == 0 {
-        judges.forget(Side::Bot);
-    }
-    if dialog.held_len(Side::Server) == 0 {
-        judges.forget(Side::Server);
     }
 }

@@ -11,21 +11,22 @@
 //!     `--------- a fault, an end, an FM or an EM --------'--> Over
 //! ```
 
-ghost use Rattle.std.specs.Prelude.{◌≡◌, ℕ, ◌+◌, ◌*◌, ◌≤◌, not, [], ◌∷◌, length, Ok, IfOk, IfErr};
+ghost use Rattle.std.specs.Prelude.{◌≡◌, ℕ, ◌+◌, ◌*◌, ◌<◌, ◌≤◌, false, not, [], ◌∷◌, length, Ok, IfOk, IfErr};
+ghost use Rattle.daide_frame.specs.declared.side.Side.{Side};
 ghost use Rattle.daide_machine.specs.Events.{Ends, Pops, bytes_come};
 ghost use Rattle.daide_machine.specs.Machine.{is_over as is_over_phase};
-ghost use Rattle.daide_machine.specs.Wires.{IsFrontOf, first_len, waiting, holding, room_of, steps_of, IsNew, Goes};
+ghost use Rattle.daide_machine.specs.Wires.{IsFrontOf, first_len, waiting, front_of, holding, is_answering, room_of};
+ghost use Rattle.daide_machine.specs.Wires.{steps_of, is_closed, IsNew, Goes};
 ghost use Rattle.daide_machine.specs.Wires.{Lost, Wrote, Takes, HoldsTheSame, AsksNothing};
-ghost use Rattle.daide_machine.specs.Weight.{weight_of, weight_bound, steps_bound, IsTied};
+ghost use Rattle.daide_machine.specs.Weight.{weight_of, weight_bound, steps_bound, IsKeptSmall, IsTied};
 ghost use Rattle.daide_machine.specs.declared.note.Note.TheVariants.{Nothing};
 ghost use Rattle.daide_session.specs.Config.{config_fault};
-ghost use Rattle.daide_session.specs.Dialog.{level_in};
-ghost use Rattle.daide_session.specs.Session.{limits_of, IsCause};
+ghost use Rattle.daide_session.specs.Session.{level_in, limits_of, IsCause};
 
 use crate::config::{Config, ConfigError};
-use crate::dialog::Dialog;
-use crate::judges::Judges;
-use crate::reaction::{forget_answered, react};
+use crate::reaction::react;
+use crate::stage::{Stage, fail, stop};
+use crate::traffic::Traffic;
 use daide_frame::code::Code;
 use daide_frame::side::Side;
 use daide_grammar::level::Level;
@@ -47,19 +48,19 @@ pub enum SessionError {
 /// and what is held of each side.
 #[derive(Drop)]
 pub struct Session<A: Allocator = Global> {
-    dialog: Dialog<A>,
-    judges: Judges,
+    traffic: Traffic<A>,
+    stage: Stage,
 }
 
 impl<A: Allocator> Model for Session<A> {
     ghost use Rattle.daide_machine.specs.Wires.{Gateway};
-    ghost use Rattle.daide_session.specs.Session.{gateway_of, IsTogether};
+    ghost use Rattle.daide_session.specs.Session.{gateway_of, IsStanding};
 
     ghost Value = { Gateway };
 
-    ghost view = { λ s. gateway_of s.dialog s.judges };
+    ghost view = { λ s. gateway_of s.traffic s.stage };
 
-    ghost invariant = { λ s. IsTogether s.dialog s.judges };
+    ghost invariant = { λ s. IsStanding (gateway_of s.traffic s.stage) };
 }
 
 impl<A: Allocator + Copy> Session<A> {
@@ -73,41 +74,45 @@ impl<A: Allocator + Copy> Session<A> {
         if let Err(fault) = config.check() {
             return Err(SessionError::Config(fault));
         }
-        let top_level = Level::of(config.top_level).unwrap_or(Level::L0);
-        let Ok(dialog) = Dialog::new(alloc, top_level, config.max_body, config.max_depth) else {
+        let Ok(traffic) = Traffic::new(alloc, config.max_body, config.max_depth) else {
             return Err(SessionError::Memory);
         };
-        Ok(Session {
-            dialog,
-            judges: Judges::new(config.max_depth),
-        })
+        let stage = Stage {
+            top_level: Level::of(config.top_level).unwrap_or(Level::L0),
+            phase: Phase::WaitIm,
+            level: Level::L0,
+        };
+        Ok(Session { traffic, stage })
     }
 }
 
 impl<A: Allocator> Session<A> {
     /// How many bytes of a side are taken next: none while the answer to its last frame waits, or once
-    /// the session is over; else what is missing of its header or its body.
+    /// the session is over; else what is missing of its header or its body, which is something.
     pub fn room(&self, side: Side) -> usize
-        ensures { result ≡ room_of self.now side }
+        ensures missing { result ≡ room_of self.now side }
+        ensures waited_for { is_over_phase self.now.state.phase ≡ false → is_answering self.now side ≡ false
+            → 0 < result }
     {
-        if self.dialog.is_shut(side) {
+        if self.is_over() || self.traffic.is_busy(side) {
             return 0;
         }
-        self.dialog.room(side)
+        self.traffic.room(side)
     }
 
     /// Takes a side's next bytes, at most `room` of them; at most one frame becomes whole. The note
-    /// says what became of it.
+    /// says what became of it. A message is judged as its bytes come, so the work goes by the piece and not
+    /// by the message.
     pub fn feed(&mut self, side: Side, piece: &[u8]) -> Note
         requires { length piece.now ≤ room_of self.old side }
         ensures goes { Goes self.old (bytes_come side piece.now) result self.new }
         ensures takes { Takes self.old side piece.now result self.new }
     {
-        if piece.is_empty() || self.dialog.is_shut(side) {
+        if piece.is_empty() {
             return Note::Nothing;
         }
-        let step = self.dialog.take(side, piece);
-        react(&mut self.dialog, &mut self.judges, side, step)
+        let step = self.traffic.feed(side, piece);
+        react(&mut self.traffic, &mut self.stage, side, step)
     }
 
     /// A side's stream ended: the other side gets an FM, and a frame that is not whole is dropped.
@@ -118,7 +123,7 @@ impl<A: Allocator> Session<A> {
         ensures holds { HoldsTheSame self.old self.new }
     {
         let live = !self.is_over();
-        self.dialog.stop(side);
+        stop(&mut self.traffic, &mut self.stage, side);
         live
     }
 
@@ -127,10 +132,15 @@ impl<A: Allocator> Session<A> {
         ensures goes { Goes self.old (Pops ∷ []) result self.new }
         ensures holds { HoldsTheSame self.old self.new }
     {
-        if self.dialog.time_out() {
-            return Note::Fault(Code::ImTimeout);
+        match self.stage.phase {
+            Phase::WaitIm => fail(
+                &mut self.traffic,
+                &mut self.stage,
+                Side::Bot,
+                Code::ImTimeout,
+            ),
+            Phase::WaitRm | Phase::Open | Phase::Over => Note::Nothing,
         }
-        Note::Nothing
     }
 
     /// The wire toward a side failed: what waits for it is dropped, nothing will wait for it again, and
@@ -139,17 +149,17 @@ impl<A: Allocator> Session<A> {
         ensures lost { Lost self.old side self.new }
         ensures asks_nothing { AsksNothing self.old self.new }
     {
-        self.dialog.stop(side);
-        self.dialog.lose(side);
-        forget_answered(&self.dialog, &mut self.judges);
+        stop(&mut self.traffic, &mut self.stage, side);
+        self.traffic.lose(side);
     }
 
     /// A front of what waits for the wire toward a side, within the first frame; empty exactly where
     /// nothing waits. It is a slice of a header, of the body that came, or of a fixed word.
     pub fn front(&self, side: Side) -> &[u8]
-        ensures { IsFrontOf result.now (waiting self.now side) }
+        ensures value { result.now ≡ front_of self.now side }
+        ensures front { IsFrontOf result.now (waiting self.now side) }
     {
-        self.dialog.front(side)
+        self.traffic.front(side)
     }
 
     /// Takes `n` bytes off what waits for the wire toward a side, which the wire took of `front`.
@@ -158,22 +168,28 @@ impl<A: Allocator> Session<A> {
         ensures wrote { Wrote self.old side n self.new }
         ensures asks_nothing { AsksNothing self.old self.new }
     {
-        self.dialog.wrote(side, n);
-        forget_answered(&self.dialog, &mut self.judges);
+        self.traffic.wrote(side, n);
     }
 
     /// Where the session stands.
     pub fn phase(&self) -> Phase
         ensures { result ≡ self.now.state.phase }
     {
-        self.dialog.phase()
+        self.stage.phase
     }
 
     /// Whether the session is over: frames that wait are still to be written, and nothing else happens.
     pub fn is_over(&self) -> bool
         ensures { result ≡ is_over_phase self.now.state.phase }
     {
-        self.dialog.is_over()
+        self.stage.is_over()
+    }
+
+    /// Whether the session is over, and nothing waits for either wire.
+    pub fn is_closed(&self) -> bool
+        ensures { result ≡ is_closed self.now }
+    {
+        self.is_over() && self.front(Side::Bot).is_empty() && self.front(Side::Server).is_empty()
     }
 
     /// The level of press in the phase Open, level 0 in every other phase.
@@ -181,7 +197,7 @@ impl<A: Allocator> Session<A> {
         ensures { result ≡ level_in self.now.state.phase self.now.state.level }
     {
         match self.phase() {
-            Phase::Open => self.dialog.level(),
+            Phase::Open => self.stage.level,
             Phase::WaitIm | Phase::WaitRm | Phase::Over => Level::L0,
         }
     }
@@ -191,12 +207,14 @@ impl<A: Allocator> Session<A> {
     pub fn weight(&self) -> usize
         ensures value { result ≡ weight_of self.now }
         ensures weight { result ≤ weight_bound self.now }
+        ensures directions { (side : Side) → IsKeptSmall self.now.state.limits.cap (holding self.now side) }
         ensures tied { IsTied self.now }
+        ensures entries { (side : Side) → (holding self.now side).entries ≤ 8 * self.now.state.limits.max_depth + 16 }
         ensures at_most_three { (length self.now.to_bot ≤ 3) × (length self.now.to_server ≤ 3) }
     {
-        let bot = self.dialog.held_len(Side::Bot) + self.judges.entries(Side::Bot);
-        let server = self.dialog.held_len(Side::Server) + self.judges.entries(Side::Server);
-        bot + server + (self.dialog.count(Side::Bot) + self.dialog.count(Side::Server))
+        let bot = self.traffic.body(Side::Bot).len() + self.traffic.entries(Side::Bot);
+        let server = self.traffic.body(Side::Server).len() + self.traffic.entries(Side::Server);
+        bot + server + (self.traffic.count(Side::Bot) + self.traffic.count(Side::Server))
     }
 
     /// How many answers the table of a side's reader gave since that side's last header, modulo 2^64.
@@ -204,13 +222,13 @@ impl<A: Allocator> Session<A> {
         ensures value { result ≡ steps_of (holding self.now side) }
         ensures steps { result ≤ steps_bound self.now side }
     {
-        self.judges.steps(side)
+        self.traffic.steps(side)
     }
 
     /// How many answers the table of a side's reader gave in all, modulo 2^64.
     pub fn total(&self, side: Side) -> u64
         ensures { result ≡ (holding self.now side).total }
     {
-        self.judges.total(side)
+        self.traffic.total(side)
     }
 }

@@ -1,28 +1,30 @@
-use Rattle.std.proofs.Common.{[], ◌∷◌, sym, ◌∙◌, subst}
-use Rattle.daide_frame.specs.declared.code.Code.TheVariants.{ImTimeout}
-use Rattle.daide_machine.specs.declared.note.Note.TheVariants as Notes
+use Rattle.std.proofs.Common.{[], ◌∷◌, sym, ap, ◌∙◌, subst}
 use Rattle.daide_machine.specs.Events.{Pops}
+use Rattle.daide_machine.specs.Machine.{is_over}
 use Rattle.daide_machine.specs.Wires.{Gateway, Goes}
+use Rattle.daide_session.specs.Traffic.{has_end}
 use Rattle.daide_session.specs.Session.{gateway_of}
-use Rattle.daide_session.proofs.SessionLemmas.{goes_popped, popped_note, popped_quiet, together_popped}
+use Rattle.daide_session.proofs.MovesLemmas.{waiting_at}
+use Rattle.daide_session.proofs.SessionLemmas.{goes_popped, standing_on}
+use Rattle.daide_session.proofs.session.Session.im_timeout.Given.{Over}
 use Rattle.daide_session.proofs.session.Session.im_timeout.Goals as goal
 
+pub fail-requires : goal.fail-requires
+fail-requires g c = λ wire.
+    let t = c.self.inside.traffic in
+    ap has_end (sym (waiting_at t c.self.inside.stage wire)) ∙ c.self.invariant.no_end (ap is_over c.in-WaitIm.is) wire
+
+went : (g : Over) (c : goal.After-fail g) →
+    Goes (gateway_of c.self.inside.traffic c.self.inside.stage) (Pops ∷ []) c.fail.result
+    (gateway_of c.fail.new.traffic c.fail.new.stage)
+went g c = goes_popped (gateway_of c.self.inside.traffic c.self.inside.stage)
+    (gateway_of c.fail.new.traffic c.fail.new.stage) c.fail.result c.in-WaitIm.is c.fail.ensures.moves
+    c.fail.ensures.note
+
 pub invariant_of-self : goal.invariant_of-self
-invariant_of-self g c =
-    let s = c.self.inside in
-    together_popped s.dialog c.time_out.new.self s.judges c.time_out.ensures.value c.self.invariant
+invariant_of-self g c = standing_on _ _ _ _ (went g c) c.self.invariant
 
-pub returns-then-time_out-clause-goes : goal.returns-then-time_out-clause-goes
-returns-then-time_out-clause-goes g c =
-    let s = c.self.inside in
-    subst (λ (v : Gateway). Goes v (Pops ∷ []) (Notes.Fault ImTimeout)
-    (gateway_of c.time_out.new.self s.judges)) c.self.view_is
-    (goes_popped s.dialog c.time_out.new.self s.judges (Notes.Fault ImTimeout) c.time_out.ensures.value
-    (popped_note s.dialog.state (sym c.time_out.ensures.fault ∙ c.if-time_out.true)))
-
-pub returns-clause-goes : goal.returns-clause-goes
-returns-clause-goes g c =
-    let s = c.self.inside in
-    subst (λ (v : Gateway). Goes v (Pops ∷ []) Notes.Nothing (gateway_of c.time_out.new.self s.judges)) c.self.view_is
-    (goes_popped s.dialog c.time_out.new.self s.judges Notes.Nothing c.time_out.ensures.value
-    (popped_quiet s.dialog.state (sym c.time_out.ensures.fault ∙ c.if-time_out.false)))
+pub returns-in-WaitIm-clause-goes : goal.returns-in-WaitIm-clause-goes
+returns-in-WaitIm-clause-goes g c =
+    subst (λ (v : Gateway). Goes v (Pops ∷ []) c.fail.result (gateway_of c.fail.new.traffic c.fail.new.stage))
+    c.self.view_is (went g c)

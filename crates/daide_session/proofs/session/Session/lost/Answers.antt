@@ -1,25 +1,33 @@
-use Rattle.std.proofs.Common.{sym, subst}
+use Rattle.std.proofs.Common.{ap, ◌∙◌, subst}
+use Rattle.daide_frame.specs.declared.side.Side.TheVariants.{Bot, Server}
 use Rattle.daide_machine.specs.Wires.{Gateway, Lost}
-use Rattle.daide_session.specs.Dialog.{Face}
+use Rattle.daide_session.specs.Both.{Both}
+use Rattle.daide_session.specs.Traffic.{Arrival}
 use Rattle.daide_session.specs.Session.{gateway_of}
-use Rattle.daide_session.proofs.HeardLemmas.{IsFreed}
-use Rattle.daide_session.proofs.FreedLemmas.{lost_freed, together_freed}
-use Rattle.daide_session.proofs.SessionLemmas.{together_stopped}
-use Rattle.daide_session.proofs.WroteLemmas.{lost_of}
+use Rattle.daide_session.proofs.WrittenLemmas.{lost_of}
+use Rattle.daide_session.proofs.SessionLemmas.{standing_over}
+use Rattle.daide_session.proofs.session.Session.lost.Given.{Over}
 use Rattle.daide_session.proofs.session.Session.lost.Goals as goal
 
+done : (g : Over) (c : goal.After-lose g) →
+    Lost (gateway_of c.self.inside.traffic c.self.inside.stage) c.args.side
+    (gateway_of c.lose.new.self c.stop.new.stage)
+done g c = lost_of c.self.inside.traffic c.stop.new.traffic c.lose.new.self c.self.inside.stage c.stop.new.stage
+    c.args.side c.stop.ensures.moves c.stop.ensures.keeps c.lose.ensures.lets_go c.lose.ensures.waiting
+
 pub invariant_of-self : goal.invariant_of-self
-invariant_of-self g c =
-    let s = c.self.inside in
-    together_freed c.stop.new.self c.lose.new.self s.judges c.forget_answered.new.judges
-    (λ one. subst (λ (f : Face). IsFreed c.stop.new.self f one) (sym c.lose.ensures)
-    (lost_freed c.stop.new.self c.args.side one))
-    c.forget_answered.ensures.bot c.forget_answered.ensures.server
-    (together_stopped s.dialog c.stop.new.self s.judges c.args.side c.stop.ensures c.self.invariant)
+invariant_of-self g c = standing_over _ (done g c).over
 
 pub returns-clause-lost : goal.returns-clause-lost
 returns-clause-lost g c =
-    let s = c.self.inside in
-    subst (λ (v : Gateway). Lost v c.args.side (gateway_of c.lose.new.self c.forget_answered.new.judges)) c.self.view_is
-    (lost_of s.dialog c.stop.new.self c.lose.new.self s.judges c.forget_answered.new.judges c.args.side c.stop.ensures
-    c.lose.ensures)
+    subst (λ (v : Gateway). Lost v c.args.side (gateway_of c.lose.new.self c.stop.new.stage)) c.self.view_is (done g c)
+
+pub returns-clause-asks_nothing : goal.returns-clause-asks_nothing
+returns-clause-asks_nothing g c = (
+  c.lose.ensures.lets_go.total Bot
+      ∙ (ap (λ (x : Both Arrival). x.bot.holding.total) c.stop.ensures.keeps.sides
+      ∙ ap (λ (v : Gateway). v.bot.total) c.self.view_is),
+  c.lose.ensures.lets_go.total Server
+      ∙ (ap (λ (x : Both Arrival). x.server.holding.total) c.stop.ensures.keeps.sides
+      ∙ ap (λ (v : Gateway). v.server.total) c.self.view_is),
+)

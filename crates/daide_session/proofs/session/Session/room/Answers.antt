@@ -1,16 +1,62 @@
-use Rattle.std.proofs.Common.{sym, ap, ◌∙◌}
-use Rattle.daide_machine.specs.Wires.{Gateway, room_of}
-use Rattle.daide_session.proofs.SessionLemmas.{room_shut, room_open}
+use Rattle.std.proofs.Common.{ℕ, ◌<◌, sym, ap, ◌∙◌, subst}
+use Rattle.daide_frame.specs.Frames.{missing}
+use Rattle.daide_machine.specs.Machine.{Coming, is_over}
+use Rattle.daide_machine.specs.Wires.{Gateway, room_of, is_answering}
+use Rattle.daide_machine.proofs.FramesHeard.{not_both}
+use Rattle.daide_session.specs.Session.{gateway_of}
+use Rattle.daide_session.proofs.MovesLemmas.{room_over, room_busy, room_open, answering_is, coming_at}
+use Rattle.daide_session.proofs.session.Session.room.Goals.{then-is_over-via-then-is_over}
+use Rattle.daide_session.proofs.session.Session.room.Goals.{then-is_over-via-else-is_over+then-is_busy}
 use Rattle.daide_session.proofs.session.Session.room.Goals as goal
 
-pub returns-then-is_shut : goal.returns-then-is_shut
-returns-then-is_shut g c =
-    let s = c.self.inside in
-    sym (room_shut s.dialog s.judges c.args.side (sym c.is_shut.ensures ∙ c.if-is_shut.true))
-    ∙ ap (λ (v : Gateway). room_of v c.args.side) c.self.view_is
+pub returns-then-is_over-clause-missing : goal.returns-then-is_over-clause-missing
+returns-then-is_over-clause-missing g c = elim c.then-is_over.branch [
+  | then-is_over-via-then-is_over w ↦
+      sym (room_over c.args.self.now c.args.side (sym c.is_over.ensures ∙ w.if-is_over.true))
+  | then-is_over-via-else-is_over+then-is_busy w ↦
+      let t = c.self.inside.traffic in
+      let s = c.self.inside.stage in
+      sym (room_busy (gateway_of t s) c.args.side (answering_is t s c.args.side
+      ∙ (sym w.is_busy.ensures.value ∙ w.if-is_busy.true)))
+      ∙ ap (λ (v : Gateway). room_of v c.args.side) c.self.view_is
+]
 
-pub returns : goal.returns
-returns g c =
-    let s = c.self.inside in
-    c.room.ensures ∙ (sym (room_open s.dialog s.judges c.args.side (sym c.is_shut.ensures ∙ c.if-is_shut.false))
-    ∙ ap (λ (v : Gateway). room_of v c.args.side) c.self.view_is)
+pub returns-then-is_over-clause-waited_for : goal.returns-then-is_over-clause-waited_for
+returns-then-is_over-clause-waited_for g c = λ live free. elim c.then-is_over.branch [
+  | then-is_over-via-then-is_over w ↦
+      absurd (not_both (is_over c.args.self.now.state.phase) (sym c.is_over.ensures ∙ w.if-is_over.true) live)
+  | then-is_over-via-else-is_over+then-is_busy w ↦
+      let t = c.self.inside.traffic in
+      let s = c.self.inside.stage in
+      absurd (not_both (is_answering c.args.self.now c.args.side)
+      (ap (λ (v : Gateway). is_answering v c.args.side) (sym c.self.view_is) ∙ (answering_is t s c.args.side
+      ∙ (sym w.is_busy.ensures.value ∙ w.if-is_busy.true))) free)
+]
+
+-- what is missing of the side's next frame
+pub returns-clause-missing : goal.returns-clause-missing
+returns-clause-missing g c =
+    let t = c.self.inside.traffic in
+    let s = c.self.inside.stage in
+    let side = c.args.side in
+    let free = sym c.is_busy.ensures.value ∙ c.if-is_busy.false in
+    let live = ap (λ (v : Gateway). is_over v.state.phase) c.self.view_is
+    ∙ (sym c.is_over.ensures ∙ c.if-is_over.false) in
+    c.room.ensures
+    ∙ (ap (missing t.cap) (c.is_busy.ensures.tied free)
+    ∙ (ap (λ (x : Coming). missing t.cap x.pending) (sym (coming_at t s side))
+    ∙ (sym (room_open (gateway_of t s) side live (answering_is t s side ∙ free))
+    ∙ ap (λ (v : Gateway). room_of v side) c.self.view_is)))
+
+pub returns-clause-waited_for : goal.returns-clause-waited_for
+returns-clause-waited_for g c = λ live free.
+    let t = c.self.inside.traffic in
+    let s = c.self.inside.stage in
+    let side = c.args.side in
+    let here = ap (λ (v : Gateway). is_over v.state.phase) c.self.view_is ∙ live in
+    let some = c.self.invariant.wanted here side in
+    subst (λ (n : ℕ). 0 < n)
+    (ap (λ (x : Coming). missing t.cap x.pending) (coming_at t s side)
+    ∙ (sym (ap (missing t.cap) (c.is_busy.ensures.tied (sym c.is_busy.ensures.value ∙ c.if-is_busy.false)))
+    ∙ sym c.room.ensures))
+    some

@@ -1,32 +1,28 @@
-use Rattle.std.proofs.Common.{◌≤◌, sym, ap, ◌∙◌, subst, List}
-use Rattle.daide_machine.specs.Machine.{Sent}
-use Rattle.daide_machine.specs.Wires.{Gateway, Wrote, waiting, first_len}
-use Rattle.daide_session.specs.Dialog.{Face}
+use Rattle.std.proofs.Common.{ap, ◌∙◌, subst}
+use Rattle.daide_frame.specs.declared.side.Side.TheVariants.{Bot, Server}
+use Rattle.daide_machine.specs.Wires.{Gateway, Wrote}
 use Rattle.daide_session.specs.Session.{gateway_of}
-use Rattle.daide_session.proofs.HeardLemmas.{IsFreed}
-use Rattle.daide_session.proofs.FreedLemmas.{written_freed, together_freed}
-use Rattle.daide_session.proofs.SessionLemmas.{waiting_is}
-use Rattle.daide_session.proofs.WroteLemmas.{wrote_of}
+use Rattle.daide_session.proofs.WrittenLemmas.{wrote_of}
+use Rattle.daide_session.proofs.SessionLemmas.{standing_wrote}
+use Rattle.daide_session.proofs.session.Session.wrote.Given.{Over}
 use Rattle.daide_session.proofs.session.Session.wrote.Goals as goal
 
-pub wrote-requires : goal.wrote-requires
-wrote-requires g c =
-    let s = c.self.inside in
-    subst (λ (frames : List Sent). c.args.n ≤ first_len frames)
-    (ap (λ (v : Gateway). waiting v c.args.side) (sym c.self.view_is)
-    ∙ waiting_is s.dialog s.judges c.args.side) c.requires
+done : (g : Over) (c : goal.After-wrote g) →
+    Wrote (gateway_of c.self.inside.traffic c.self.inside.stage) c.args.side c.args.n
+    (gateway_of c.wrote.new.self c.self.inside.stage)
+done g c = wrote_of c.self.inside.traffic c.wrote.new.self c.self.inside.stage c.args.side c.args.n
+    c.wrote.ensures.lets_go c.wrote.ensures.waiting c.wrote.ensures.bytes
 
 pub invariant_of-self : goal.invariant_of-self
-invariant_of-self g c =
-    let s = c.self.inside in
-    together_freed s.dialog c.wrote.new.self s.judges c.forget_answered.new.judges
-    (λ one. subst (λ (f : Face). IsFreed s.dialog f one) (sym c.wrote.ensures)
-    (written_freed s.dialog c.args.side c.args.n one))
-    c.forget_answered.ensures.bot c.forget_answered.ensures.server c.self.invariant
+invariant_of-self g c = standing_wrote _ _ c.args.side c.args.n (done g c) c.self.invariant
 
 pub returns-clause-wrote : goal.returns-clause-wrote
 returns-clause-wrote g c =
-    let s = c.self.inside in
-    subst (λ (v : Gateway). Wrote v c.args.side c.args.n
-    (gateway_of c.wrote.new.self c.forget_answered.new.judges)) c.self.view_is
-    (wrote_of s.dialog c.wrote.new.self s.judges c.forget_answered.new.judges c.args.side c.args.n c.wrote.ensures)
+    subst (λ (v : Gateway). Wrote v c.args.side c.args.n (gateway_of c.wrote.new.self c.self.inside.stage))
+    c.self.view_is (done g c)
+
+pub returns-clause-asks_nothing : goal.returns-clause-asks_nothing
+returns-clause-asks_nothing g c = (
+  c.wrote.ensures.lets_go.total Bot ∙ ap (λ (v : Gateway). v.bot.total) c.self.view_is,
+  c.wrote.ensures.lets_go.total Server ∙ ap (λ (v : Gateway). v.server.total) c.self.view_is,
+)

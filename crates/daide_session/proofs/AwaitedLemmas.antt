@@ -1,0 +1,124 @@
+-- A side's answer waits exactly where the side has one; and what a session sees of a side is what its fields say.
+use Rattle.std.proofs.Common.{◌≡◌, ℕ, zero, suc, ◌<◌, Bool, true, false, length, Option, Some, None}
+use Rattle.std.proofs.Common.{refl, sym, ap, ◌∙◌, arith}
+use Rattle.std.specs.Prelude.{is_some, ◌||◌}
+use Rattle.daide_frame.specs.declared.side.Side.{Side}
+use Rattle.daide_frame.specs.declared.side.Side.TheVariants.{Bot, Server}
+use Rattle.daide_reader.specs.declared.verdict.Verdict.{Verdict}
+use Rattle.daide_machine.specs.Wires.{awaits}
+use Rattle.daide_session.specs.Both.{at}
+use Rattle.daide_session.specs.Traffic.{Arrival, Traffic, Fields, IsSound, answer_at, answer_mark, arrival_of, count_of}
+use Rattle.daide_session.specs.Traffic.{frames_to}
+use Rattle.daide_session.specs.Traffic.{is_awaited, pending, pending_by, presence, traffic_of}
+use Rattle.daide_session.proofs.MarksLemmas.{awaited, unawaited, least, length_marks}
+
+-- no frame answers a side that has no answer
+pub silent : (f : Fields) (side to : Side) → IsSound f → (at f.sides side).verdict ≡ None →
+    count_of (answer_mark side) (at f.wires to).items ≡ 0
+silent f side Bot i free = omega (arith, i.once side ∙ ap presence free)
+silent f side Server i free = omega (arith, i.once side ∙ ap presence free)
+
+none_awaited : (f : Fields) (side : Side) → IsSound f → presence (at f.sides side).verdict ≡ 0 →
+    is_awaited (traffic_of f) side ≡ false
+unfolding is_awaited
+none_awaited f side i none =
+    let once = i.once side in
+    rw (
+      unawaited side Bot (answer_at f.sides) f.wires.bot (omega arith),
+      unawaited side Server (answer_at f.sides) f.wires.server (omega arith),
+    ) refl
+
+or_true : (a : Bool) → (a || true) ≡ true
+or_true true = refl
+or_true false = refl
+
+some_awaited : (f : Fields) (side : Side) → IsSound f → presence (at f.sides side).verdict ≡ 1 →
+    is_awaited (traffic_of f) side ≡ true
+unfolding is_awaited
+some_awaited f side i some = go (count_of (answer_mark side) f.wires.bot.items) refl
+  where
+    go : (n : ℕ) → count_of (answer_mark side) f.wires.bot.items ≡ n →
+        (awaits side (frames_to f Bot) || awaits side (frames_to f Server)) ≡ true
+    go zero e =
+        let once = i.once side in
+        rw (awaited side Server (answer_at f.sides) f.wires.server (omega arith))
+        (or_true (awaits side (frames_to f Bot)))
+    go (suc n) e = rw (awaited side Bot (answer_at f.sides) f.wires.bot (omega (arith, e))) refl
+
+awaited_is : (f : Fields) (side : Side) → IsSound f → is_awaited (traffic_of f) side ≡ is_some (at f.sides side).verdict
+awaited_is f side i = go (at f.sides side).verdict refl
+  where
+    go : (o : Option Verdict) → (at f.sides side).verdict ≡ o →
+        is_awaited (traffic_of f) side ≡ is_some (at f.sides side).verdict
+    go None e = none_awaited f side i (ap presence e) ∙ sym (ap is_some e)
+    go (Some verdict) e = some_awaited f side i (ap presence e) ∙ sym (ap is_some e)
+
+-- of a value t that the fields stand for, and a side that is known
+pub awaited_field : (f : Fields) (t : Traffic) (side one : Side) → traffic_of f ≡ t → IsSound f → side ≡ one →
+    is_awaited t side ≡ is_some (at f.sides one).verdict
+awaited_field f t side one is i s =
+    sym (ap (λ (x : Traffic). is_awaited x side) is) ∙ awaited_is f side i
+    ∙ ap (λ (x : Side). is_some (at f.sides x).verdict) s
+
+none_of : (o : Option Verdict) → is_some o ≡ false → o ≡ None
+none_of None e = refl
+none_of (Some verdict) e = absurd (cc)
+
+pub free_field : (f : Fields) (t : Traffic) (side one : Side) → traffic_of f ≡ t → IsSound f → side ≡ one →
+    is_awaited t side ≡ false → (at f.sides one).verdict ≡ None
+free_field f t side one is i s free = none_of (at f.sides one).verdict (sym (awaited_field f t side one is i s) ∙ free)
+
+-- what the value t shows of a side, and of the limits
+pub record IsSeen (f : Fields) (t : Traffic) (side one : Side) : Type 0 where
+  pub cap : t.cap ≡ (at f.sides one).cap
+  pub max_depth : t.max_depth ≡ (at f.sides one).max_depth
+  pub arrival : at t.sides side ≡ arrival_of (at f.sides one)
+
+pub seen : (f : Fields) (t : Traffic) (side one : Side) → traffic_of f ≡ t → IsSound f → side ≡ one →
+    IsSeen f t side one
+seen f t side one is i s = record {
+  cap = sym (ap (λ (x : Traffic). x.cap) is) ∙ cap one;
+  max_depth = sym (ap (λ (x : Traffic). x.max_depth) is) ∙ depth one;
+  arrival = sym (ap (λ (x : Traffic). at x.sides side) is) ∙ ap (λ (x : Side). at (traffic_of f).sides x) s ∙ shown one;
+}
+  where
+    cap : (x : Side) → f.sides.bot.cap ≡ (at f.sides x).cap
+    cap Bot = refl
+    cap Server = sym i.same_cap
+
+    depth : (x : Side) → f.sides.bot.max_depth ≡ (at f.sides x).max_depth
+    depth Bot = refl
+    depth Server = sym i.same_depth
+
+    shown : (x : Side) → at (traffic_of f).sides x ≡ arrival_of (at f.sides x)
+    shown Bot = refl
+    shown Server = refl
+
+-- the bytes since the last whole frame are those that are held, where no answer waits
+pub pending_field : (f : Fields) (t : Traffic) (side one : Side) → traffic_of f ≡ t → IsSound f → side ≡ one →
+    (at f.sides one).verdict ≡ None → pending t side ≡ (at f.sides one).held
+pending_field f t side one is i s free =
+    ap (λ (a : Arrival). a.coming.pending) (seen f t side one is i s).arrival
+    ∙ ap (λ (o : Option Verdict). pending_by o (at f.sides one).held) free
+
+-- a side without an answer leaves room for one frame more on each wire
+pub reply_room : (f : Fields) (side to : Side) → IsSound f → (at f.sides side).verdict ≡ None →
+    length (at f.wires to).items < 3
+reply_room f side to i free = go side to (silent f side to i free)
+  where
+    go : (one wire : Side) → count_of (answer_mark one) (at f.wires wire).items ≡ 0 → length (at f.wires wire).items < 3
+    go Bot Bot e =
+        omega (arith, e, length_marks f.wires.bot.items, i.ends Bot, i.once Server, least f.sides.server.verdict)
+    go Bot Server e =
+        omega (arith, e, length_marks f.wires.server.items, i.ends Server, i.once Server, least f.sides.server.verdict)
+    go Server Bot e = omega (
+      arith,
+      e,
+      length_marks f.wires.bot.items,
+      i.ends Bot,
+      i.once Bot,
+      least
+          f.sides.bot.verdict,
+    )
+    go Server Server e =
+        omega (arith, e, length_marks f.wires.server.items, i.ends Server, i.once Bot, least f.sides.bot.verdict)

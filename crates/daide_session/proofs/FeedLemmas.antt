@@ -1,0 +1,308 @@
+-- What a piece of bytes makes of a session: a stretch of a run, and what is held after it.
+use Rattle.std.proofs.Common.{◌≡◌, ℕ, ◌+◌, ◌*◌, ◌/◌, ◌<◌, Bool, true, false, cond, List, [], ◌∷◌, ◌++◌, length}
+use Rattle.std.proofs.Common.{drop}
+use Rattle.std.proofs.Common.{Option, Some, None, refl, sym, ap, ◌∙◌, subst, arith, ◌⊎◌, inl, inr, ⊎_elim}
+use Rattle.std.proofs.Common.{length-append, length-drop, append-nil}
+use Rattle.daide_frame.specs.declared.side.Side.{Side}
+use Rattle.daide_frame.specs.declared.side.Side.TheVariants.{Bot, Server}
+use Rattle.daide_frame.specs.declared.head.Head.{Head}
+use Rattle.daide_frame.specs.declared.cutter.Step.{Step}
+use Rattle.daide_frame.specs.declared.cutter.Step.TheVariants.{More, Headed, Bodied, Fault}
+use Rattle.daide_frame.specs.Frames.{Item, is_nothing, last_items, fed, fed_items, told, head_in, IsFault}
+use Rattle.daide_frame.proofs.FramesLemmas.{head_in-short}
+use Rattle.daide_reader.specs.declared.verdict.Verdict.{Verdict}
+use Rattle.daide_reader.specs.Reading.{IsRaised}
+use Rattle.daide_reader.proofs.ReadingLemmas.{raised_more, raised_none}
+use Rattle.daide_machine.specs.declared.note.Note.{Note}
+use Rattle.daide_machine.specs.declared.note.Note.TheVariants as Notes
+use Rattle.daide_machine.specs.Events.{other, bytes_come}
+use Rattle.daide_machine.specs.Machine.{Sent, Outcome, SessionState, Coming, Runs, IsRight, coming}
+use Rattle.daide_machine.specs.Machine.{with_pending}
+use Rattle.daide_machine.specs.Machine.{is_over, items_outcome, asked_by}
+use Rattle.daide_machine.specs.Wires.{Gateway, Holding, waiting, holding, sent_to, note_of, held_after, counts_from}
+use Rattle.daide_machine.specs.Wires.{is_dm_head, asked_at_most, Goes, Takes}
+use Rattle.daide_machine.proofs.PieceRuns.{piece_runs, piece_outcome, IsTaken}
+use Rattle.daide_session.specs.declared.stage.Stage.{Stage}
+use Rattle.daide_session.specs.Both.{Both, at}
+use Rattle.daide_session.specs.Traffic.{Traffic, Keeps, IsGrown, pending}
+use Rattle.daide_session.specs.Session.{state_of, gateway_of}
+use Rattle.daide_session.specs.Reaction.{IsUnread, Reacts}
+use Rattle.daide_session.proofs.InboundLemmas.{fed_grows, no_dm_before}
+use Rattle.daide_session.proofs.MovesLemmas.{waiting_at, coming_at}
+use Rattle.daide_session.proofs.ReactionLemmas.{holding_at, holding_same}
+
+-- ---- the run
+
+fault_over : (s : SessionState) (side : Side) (step : Step) (head : Option Head) (body : List ℕ) (v : Verdict) →
+    is_over s.phase ≡ false → IsFault step → is_over (items_outcome s side (told step head body) v).state.phase ≡ true
+fault_over s side More head body v live h = absurd h
+fault_over s side Headed head body v live h = absurd h
+fault_over s side Bodied head body v live h = absurd h
+fault_over s side (Fault code) head body v live h = rw live refl
+
+pending_phase : (s : SessionState) (side : Side) (bytes : List ℕ) → (with_pending s side bytes).phase ≡ s.phase
+pending_phase s Bot bytes = refl
+pending_phase s Server bytes = refl
+
+-- the whole piece was taken, or a fault ended the session
+pub taken_or_over : (s : SessionState) (side : Side) (piece : List ℕ) (v : Verdict) (step : Step) (head : Option Head)
+    (body : List ℕ) → is_over s.phase ≡ false →
+    fed_items s.limits.cap (coming s side).pending piece ≡ told step head body →
+    IsFault step ⊎ (fed s.limits.cap (coming s side).pending piece ≡ (coming s side).pending ++ piece) →
+    IsTaken s side piece v
+taken_or_over s side piece v step head body live items h = ⊎_elim
+    (λ (bad : IsFault step). inr
+    (rw items (fault_over (with_pending s side
+    (fed s.limits.cap (coming s side).pending piece)) side step head body v
+    (ap is_over (pending_phase s side (fed s.limits.cap (coming s side).pending piece)) ∙ live) bad)))
+    (λ (all : fed s.limits.cap (coming s side).pending piece ≡ (coming s side).pending ++ piece). inl all)
+    h
+
+-- the question that items ask does not look at the bytes since the last whole frame
+asks_same : (s : SessionState) (side : Side) (bytes : List ℕ) (items : List Item) (v : Verdict) →
+    IsRight (with_pending s side bytes).limits.words (with_pending s side bytes).limits.max_depth
+    (asked_by (with_pending s side bytes) side items) v →
+    IsRight s.limits.words s.limits.max_depth (asked_by s side items) v
+asks_same s Bot bytes items v h = h
+asks_same s Server bytes items v h = h
+
+pub goes_piece : (g m n : Gateway) (side : Side) (piece : List ℕ) (note : Note) → is_over g.state.phase ≡ false →
+    m.state ≡ with_pending g.state side (fed g.state.limits.cap (coming g.state side).pending piece) →
+    ((wire : Side) → waiting m wire ≡ waiting g wire) → ((v : Verdict) → IsTaken g.state side piece v) →
+    Reacts m side (fed_items g.state.limits.cap (coming g.state side).pending piece) note n →
+    Goes g (bytes_come side piece) note n
+goes_piece g m n side piece note live state wait taken r = record {
+  effects = o.effects;
+  run = subst (λ (s : SessionState). Runs g.state (bytes_come side piece) o.effects s)
+      (sym (r.moves.state ∙ ap (λ (x : Outcome). x.state) same))
+      (piece_runs piece g.state side r.verdict live (taken r.verdict) right);
+  kept = λ wire. r.moves.sent wire
+      ∙ (ap (λ (x : List Sent). x ++ sent_to wire (items_outcome m.state side items r.verdict).effects) (wait wire)
+      ∙ ap (λ (x : Outcome). waiting g wire ++ sent_to wire x.effects) same);
+  note = r.note ∙ ap (λ (x : Outcome). note_of x.effects) same;
+}
+  where
+    b : List ℕ
+    b = fed g.state.limits.cap (coming g.state side).pending piece
+
+    items : List Item
+    items = fed_items g.state.limits.cap (coming g.state side).pending piece
+
+    o : Outcome
+    o = piece_outcome g.state side piece r.verdict
+
+    same : items_outcome m.state side items r.verdict ≡ o
+    same = ap (λ (s : SessionState). items_outcome s side items r.verdict) state
+
+    right : IsRight g.state.limits.words g.state.limits.max_depth (asked_by g.state side items) r.verdict
+    right = asks_same g.state side b items r.verdict
+        (subst (λ (s : SessionState). IsRight s.limits.words s.limits.max_depth (asked_by s side items) r.verdict)
+        state r.right)
+
+-- ---- the traffic after a piece
+
+pub fed_state : (t u : Traffic) (s : Stage) (side : Side) (bytes : List ℕ) → Keeps side t u →
+    (at u.sides side).coming ≡ record { pending = bytes; noted = (at t.sides side).coming.noted } →
+    state_of u s ≡ with_pending (state_of t s) side bytes
+fed_state t u s Bot bytes keeps e = rw (keeps.cap, keeps.max_depth, keeps.other_side, e) refl
+fed_state t u s Server bytes keeps e = rw (keeps.cap, keeps.max_depth, keeps.other_side, e) refl
+
+pub fed_wait : (t u : Traffic) (s : Stage) (wire : Side) → u.waiting ≡ t.waiting →
+    waiting (gateway_of u s) wire ≡ waiting (gateway_of t s) wire
+fed_wait t u s wire e =
+    waiting_at u s wire ∙ (ap (λ (w : Both (List Sent)). at w wire) e ∙ sym (waiting_at t s wire))
+
+-- a side's piece was fed, and what its last byte made was gone by
+pub goes_fed : (t u v : Traffic) (s r : Stage) (side : Side) (piece : List ℕ) (step : Step) (note : Note) →
+    is_over s.phase ≡ false → Keeps side t u → u.waiting ≡ t.waiting →
+    IsGrown t.cap (at t.sides side) (fed t.cap (pending t side) piece) (at u.sides side) →
+    fed_items t.cap (pending t side) piece ≡ told step (head_in u.cap (pending u side)) (drop 4 (pending u side)) →
+    IsFault step ⊎ (pending u side ≡ pending t side ++ piece) →
+    Reacts (gateway_of u s) side (told step (head_in u.cap (pending u side)) (drop 4 (pending u side))) note
+    (gateway_of v r) →
+    Goes (gateway_of t s) (bytes_come side piece) note (gateway_of v r)
+goes_fed t u v s r side piece step note live keeps wait grown items whole h =
+    goes_piece (gateway_of t s) (gateway_of u s) (gateway_of v r) side piece note live state
+    (λ wire. fed_wait t u s wire wait)
+    (λ verdict. taken_or_over (state_of t s) side piece verdict step _ _ live here all)
+    (subst (λ (x : List Item). Reacts (gateway_of u s) side x note (gateway_of v r)) (sym here) h)
+  where
+    state : state_of u s
+        ≡ with_pending (state_of t s) side (fed t.cap (coming (state_of t s) side).pending piece)
+    state = subst (λ (c : Coming). state_of u s ≡ with_pending (state_of t s) side (fed t.cap c.pending piece))
+        (sym (coming_at t s side))
+        (fed_state t u s side (fed t.cap (pending t side) piece) keeps grown.coming)
+
+    here : fed_items t.cap (coming (state_of t s) side).pending piece
+        ≡ told step (head_in u.cap (pending u side)) (drop 4 (pending u side))
+    here = ap (λ (c : Coming). fed_items t.cap c.pending piece) (coming_at t s side) ∙ items
+
+    all : IsFault step
+        ⊎ (fed t.cap (coming (state_of t s) side).pending piece ≡ (coming (state_of t s) side).pending ++ piece)
+    all = ⊎_elim
+        (λ (bad : IsFault step). inl bad)
+        (λ (e : pending u side ≡ pending t side ++ piece). inr
+        (subst (λ (c : Coming). fed t.cap c.pending piece ≡ c.pending ++ piece) (sym (coming_at t s side))
+        (sym (ap (λ (c : Coming). c.pending) grown.coming) ∙ e)))
+        whole
+
+-- ---- what is held
+
+counts_idle : (a b : Option Head) (h : Holding) → (is_dm_head a ≡ false → h.total_before ≡ h.total) →
+    counts_from a b h ≡ h.total_before
+counts_idle None None h e = refl
+counts_idle None (Some head) h e = go (is_dm_head (Some head)) refl
+  where
+    go : (k : Bool) → is_dm_head (Some head) ≡ k → counts_from None (Some head) h ≡ h.total_before
+    go true q = rw q (sym (e refl))
+    go false q = rw q refl
+counts_idle (Some head) b h e = refl
+
+-- a byte makes the frame longer
+fed_longer : (limit : ℕ) (b : List ℕ) (x : ℕ) (piece : List ℕ) → length b < length (fed limit b (x ∷ piece))
+fed_longer limit b x piece = go (is_nothing (last_items limit (b ++ x ∷ [])))
+  where
+    go : (k : Bool) → length b < length (cond k (fed limit (b ++ x ∷ []) piece) (b ++ x ∷ []))
+    go false = omega (arith, length-append b (x ∷ []))
+    go true =
+        let g = fed_grows limit (b ++ x ∷ []) piece in
+        omega (arith, length-append b (x ∷ []), ap length g.longer, length-append (b ++ x ∷ []) g.more)
+
+-- what is not read after some bytes was no message before them
+unread_before : (limit : ℕ) (b : List ℕ) (x : ℕ) (piece : List ℕ) → IsUnread limit (fed limit b (x ∷ piece)) →
+    is_dm_head (head_in limit b) ≡ false
+unread_before limit b x piece h = ⊎_elim
+    (λ (e : drop 4 (fed limit b (x ∷ piece)) ≡ []).
+    let longer = fed_longer limit b x piece in
+    let none = ap length e in
+    ap is_dm_head (head_in-short limit b (omega (arith, longer, none, length-drop 4 (fed limit b (x ∷ piece))))))
+    (λ (e : is_dm_head (head_in limit (fed limit b (x ∷ piece))) ≡ false).
+    let g = fed_grows limit b (x ∷ piece) in
+    no_dm_before limit b g.more (ap (λ (y : List ℕ). is_dm_head (head_in limit y)) (sym g.longer) ∙ e))
+    h
+
+pub takes_piece : (t u v : Traffic) (s r : Stage) (side : Side) (x : ℕ) (piece : List ℕ) (items : List Item)
+    (note : Note) → Keeps side t u →
+    IsGrown t.cap (at t.sides side) (fed t.cap (pending t side) (x ∷ piece)) (at u.sides side) →
+    IsRaised (4 * (length (x ∷ piece) / 2 + 1)) (at t.sides side).holding.total (at u.sides side).holding.total →
+    Reacts (gateway_of u s) side items note (gateway_of v r) →
+    Takes (gateway_of t s) side (x ∷ piece) note (gateway_of v r)
+takes_piece t u v s r side x piece items note keeps grown raised h = record {
+  nothing = λ none. absurd (cc);
+  bytes = h.held ∙ ap (held_after note) (now_held ∙ sym grown_is);
+  base = base;
+  no_message = λ none. h.asks.no_message (head_now ∙ none)
+      ∙ (total_now ∙ (grown.no_message (by_bytes ∙ none) ∙ sym before_total));
+  raised = raised_more (4 * (length (x ∷ piece) / 2 + 1)) 4 (asked_at_most (x ∷ piece)) (holding g side).total
+      (holding m side).total (holding n side).total (omega arith)
+      (subst (λ (k : ℕ). IsRaised (4 * (length (x ∷ piece) / 2 + 1)) k (holding m side).total) (sym before_total)
+      (subst (λ (k : ℕ). IsRaised (4 * (length (x ∷ piece) / 2 + 1)) (at t.sides side).holding.total k) (sym total_now)
+      raised))
+      h.asks.raised;
+  other_side = h.other_side ∙ holding_same t u s s (other side) keeps.other_side;
+}
+  where
+    g : Gateway
+    g = gateway_of t s
+
+    m : Gateway
+    m = gateway_of u s
+
+    n : Gateway
+    n = gateway_of v r
+
+    b : List ℕ
+    b = fed t.cap (pending t side) (x ∷ piece)
+
+    before_total : (holding g side).total ≡ (at t.sides side).holding.total
+    before_total = ap (λ (k : Holding). k.total) (holding_at t s side)
+
+    before_base : (holding g side).total_before ≡ (at t.sides side).holding.total_before
+    before_base = ap (λ (k : Holding). k.total_before) (holding_at t s side)
+
+    before_held : (holding g side).held ≡ pending t side
+    before_held = ap (λ (k : Holding). k.held) (holding_at t s side) ∙ grown.held_before
+
+    total_now : (holding m side).total ≡ (at u.sides side).holding.total
+    total_now = ap (λ (k : Holding). k.total) (holding_at u s side)
+
+    now_held : (holding m side).held ≡ b
+    now_held = ap (λ (k : Holding). k.held) (holding_at u s side) ∙ grown.held
+
+    grown_is : fed t.cap (holding g side).held (x ∷ piece) ≡ b
+    grown_is = ap (λ (y : List ℕ). fed t.cap y (x ∷ piece)) before_held
+
+    by_bytes : is_dm_head (head_in t.cap b) ≡ is_dm_head (head_in t.cap (fed t.cap (holding g side).held (x ∷ piece)))
+    by_bytes = ap (λ (y : List ℕ). is_dm_head (head_in t.cap y)) (sym grown_is)
+
+    head_now : is_dm_head (head_in u.cap (holding m side).held)
+        ≡ is_dm_head (head_in t.cap (fed t.cap (holding g side).held (x ∷ piece)))
+    head_now = ap (λ (k : ℕ). is_dm_head (head_in k (holding m side).held)) keeps.cap
+        ∙ (ap (λ (y : List ℕ). is_dm_head (head_in t.cap y)) now_held ∙ by_bytes)
+
+    uncounted : is_dm_head (head_in t.cap (holding g side).held) ≡ false →
+        (holding g side).total_before ≡ (holding g side).total
+    uncounted e = before_base
+        ∙ (grown.uncounted (ap (λ (y : List ℕ). is_dm_head (head_in t.cap y)) (sym before_held) ∙ e)
+        ∙ sym before_total)
+
+    -- the bytes after the piece, of which nothing was read
+    same_total : IsUnread t.cap b → (at u.sides side).holding.total ≡ (at t.sides side).holding.total
+    same_total h = ⊎_elim (λ (e : drop 4 b ≡ []). grown.bodiless e)
+        (λ (e : is_dm_head (head_in t.cap b) ≡ false). grown.no_message e) h
+
+    unread_now : IsUnread u.cap (holding m side).held → IsUnread t.cap b
+    unread_now h = subst (λ (k : ℕ). IsUnread k b) keeps.cap (subst (λ (y : List ℕ). IsUnread u.cap y) now_held h)
+
+    from_now : IsUnread t.cap b → (holding n side).total_before ≡ (holding m side).total →
+        (holding n side).total_before ≡ (holding g side).total_before
+    from_now unread e = e ∙ (total_now ∙ (same_total unread ∙ (sym before_total ∙ sym (uncounted
+        (ap (λ (y : List ℕ). is_dm_head (head_in t.cap y)) before_held
+        ∙ unread_before t.cap (pending t side) x piece unread)))))
+
+    base : (holding n side).total_before
+        ≡ counts_from (head_in t.cap (holding g side).held)
+        (head_in t.cap (fed t.cap (holding g side).held (x ∷ piece))) (holding g side)
+    base = ⊎_elim
+        (λ (e : (holding n side).total_before ≡ (holding m side).total_before).
+        e ∙ (ap (λ (k : Holding). k.total_before) (holding_at u s side) ∙ (grown.base ∙ sym before_base)))
+        (λ (e : IsUnread u.cap (holding m side).held × ((holding n side).total_before ≡ (holding m side).total)).
+        from_now (unread_now e.0) e.1)
+        h.asks.base
+        ∙ sym (counts_idle (head_in t.cap (holding g side).held)
+        (head_in t.cap (fed t.cap (holding g side).held (x ∷ piece))) (holding g side) uncounted)
+
+-- the same for any piece that has a byte
+pub takes_some : (t u v : Traffic) (s r : Stage) (side : Side) (piece : List ℕ) (items : List Item) (note : Note) →
+    0 < length piece → Keeps side t u →
+    IsGrown t.cap (at t.sides side) (fed t.cap (pending t side) piece) (at u.sides side) →
+    IsRaised (4 * (length piece / 2 + 1)) (at t.sides side).holding.total (at u.sides side).holding.total →
+    Reacts (gateway_of u s) side items note (gateway_of v r) →
+    Takes (gateway_of t s) side piece note (gateway_of v r)
+takes_some t u v s r side [] items note some keeps grown raised h = absurd (omega (arith, some))
+takes_some t u v s r side (x ∷ piece) items note some keeps grown raised h =
+    takes_piece t u v s r side x piece items note keeps grown raised h
+
+-- ---- no byte
+
+pub goes_nowhere : (g : Gateway) (side : Side) (piece : List ℕ) → length piece ≡ 0 →
+    Goes g (bytes_come side piece) Notes.Nothing g
+goes_nowhere g side [] e =
+    record { effects = []; run = (refl, refl); kept = λ one. sym (append-nil (waiting g one)); note = refl }
+goes_nowhere g side (x ∷ piece) e = absurd (omega (arith, e))
+
+counts_same : (o : Option Head) (h : Holding) → counts_from o o h ≡ h.total_before
+counts_same None h = refl
+counts_same (Some head) h = refl
+
+pub takes_nothing : (g : Gateway) (side : Side) (piece : List ℕ) → length piece ≡ 0 →
+    Takes g side piece Notes.Nothing g
+takes_nothing g side [] e = record {
+  nothing = λ _. refl;
+  bytes = refl;
+  base = sym (counts_same (head_in g.state.limits.cap (holding g side).held) (holding g side));
+  no_message = λ _. refl;
+  raised = raised_none (holding g side).total (holding g side).total refl;
+  other_side = refl;
+}
+takes_nothing g side (x ∷ piece) e = absurd (omega (arith, e))

@@ -1,0 +1,143 @@
+-- How the moves of an outcome are made on the traffic.
+use Rattle.std.proofs.Common.{◌≡◌, ℕ, Bool, true, false, cond, List, [], ◌∷◌, ◌++◌, Option, Some, refl, sym, ap}
+use Rattle.std.proofs.Common.{◌∙◌, subst, append_assoc, append-nil, ◌<◌, ◌≤◌, length, arith}
+use Rattle.daide_frame.specs.declared.side.Side.{Side}
+use Rattle.daide_frame.specs.declared.side.Side.TheVariants.{Bot, Server}
+use Rattle.daide_frame.specs.declared.code.Code.{Code}
+use Rattle.daide_grammar.specs.declared.level.Level.TheVariants.{L0}
+use Rattle.daide_machine.specs.declared.phase.Phase.TheVariants.{Over}
+use Rattle.daide_machine.specs.Events.{other}
+use Rattle.daide_machine.specs.Machine.{Sent, Coming, fault, fm_to, em_to, coming, is_over}
+use Rattle.std.specs.Prelude.{◌||◌, ◌==◌}
+use Rattle.daide_frame.specs.Frames.{missing}
+use Rattle.daide_machine.specs.Wires.{Gateway, waiting, same_side, frames_to, awaits, is_answering, room_of}
+use Rattle.daide_session.specs.declared.stage.Stage.{Stage}
+use Rattle.daide_session.specs.Both.{Both, at}
+use Rattle.daide_session.specs.Traffic.{Traffic, posted, end_to, is_awaited, pending}
+use Rattle.daide_session.specs.Session.{state_of, gateway_of}
+use Rattle.daide_session.specs.Reaction.{Moves, KeepsSides}
+
+-- ---- the value by its parts
+
+pub waiting_at : (t : Traffic) (s : Stage) (wire : Side) → waiting (gateway_of t s) wire ≡ at t.waiting wire
+waiting_at t s Bot = refl
+waiting_at t s Server = refl
+
+-- ---- frames that come to wait
+
+pub frames_to-cons : (wire : Side) (frame : Sent) (frames : List Sent) →
+    frames_to wire (frame ∷ frames) ≡ frames_to wire (frame ∷ []) ++ frames_to wire frames
+frames_to-cons wire frame frames = go (same_side frame.to wire)
+  where
+    go : (b : Bool) → cond b (frame ∷ frames_to wire frames) (frames_to wire frames)
+        ≡ cond b (frame ∷ []) [] ++ frames_to wire frames
+    go true = refl
+    go false = refl
+
+pub posted_at : (w : Both (List Sent)) (frame : Sent) (wire : Side) →
+    at (posted w frame) wire ≡ at w wire ++ frames_to wire (frame ∷ [])
+posted_at w frame wire = go frame.to wire
+  where
+    go : (to wire : Side) →
+        at (posted w (record { to = to; answers = frame.answers; bytes = frame.bytes })) wire
+        ≡ at w wire ++ frames_to wire (record { to = to; answers = frame.answers; bytes = frame.bytes } ∷ [])
+    go Bot Bot = refl
+    go Bot Server = sym (append-nil w.server)
+    go Server Bot = sym (append-nil w.bot)
+    go Server Server = refl
+
+-- a frame for one wire leaves the other alone
+pub other_post : (w : Both (List Sent)) (side : Side) (code : Option Code) →
+    at (posted w (end_to side code)) (other side) ≡ at w (other side)
+other_post w Bot code = refl
+other_post w Server code = refl
+
+-- ---- the end
+
+pub failed : (old mid new : Traffic) (stage later : Stage) (side : Side) (code : Code) → KeepsSides old new →
+    mid.waiting ≡ posted old.waiting (end_to side (Some code)) →
+    later ≡ record { top_level = stage.top_level; phase = Over; level = L0 } →
+    ((wire : Side) → at new.waiting wire ≡ at mid.waiting wire ++ frames_to wire (fm_to stage.phase (other side))) →
+    Moves (gateway_of old stage) (fault (state_of old stage) side code) (gateway_of new later)
+failed old mid new stage later side code keeps post end close = record {
+  state = rw (keeps.cap, keeps.max_depth, keeps.sides, end) refl;
+  sent = λ wire. waiting_at new later wire
+      ∙ (close wire
+      ∙ (ap (λ (w : Both (List Sent)). at w wire ++ frames_to wire fm) post
+      ∙ (ap (λ (x : List Sent). x ++ frames_to wire fm) (posted_at old.waiting em wire)
+      ∙ (append_assoc (at old.waiting wire) (frames_to wire (em ∷ [])) (frames_to wire fm)
+      ∙ (ap (λ (x : List Sent). at old.waiting wire ++ x) (sym (frames_to-cons wire em fm)
+      ∙ sym (append-nil (frames_to wire (em ∷ fm))))
+      ∙ ap (λ (x : List Sent). x ++ (frames_to wire (em ∷ fm) ++ [])) (sym (waiting_at old stage wire)))))));
+}
+  where
+    em : Sent
+    em = em_to side code
+
+    fm : List Sent
+    fm = fm_to stage.phase (other side)
+
+pub awaited_same : (t u : Traffic) (side : Side) → u.waiting ≡ t.waiting → is_awaited u side ≡ is_awaited t side
+unfolding is_awaited
+awaited_same t u side e = ap (λ (w : Both (List Sent)). awaits side w.bot || awaits side w.server) e
+
+-- ---- the room
+
+pub answering_is : (t : Traffic) (s : Stage) (side : Side) → is_answering (gateway_of t s) side ≡ is_awaited t side
+unfolding is_awaited
+answering_is t s side = refl
+
+pub coming_at : (t : Traffic) (s : Stage) (side : Side) → coming (state_of t s) side ≡ (at t.sides side).coming
+coming_at t s Bot = refl
+coming_at t s Server = refl
+
+-- where a session takes bytes
+pub record IsFree (g : Gateway) (side : Side) : Type 0 where
+  pub live : is_over g.state.phase ≡ false
+  pub free : is_answering g side ≡ false
+  pub room : room_of g side ≡ missing g.state.limits.cap (coming g.state side).pending
+
+pub free_of : (g : Gateway) (side : Side) → 0 < room_of g side → IsFree g side
+unfolding room_of
+free_of g side h = go (is_over g.state.phase) refl (is_answering g side) refl
+  where
+    go : (a : Bool) → is_over g.state.phase ≡ a → (b : Bool) → is_answering g side ≡ b → IsFree g side
+    go true e b f = absurd (let none = rw e at h in omega (arith, none))
+    go false e true f = absurd (let none = rw (e, f) at h in omega (arith, none))
+    go false e false f = record { live = e; free = f; room = rw (e, f) refl }
+
+pub not_empty : (piece : List ℕ) → (length piece == 0) ≡ false → 0 < length piece
+not_empty [] e = absurd (cc)
+not_empty (x ∷ piece) e = omega arith
+
+-- a piece that has a byte and for which there is room
+pub free_for : (g now : Gateway) (side : Side) (piece : List ℕ) (empty : Bool) → empty ≡ (length piece == 0) →
+    empty ≡ false → length piece ≤ room_of now side → g ≡ now → IsFree g side
+free_for g now side piece empty e f few same =
+    free_of g side (rw same (let some = not_empty piece (sym e ∙ f) in omega (arith, some, few)))
+
+-- what has room, as the traffic sees it
+pub fits : (t : Traffic) (s : Stage) (side : Side) (piece : List ℕ) (now : Gateway) → gateway_of t s ≡ now →
+    room_of (gateway_of t s) side ≡ missing t.cap (coming (state_of t s) side).pending →
+    length piece ≤ room_of now side → length piece ≤ missing t.cap (pending t side)
+fits t s side piece now same room few =
+    subst (λ (c : Coming). length piece ≤ missing t.cap c.pending) (coming_at t s side)
+    (subst (λ (n : ℕ). length piece ≤ n) room
+    (subst (λ (g : Gateway). length piece ≤ room_of g side) (sym same) few))
+
+pub room_over : (g : Gateway) (side : Side) → is_over g.state.phase ≡ true → room_of g side ≡ 0
+unfolding room_of
+room_over g side e = rw e refl
+
+pub room_busy : (g : Gateway) (side : Side) → is_answering g side ≡ true → room_of g side ≡ 0
+unfolding room_of
+room_busy g side e = go (is_over g.state.phase) refl
+  where
+    go : (b : Bool) → is_over g.state.phase ≡ b → room_of g side ≡ 0
+    go true f = rw f refl
+    go false f = rw (f, e) refl
+
+pub room_open : (g : Gateway) (side : Side) → is_over g.state.phase ≡ false → is_answering g side ≡ false →
+    room_of g side ≡ missing g.state.limits.cap (coming g.state side).pending
+unfolding room_of
+room_open g side e f = rw (e, f) refl

@@ -1,0 +1,73 @@
+-- A session that stands where a run from its opening stands is bounded and exact after each stretch.
+use Rattle.std.proofs.Common.{◌≡◌, ℕ, ◌+◌, ◌≤◌, Bool, true, false, List, [], ◌∷◌, ◌++◌, length, refl, sym, ap, ◌∙◌, subst}
+use Rattle.std.proofs.Common.{append_assoc, append-nil}
+use Rattle.std.specs.Prelude.{◌&&◌}
+use Rattle.daide_frame.specs.declared.side.Side.{Side}
+use Rattle.daide_frame.specs.declared.side.Side.TheVariants.{Bot, Server}
+use Rattle.daide_machine.specs.Machine.{Limits, Sent, is_over}
+use Rattle.daide_machine.specs.Wires.{Gateway, waiting, holding, bytes_of, is_closed, no_frame, steps_of}
+use Rattle.daide_machine.specs.Weight.{weight_of, weight_bound, steps_bound, IsKeptSmall}
+use Rattle.daide_session.specs.Record.{PortAnswer, Moved, Relays, has_failed}
+use Rattle.daide_session.specs.Turn.{Then}
+use Rattle.daide_session.specs.Headline.{untouched, IsBoundedAndExact, Headline}
+use Rattle.daide_session.proofs.Stretches.{relays_append}
+
+-- ---- nothing waits for a wire of a closed session
+
+none_of : (frames : List Sent) → no_frame frames ≡ true → frames ≡ []
+none_of [] e = refl
+none_of (frame ∷ frames) e = absurd (cc)
+
+all_three : (a b c : Bool) → (a && (b && c)) ≡ true → (b ≡ true) × (c ≡ true)
+all_three true true true e = (refl, refl)
+all_three true true false e = absurd (cc)
+all_three true false c e = absurd (cc)
+all_three false b c e = absurd (cc)
+
+closed_wire : (g : Gateway) → is_closed g ≡ true → (side : Side) → waiting g side ≡ []
+closed_wire g e Bot =
+    none_of g.to_bot (all_three (is_over g.state.phase) (no_frame g.to_bot) (no_frame g.to_server) e).0
+closed_wire g e Server =
+    none_of g.to_server (all_three (is_over g.state.phase) (no_frame g.to_bot) (no_frame g.to_server) e).1
+
+nothing_waited : (limits : Limits) (side : Side) → bytes_of (waiting (untouched limits) side) ≡ []
+nothing_waited limits Bot = refl
+nothing_waited limits Server = refl
+
+moved_all : (failed over : Bool) (waited answers took waits : List ℕ) → failed ≡ false → waited ≡ [] → waits ≡ [] →
+    Moved failed over waited answers took waits → took ≡ answers
+moved_all true over waited answers took waits f e n h = absurd (cc)
+moved_all false over waited answers took waits f e n h =
+    sym (ap (λ (x : List ℕ). x ++ answers) (sym e) ∙ h ∙ ap (λ (x : List ℕ). took ++ x) n ∙ append-nil took)
+
+-- ---- the headline
+
+-- what a session's own contract says of what it keeps
+pub record IsWithinBounds (g : Gateway) : Type 0 where
+  pub directions : (side : Side) → IsKeptSmall g.state.limits.cap (holding g side)
+  pub further : length g.to_bot + length g.to_server ≤ 64
+  pub weight : weight_of g ≤ weight_bound g
+  pub steps : (side : Side) → steps_of (holding g side) ≤ steps_bound g side
+
+pub headline_of : (a : Gateway) (xs : List PortAnswer) (b : Gateway) → IsWithinBounds b → Relays a xs b →
+    Headline a xs b
+headline_of a xs b within r limits history stands =
+    let all = relays_append (untouched limits) history a xs b stands r in
+    record {
+      each_direction = within.directions;
+      further = within.further;
+      weight = within.weight;
+      steps = within.steps;
+      sends = all;
+      all_sent = λ closed side ok. moved_all (has_failed side (history ++ xs)) (is_over b.state.phase) _ _ _ _ ok
+          (nothing_waited limits side) (ap bytes_of (closed_wire b closed side)) (all.wires side);
+    }
+
+-- one headline after another is a headline of both stretches
+pub headlines_join : (a : Gateway) (xs : List PortAnswer) (c : Gateway) → Then Headline Headline a xs c →
+    Headline a xs c
+headlines_join a xs c h limits history stands =
+    let first = h.4 limits history stands in
+    subst (λ (ys : List PortAnswer). IsBoundedAndExact limits ys c)
+    (append_assoc history h.1 h.2 ∙ ap (λ (ys : List PortAnswer). history ++ ys) (sym h.3))
+    (h.5 limits (history ++ h.1) first.sends)

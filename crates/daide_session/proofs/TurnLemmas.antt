@@ -1,0 +1,70 @@
+-- A turn is a stretch by which the session relays.
+use Rattle.std.proofs.Common.{◌≡◌, ℕ, Bool, true, false, List, [], ◌∷◌, length, sym, subst}
+use Rattle.std.proofs.Common.{⊎_elim}
+use Rattle.daide_frame.specs.declared.side.Side.{Side}
+use Rattle.daide_frame.specs.declared.side.Side.TheVariants.{Bot, Server}
+use Rattle.daide_machine.specs.Wires.{Gateway, waiting, front_of, IsFrontOf}
+use Rattle.daide_session.specs.declared.ports.Pull.{Pull}
+use Rattle.daide_session.specs.declared.ports.Pull.TheVariants.{Got, Idle, Ended}
+use Rattle.daide_session.specs.declared.ports.Put.{Put}
+use Rattle.daide_session.specs.declared.ports.Put.TheVariants.{Took, Failed}
+use Rattle.daide_session.specs.Record.{PortAnswer, Clock, Pulled, Offered, IsPutWithin, Relays}
+use Rattle.daide_session.specs.Turn.{Then, Hears, AsksClock, Hands, HasNone, HandsFront, Puts, Gets, HasNoRoom}
+use Rattle.daide_session.specs.Turn.{FillsRoom, Pulls, Turn}
+use Rattle.daide_session.proofs.Stretches.{relays_append, relays_nil}
+use Rattle.daide_session.proofs.PortAnswers.{clock_pops, clock_runs, got_bytes, was_idle, has_ended}
+use Rattle.daide_session.proofs.PortAnswers.{took_bytes, put_failed}
+
+-- nothing was asked, and nothing changed
+unmoved : (a b : Gateway) (xs : List PortAnswer) → xs ≡ [] → b ≡ a → Relays a xs b
+unmoved a b xs e f =
+    subst (λ (ys : List PortAnswer). Relays a ys b) (sym e)
+    (subst (λ (c : Gateway). Relays a [] c) (sym f) (relays_nil a))
+
+heard : (popped : Bool) (a b : Gateway) → Hears popped a b → Relays a (Clock popped ∷ []) b
+heard true a b h = clock_pops a b h.0 h.1
+heard false a b h = subst (λ (c : Gateway). Relays a (Clock false ∷ []) c) (sym h) (clock_runs a)
+
+clock_relays : (a : Gateway) (xs : List PortAnswer) (b : Gateway) → AsksClock a xs b → Relays a xs b
+clock_relays a xs b h = subst (λ (ys : List PortAnswer). Relays a ys b) (sym h.1) (heard h.0 a b h.2)
+
+handed : (side : Side) (put : Put) (front : List ℕ) (a b : Gateway) → IsFrontOf front (waiting a side) →
+    IsPutWithin put (length front) → Hands side put a b → Relays a (Offered side front put ∷ []) b
+handed side (Took n) front a b f within h = took_bytes a side front n b f within h
+handed side Failed front a b f within h = put_failed a side front b h
+
+puts_relay : (side : Side) (a : Gateway) (xs : List PortAnswer) (b : Gateway) → Puts side a xs b → Relays a xs b
+puts_relay side a xs b h = ⊎_elim
+    (λ (n : HasNone side a xs b). unmoved a b xs n.1 n.2)
+    (λ (p : HandsFront side a xs b). subst (λ (ys : List PortAnswer). Relays a ys b) (sym p.asked)
+    (handed side p.put (front_of a side) a b p.front p.within p.hands))
+    h
+
+gotten : (side : Side) (len : ℕ) (pull : Pull) (bytes : List ℕ) (a b : Gateway) → Gets side pull bytes a b →
+    Relays a (Pulled side len pull bytes ∷ []) b
+gotten side len (Got n) bytes a b h = got_bytes a side len n bytes h.0 b h.1
+gotten side len Idle bytes a b h =
+    subst (λ (c : Gateway). Relays a (Pulled side len Idle bytes ∷ []) c) (sym h) (was_idle a side len bytes)
+gotten side len Ended bytes a b h = has_ended a side len bytes h.0 b h.1
+
+pulls_relay : (side : Side) (a : Gateway) (xs : List PortAnswer) (b : Gateway) → Pulls side a xs b → Relays a xs b
+pulls_relay side a xs b h = ⊎_elim
+    (λ (n : HasNoRoom side a xs b). unmoved a b xs n.1 n.2)
+    (λ (p : FillsRoom side a xs b). subst (λ (ys : List PortAnswer). Relays a ys b) (sym p.asked)
+    (gotten side _ p.pull p.bytes a b p.gets))
+    h
+
+then_relays : (K L : Gateway → List PortAnswer → Gateway → Type 0) →
+    ((a : Gateway) (xs : List PortAnswer) (b : Gateway) → K a xs b → Relays a xs b) →
+    ((a : Gateway) (xs : List PortAnswer) (b : Gateway) → L a xs b → Relays a xs b) →
+    (a : Gateway) (xs : List PortAnswer) (b : Gateway) → Then K L a xs b → Relays a xs b
+then_relays K L f g a xs b h =
+    subst (λ (ys : List PortAnswer). Relays a ys b) (sym h.3)
+    (relays_append a h.1 h.0 h.2 b (f a h.1 h.0 h.4) (g h.0 h.2 b h.5))
+
+pub turn_relays : (a : Gateway) (xs : List PortAnswer) (b : Gateway) → Turn a xs b → Relays a xs b
+turn_relays =
+    then_relays AsksClock (Then (Puts Bot) (Then (Puts Server) (Then (Pulls Bot) (Pulls Server)))) clock_relays
+    (then_relays (Puts Bot) (Then (Puts Server) (Then (Pulls Bot) (Pulls Server))) (puts_relay Bot)
+    (then_relays (Puts Server) (Then (Pulls Bot) (Pulls Server)) (puts_relay Server)
+    (then_relays (Pulls Bot) (Pulls Server) (pulls_relay Bot) (pulls_relay Server))))

@@ -1,0 +1,24 @@
+use Rattle.std.proofs.Common.{List, ap, ◌∙◌}
+use Rattle.daide_machine.specs.Machine.{Sent}
+use Rattle.daide_machine.specs.Events.{other}
+use Rattle.daide_session.specs.Both.{Both, at}
+use Rattle.daide_session.specs.Traffic.{has_end}
+use Rattle.std.proofs.Common.{Some}
+use Rattle.daide_session.proofs.MovesLemmas.{other_post, failed}
+use Rattle.daide_session.proofs.stage.fail.Goals as goal
+
+pub close-requires : goal.close-requires
+close-requires g c =
+    let t = c.args.traffic.now in
+    ap (λ (w : Both (List Sent)). has_end (at w (other c.args.side))) c.end.ensures.waiting
+    ∙ (ap has_end (other_post t.waiting c.args.side (Some c.args.code)) ∙ c.requires (other c.args.side))
+
+pub returns-clause-moves : goal.returns-clause-moves
+returns-clause-moves g c = failed c.args.traffic.now c.end.new.self c.close.new.traffic c.args.stage.now
+    c.close.new.stage c.args.side c.args.code
+    (record {
+      cap = c.close.ensures.keeps.cap ∙ c.end.ensures.limits.0;
+      max_depth = c.close.ensures.keeps.max_depth ∙ c.end.ensures.limits.1;
+      sides = c.close.ensures.keeps.sides ∙ c.end.ensures.sides;
+    })
+    c.end.ensures.waiting c.close.ensures.stage c.close.ensures.sent

@@ -1,0 +1,12 @@
+use Rattle.std.proofs.Common.{sym, ap, ◌∙◌}
+use Rattle.daide_machine.specs.Events.{other}
+use Rattle.daide_session.specs.Traffic.{has_end}
+use Rattle.daide_session.proofs.MovesLemmas.{waiting_at}
+use Rattle.daide_session.proofs.stage.stop.Goals as goal
+
+pub close-requires : goal.close-requires
+close-requires g c =
+    let t = c.args.traffic.now in
+    let stage = c.args.stage.now in
+    ap has_end (sym (waiting_at t stage (other c.args.side)))
+    ∙ c.requires.no_end (sym c.is_over.ensures ∙ c.if-is_over.false) (other c.args.side)

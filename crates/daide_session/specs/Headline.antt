@@ -1,0 +1,58 @@
+-- The main theorem's words: whatever bytes the two sides send, in whatever pieces and order, a session keeps in
+-- each direction at most one message's announced length, capped, and eight stack entries for each open bracket
+-- plus sixteen, with 64 further entries in all, takes at most four table steps a token, and sends exactly the
+-- grammar's answers.
+use Rattle.std.specs.Prelude.{◌≡◌, ◌+◌, ◌≤◌, true, false, List, [], ◌++◌, length}
+use Rattle.daide_frame.specs.declared.side.Side.{Side}
+use Rattle.daide_machine.specs.Machine.{Limits, opening}
+use Rattle.daide_machine.specs.Wires.{Gateway, Holding, holding, sent_to, bytes_of, is_closed, steps_of}
+use Rattle.daide_machine.specs.Weight.{weight_of, weight_bound, steps_bound, IsKeptSmall}
+use Rattle.daide_session.specs.Record.{PortAnswer, Relays, taken, has_failed}
+
+-- ---- where a session stands
+
+-- of a side that nothing came of
+abbrev pub nothing_held : Holding
+nothing_held = record { held = []; entries = 0; total = 0; total_before = 0 }
+
+-- a session that nothing came to
+abbrev pub untouched : Limits → Gateway
+untouched limits = record {
+  state = opening limits;
+  to_bot = [];
+  to_server = [];
+  bot_front = [];
+  server_front = [];
+  bot = nothing_held;
+  server = nothing_held;
+}
+
+-- The session stands where a run from its opening stands, by all that its ports told since it was made: its
+-- state is the machine's, and each wire took the machine's answers, but for what waits.
+abbrev pub Stands : Limits → List PortAnswer → Gateway → Type 0
+Stands limits history g = Relays (untouched limits) history g
+
+-- ---- the headline
+
+-- what holds of a session after all that its ports told since it was made
+pub record IsBoundedAndExact (limits : Limits) (history : List PortAnswer) (g : Gateway) : Type 0 where
+  -- it keeps in each direction at most one message's announced length, capped, and eight stack entries for
+  -- each open bracket plus sixteen,
+  pub each_direction : (side : Side) → IsKeptSmall g.state.limits.cap (holding g side)
+  -- with 64 further entries in all,
+  pub further : length g.to_bot + length g.to_server ≤ 64
+  pub weight : weight_of g ≤ weight_bound g
+  -- takes at most four table steps a token,
+  pub steps : (side : Side) → steps_of (holding g side) ≤ steps_bound g side
+  -- and sends exactly the grammar's answers: what each wire took is a front of them, and, unless it failed,
+  -- what waits is all that is left of them
+  pub sends : Stands limits history g
+  -- so it took all of them once the session is closed
+  pub all_sent : is_closed g ≡ true → (side : Side) → has_failed side history ≡ false →
+      taken side history ≡ bytes_of (sent_to side sends.effects)
+
+-- Whatever the ports tell in a call, and whatever they told before: a session that stood where a run from its
+-- opening stands is bounded and exact, by all of it.
+abbrev pub Headline : Gateway → List PortAnswer → Gateway → Type 0
+Headline old call new = (limits : Limits) (history : List PortAnswer) →
+    Stands limits history old → IsBoundedAndExact limits (history ++ call) new

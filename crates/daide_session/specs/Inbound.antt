@@ -1,0 +1,136 @@
+-- One side: the frame that comes, how far its message is read, and the answer that it becomes.
+use Rattle.std.specs.Prelude.{◌≡◌, ℕ, ◌+◌, ◌-◌, ◌*◌, ◌%◌, ◌^◌, ◌≤◌, false, nat_lt, List, [], ◌∷◌, ◌++◌, length, take}
+use Rattle.std.specs.Prelude.{drop}
+use Rattle.std.specs.Prelude.{Option, Some, None, if◌then◌else◌}
+use Rattle.daide_frame.specs.declared.side.Side.{Side}
+use Rattle.daide_frame.specs.declared.head.Head.{Head}
+use Rattle.daide_frame.specs.Frames.{Cut, head_in}
+use Rattle.daide_frame.specs.Head.{head_bytes}
+use Rattle.daide_grammar.specs.declared.level.Level.{Level}
+use Rattle.daide_grammar.specs.declared.predict.Predict.{Ghosts}
+use Rattle.daide_grammar.specs.Symbols.{opening_of}
+use Rattle.daide_reader.specs.Reading.{Reading, StandsAfter}
+use Rattle.daide_reader.specs.declared.verdict.Verdict.{Verdict}
+use Rattle.daide_reader.specs.declared.verdict.Verdict.TheVariants.{Relay, Prn, Huh}
+use Rattle.daide_reader.specs.Verdict.{IsPlaceIn}
+use Rattle.daide_machine.specs.Answers.{answer_body, answer_head, prn_open, huh_open, err_word, close_word}
+use Rattle.daide_machine.specs.Machine.{side2_of}
+use Rattle.daide_machine.specs.Weight.{tokens_held}
+use Rattle.daide_machine.specs.Wires.{is_dm_head}
+
+pub record Inbound : Type 0 where
+  pub side : Side
+  pub cap : ℕ
+  pub max_depth : ℕ
+  -- the level at which the message is read
+  pub level : Level
+  -- the frame's bytes so far, also while the answer to it waits
+  pub held : List ℕ
+  -- the header of the answer, and the verdict by which the frame is answered, once it is
+  pub header : List ℕ
+  pub verdict : Option Verdict
+  pub entries : ℕ
+  -- the table's answers in all, and those before the message, both modulo 2^64
+  pub total : ℕ
+  pub total_before : ℕ
+
+-- ---- the answer in place
+
+-- the whole answer to a body; nothing where there is none
+abbrev pub bytes_by : List ℕ → List ℕ → Option Verdict → List ℕ
+bytes_by header body None = []
+bytes_by header body (Some verdict) = header ++ answer_body body verdict
+
+-- the same in its parts: its header, the frame's body, and the words round that body
+abbrev pub parts_by : List ℕ → List ℕ → Option Verdict → List (List ℕ)
+parts_by header body None = []
+parts_by header body (Some Relay) = header ∷ body ∷ [] ∷ [] ∷ [] ∷ [] ∷ []
+parts_by header body (Some Prn) = header ∷ prn_open ∷ body ∷ close_word ∷ [] ∷ [] ∷ []
+parts_by header body (Some (Huh place)) =
+    header ∷ huh_open ∷ take (2 * place) body ∷ err_word ∷ drop (2 * place) body ∷ close_word ∷ []
+
+-- what is left of the part in which a place falls
+abbrev pub front_in : List (List ℕ) → ℕ → List ℕ
+front_in [] place = []
+front_in (part ∷ parts) place =
+    if nat_lt place (length part) then drop place part else front_in parts (place - length part)
+
+abbrev pub answer_of : Inbound → List ℕ
+answer_of i = bytes_by i.header (drop 4 i.held) i.verdict
+
+-- what is sent next of the answer, where so many of its bytes are gone
+abbrev pub front_after : Inbound → ℕ → List ℕ
+front_after i gone = front_in (parts_by i.header (drop 4 i.held) i.verdict) gone
+
+-- ---- what the fields stand for
+
+abbrev pub inbound_of : {T : Type 0} → (T → ℕ) → Side → Level → Cut → Reading T → List ℕ → Option Verdict → Inbound
+inbound_of asked side level cut v header verdict = record {
+  side = side;
+  cap = cut.cap;
+  max_depth = v.max_depth;
+  level = level;
+  held = cut.bytes;
+  header = header;
+  verdict = verdict;
+  entries = length v.stack;
+  total = asked v.table;
+  total_before = v.asked_before;
+}
+
+abbrev pub HasPlace : List ℕ → Option Verdict → Type 0
+HasPlace held None = Unit {0}
+HasPlace held (Some verdict) = IsPlaceIn (drop 4 held) verdict
+
+-- The reader stands after the whole tokens of the message that is held: at a header, in the midst of a body, at its
+-- end, and while the answer waits.
+pub record IsReadOn {T : Type 0} (table : Ghosts T) (asked : T → ℕ) (side : Side) (level : Level) (cut : Cut)
+    (v : Reading T) (header : List ℕ) (verdict : Option Verdict) : Type 0 where
+  pub four : length header ≡ 4
+  pub place : HasPlace cut.bytes verdict
+  pub capped : cut.cap ≤ 65526
+  pub stands : StandsAfter table [] (opening_of (side2_of side) level) v.max_depth v (tokens_held cut.cap cut.bytes)
+  pub unfinished : verdict ≡ None → v.finished ≡ false
+  -- the table was asked for a message alone
+  pub uncounted : is_dm_head (head_in cut.cap cut.bytes) ≡ false → v.asked_before ≡ asked v.table
+
+-- ---- what the calls do
+
+-- a frame begins anew at a level, with these bytes: no message of it was read
+pub record Begins (old : Inbound) (level : Level) (bytes : List ℕ) (new : Inbound) : Type 0 where
+  pub side : new.side ≡ old.side
+  pub cap : new.cap ≡ old.cap
+  pub max_depth : new.max_depth ≡ old.max_depth
+  pub level_set : new.level ≡ level
+  pub held : new.held ≡ bytes
+  pub unanswered : new.verdict ≡ None
+  pub total : new.total ≡ old.total
+  pub base : new.total_before ≡ old.total
+
+-- the frame has these bytes now, and its message was read on: the table is asked for tokens of a message alone
+pub record Reads (old : Inbound) (bytes : List ℕ) (new : Inbound) : Type 0 where
+  pub side : new.side ≡ old.side
+  pub cap : new.cap ≡ old.cap
+  pub max_depth : new.max_depth ≡ old.max_depth
+  pub level : new.level ≡ old.level
+  pub held : new.held ≡ bytes
+  pub unanswered : new.verdict ≡ None
+  pub base : new.total_before ≡ old.total_before
+  pub no_message : is_dm_head (head_in old.cap bytes) ≡ false → new.total ≡ old.total
+  pub bodiless : drop 4 bytes ≡ [] → new.total ≡ old.total
+  pub uncounted : is_dm_head (head_in old.cap old.held) ≡ false → old.total_before ≡ old.total
+
+-- the frame is answered by a verdict
+pub record Answers (old : Inbound) (head : Head) (verdict : Verdict) (new : Inbound) : Type 0 where
+  pub side : new.side ≡ old.side
+  pub cap : new.cap ≡ old.cap
+  pub max_depth : new.max_depth ≡ old.max_depth
+  pub level : new.level ≡ old.level
+  pub held : new.held ≡ old.held
+  pub header : new.header ≡ head_bytes (answer_head head verdict)
+  pub verdict_set : new.verdict ≡ Some verdict
+  pub base : new.total_before ≡ old.total_before
+
+-- the table's answers for the present message, modulo 2^64
+abbrev pub steps_in : Inbound → ℕ
+steps_in i = (i.total + (2 ^ 64 - i.total_before)) % 2 ^ 64

@@ -1,0 +1,112 @@
+-- What ports tell of their answers, and what these answers mean for a session: the events by which it goes,
+-- and the bytes that each wire took.
+use Rattle.std.specs.Prelude.{◌≡◌, ℕ, ◌≤◌, Bool, true, false, ◌||◌, if◌then◌else◌}
+use Rattle.std.specs.Prelude.{List, [], ◌∷◌, ◌++◌, take, Option, Some, IfSome}
+use Rattle.daide_frame.specs.declared.side.Side.{Side}
+use Rattle.daide_machine.specs.Events.{Event, Ends, Loses, Pops, bytes_come}
+use Rattle.daide_machine.specs.Machine.{Effect, Runs, is_over}
+use Rattle.daide_machine.specs.Wires.{Gateway, waiting, same_side, sent_to, bytes_of}
+use Rattle.daide_session.specs.declared.ports.Pull.{Pull}
+use Rattle.daide_session.specs.declared.ports.Pull.TheVariants.{Got, Idle, Ended}
+use Rattle.daide_session.specs.declared.ports.Put.{Put}
+use Rattle.daide_session.specs.declared.ports.Put.TheVariants.{Took, Failed}
+
+-- ---- the record
+
+-- one answer of the ports: of the clock; of a pull, with the length of its buffer and the bytes that came;
+-- of a put, with the bytes handed in
+pub data PortAnswer : Type 0 where
+  Clock : (popped : Bool) → PortAnswer
+  Pulled : (side : Side) → (buffer : ℕ) → (pull : Pull) → (bytes : List ℕ) → PortAnswer
+  Offered : (side : Side) → (bytes : List ℕ) → (put : Put) → PortAnswer
+
+-- how many bytes a pull gave
+abbrev pub pulled_len : Pull → ℕ
+pulled_len (Got n) = n
+pulled_len Idle = 0
+pulled_len Ended = 0
+
+-- a pull gives no more than its buffer holds
+abbrev pub IsPullWithin : Pull → ℕ → Type 0
+IsPullWithin (Got n) len = n ≤ len
+IsPullWithin Idle len = Unit {0}
+IsPullWithin Ended len = Unit {0}
+
+-- a put takes no more than it was handed
+abbrev pub IsPutWithin : Put → ℕ → Type 0
+IsPutWithin (Took n) len = n ≤ len
+IsPutWithin Failed len = Unit {0}
+
+-- Ports that tell a record afterwards told one before, and this answer is all that came to it. Ports that tell
+-- none afterwards owe nothing.
+abbrev pub Tells : Option (List PortAnswer) → PortAnswer → Option (List PortAnswer) → Type 0
+Tells old answer new =
+    IfSome new (λ after. (before : List PortAnswer) × (old ≡ Some before) × (after ≡ before ++ answer ∷ []))
+
+-- ---- the events
+
+-- what an answer tells the session: the timer, bytes of a side, its end, or a wire that failed
+abbrev pub event_of : PortAnswer → List Event
+event_of (Clock true) = Pops ∷ []
+event_of (Clock false) = []
+event_of (Pulled side buffer (Got n) bytes) = bytes_come side bytes
+event_of (Pulled side buffer Idle bytes) = []
+event_of (Pulled side buffer Ended bytes) = Ends side ∷ []
+event_of (Offered side bytes (Took n)) = []
+event_of (Offered side bytes Failed) = Loses side ∷ []
+
+-- all that a record tells it
+abbrev pub events_of : List PortAnswer → List Event
+events_of [] = []
+events_of (answer ∷ answers) = event_of answer ++ events_of answers
+
+-- ---- the wires
+
+abbrev pub took : Side → PortAnswer → List ℕ
+took side (Clock popped) = []
+took side (Pulled from buffer pull bytes) = []
+took side (Offered to bytes (Took n)) = if same_side to side then take n bytes else []
+took side (Offered to bytes Failed) = []
+
+-- the bytes that the wire toward a side took, in order
+abbrev pub taken : Side → List PortAnswer → List ℕ
+taken side [] = []
+taken side (answer ∷ answers) = took side answer ++ taken side answers
+
+abbrev pub fails : Side → PortAnswer → Bool
+fails side (Clock popped) = false
+fails side (Pulled from buffer pull bytes) = false
+fails side (Offered to bytes (Took n)) = false
+fails side (Offered to bytes Failed) = same_side to side
+
+-- whether a put to the wire toward a side failed
+abbrev pub has_failed : Side → List PortAnswer → Bool
+has_failed side [] = false
+has_failed side (answer ∷ answers) = fails side answer || has_failed side answers
+
+-- ---- sent and waiting are the answers
+
+-- One wire: what waited, and the machine's answers, are what it took, and what waits. Where it failed, what it
+-- took is a front of that, nothing waits, and the session is over.
+abbrev pub Moved : Bool → Bool → List ℕ → List ℕ → List ℕ → List ℕ → Type 0
+Moved false over waited answers took waits = waited ++ answers ≡ took ++ waits
+Moved true over waited answers took waits =
+    (over ≡ true) × (waits ≡ []) × ((rest : List ℕ) × (waited ++ answers ≡ took ++ rest))
+
+-- By these answers of the ports the session goes from old to new: its state is the machine's, by the events
+-- that they tell, and each wire took the machine's answers.
+pub record Relays (old : Gateway) (answers : List PortAnswer) (new : Gateway) : Type 0 where
+  pub effects : List Effect
+  pub run : Runs old.state (events_of answers) effects new.state
+  pub wires : (side : Side) → Moved (has_failed side answers) (is_over new.state.phase) (bytes_of (waiting old side))
+      (bytes_of (sent_to side effects)) (taken side answers) (bytes_of (waiting new side))
+
+-- ---- a call
+
+-- Where the ports tell a record after a call, they told one before it, and the answers that came to it during
+-- the call are of this kind.
+abbrev pub Carries : (Gateway → List PortAnswer → Gateway → Type 0) → Gateway → Option (List PortAnswer) → Gateway →
+    Option (List PortAnswer) → Type 0
+Carries Kind old told_old new told_new = IfSome told_new (λ after.
+    (before : List PortAnswer) × (told_old ≡ Some before)
+    × ((call : List PortAnswer) × (after ≡ before ++ call) × Kind old call new))

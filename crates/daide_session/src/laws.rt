@@ -1,0 +1,28 @@
+//! Laws of what ports tell: functions with no parameters and an empty body, whose contracts are the laws.
+
+ghost use Rattle.daide_session.specs.Laws.{RelaysJoin, NewSessionsStand, HeadlinesJoin};
+ghost use Rattle.daide_session.specs.HubRuns.{SessionsAreApart};
+
+use crate::ports::Ports;
+
+/// What the ports told in two calls, one after the other, moves a session as if it were told in one.
+pub fn relays_join()
+    ensures { RelaysJoin }
+{}
+
+/// A new session stands where a run from its opening stands.
+pub fn new_sessions_stand()
+    ensures { NewSessionsStand }
+{}
+
+/// Relaying twice is relaying once, with both records: the headline of the one call and that of the next are
+/// the headline of both.
+pub fn headlines_join()
+    ensures { HeadlinesJoin }
+{}
+
+/// Whatever calls are made of a hub, in whatever order, each of its sessions goes on by turns of its own alone:
+/// its answers, and what its ports were asked, are those that it would have had with no other session beside it.
+pub fn sessions_are_apart<P: Ports>()
+    ensures { SessionsAreApart P.told }
+{}
