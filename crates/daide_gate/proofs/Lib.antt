@@ -1,5 +1,9 @@
 pub mod Reading
 pub mod Outcomes
 pub mod Tokens
+pub mod AnswerTokens
 pub mod OneFrame
 pub mod OneWay
+pub mod Members
+pub mod SettingsFacts
+pub mod RelayLemmas

@@ -1,3 +1,6 @@
 pub mod Input
 pub mod Shown
 pub mod Found
+pub mod Settings
+pub mod Given
+pub mod Relay

@@ -8,7 +8,6 @@ use Rattle.hex.specs.Hex.{encode_upper}
 use Rattle.daide_token.specs.Token.{bra, ket, prn, huh, err, tokens_of}
 use Rattle.daide_token.specs.Text.{text_of}
 use Rattle.daide_frame.specs.declared.side.Side.{Side}
-use Rattle.daide_frame.specs.declared.side.Side.TheVariants.{Bot, Server}
 use Rattle.daide_frame.specs.declared.code.Code.{Code}
 use Rattle.daide_frame.specs.declared.head.Head.{Head}
 use Rattle.daide_frame.specs.declared.head.Kind.{Kind}
@@ -17,34 +16,23 @@ use Rattle.daide_frame.specs.Code.{code_number}
 use Rattle.daide_frame.specs.InitialMessage.{im_of}
 use Rattle.daide_frame.specs.Frames.{Item, Begun, Whole, Wrong, first_items, items_of}
 use Rattle.daide_grammar.specs.declared.side.Side2.{Side2}
-use Rattle.daide_grammar.specs.declared.side.Side2.TheVariants.{Client, ServerEnd}
 use Rattle.daide_grammar.specs.declared.level.Level.{Level}
-use Rattle.daide_grammar.specs.Messages.{IsMessage}
+use Rattle.daide_grammar.specs.SideMessages.{IsMessageOver}
+use Rattle.daide_grammar.specs.Words.{Words}
 use Rattle.daide_reader.specs.Verdict.{HasVerdict}
 use Rattle.daide_reader.specs.declared.verdict.Verdict.{Verdict}
 use Rattle.daide_reader.specs.declared.verdict.Verdict.TheVariants.{Relay, Prn, Huh}
+use Rattle.daide_machine.specs.Bounds.{longest_body, deepest}
+use Rattle.daide_machine.specs.Machine.{side2_of}
 use Rattle.daide_gate.specs.Input.{limit, bytes_of}
 use Rattle.daide_gate.specs.declared.frame_view.ShowFault.{ShowFault}
 use Rattle.daide_gate.specs.declared.frame_view.ShowFault.TheVariants.{Read, TooLong, NotHex, NotOneFrame}
 use Rattle.daide_gate.specs.declared.frame_view.ShowFault.TheVariants.{Memory, Write}
 
--- the most bytes that a frame's body may have (own)
-abbrev pub frame_cap : ℕ
-frame_cap = 65526
-
--- the most brackets that may be open at once (own)
-abbrev pub deepest : ℕ
-deepest = 62
-
 -- what is written, and whether the frame would be relayed
 pub record Shown : Type 0 where
   pub text : List ℕ
   pub relayed : Bool
-
--- the grammar of a side's messages
-abbrev pub end_of : Side → Side2
-end_of Bot = Client
-end_of Server = ServerEnd
 
 -- a text on a line of its own
 abbrev pub line : List ℕ → List ℕ
@@ -58,11 +46,17 @@ prn_answer m = prn ∷ bra ∷ (m ++ ket ∷ [])
 abbrev pub huh_answer : ℕ → List ℕ → List ℕ
 huh_answer place m = huh ∷ bra ∷ (take place m ++ err ∷ drop place m ++ ket ∷ [])
 
+-- a verdict's name
+abbrev pub verdict_name : Verdict → List ℕ
+verdict_name Relay = codes "relay"
+verdict_name Prn = codes "PRN"
+verdict_name (Huh place) = codes "HUH at " ++ decimal place
+
 -- the lines of a verdict: its name, and the answer that the sender gets
 abbrev pub verdict_lines : Verdict → List ℕ → List ℕ
-verdict_lines Relay m = line (codes "relay")
-verdict_lines Prn m = line (codes "PRN") ++ line (text_of (prn_answer m))
-verdict_lines (Huh place) m = line (codes "HUH at " ++ decimal place) ++ line (text_of (huh_answer place m))
+verdict_lines Relay m = line (verdict_name Relay)
+verdict_lines Prn m = line (verdict_name Prn) ++ line (text_of (prn_answer m))
+verdict_lines (Huh place) m = line (verdict_name (Huh place)) ++ line (text_of (huh_answer place m))
 
 -- whether a verdict passes its message on
 abbrev pub is_relay : Verdict → Bool
@@ -106,15 +100,15 @@ message_shown len m verdict = record {
 abbrev pub Adds : List ℕ → List ℕ → Bool → Shown → Type 0
 Adds old new relayed shown = (new ≡ old ++ shown.text) × (relayed ≡ shown.relayed)
 
--- what is shown of a whole frame; a DM by the verdict that its end's grammar has for its message
-abbrev pub IsFrameShownAs : Side2 → Level → Kind → ℕ → List ℕ → Shown → Type 0
-IsFrameShownAs end level Im len body shown = shown ≡ im_shown len (im_of body)
-IsFrameShownAs end level Rm len body shown = shown ≡ relayed_shown Rm len
-IsFrameShownAs end level Dm len body shown =
-    (verdict : Verdict) × HasVerdict (IsMessage end level) deepest (tokens_of body) verdict
+-- what is shown of a whole frame; a DM by the verdict that its end's grammar, with these words, has for its message
+abbrev pub IsFrameShownAs : Words → Side2 → Level → Kind → ℕ → List ℕ → Shown → Type 0
+IsFrameShownAs words end level Im len body shown = shown ≡ im_shown len (im_of body)
+IsFrameShownAs words end level Rm len body shown = shown ≡ relayed_shown Rm len
+IsFrameShownAs words end level Dm len body shown =
+    (verdict : Verdict) × HasVerdict (IsMessageOver words end level) deepest (tokens_of body) verdict
     × (shown ≡ message_shown len (tokens_of body) verdict)
-IsFrameShownAs end level Fm len body shown = shown ≡ relayed_shown Fm len
-IsFrameShownAs end level Em len body shown = shown ≡ relayed_shown Em len
+IsFrameShownAs words end level Fm len body shown = shown ≡ relayed_shown Fm len
+IsFrameShownAs words end level Em len body shown = shown ≡ relayed_shown Em len
 
 -- what some bytes are as one frame
 pub data OneFrame : Type 0 where
@@ -134,33 +128,33 @@ unfoldable pub found_in : ℕ → List ℕ → OneFrame
 found_in cap bytes = found_among (length bytes) (items_of (first_items cap bytes))
 
 -- what is shown of a frame, or that there is not one
-abbrev pub IsOneShownAs : Side → Level → OneFrame → Result Shown ShowFault → Type 0
-IsOneShownAs side level (faulty code) outcome = outcome ≡ Ok (fault_shown code)
-IsOneShownAs side level (whole head body) outcome =
-    (shown : Shown) × (outcome ≡ Ok shown) × IsFrameShownAs (end_of side) level head.kind head.len body shown
-IsOneShownAs side level not_one outcome = outcome ≡ Err NotOneFrame
+abbrev pub IsOneShownAs : Words → Side → Level → OneFrame → Result Shown ShowFault → Type 0
+IsOneShownAs words side level (faulty code) outcome = outcome ≡ Ok (fault_shown code)
+IsOneShownAs words side level (whole head body) outcome =
+    (shown : Shown) × (outcome ≡ Ok shown) × IsFrameShownAs words (side2_of side) level head.kind head.len body shown
+IsOneShownAs words side level not_one outcome = outcome ≡ Err NotOneFrame
 
 -- what is shown of some bytes
-abbrev pub AreShownAs : Side → Level → List ℕ → Result Shown ShowFault → Type 0
-AreShownAs side level bytes outcome = IsOneShownAs side level (found_in frame_cap bytes) outcome
+abbrev pub AreShownAs : Words → Side → Level → List ℕ → Result Shown ShowFault → Type 0
+AreShownAs words side level bytes outcome = IsOneShownAs words side level (found_in longest_body bytes) outcome
 
 -- what is shown of an input, or the input's fault
-abbrev pub IsShownAs : Side → Level → List ℕ → Result Shown ShowFault → Type 0
-IsShownAs side level input outcome =
+abbrev pub IsShownAs : Words → Side → Level → List ℕ → Result Shown ShowFault → Type 0
+IsShownAs words side level input outcome =
     MatchBool (nat_lt limit (length input)) (outcome ≡ Err TooLong)
-    (MatchResult (bytes_of input) (λ bytes. AreShownAs side level bytes outcome) (λ _. outcome ≡ Err NotHex))
+    (MatchResult (bytes_of input) (λ bytes. AreShownAs words side level bytes outcome) (λ _. outcome ≡ Err NotHex))
 
 -- what is shown of the input was written, and the answer is whether its frame would be relayed
-abbrev pub Shows : Side → Level → List ℕ → Bool → Option (List ℕ) → Option (List ℕ) → Type 0
-Shows side level input relayed old new =
-    (shown : Shown) × IsShownAs side level input (Ok shown) × (relayed ≡ shown.relayed) × Appends old new shown.text
+abbrev pub Shows : Words → Side → Level → List ℕ → Bool → Option (List ℕ) → Option (List ℕ) → Type 0
+Shows words side level input relayed old new =
+    (shown : Shown) × IsShownAs words side level input (Ok shown) × (relayed ≡ shown.relayed) × Appends old new shown.text
 
 -- what an input has to do with a fault: those of the input are its own, a failed write comes only where
 -- there is something to show, and the reader's and memory's say nothing of it
-abbrev pub IsFaultAt : Side → Level → List ℕ → ShowFault → Type 0
-IsFaultAt side level input Read = ⊤
-IsFaultAt side level input TooLong = IsShownAs side level input (Err TooLong)
-IsFaultAt side level input NotHex = IsShownAs side level input (Err NotHex)
-IsFaultAt side level input NotOneFrame = IsShownAs side level input (Err NotOneFrame)
-IsFaultAt side level input Memory = ⊤
-IsFaultAt side level input Write = (shown : Shown) × IsShownAs side level input (Ok shown)
+abbrev pub IsFaultAt : Words → Side → Level → List ℕ → ShowFault → Type 0
+IsFaultAt words side level input Read = ⊤
+IsFaultAt words side level input TooLong = IsShownAs words side level input (Err TooLong)
+IsFaultAt words side level input NotHex = IsShownAs words side level input (Err NotHex)
+IsFaultAt words side level input NotOneFrame = IsShownAs words side level input (Err NotOneFrame)
+IsFaultAt words side level input Memory = ⊤
+IsFaultAt words side level input Write = (shown : Shown) × IsShownAs words side level input (Ok shown)

@@ -8,15 +8,15 @@ mod one_frame;
 mod text;
 mod verdict_of;
 
-ghost use Rattle.std.specs.Prelude.{◌≡◌, ◌≢◌, ◌≤◌, ◌+◌, ℕ, List, length, IfOk, IfErr, IfSome, Ok, Err};
+ghost use Rattle.std.specs.Prelude.{◌≡◌, ◌≢◌, ◌≤◌, ◌+◌, ℕ, List, [], length, IfOk, IfErr, IfSome, Ok, Err};
 ghost use Rattle.std.specs.Io.KnownBytes.{Consumes, Keeps};
 ghost use Rattle.daide_gate.specs.Input.{limit};
-ghost use Rattle.daide_gate.specs.Shown.{AreShownAs, IsShownAs, Shows, IsFaultAt, end_of};
+ghost use Rattle.daide_gate.specs.Shown.{AreShownAs, IsShownAs, Shows, IsFaultAt};
 
-use daide_frame::cutter::Cutter;
-use daide_frame::side::Side;
-use daide_grammar::level::Level;
-use daide_grammar::side::Side2;
+use daide_frame::{Cutter, Side};
+use daide_grammar::Level;
+use daide_machine::MAX_BODY;
+use daide_machine::rules::side2_of;
 use hex::FromHexError;
 use input::{drop_blanks, read_input};
 use one_frame::{Found, find_frame};
@@ -24,9 +24,6 @@ use std::alloc::Allocator;
 use std::io::{Read, Write};
 use text::{write_fault, write_frame};
 use thiserror::Error;
-
-/// The most bytes that a frame's body may have: the longest that the gateway ever relays.
-const FRAME_CAP: u16 = 65_526;
 
 /// Why nothing is shown, in the order in which it is tested; `Memory` comes at the growth that was
 /// refused, before anything is written.
@@ -52,16 +49,6 @@ pub enum ShowFault {
     Write,
 }
 
-/// The grammar of a side's messages.
-fn end_of(side: Side) -> Side2
-    ensures { result ≡ end_of side }
-{
-    match side {
-        Side::Bot => Side2::Client,
-        Side::Server => Side2::ServerEnd,
-    }
-}
-
 /// What is written for some bytes, and whether they would be relayed.
 fn show_bytes<A: Allocator + Copy>(
     alloc: A,
@@ -70,10 +57,10 @@ fn show_bytes<A: Allocator + Copy>(
     bytes: &[u8],
 ) -> Result<(Vec<u8, A>, bool), ShowFault>
     ensures shown { IfOk result (λ answer.
-        AreShownAs side level bytes.now (Ok (record { text = answer.0.items; relayed = answer.1 }))) }
-    ensures refused { IfErr result (λ fault. fault ≢ ShowFault.Memory → AreShownAs side level bytes.now (Err fault)) }
+        AreShownAs [] side level bytes.now (Ok (record { text = answer.0.items; relayed = answer.1 }))) }
+    ensures refused { IfErr result (λ fault. fault ≢ ShowFault.Memory → AreShownAs [] side level bytes.now (Err fault)) }
 {
-    let Ok(mut cutter) = Cutter::new(alloc, FRAME_CAP) else {
+    let Ok(mut cutter) = Cutter::new(alloc, MAX_BODY) else {
         return Err(ShowFault::Memory);
     };
     let mut text = Vec::new(alloc);
@@ -82,7 +69,7 @@ fn show_bytes<A: Allocator + Copy>(
         Found::Fault(code) => write_fault(alloc, code, &mut text),
         Found::Whole(head) => write_frame(
             alloc,
-            end_of(side),
+            side2_of(side),
             level,
             head,
             cutter.body(),
@@ -104,8 +91,8 @@ fn show_input<A: Allocator + Copy>(
 ) -> Result<(Vec<u8, A>, bool), ShowFault>
     requires { length input.items ≤ limit }
     ensures shown { IfOk result (λ answer.
-        IsShownAs side level input.items (Ok (record { text = answer.0.items; relayed = answer.1 }))) }
-    ensures refused { IfErr result (λ fault. fault ≢ ShowFault.Memory → IsShownAs side level input.items (Err fault)) }
+        IsShownAs [] side level input.items (Ok (record { text = answer.0.items; relayed = answer.1 }))) }
+    ensures refused { IfErr result (λ fault. fault ≢ ShowFault.Memory → IsShownAs [] side level input.items (Err fault)) }
 {
     drop_blanks(&mut input);
     match hex::decode(alloc, input.as_slice()) {
@@ -127,11 +114,11 @@ pub fn show<A: Allocator + Copy, R: Read, W: Write>(
 ) -> Result<bool, ShowFault>
     // What is written is what is shown for the input, and the answer is true exactly at a relay.
     ensures shown { IfOk result (λ relayed. IfSome (R.remaining reader.old) (λ input.
-        Shows side level input relayed (W.contents writer.old) (W.contents writer.new))) }
+        Shows [] side level input relayed (W.contents writer.old) (W.contents writer.new))) }
 
     // A fault of the input is its own, and a write fails only where there is something to show.
     ensures refused { IfErr result (λ fault. IfSome (R.remaining reader.old) (λ input.
-        IsFaultAt side level input fault)) }
+        IsFaultAt [] side level input fault)) }
 
     // Only a failed write can leave something written.
     ensures nothing_written { IfErr result (λ fault. fault ≢ ShowFault.Write

@@ -1,4 +1,4 @@
-//! What the gateway's program does with its input.
+//! What the gateway's program does with its input, and the loop over a session's turns.
 //!
 //! Nothing here opens a file or a socket: readers, writers and the allocator are parameters, so that
 //! what is written can be stated as a function of what was read, and each refusal can be tried.
@@ -6,3 +6,9 @@
 
 pub mod frame_view;
 pub mod laws;
+pub mod relaying;
+pub mod settings;
+
+pub use frame_view::{ShowFault, show};
+pub use relaying::{RelayEnd, relay};
+pub use settings::{Address, Key, Settings, SettingsError, read_settings};

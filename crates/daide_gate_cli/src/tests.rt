@@ -129,7 +129,7 @@ fn check_run<R: AllocGlobal + Abort>(rt: &R, row: &str) -> Result<(), Fail> {
 }
 
 #[test]
-fn each_run_is_a_row(rt: HostRuntime) -> Result<(), Fail> {
+fn shown_frames(rt: HostRuntime) -> Result<(), Fail> {
     for row in RUNS.lines() {
         check_run(&rt, row)?;
     }

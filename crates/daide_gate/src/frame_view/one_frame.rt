@@ -4,9 +4,7 @@ ghost use Rattle.std.specs.Prelude.{◌≡◌, [], drop};
 ghost use Rattle.daide_gate.specs.Shown.{found_in};
 ghost use Rattle.daide_gate.specs.Found.{found_by, found_of};
 
-use daide_frame::code::Code;
-use daide_frame::cutter::{Cutter, Step};
-use daide_frame::head::Head;
+use daide_frame::{Code, Cutter, Head, Step};
 use std::alloc::Allocator;
 
 /// What some bytes are as one frame.

@@ -1,38 +1,25 @@
 //! The text of a frame.
 
-ghost use Rattle.std.specs.Prelude.{◌≡◌, ◌≤◌, ◌*◌, ◌%◌, ◌++◌, length, true, IfOk, OnOk};
+ghost use Rattle.std.specs.Prelude.{◌≡◌, ◌≤◌, ◌*◌, ◌%◌, ◌++◌, [], length, true, IfOk, OnOk};
 ghost use Rattle.daide_token.specs.Token.{tokens_of};
 ghost use Rattle.daide_token.specs.Text.{text_of};
 ghost use Rattle.daide_frame.specs.Head.{has_right_length};
 ghost use Rattle.daide_gate.specs.Shown.{Shown, Adds, IsFrameShownAs};
 ghost use Rattle.daide_reader.specs.Verdict.{IsPlaceIn};
+ghost use Rattle.daide_machine.specs.Bounds.{longest_body};
 ghost use Rattle.daide_gate.specs.Shown.{line, kind_line, name_of_kind, fault_shown, relayed_shown, im_shown};
 ghost use Rattle.daide_gate.specs.Shown.{verdict_lines, prn_answer, huh_answer, is_relay};
 ghost use Rattle.daide_frame.specs.InitialMessage.{im_of};
 
 use super::verdict_of::verdict_of;
-use daide_frame::code::Code;
-use daide_frame::head::{Head, Kind};
-use daide_frame::initial_message::check_im;
-use daide_grammar::level::Level;
-use daide_grammar::side::Side2;
-use daide_reader::verdict::Verdict;
-use daide_token::text::write_text;
+use daide_frame::{Code, Head, Kind, check_im};
+use daide_grammar::{Level, Side2};
+use daide_machine::answers::{CLOSE_WORD, ERR_WORD, HUH_OPEN, PRN_OPEN};
+use daide_reader::Verdict;
+use daide_token::write_text;
 use std::alloc::{AllocError, Allocator};
 use std::io;
 use std::io::Write;
-
-/// The tokens `PRN (`.
-const PRN_BRA: [u8; 4] = [0x48, 0x13, 0x40, 0x00];
-
-/// The tokens `HUH (`.
-const HUH_BRA: [u8; 4] = [0x48, 0x06, 0x40, 0x00];
-
-/// The token `ERR`.
-const ERR: [u8; 2] = [0x49, 0x02];
-
-/// The token `)`.
-const KET: [u8; 2] = [0x40, 0x01];
 
 fn kind_name(kind: Kind) -> &'static str
     ensures { result.now ≡ name_of_kind kind }
@@ -70,9 +57,9 @@ fn answer_prn<A: Allocator>(alloc: A, body: &[u8]) -> Result<Vec<u8, A>, AllocEr
     ensures even { IfOk result (λ answer. length answer.items % 2 ≡ 0) }
     ensures tokens { IfOk result (λ answer. tokens_of answer.items ≡ prn_answer (tokens_of body.now)) }
 {
-    let mut answer = Vec::from_slice(alloc, &PRN_BRA)?;
+    let mut answer = Vec::from_slice(alloc, &PRN_OPEN)?;
     answer.extend_from_slice(body)?;
-    answer.extend_from_slice(&KET)?;
+    answer.extend_from_slice(&CLOSE_WORD)?;
     Ok(answer)
 }
 
@@ -84,11 +71,11 @@ fn answer_huh<A: Allocator>(alloc: A, place: u16, body: &[u8]) -> Result<Vec<u8,
     ensures tokens { IfOk result (λ answer. tokens_of answer.items ≡ huh_answer place (tokens_of body.now)) }
 {
     let (before, after) = body.split_at(2 * place as usize);
-    let mut answer = Vec::from_slice(alloc, &HUH_BRA)?;
+    let mut answer = Vec::from_slice(alloc, &HUH_OPEN)?;
     answer.extend_from_slice(before)?;
-    answer.extend_from_slice(&ERR)?;
+    answer.extend_from_slice(&ERR_WORD)?;
     answer.extend_from_slice(after)?;
-    answer.extend_from_slice(&KET)?;
+    answer.extend_from_slice(&CLOSE_WORD)?;
     Ok(answer)
 }
 
@@ -173,9 +160,9 @@ fn write_message<A: Allocator + Copy>(
 ) -> io::Result<bool>
     requires dm { head.kind ≡ Kind.Dm }
     requires even { length body.now % 2 ≡ 0 }
-    requires capped { length body.now ≤ 65526 }
+    requires capped { length body.now ≤ longest_body }
     ensures { IfOk result (λ relayed. (shown : Shown)
-        × IsFrameShownAs end level Kind.Dm head.len body.now shown
+        × IsFrameShownAs [] end level Kind.Dm head.len body.now shown
         × Adds text.old.items text.new.items relayed shown) }
 {
     let verdict = verdict_of(end, level, body);
@@ -194,9 +181,9 @@ pub(super) fn write_frame<A: Allocator + Copy>(
     text: &mut Vec<u8, A>,
 ) -> io::Result<bool>
     requires right { has_right_length head.kind (length body.now) ≡ true }
-    requires capped { length body.now ≤ 65526 }
+    requires capped { length body.now ≤ longest_body }
     ensures { IfOk result (λ relayed. (shown : Shown)
-        × IsFrameShownAs end level head.kind head.len body.now shown
+        × IsFrameShownAs [] end level head.kind head.len body.now shown
         × Adds text.old.items text.new.items relayed shown) }
 {
     match head.kind {

@@ -1,4 +1,4 @@
-use Rattle.std.proofs.Common.{◌≡◌, ◌⊎◌, inl, inr, List, ℕ, refl}
+use Rattle.std.proofs.Common.{◌≡◌, ◌⊎◌, inl, inr, List, [], ℕ, refl}
 use Rattle.daide_frame.specs.declared.head.Kind.{Kind}
 use Rattle.daide_frame.specs.declared.head.Kind.TheVariants.{Im, Rm, Dm, Fm, Em}
 use Rattle.daide_grammar.specs.declared.side.Side2.{Side2}
@@ -9,7 +9,7 @@ use Rattle.daide_gate.proofs.frame_view.text.write_frame.Goals as goal
 
 -- a frame of a kind that is not checked is relayed
 unchecked : (end : Side2) (level : Level) (kind : Kind) (len : ℕ) (body : List ℕ) → (kind ≡ Rm) ⊎ ((kind ≡ Fm) ⊎ (kind ≡ Em))
-    → IsFrameShownAs end level kind len body (relayed_shown kind len)
+    → IsFrameShownAs [] end level kind len body (relayed_shown kind len)
 unchecked end level Rm len body is = refl
 unchecked end level Fm len body is = refl
 unchecked end level Em len body is = refl

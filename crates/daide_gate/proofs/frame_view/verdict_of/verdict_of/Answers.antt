@@ -1,12 +1,12 @@
 use Rattle.std.proofs.Common.{ℕ, subst}
 use Rattle.daide_token.specs.Token.{tokens_of}
 use Rattle.daide_grammar.specs.Symbols.{opening_of}
-use Rattle.daide_grammar.specs.Messages.{SymbolMatches}
+use Rattle.daide_grammar.specs.SideMessages.{SymbolMatches}
 use Rattle.daide_reader.specs.ViablePrefix.{IsMessageOf}
 use Rattle.daide_reader.specs.Verdict.{HasVerdict}
 use Rattle.daide_reader.proofs.BodyLemmas.{place_in}
 use Rattle.daide_reader.proofs.PlainVerdicts.{plain_verdicts}
-use Rattle.daide_gate.specs.Shown.{deepest}
+use Rattle.daide_machine.specs.Bounds.{deepest}
 use Rattle.daide_gate.proofs.frame_view.verdict_of.verdict_of.Goals as goal
 
 pub returns-clause-verdict : goal.returns-clause-verdict

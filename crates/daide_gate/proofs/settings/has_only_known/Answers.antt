@@ -1,0 +1,6 @@
+use Rattle.std.proofs.Common.{◌∙◌}
+use Rattle.daide_gate.proofs.Members.{keys_known}
+use Rattle.daide_gate.proofs.settings.has_only_known.Goals as goal
+
+pub returns : goal.returns
+returns c = c.keys_are_known.ensures ∙ keys_known c.args.table.now.entries

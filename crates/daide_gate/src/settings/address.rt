@@ -1,0 +1,36 @@
+//! An address as its text.
+
+ghost use Rattle.std.specs.Prelude.{◌≡◌, ℕ, List, string_bytes, IfOk};
+
+use std::alloc::{AllocError, Global};
+use std::marker::Model;
+
+/// A host and a port as the settings have them, as `127.0.0.1:16713`. Contracts see its bytes.
+#[derive(Debug, Drop)]
+pub struct Address {
+    text: String,
+}
+
+impl Model for Address {
+    ghost Value = { List ℕ };
+
+    ghost view = { λ address. string_bytes address.text };
+}
+
+impl Address {
+    /// An address of this text, which is copied.
+    pub(crate) fn new(alloc: Global, text: &str) -> Result<Address, AllocError>
+        ensures { IfOk result (λ address. address ≡ text.now) }
+    {
+        Ok(Address {
+            text: String::from_str(alloc, text)?,
+        })
+    }
+
+    /// The text of the address.
+    pub fn as_str(&self) -> &str
+        ensures { result.now ≡ self.now }
+    {
+        self.text.as_str()
+    }
+}
