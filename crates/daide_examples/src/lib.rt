@@ -5,14 +5,28 @@
 #![tactic(auto)]
 
 #[cfg(test)]
+mod answers;
+#[cfg(test)]
+mod breaks;
+#[cfg(test)]
+mod chains;
+#[cfg(test)]
+mod growths;
+#[cfg(test)]
+mod hubs;
+#[cfg(test)]
 mod messages;
 #[cfg(test)]
 mod parts;
+#[cfg(test)]
+mod relays;
 #[cfg(test)]
 mod rules;
 #[cfg(test)]
 mod script;
 #[cfg(test)]
 mod sessions;
+#[cfg(test)]
+mod settings;
 #[cfg(test)]
 mod verdicts;

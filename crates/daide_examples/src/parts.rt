@@ -143,7 +143,8 @@ const SERVER: [Example; 120] = [
     (ServerEnd, L0, "LOD", Huh(1)),
     (ServerEnd, L0, "LOD ( 'a' ) ( 'b' )", Huh(4)),
     (ServerEnd, L0, "MDF ( FRA ENG ) ( ( ( FRA PAR MAR ) ( UNO ) ( ( ENG GER ) BEL HOL ) ) ( GAS BUR ) ) ( )", Relay),
-    (ServerEnd, L0, "MDF ( FRA ) ( ( ) ( ) ) ( ( PAR ( AMY GAS BUR ) ( FLT ) ) ( STP ( ( FLT NCS ) NWY ( BUL ECS ) BAR ) ( ( FLT SCS ) ) ) )", Relay),
+    (ServerEnd, L0, "MDF ( FRA ) ( ( ) ( ) ) ( ( PAR ( AMY GAS BUR ) ( FLT ) ) ( STP ( ( FLT NCS ) \
+        NWY ( BUL ECS ) BAR ) ( ( FLT SCS ) ) ) )", Relay),
     (ServerEnd, L0, "MDF ( UNO ) ( ( ) ( ) ) ( )", Huh(2)),
     (ServerEnd, L0, "MDF ( ( ) ( ) ) ( )", Huh(2)),
     (ServerEnd, L0, "MDF ( FRA ) ( FRA ) ( ( ) ( ) ) ( )", Huh(5)),

@@ -53,132 +53,21 @@ fn config_faults_in_order(rt: HostRuntime) -> Result<(), Fail> {
 }
 
 #[test]
-fn answers_of_the_verdicts(rt: HostRuntime) -> Result<(), Fail> {
-    let scenes: [Scene<'_>; 10] = [
-        (
-            &[Says(
-                Bot,
-                "02 00 00 0E  48 0C 40 00 4B 61 40 01 40 00 4B 62 40 01",
-            )],
-            "",
-            "02 00 00 0E  48 0C 40 00 4B 61 40 01 40 00 4B 62 40 01",
-        ),
-        (&[Says(Bot, "02 FF 00 02  48 0F")], "", "02 00 00 02  48 0F"),
-        (
-            &[Says(Bot, "02 00 00 04  48 03 40 00")],
-            "02 00 00 0A  48 13 40 00 48 03 40 00 40 01",
-            "",
-        ),
-        (
-            &[Says(Bot, "02 00 00 0A  48 0C 40 00 4B 61 40 01 48 03")],
-            "02 00 00 12  48 06 40 00 48 0C 40 00 4B 61 40 01 49 02 48 03 40 01",
-            "",
-        ),
-        (
-            &[Says(Bot, "02 00 00 08  48 0C 40 00 4B 61 40 01")],
-            "02 00 00 10  48 06 40 00 48 0C 40 00 4B 61 40 01 49 02 40 01",
-            "",
-        ),
-        (
-            &[Says(Bot, "02 00 00 00")],
-            "02 00 00 08  48 06 40 00 49 02 40 01",
-            "",
-        ),
-        (
-            &[Says(Bot, "02 00 00 08  48 13 40 00 40 00 40 01")],
-            "",
-            "02 00 00 08  48 13 40 00 40 00 40 01",
-        ),
-        (
-            &[Says(Bot, "02 00 00 06  48 13 40 00 40 00")],
-            "02 00 00 0C  48 13 40 00 48 13 40 00 40 00 40 01",
-            "",
-        ),
-        (
-            &[Says(Bot, "02 00 00 06  48 03 40 01 40 00")],
-            "02 00 00 0C  48 13 40 00 48 03 40 01 40 00 40 01",
-            "",
-        ),
-        (
-            &[Says(Bot, "02 00 00 02  4A 12")],
-            "02 00 00 0A  48 06 40 00 49 02 4A 12 40 01",
-            "",
-        ),
-    ];
-    assert_scenes(&rt, true, &scenes)?;
-    let scenes: [Scene<'_>; 1] = [(
-        &[Says(Server, "02 00 00 0C  48 13 40 00 48 13 40 00 40 00 40 01")],
-        "02 00 00 0C  48 13 40 00 48 13 40 00 40 00 40 01",
-        "",
-    )];
-    assert_scenes(&rt, true, &scenes)
-}
-
-#[test]
-fn longest_body_gets_huh(rt: HostRuntime) -> Result<(), Fail> {
-    let mut frame = bytes_of(&rt, "02 00 FF F6")?;
-    let mut want = bytes_of(&rt, "02 00 FF FE 48 06 40 00 48 03 49 02")?;
-    for token in 0..32_763 {
-        frame.extend_from_slice(&[0x48, 0x03])?;
-        if token > 0 {
-            want.extend_from_slice(&[0x48, 0x03])?;
-        }
-    }
-    want.extend_from_slice(&[0x40, 0x01])?;
-    for piece in [65_530, 1] {
-        let mut script = Script::new(&rt, 60)?;
-        script.play(&rt, Says(Bot, IM), 8)?;
-        script.play(&rt, Says(Server, RM), 4)?;
-        script.to_bot.clear();
-        script.say(Bot, frame.as_slice(), piece)?;
-        assert!(rt;
-            script.to_bot.as_slice() == want.as_slice(),
-            "in pieces of {piece}"
-        );
-    }
-    Ok(())
-}
-
-#[test]
-fn faults_in_an_open_session(rt: HostRuntime) -> Result<(), Fail> {
+fn frames_out_of_turn_end_the_session(rt: HostRuntime) -> Result<(), Fail> {
     let fm = "03 00 00 00";
-    let scenes: [Scene<'_>; 12] = [
-        (&[Says(Bot, "02 00 00 03")], "04 00 00 02 00 09", fm),
-        (&[Says(Bot, "02 00 FF FE")], "04 00 00 02 00 08", fm),
-        (&[Says(Server, "02 00 00 03")], fm, "04 00 00 02 00 09"),
-        (
-            &[Says(Bot, "02 00 00 06  48 03 58 00 48 03")],
-            "04 00 00 02 00 0E",
-            fm,
-        ),
-        (
-            &[Says(Server, "02 00 00 02  4C 00")],
-            fm,
-            "04 00 00 02 00 0E",
-        ),
+    let scenes: [Scene<'_>; 4] = [
         (&[Says(Bot, IM)], "04 00 00 02 00 06", fm),
         (&[Says(Bot, RM)], "04 00 00 02 00 0D", fm),
         (&[Says(Server, IM)], fm, "04 00 00 02 00 07"),
         (&[Says(Server, RM)], fm, "04 00 00 02 00 0C"),
-        (&[Says(Bot, "02 00 00 04  48 03 40"), Ends(Bot)], "", fm),
-        (&[Ends(Server), Says(Bot, "02 00 00 02  48 0F")], fm, ""),
-        (
-            &[
-                Says(Server, "04 00 00 02 00 01"),
-                Says(Server, "03 00 00 00"),
-                Pops,
-            ],
-            "04 00 00 02 00 01",
-            "",
-        ),
     ];
     assert_scenes(&rt, true, &scenes)
 }
 
 #[test]
-fn faults_before_the_session_is_open(rt: HostRuntime) -> Result<(), Fail> {
+fn faults_of_the_first_frame(rt: HostRuntime) -> Result<(), Fail> {
     let fm = "03 00 00 00";
-    let scenes: [Scene<'_>; 17] = [
+    let scenes: [Scene<'_>; 11] = [
         (&[Says(Bot, "00 00 04 00")], "04 00 00 02 00 03", ""),
         (
             &[Says(Bot, "00 00 00 04  00 01 10 DA")],
@@ -202,12 +91,6 @@ fn faults_before_the_session_is_open(rt: HostRuntime) -> Result<(), Fail> {
         (&[Says(Server, IM)], fm, "04 00 00 02 00 07"),
         (&[Says(Server, RM)], fm, "04 00 00 02 00 08"),
         (&[Says(Server, "02 00 00 02")], fm, "04 00 00 02 00 0B"),
-        (&[Says(Bot, "03 00 00 00"), Says(Server, RM)], "", ""),
-        (&[Says(Bot, "04 00 00 02 00 01")], "", ""),
-        (&[Pops, Pops], "04 00 00 02 00 01", ""),
-        (&[Ends(Bot)], "", ""),
-        (&[Ends(Server)], fm, ""),
-        (&[Says(Server, "03 00 00 00")], fm, ""),
     ];
     assert_scenes(&rt, false, &scenes)
 }
@@ -365,7 +248,8 @@ const HLO_ROWS: [(&str, Level); 11] = [
     ),
     // HLO ( ENG ) ( 1234 ) ( ( MTL 30 ) ( LVL 25 ) )
     (
-        "02 00 00 22  48 04 40 00 41 01 40 01 40 00 04 D2 40 01 40 00 40 00 49 05 00 1E 40 01 40 00 49 03 00 19 40 01 40 01",
+        "02 00 00 22  48 04 40 00 41 01 40 01 40 00 04 D2 40 01 40 00 40 00 49 05 00 1E 40 01 40 00 \
+         49 03 00 19 40 01 40 01",
         Level::L20,
     ),
     // NOW ( SPR 1901 )
@@ -396,7 +280,8 @@ const HLO_ROWS: [(&str, Level); 11] = [
     ),
     // HLO ( UNO ) ( 0 ) ( ( LVL 10 ) ( LVL 30 ) )
     (
-        "02 00 00 22  48 04 40 00 49 0B 40 01 40 00 00 00 40 01 40 00 40 00 49 03 00 0A 40 01 40 00 49 03 00 1E 40 01 40 01",
+        "02 00 00 22  48 04 40 00 49 0B 40 01 40 00 00 00 40 01 40 00 40 00 49 03 00 0A 40 01 40 00 \
+         49 03 00 1E 40 01 40 01",
         Level::L10,
     ),
     // the end
@@ -444,7 +329,8 @@ fn operators_limits_hold(rt: HostRuntime) -> Result<(), Fail> {
     }
     let want = bytes_of(
         &rt,
-        "01 00 00 00  02 00 00 1E  48 06 40 00 48 06 40 00 40 00 40 00 40 00 49 02 40 00 40 01 40 01 40 01 40 01 40 01 40 01  04 00 00 02 00 08",
+        "01 00 00 00  02 00 00 1E  48 06 40 00 48 06 40 00 40 00 40 00 40 00 49 02 40 00 40 01 40 \
+         01 40 01 40 01 40 01 40 01  04 00 00 02 00 08",
     )?;
     assert_eq!(rt; to_bot.as_slice(), want.as_slice());
     let want = bytes_of(&rt, "00 00 00 04 00 01 DA 10  03 00 00 00")?;
@@ -494,11 +380,14 @@ fn hlo_opens_press_at_its_level(rt: HostRuntime) -> Result<(), Fail> {
     let press =
         "02 00 00 1C  48 17 40 00 41 02 40 01 40 00 4A 13 40 00 4A 10 40 00 41 01 41 02 40 01 40 01 40 01";
     let huh =
-        "02 00 00 24  48 06 40 00 49 02 48 17 40 00 41 02 40 01 40 00 4A 13 40 00 4A 10 40 00 41 01 41 02 40 01 40 01 40 01 40 01";
+        "02 00 00 24  48 06 40 00 49 02 48 17 40 00 41 02 40 01 40 00 4A 13 40 00 4A 10 40 00 41 01 \
+         41 02 40 01 40 01 40 01 40 01";
     let hlo =
         "02 00 00 1A  48 04 40 00 41 01 40 01 40 00 04 D2 40 01 40 00 40 00 49 03 00 0A 40 01 40 01";
     let hlo_and_huh =
-        "02 00 00 1A  48 04 40 00 41 01 40 01 40 00 04 D2 40 01 40 00 40 00 49 03 00 0A 40 01 40 01  02 00 00 24  48 06 40 00 49 02 48 17 40 00 41 02 40 01 40 00 4A 13 40 00 4A 10 40 00 41 01 41 02 40 01 40 01 40 01 40 01";
+        "02 00 00 1A  48 04 40 00 41 01 40 01 40 00 04 D2 40 01 40 00 40 00 49 03 00 0A 40 01 40 01  \
+         02 00 00 24  48 06 40 00 49 02 48 17 40 00 41 02 40 01 40 00 4A 13 40 00 4A 10 40 00 41 01 \
+         41 02 40 01 40 01 40 01 40 01";
     let header = "02 00 00 1C";
     let body =
         "48 17 40 00 41 02 40 01 40 00 4A 13 40 00 4A 10 40 00 41 01 41 02 40 01 40 01 40 01";
@@ -520,6 +409,34 @@ fn hlo_opens_press_at_its_level(rt: HostRuntime) -> Result<(), Fail> {
     script.play(&rt, Says(Bot, "02 00 00 02 48 04"), 8)?;
     assert_eq!(rt; script.session.level(), Level::L10);
     Ok(())
+}
+
+#[test]
+fn ends_and_timeouts(rt: HostRuntime) -> Result<(), Fail> {
+    let fm = "03 00 00 00";
+    let scenes: [Scene<'_>; 3] = [
+        (&[Says(Bot, "02 00 00 04  48 03 40"), Ends(Bot)], "", fm),
+        (&[Ends(Server), Says(Bot, "02 00 00 02  48 0F")], fm, ""),
+        (
+            &[
+                Says(Server, "04 00 00 02 00 01"),
+                Says(Server, "03 00 00 00"),
+                Pops,
+            ],
+            "04 00 00 02 00 01",
+            "",
+        ),
+    ];
+    assert_scenes(&rt, true, &scenes)?;
+    let scenes: [Scene<'_>; 6] = [
+        (&[Pops, Pops], "04 00 00 02 00 01", ""),
+        (&[Ends(Bot)], "", ""),
+        (&[Ends(Server)], fm, ""),
+        (&[Says(Bot, "03 00 00 00"), Says(Server, RM)], "", ""),
+        (&[Says(Bot, "04 00 00 02 00 01")], "", ""),
+        (&[Says(Server, "03 00 00 00")], fm, ""),
+    ];
+    assert_scenes(&rt, false, &scenes)
 }
 
 #[test]

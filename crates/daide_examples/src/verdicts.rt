@@ -3,54 +3,61 @@
 use crate::messages::{Example, assert_verdicts, tokens_of_text, verdict_on};
 use daide_grammar::level::Level::{L0, L10, L20, L30, L50, L60};
 use daide_grammar::side::Side2::{Client, ServerEnd};
-use daide_reader::verdict::Verdict::{Huh, Prn, Relay};
+use daide_reader::verdict::Verdict::{Huh, Relay};
 use daide_token::token::Token;
 use std::process::Abort;
 use std::test::Fail;
 
 // side, level, message, verdict
 #[rattlefmt::skip]
-const WITHOUT_PRESS: [Example; 19] = [
-    (Client, L0, "NME ( 'a' ) ( 'b' )", Relay),
-    (Client, L0, "GOF (", Prn),
-    (Client, L0, "NME ( 'a' ) GOF", Huh(4)),
-    (Client, L0, "NME ( 'a' ) GOF (", Prn),
-    (Client, L0, "NME ( 'a' )", Huh(4)),
-    (Client, L0, "", Huh(0)),
-    (Client, L0, "PRN ( ( )", Relay),
-    (Client, L0, "PRN ( (", Prn),
-    (Client, L0, "GOF ) (", Prn),
+const ORDERS: [Example; 4] = [
     (Client, L0, "SUB ( SPR 1901 ) ( ( ENG FLT NTH ) MTO ( STP NCS ) )", Relay),
     (Client, L0, "SUB ( ENG WVE )", Relay),
     (Client, L0, "TME ( -1 )", Relay),
     (Client, L0, "SUB ( ( ENG FLT NTH ) CTO NWY )", Huh(9)),
-    (Client, L0, "YES ( MAP ( 'a' ) )", Relay),
-    (Client, L0, "YES ( GOF )", Huh(2)),
-    (Client, L0, "#4a12", Huh(0)),
-    (Client, L0, "NME ( 'a' ( ) 'b' )", Huh(3)),
-    (ServerEnd, L0, "MIS ( FRA AMY BUR MRT ( PAR ( SPA SCS ) ) )", Relay),
-    (ServerEnd, L60, "MIS", Relay),
 ];
 
 #[test]
-fn messages_without_press(rt: HostRuntime) -> Result<(), Fail> {
-    assert_verdicts(&rt, &WITHOUT_PRESS)
+fn orders_are_relayed(rt: HostRuntime) -> Result<(), Fail> {
+    assert_verdicts(&rt, &ORDERS)
 }
 
 // side, level, message, verdict
 #[rattlefmt::skip]
-const SERVER: [Example; 11] = [
+const REPLIES: [Example; 2] = [
+    (Client, L0, "YES ( MAP ( 'a' ) )", Relay),
+    (Client, L0, "YES ( GOF )", Huh(2)),
+];
+
+#[test]
+fn replies_are_no_requests(rt: HostRuntime) -> Result<(), Fail> {
+    assert_verdicts(&rt, &REPLIES)
+}
+
+// side, level, message, verdict
+#[rattlefmt::skip]
+const BRACKETS_AND_BUILDS: [Example; 5] = [
+    (Client, L0, "NME ( 'a' ( ) 'b' )", Huh(3)),
+    (ServerEnd, L0, "MIS ( FRA AMY BUR MRT ( PAR ( SPA SCS ) ) )", Relay),
+    (ServerEnd, L0, "MIS ( -1 )", Relay),
+    (ServerEnd, L0, "MIS", Relay),
+    (ServerEnd, L60, "MIS", Relay),
+];
+
+#[test]
+fn brackets_inside_text_and_lists_of_builds(rt: HostRuntime) -> Result<(), Fail> {
+    assert_verdicts(&rt, &BRACKETS_AND_BUILDS)
+}
+
+// side, level, message, verdict
+#[rattlefmt::skip]
+const SERVER: [Example; 5] = [
     (ServerEnd, L0, "HLO ( ENG ) ( 1234 ) ( ( LVL 10 ) )", Relay),
-    (ServerEnd, L0, "MDF ( FRA ) ( ( ( FRA PAR ) ( UNO ) ) ( GAS ) ) ( ( PAR ( AMY GAS ) ) ( GAS ( AMY PAR ) ( ( FLT NCS ) SPA ) ) )", Relay),
+    (ServerEnd, L0, "MDF ( FRA ) ( ( ( FRA PAR ) ( UNO ) ) ( GAS ) ) ( ( PAR ( AMY GAS ) ) ( GAS ( \
+        AMY PAR ) ( ( FLT NCS ) SPA ) ) )", Relay),
     (ServerEnd, L0, "SCO ( FRA PAR ) ( UNO BEL )", Relay),
     (ServerEnd, L0, "YES ( NOT ( GOF ) )", Relay),
-    (ServerEnd, L0, "MIS ( -1 )", Relay),
     (ServerEnd, L0, "SCO ( FRA PAR ) FRA", Huh(5)),
-    (ServerEnd, L0, "CCD ( FRA ) ( SND ( FRA ) ( PRP ( PCE ( ENG FRA ) ) ) )", Huh(4)),
-    (ServerEnd, L10, "CCD ( FRA ) ( SND ( FRA ) ( PRP ( PCE ( ENG FRA ) ) ) )", Relay),
-    (ServerEnd, L10, "OUT ( FRA ) ( OBS )", Huh(5)),
-    (ServerEnd, L0, "CCD ( FRA )", Relay),
-    (ServerEnd, L10, "CCD ( FRA )", Relay),
 ];
 
 #[test]
@@ -60,13 +67,48 @@ fn server_messages_are_relayed(rt: HostRuntime) -> Result<(), Fail> {
 
 // side, level, message, verdict
 #[rattlefmt::skip]
-const PRESS: [Example; 10] = [
+const UNDELIVERED: [Example; 5] = [
+    (ServerEnd, L0, "CCD ( FRA ) ( SND ( FRA ) ( PRP ( PCE ( ENG FRA ) ) ) )", Huh(4)),
+    (ServerEnd, L10, "CCD ( FRA ) ( SND ( FRA ) ( PRP ( PCE ( ENG FRA ) ) ) )", Relay),
+    (ServerEnd, L10, "OUT ( FRA ) ( OBS )", Huh(5)),
+    (ServerEnd, L0, "CCD ( FRA )", Relay),
+    (ServerEnd, L10, "CCD ( FRA )", Relay),
+];
+
+#[test]
+fn undelivered_press_comes_back_from_level_10(rt: HostRuntime) -> Result<(), Fail> {
+    assert_verdicts(&rt, &UNDELIVERED)
+}
+
+// side, level, message, verdict
+#[rattlefmt::skip]
+const PRESS: [Example; 4] = [
     (Client, L0, "SND ( FRA ) ( TRY ( DRW ) )", Huh(0)),
     (Client, L10, "SND ( FRA ) ( PRP ( XDO ( ( FRA AMY PAR ) HLD ) ) )", Huh(7)),
     (Client, L20, "SND ( FRA ) ( PRP ( XDO ( ( FRA AMY PAR ) HLD ) ) )", Relay),
     (Client, L30, "SND ( FRA ) ( PRP ( AND ( DRW ) ) )", Huh(11)),
+];
+
+#[test]
+fn press_by_level(rt: HostRuntime) -> Result<(), Fail> {
+    assert_verdicts(&rt, &PRESS)
+}
+
+// side, level, message, verdict
+#[rattlefmt::skip]
+const NESTED: [Example; 2] = [
     (Client, L30, "SND ( FRA ) ( PRP ( AND ( AND ( DRW ) ( DRW ) ) ( DRW ) ) )", Huh(9)),
     (Client, L50, "SND ( FRA ) ( PRP ( AND ( AND ( DRW ) ( DRW ) ) ( DRW ) ) )", Relay),
+];
+
+#[test]
+fn nested_and_needs_level_50(rt: HostRuntime) -> Result<(), Fail> {
+    assert_verdicts(&rt, &NESTED)
+}
+
+// side, level, message, verdict
+#[rattlefmt::skip]
+const FACTS: [Example; 4] = [
     (Client, L50, "SND ( FRA ) ( FCT ( NOT ( QRY ( DRW ) ) ) )", Huh(9)),
     (Client, L60, "SND ( FRA ) ( FCT ( NOT ( QRY ( DRW ) ) ) )", Relay),
     (Client, L60, "SND ( FRA ) ( FCT ( NOT ( NOT ( QRY ( DRW ) ) ) ) )", Relay),
@@ -74,8 +116,8 @@ const PRESS: [Example; 10] = [
 ];
 
 #[test]
-fn press_by_level(rt: HostRuntime) -> Result<(), Fail> {
-    assert_verdicts(&rt, &PRESS)
+fn facts_by_level(rt: HostRuntime) -> Result<(), Fail> {
+    assert_verdicts(&rt, &FACTS)
 }
 
 /// HUH and that many opening and closing brackets.

@@ -1,0 +1,178 @@
+//! The settings of a run: each fault by its text, each range at both ends, each wrong type.
+//!
+//! The expected lines were worked out by hand from docs/FORMATS.md, "Settings".
+
+use daide_gate::settings::{SettingsError, read_settings};
+use std::process::Abort;
+use std::test::Fail;
+
+/// The two lines that must stand.
+const ADDRESSES: &str = "listen = \"127.0.0.1:16713\"\nserver = \"127.0.0.1:16714\"\n";
+
+/// Whole documents, and the fault of each.
+#[rattlefmt::skip]
+const DOCUMENTS: [(&str, &str); 16] = [
+    ("listen =", "settings are not TOML"),
+    ("listen = \"a\"\nlisten = \"b\"", "settings are not TOML"),
+    ("", "missing listen"),
+    ("server = \"b\"", "missing listen"),
+    ("listen = \"a\"", "missing server"),
+    ("listen = \"a\"\nmax_depth = 63", "missing server"),
+    ("listen = \"a\"\nserver = 1", "wrong type for server"),
+    ("listen = 1\nserver = 1", "wrong type for listen"),
+    ("listen = 1979-05-27\nserver = \"b\"", "wrong type for listen"),
+    ("listen = \"\"\nserver = 1", "listen out of range"),
+    ("listen = \"a\"\nserver = \"\"", "server out of range"),
+    ("depth = 5", "unknown key"),
+    ("listen = 1\ndepth = 5", "unknown key"),
+    ("[listen]\nport = 1", "wrong type for listen"),
+    ("listen = \"a\"\nserver = \"b\"\n[words]", "unknown key"),
+    ("listen = \"a\"\nserver = \"b\"\nmax_body = 511\nmax_depth = true", "max_body out of range"),
+];
+
+/// A line behind the two addresses, and the fault that it is, if it is one.
+#[rattlefmt::skip]
+const LINES: [(&str, &str); 48] = [
+    ("top_level = 0", ""),
+    ("top_level = 60", ""),
+    ("top_level = 25", "top_level out of range"),
+    ("top_level = 70", "top_level out of range"),
+    ("top_level = -10", "top_level out of range"),
+    ("top_level = 65536", "top_level out of range"),
+    ("top_level = \"60\"", "wrong type for top_level"),
+    ("max_body = 512", ""),
+    ("max_body = 65526", ""),
+    ("max_body = 510", "max_body out of range"),
+    ("max_body = 513", "max_body out of range"),
+    ("max_body = 65528", "max_body out of range"),
+    ("max_body = 512.0", "wrong type for max_body"),
+    ("max_depth = 4", ""),
+    ("max_depth = 62", ""),
+    ("max_depth = 3", "max_depth out of range"),
+    ("max_depth = 63", "max_depth out of range"),
+    ("max_depth = true", "wrong type for max_depth"),
+    ("im_seconds = 1", ""),
+    ("im_seconds = 3600", ""),
+    ("im_seconds = 0", "im_seconds out of range"),
+    ("im_seconds = 3601", "im_seconds out of range"),
+    ("im_seconds = [30]", "wrong type for im_seconds"),
+    ("max_sessions = 1", ""),
+    ("max_sessions = 256", ""),
+    ("max_sessions = 0", "max_sessions out of range"),
+    ("max_sessions = 257", "max_sessions out of range"),
+    ("max_sessions = 1979-05-27", "wrong type for max_sessions"),
+    ("sessions = 1", ""),
+    ("sessions = 1000000", ""),
+    ("sessions = 0", "sessions out of range"),
+    ("sessions = 1000001", "sessions out of range"),
+    ("sessions = \"\"", "wrong type for sessions"),
+    ("turns = 1", ""),
+    ("turns = 1000000000000", ""),
+    ("turns = 0", "turns out of range"),
+    ("turns = 1000000000001", "turns out of range"),
+    ("turns = 9223372036854775807", "turns out of range"),
+    ("turns = {}", "wrong type for turns"),
+    ("top_level = 0x3C", ""),
+    ("max_depth = 6_2", ""),
+    ("turns = -1", "turns out of range"),
+    ("turns = 1\nsessions = 0", "sessions out of range"),
+    ("turns = 1.5\nsessions = 0", "sessions out of range"),
+    ("sessions = 1.5\nturns = 0", "wrong type for sessions"),
+    ("listening = 1", "unknown key"),
+    ("Turns = 1", "unknown key"),
+    ("# nothing else", ""),
+];
+
+/// The fault of a text as its line, empty where there is none.
+fn fault_of<R: AllocGlobal>(rt: &R, text: &str) -> Result<String, Fail> {
+    match read_settings(rt.alloc(), text) {
+        Ok(_) => Ok(String::new(rt.alloc())),
+        Err(fault) => Ok(fault.to_string(rt.alloc())?),
+    }
+}
+
+/// Each row is a text behind this front, and its fault.
+fn assert_faults(
+    rt: &(impl Abort + AllocGlobal),
+    front: &str,
+    rows: &[(&str, &str)],
+) -> Result<(), Fail> {
+    for (text, fault) in rows {
+        let whole = format!(in rt.alloc(); "{front}{text}\n")?;
+        assert_eq!(rt; fault_of(rt, whole.as_str())?.as_str(), *fault, "at {text}");
+    }
+    Ok(())
+}
+
+#[test]
+fn settings_faults_in_order(rt: HostRuntime) -> Result<(), Fail> {
+    assert_faults(&rt, "", &DOCUMENTS)?;
+    assert_faults(&rt, ADDRESSES, &LINES)
+}
+
+#[test]
+fn addresses_of_255_bytes_and_one_more(rt: HostRuntime) -> Result<(), Fail> {
+    let mut address = String::new(rt.alloc());
+    for _ in 0..255 {
+        address.push('a')?;
+    }
+    let longest = format!(in rt.alloc(); "listen = \"a\"\nserver = \"{address}\"")?;
+    assert_eq!(rt; fault_of(&rt, longest.as_str())?.as_str(), "");
+    let longer = format!(in rt.alloc(); "listen = \"a\"\nserver = \"b{address}\"")?;
+    assert_eq!(rt;
+        fault_of(&rt, longer.as_str())?.as_str(),
+        "server out of range"
+    );
+    Ok(())
+}
+
+#[test]
+fn two_addresses_give_the_defaults(rt: HostRuntime) -> Result<(), Fail> {
+    let settings = read_settings(rt.alloc(), ADDRESSES)?;
+    assert_eq!(rt; settings.listen.as_str(), "127.0.0.1:16713");
+    assert_eq!(rt; settings.server.as_str(), "127.0.0.1:16714");
+    assert_eq!(rt; settings.config.top_level, 60);
+    assert_eq!(rt; settings.config.max_body, 65_526);
+    assert_eq!(rt; settings.config.max_depth, 62);
+    assert_eq!(rt; settings.im_seconds, 30);
+    assert_eq!(rt; settings.max_sessions, 16);
+    assert_eq!(rt; settings.sessions, 1);
+    assert_eq!(rt; settings.turns, 1_000_000_000);
+    Ok(())
+}
+
+#[test]
+fn each_key_sets_its_own_field(rt: HostRuntime) -> Result<(), Fail> {
+    let text =
+        "turns = 7\nsessions = 6\nmax_sessions = 5\nim_seconds = 4\nmax_depth = 13\nmax_body = 1024\n\
+        top_level = 20\nserver = \"s\"\nlisten = \"l\"\n";
+    let settings = read_settings(rt.alloc(), text)?;
+    assert_eq!(rt; settings.listen.as_str(), "l");
+    assert_eq!(rt; settings.server.as_str(), "s");
+    assert_eq!(rt; settings.config.top_level, 20);
+    assert_eq!(rt; settings.config.max_body, 1_024);
+    assert_eq!(rt; settings.config.max_depth, 13);
+    assert_eq!(rt; settings.im_seconds, 4);
+    assert_eq!(rt; settings.max_sessions, 5);
+    assert_eq!(rt; settings.sessions, 6);
+    assert_eq!(rt; settings.turns, 7);
+    Ok(())
+}
+
+/// Under `rt try --test --fail-alloc N` the Nth growth is refused: the answer is want of memory, or the
+/// right one where the growth was another's. `scripts/refused-memory` runs it so.
+#[test]
+fn settings_right_or_want_of_memory(rt: HostRuntime) {
+    let rows = [
+        (ADDRESSES, None),
+        ("listen = \"a\"\ndepth = 5\n", Some(SettingsError::Unknown)),
+        ("listen =", Some(SettingsError::NotToml)),
+    ];
+    for (text, want) in rows {
+        let refused = read_settings(rt.alloc(), text).err();
+        assert!(rt;
+            refused == want || refused == Some(SettingsError::Memory),
+            "at {text}"
+        );
+    }
+}
