@@ -5,11 +5,11 @@ use Rattle.std.specs.Prelude.{is_some, ◌||◌}
 use Rattle.daide_frame.specs.declared.side.Side.{Side}
 use Rattle.daide_frame.specs.declared.side.Side.TheVariants.{Bot, Server}
 use Rattle.daide_reader.specs.declared.verdict.Verdict.{Verdict}
-use Rattle.daide_machine.specs.Wires.{awaits}
+use Rattle.daide_machine.specs.Wires.{has_answer, is_awaited}
 use Rattle.daide_session.specs.Both.{at}
 use Rattle.daide_session.specs.Traffic.{Arrival, Traffic, Fields, IsSound, answer_at, answer_mark, arrival_of, count_of}
 use Rattle.daide_session.specs.Traffic.{frames_to}
-use Rattle.daide_session.specs.Traffic.{is_awaited, pending, pending_by, presence, traffic_of}
+use Rattle.daide_session.specs.Traffic.{pending, pending_by, presence, traffic_of}
 use Rattle.daide_session.proofs.MarksLemmas.{awaited, unawaited, least, length_marks}
 
 -- no frame answers a side that has no answer
@@ -19,8 +19,7 @@ silent f side Bot i free = omega (arith, i.once side ∙ ap presence free)
 silent f side Server i free = omega (arith, i.once side ∙ ap presence free)
 
 none_awaited : (f : Fields) (side : Side) → IsSound f → presence (at f.sides side).verdict ≡ 0 →
-    is_awaited (traffic_of f) side ≡ false
-unfolding is_awaited
+    is_awaited (at (traffic_of f).waiting) side ≡ false
 none_awaited f side i none =
     let once = i.once side in
     rw (
@@ -33,31 +32,30 @@ or_true true = refl
 or_true false = refl
 
 some_awaited : (f : Fields) (side : Side) → IsSound f → presence (at f.sides side).verdict ≡ 1 →
-    is_awaited (traffic_of f) side ≡ true
-unfolding is_awaited
+    is_awaited (at (traffic_of f).waiting) side ≡ true
 some_awaited f side i some = go (count_of (answer_mark side) f.wires.bot.items) refl
   where
     go : (n : ℕ) → count_of (answer_mark side) f.wires.bot.items ≡ n →
-        (awaits side (frames_to f Bot) || awaits side (frames_to f Server)) ≡ true
+        (has_answer side (frames_to f Bot) || has_answer side (frames_to f Server)) ≡ true
     go zero e =
         let once = i.once side in
         rw (awaited side Server (answer_at f.sides) f.wires.server (omega arith))
-        (or_true (awaits side (frames_to f Bot)))
+        (or_true (has_answer side (frames_to f Bot)))
     go (suc n) e = rw (awaited side Bot (answer_at f.sides) f.wires.bot (omega (arith, e))) refl
 
-awaited_is : (f : Fields) (side : Side) → IsSound f → is_awaited (traffic_of f) side ≡ is_some (at f.sides side).verdict
+awaited_is : (f : Fields) (side : Side) → IsSound f → is_awaited (at (traffic_of f).waiting) side ≡ is_some (at f.sides side).verdict
 awaited_is f side i = go (at f.sides side).verdict refl
   where
     go : (o : Option Verdict) → (at f.sides side).verdict ≡ o →
-        is_awaited (traffic_of f) side ≡ is_some (at f.sides side).verdict
+        is_awaited (at (traffic_of f).waiting) side ≡ is_some (at f.sides side).verdict
     go None e = none_awaited f side i (ap presence e) ∙ sym (ap is_some e)
     go (Some verdict) e = some_awaited f side i (ap presence e) ∙ sym (ap is_some e)
 
 -- of a value t that the fields stand for, and a side that is known
 pub awaited_field : (f : Fields) (t : Traffic) (side one : Side) → traffic_of f ≡ t → IsSound f → side ≡ one →
-    is_awaited t side ≡ is_some (at f.sides one).verdict
+    is_awaited (at t.waiting) side ≡ is_some (at f.sides one).verdict
 awaited_field f t side one is i s =
-    sym (ap (λ (x : Traffic). is_awaited x side) is) ∙ awaited_is f side i
+    sym (ap (λ (x : Traffic). is_awaited (at x.waiting) side) is) ∙ awaited_is f side i
     ∙ ap (λ (x : Side). is_some (at f.sides x).verdict) s
 
 none_of : (o : Option Verdict) → is_some o ≡ false → o ≡ None
@@ -65,7 +63,7 @@ none_of None e = refl
 none_of (Some verdict) e = absurd (cc)
 
 pub free_field : (f : Fields) (t : Traffic) (side one : Side) → traffic_of f ≡ t → IsSound f → side ≡ one →
-    is_awaited t side ≡ false → (at f.sides one).verdict ≡ None
+    is_awaited (at t.waiting) side ≡ false → (at f.sides one).verdict ≡ None
 free_field f t side one is i s free = none_of (at f.sides one).verdict (sym (awaited_field f t side one is i s) ∙ free)
 
 -- what the value t shows of a side, and of the limits

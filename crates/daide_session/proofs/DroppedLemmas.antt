@@ -16,7 +16,7 @@ use Rattle.daide_session.specs.Traffic.{Arrival, Fields, IsBegun, IsReleased, Is
 use Rattle.daide_session.specs.Traffic.{answer_mark}
 use Rattle.daide_session.specs.Traffic.{answered_by, answers_of, arrival_of, behind, bytes_in, count_of, end_mark}
 use Rattle.daide_session.specs.Traffic.{frame_of}
-use Rattle.daide_session.specs.Traffic.{frames_of, is_awaited, others, pending_by, presence, traffic_of}
+use Rattle.daide_session.specs.Traffic.{frames_of, others, pending_by, presence, traffic_of}
 use Rattle.daide_session.proofs.AwaitedLemmas.{awaited_field, seen}
 use Rattle.daide_session.proofs.BothLemmas.{both_same}
 use Rattle.daide_session.proofs.GoneLemmas.{lets_same}
@@ -199,10 +199,10 @@ dropped_goes f n to x items i j d = record {
     new : (one : Side) → at (traffic_of n).sides one ≡ arrival_of (at n.sides one)
     new one = (seen n (traffic_of n) one one refl j refl).arrival
 
-    waits_old : (one : Side) → is_awaited (traffic_of f) one ≡ is_some (at f.sides one).verdict
+    waits_old : (one : Side) → is_awaited (at (traffic_of f).waiting) one ≡ is_some (at f.sides one).verdict
     waits_old one = awaited_field f (traffic_of f) one one refl i refl
 
-    waits_new : (one : Side) → is_awaited (traffic_of n) one ≡ is_some (at n.sides one).verdict
+    waits_new : (one : Side) → is_awaited (at (traffic_of n).waiting) one ≡ is_some (at n.sides one).verdict
     waits_new one = awaited_field n (traffic_of n) one one refl j refl
 
 -- ---- what waits after the first frame is gone
