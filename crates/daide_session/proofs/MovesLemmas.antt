@@ -8,7 +8,7 @@ use Rattle.daide_grammar.specs.declared.level.Level.TheVariants.{L0}
 use Rattle.daide_machine.specs.declared.phase.Phase.TheVariants.{Over}
 use Rattle.daide_machine.specs.Events.{other}
 use Rattle.daide_machine.specs.Machine.{Sent, Coming, fault, fm_to, em_to, coming, is_over}
-use Rattle.std.specs.Prelude.{◌||◌, ◌==◌}
+use Rattle.std.specs.Prelude.{◌==◌}
 use Rattle.daide_frame.specs.Frames.{missing}
 use Rattle.daide_machine.specs.Wires.{Gateway, waiting, same_side, frames_to, is_awaited, room_of}
 use Rattle.daide_session.specs.declared.stage.Stage.{Stage}
