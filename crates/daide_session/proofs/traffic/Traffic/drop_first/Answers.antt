@@ -1,5 +1,6 @@
 use Rattle.daide_session.specs.Traffic.{fields}
 use Rattle.daide_session.proofs.DroppedLemmas.{dropped_first}
+use Rattle.daide_session.proofs.FrontsKept.{dropped_front}
 use Rattle.daide_session.proofs.traffic.Traffic.drop_first.Goals as goal
 
 pub invariant_of-self : goal.invariant_of-self
@@ -28,3 +29,12 @@ returns-clause-waiting g c =
     (dropped_first f n c.args.self.now c.args.to c.pop-gone.result c.self.view_is c.self.invariant
     c.pop-gone.ensures.gone
     c.pop-gone.ensures.left c.release.ensures.bot c.release.ensures.server).waiting
+
+pub returns-clause-other_front : goal.returns-clause-other_front
+returns-clause-other_front g c =
+    let d = c.self.inside in
+    let f = fields d.bot d.server d.to_bot d.to_server in
+    let n = fields c.release.new.bot c.release.new.server c.pop-gone.new.to_bot c.pop-gone.new.to_server in
+    dropped_front f n c.args.self.now c.args.to c.pop-gone.result c.self.view_is c.self.invariant
+    c.pop-gone.ensures.gone
+    c.pop-gone.ensures.left c.release.ensures.bot c.release.ensures.server
