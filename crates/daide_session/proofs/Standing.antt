@@ -47,10 +47,7 @@ pub headline_of : (a : Gateway) (xs : List PortAnswer) (b : Gateway) → IsWithi
 headline_of a xs b within r limits history stands =
     let all = relays_append (untouched limits) history a xs b stands r in
     record {
-      each_direction = within.each_direction;
-      further = within.further;
-      weight = within.weight;
-      steps = within.steps;
+      bounds = within;
       sends = all;
       all_sent = λ closed side ok. moved_all (has_failed side (history ++ xs)) (is_over b.state.phase) _ _ _ _ ok
           (nothing_waited limits side) (ap bytes_of (closed_wire b closed side)) (all.wires side);
