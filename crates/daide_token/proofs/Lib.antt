@@ -2,5 +2,6 @@ pub mod TableLemmas
 pub mod NameLaws
 pub mod TokenLemmas
 pub mod WholeText
+pub mod ClassNumbers
 mod StandardFacts
 mod SecondListing

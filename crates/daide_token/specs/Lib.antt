@@ -1,6 +1,7 @@
 pub mod Token
 pub mod Class
 pub mod ClassLaws
+pub mod ClassNumbers
 pub mod Names
 pub mod Text
 pub mod TextSteps
