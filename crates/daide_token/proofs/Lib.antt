@@ -3,5 +3,6 @@ pub mod NameLaws
 pub mod TokenLemmas
 pub mod WholeText
 pub mod ClassNumbers
+pub mod Searches
 mod StandardFacts
 mod SecondListing
