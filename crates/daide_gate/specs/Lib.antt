@@ -6,3 +6,4 @@ pub mod Given
 pub mod Relay
 pub mod System
 pub mod Metered
+pub mod Serving

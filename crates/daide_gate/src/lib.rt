@@ -11,6 +11,7 @@ pub mod relaying;
 pub mod serving;
 pub mod settings;
 pub mod system;
+mod tally;
 
 pub use frame_view::{ShowFault, show};
 pub use relaying::{RelayEnd, relay};

@@ -1,8 +1,8 @@
 //! Ports with so many turns, which remember whether their last turn moved anything.
 
-ghost use Rattle.std.specs.Prelude.{◌≡◌, ◌||◌, length, take, false, Some, None, OnNone, is_none, if◌then◌else◌};
+ghost use Rattle.std.specs.Prelude.{◌≡◌, ◌||◌, length, take, false, Some, None, IfNone, is_none};
 ghost use Rattle.daide_session.specs.Record.{Pulled, Offered, Clock, Tells, IsPullWithin, IsPutWithin, pulled_len};
-ghost use Rattle.daide_gate.specs.Metered.{is_pull_of_something, is_put_of_something, one_less, with_ports};
+ghost use Rattle.daide_gate.specs.Metered.{told_while_left, one_less, is_gain, is_loss};
 
 use daide_frame::side::Side;
 use daide_session::ports::{Ports, Pull, Put};
@@ -71,32 +71,53 @@ impl<P: Ports> Ports for Metered<P> {
 
     ghost told = { told_while_left P.told };
 
-    fn pull(&mut self, side: Side, buffer: &mut [u8]) -> Pull {
+    fn pull(&mut self, side: Side, buffer: &mut [u8]) -> Pull
+        ensures within { IsPullWithin result (length buffer.old) }
+        ensures told { Tells (told_while_left P.told self.old) (Pulled side (length buffer.old) result
+            (take (pulled_len result) buffer.new)) (told_while_left P.told self.new) }
+        ensures moved { self.new.moved ≡ (self.old.moved || is_gain result) }
+        ensures left { self.new.left ≡ self.old.left }
+        ensures spent { IfNone self.old.left ((result ≡ Pull.Ended) × (self.new.ports ≡ self.old.ports)) }
+    {
         let pull = match self.left {
             Some(_turns) => self.ports.pull(side, buffer),
             None => Pull::Ended,
         };
-        self.moved = match pull {
-            Pull::Got(count) => self.moved || count > 0,
-            Pull::Idle => self.moved,
-            Pull::Ended => true,
-        };
+        self.moved = self.moved
+            || match pull {
+                Pull::Got(count) => count > 0,
+                Pull::Idle => false,
+                Pull::Ended => true,
+            };
         pull
     }
 
-    fn put(&mut self, side: Side, bytes: &[u8]) -> Put {
+    fn put(&mut self, side: Side, bytes: &[u8]) -> Put
+        ensures within { IsPutWithin result (length bytes.now) }
+        ensures told { Tells (told_while_left P.told self.old) (Offered side bytes.now result)
+            (told_while_left P.told self.new) }
+        ensures moved { self.new.moved ≡ (self.old.moved || is_loss result) }
+        ensures left { self.new.left ≡ self.old.left }
+        ensures spent { IfNone self.old.left ((result ≡ Put.Failed) × (self.new.ports ≡ self.old.ports)) }
+    {
         let put = match self.left {
             Some(_turns) => self.ports.put(side, bytes),
             None => Put::Failed,
         };
-        self.moved = match put {
-            Put::Took(count) => self.moved || count > 0,
-            Put::Failed => true,
-        };
+        self.moved = self.moved
+            || match put {
+                Put::Took(count) => count > 0,
+                Put::Failed => true,
+            };
         put
     }
 
-    fn clock_popped(&mut self) -> bool {
+    fn clock_popped(&mut self) -> bool
+        ensures told { Tells (told_while_left P.told self.old) (Clock result) (told_while_left P.told self.new) }
+        ensures moved { self.new.moved ≡ result }
+        ensures left { self.new.left ≡ one_less self.old.left }
+        ensures spent { IfNone self.new.left ((result ≡ false) × (self.new.ports ≡ self.old.ports)) }
+    {
         self.left = self.left.and_then(|turns| turns.checked_sub(1));
         self.moved = self.left.is_some() && self.ports.clock_popped();
         self.moved
