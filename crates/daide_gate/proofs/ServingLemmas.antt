@@ -1,7 +1,7 @@
 -- What the system told, step after step; the turns of a round, and a run's rounds.
 use Rattle.std.proofs.Common.{◌≡◌, ℕ, zero, suc, ◌+◌, Bool, true, false, List, [], ◌∷◌, ◌++◌, Option, Some, None}
 use Rattle.std.proofs.Common.{refl, sym, ap, ◌∙◌, subst, append_assoc, append-nil, add-one}
-use Rattle.std.specs.Prelude.{unwrap_or, ◌==◌, length}
+use Rattle.std.specs.Prelude.{unwrap_or, ◌||◌, ◌==◌, length}
 use Rattle.std.proofs.lemmas.List.{length-set}
 use Rattle.std.proofs.Math.Dec.{eqb-suc-zero}
 use Rattle.daide_session.specs.Record.{PortAnswer}
@@ -9,7 +9,7 @@ use Rattle.daide_session.specs.Hub.{Hosting, Changes, IsTurned}
 use Rattle.daide_session.specs.HubRuns.{HubCall, Turned, HubStep, HubRuns}
 use Rattle.daide_gate.specs.Metered.{Meter, told_while_left}
 use Rattle.daide_gate.specs.System.{SystemAnswer, Tells}
-use Rattle.daide_gate.specs.Serving.{Serving, turns_below, Round, Rounds, is_done}
+use Rattle.daide_gate.specs.Serving.{Serving, wait_where, turns_below, Round, Rounds, is_done}
 
 -- ---- what the system told
 
@@ -58,6 +58,10 @@ another_turn {P} told n old mid new h count max turned = (
 )
 
 -- ---- rounds
+
+pub waits_alike : {P : Type 0} (a b c d e p q r s t : Bool) → a ≡ p → b ≡ q → c ≡ r → d ≡ s → e ≡ t →
+    wait_where {P = P} (a || b || c || d) e ≡ wait_where (p || q || r || s) t
+waits_alike a b c d e p q r s t h i j k l = rw (h, i, j, k, l) refl
 
 module _ {P : Type 0} (told : P → Option (List PortAnswer)) where
   -- so many rounds, and what the system told in them

@@ -2,12 +2,11 @@
 //!
 //! It knows no socket. What the system gives is a parameter, so that whole runs can be driven in memory.
 
-ghost use Rattle.std.specs.Prelude.{◌≡◌, ◌≢◌, ◌+◌, ◌≤◌, List, [], length, Ok, OnOk, IfOk, IfErr, OnErr};
-ghost use Rattle.daide_session.specs.HubRuns.{HubRuns};
-ghost use Rattle.daide_session.specs.Hub.{Hosting};
-ghost use Rattle.daide_gate.specs.declared.tally.Tally.{Tally};
+ghost use Rattle.std.specs.Prelude.{◌≡◌, ◌+◌, ◌≤◌, List, length, Ok, OnOk, IfOk, IfErr};
+ghost use Rattle.daide_session.specs.Config.{config_fault};
+ghost use Rattle.daide_session.specs.Hub.{IsHubSize};
 ghost use Rattle.daide_gate.specs.System.{SystemAnswer, Tells};
-ghost use Rattle.daide_gate.specs.Serving.{Serving, IsWithin, Admits, Meets, TurnsAll, any_moved, RemovesClosed, parting};
+ghost use Rattle.daide_gate.specs.Serving.{IsWithin, Admits, Meets, TurnsAll, any_moved, RemovesClosed, parting, wait_where};
 ghost use Rattle.daide_gate.specs.Serving.{any_stirs, Round, is_done, opening, Serves, fault_of, IsServeCause};
 
 use crate::metered::Metered;
@@ -170,10 +169,21 @@ fn remove_closed<P: Ports, A: Allocator + Copy, S: System<P>>(
     removed
 }
 
+/// Waits, where nothing moved.
+fn rest<P: Ports, S: System<P>>(moved: bool, more: bool, system: &mut S)
+    ensures { Tells (S.told system.old) (wait_where moved more) (S.told system.new) }
+{
+    if !moved {
+        system.wait(more);
+    }
+}
+
 impl<P: Ports, A: Allocator + Copy> Service<P, A> {
     /// A run that no bot came to yet.
     pub fn new(alloc: A, settings: &Settings) -> Result<Service<P, A>, ServeFault>
         ensures opening { IfOk result (λ service. service ≡ opening settings.now) }
+        ensures accepted { IfOk result (λ service. (config_fault settings.now.config ≡ Ok tt)
+            × IsHubSize settings.now.max_sessions) }
         ensures refused { IfErr result (IsServeCause settings.now) }
     {
         match Hub::new(alloc, settings.config, settings.max_sessions) {
@@ -212,9 +222,8 @@ impl<P: Ports, A: Allocator + Copy> Service<P, A> {
         turn_all(&mut self.hub);
         let moved = has_moved(&self.hub);
         let removed = remove_closed(&mut self.hub, system);
-        if !(came || met || moved || removed) {
-            system.wait(self.tally.accepts(self.hub.count()));
-        }
+        let more = self.tally.accepts(self.hub.count());
+        rest::<P, S>(came | met | moved | removed, more, system);
         Ok(())
     }
 }
