@@ -100,8 +100,8 @@ module _ {P : Type 0} where
         (
           ap farewells (sym all),
           h.places
-          ∙ ap (λ (l : List (Gateway × Meter P)). with_places old (l ++ remaining h.after)) none
-          ∙ ap (λ (l : List (Gateway × Meter P)). with_places old (remaining l)) (sym all),
+              ∙ ap (λ (l : List (Gateway × Meter P)). with_places old (l ++ remaining h.after)) none
+              ∙ ap (λ (l : List (Gateway × Meter P)). with_places old (remaining l)) (sym all),
         ),
         h.stirred,
       )
@@ -137,8 +137,8 @@ module _ {P : Type 0} where
         h.split ∙ along h.after,
         same,
         ap (λ (k : Hosting (Meter P)). slice_get k.places n) same
-        ∙ ap (slice_get (ys ++ x ∷ remaining h.after)) (sym parts.3)
-        ∙ read_behind ys x (remaining h.after),
+            ∙ ap (slice_get (ys ++ x ∷ remaining h.after)) (sym parts.3)
+            ∙ read_behind ys x (remaining h.after),
       )
 
   pub place_kept : (s t : Option (List (SystemAnswer P))) (old hub : Hosting (Meter P)) (b : Bool) (n : ℕ) →
@@ -181,13 +181,13 @@ module _ {P : Type 0} where
         split = at.3;
         len = at.2;
         places = r.3
-        ∙ ap (λ (k : Hosting (Meter P)). with_places k (remove k.places n)) at.4
-        ∙ ap (λ (m : ℕ). with_places old (remove (ys ++ x ∷ remaining h.after) m)) (sym at.2)
-        ∙ ap (with_places old) (removed_behind ys x (remaining h.after))
-        ∙ ap (λ (l : List (Gateway × Meter P)). with_places old (ys ++ l)) (sym (gone_place x h.after over));
+            ∙ ap (λ (k : Hosting (Meter P)). with_places k (remove k.places n)) at.4
+            ∙ ap (λ (m : ℕ). with_places old (remove (ys ++ x ∷ remaining h.after) m)) (sym at.2)
+            ∙ ap (with_places old) (removed_behind ys x (remaining h.after))
+            ∙ ap (λ (l : List (Gateway × Meter P)). with_places old (ys ++ l)) (sym (gone_place x h.after over));
         told = tells_then s t u (farewells h.after) (farewell x) h.told
-        (subst (λ (l : List (SystemAnswer P)). Tells t l u) (sym said) k);
+            (subst (λ (l : List (SystemAnswer P)). Tells t l u) (sym said) k);
         stirred = sym (list_any-append stirs (farewells h.after) (farewell x)
-        ∙ ap (λ (c : Bool). any_stirs (farewells h.after) || c) (ap any_stirs said ∙ goes (is_none ports.left) ports)
-        ∙ or_true (any_stirs (farewells h.after)));
+            ∙ ap (λ (c : Bool). any_stirs (farewells h.after) || c) (ap any_stirs said ∙ goes (is_none ports.left) ports)
+            ∙ or_true (any_stirs (farewells h.after)));
       }

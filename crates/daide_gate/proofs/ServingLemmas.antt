@@ -1,15 +1,16 @@
 -- What the system told, step after step; the turns of a round, and a run's rounds.
 use Rattle.std.proofs.Common.{◌≡◌, ℕ, zero, suc, ◌+◌, Bool, true, false, List, [], ◌∷◌, ◌++◌, Option, Some, None}
-use Rattle.std.proofs.Common.{refl, sym, ap, ◌∙◌, subst, append_assoc, append-nil, add-one}
-use Rattle.std.specs.Prelude.{unwrap_or, ◌||◌, ◌==◌, length}
+use Rattle.std.proofs.Common.{refl, sym, ap, ◌∙◌, subst, append_assoc, append-nil, add-one, take, arith, ◌<◌}
+use Rattle.std.specs.Prelude.{unwrap_or, ◌||◌, ◌==◌, length, slice_get, IfSome}
 use Rattle.std.proofs.lemmas.List.{length-set}
 use Rattle.std.proofs.Math.Dec.{eqb-suc-zero}
+use Rattle.daide_machine.specs.Wires.{Gateway}
 use Rattle.daide_session.specs.Record.{PortAnswer}
 use Rattle.daide_session.specs.Hub.{Hosting, Changes, IsTurned}
 use Rattle.daide_session.specs.HubRuns.{HubCall, Turned, HubStep, HubRuns}
 use Rattle.daide_gate.specs.Metered.{Meter, told_while_left}
 use Rattle.daide_gate.specs.System.{SystemAnswer, Tells}
-use Rattle.daide_gate.specs.Serving.{Serving, wait_where, turns_below, Round, Rounds, is_done}
+use Rattle.daide_gate.specs.Serving.{Serving, any_moved, wait_where, turns_below, Round, Rounds, is_done}
 
 -- ---- what the system told
 
@@ -56,6 +57,23 @@ another_turn {P} told n old mid new h count max turned = (
   ap (λ (k : Hosting (Meter P)). k.max) turned.3 ∙ max,
   ap (λ (k : Hosting (Meter P)). length k.places) turned.3 ∙ length-set mid.places n turned.1 ∙ count,
 )
+
+or_false : (b : Bool) → (b || false) ≡ b
+or_false true = refl
+or_false false = refl
+
+or_assoc : (a b c : Bool) → (a || (b || c)) ≡ ((a || b) || c)
+or_assoc true b c = refl
+or_assoc false b c = refl
+
+-- one more place was looked at
+pub any_more : {P : Type 0} (xs : List (Gateway × Meter P)) (i : ℕ) (m : Meter P) → i < length xs →
+    IfSome (slice_get xs i) (λ place. m ≡ place.1) → any_moved (take (suc i) xs) ≡ (any_moved (take i xs) || m.moved)
+any_more [] i m lt h = absurd (omega (arith, lt))
+any_more (x ∷ xs) zero m lt h = rw h (or_false x.1.moved)
+any_more (x ∷ xs) (suc i) m lt h =
+    let inside : i < length xs = omega (arith, lt) in
+    ap (λ (b : Bool). x.1.moved || b) (any_more xs i m inside h) ∙ or_assoc x.1.moved (any_moved (take i xs)) m.moved
 
 -- ---- rounds
 

@@ -135,7 +135,11 @@ fn turn_all<P: Ports, A: Allocator + Copy>(hub: &mut Hub<Metered<P>, A>)
 fn has_moved<P: Ports, A: Allocator + Copy>(hub: &Hub<Metered<P>, A>) -> bool
     ensures { result ≡ any_moved hub.now.places }
 {
-    false
+    let mut moved = false;
+    for i in 0..hub.count() {
+        moved |= hub.ports(i).has_moved();
+    }
+    moved
 }
 
 /// Lets ports go, and tells where their turns are spent.

@@ -14,9 +14,9 @@ returns-clause-round g c =
     let stirred = c.admit-came.result || c.in_ok-met.met || c.has_moved-moved.result || c.remove_closed-removed.result in
     let asleep = waits_alike {P = g.row.P.Denot} _ _ _ _ _ _ _ _ _ _ admits.3 meets.3 c.has_moved-moved.ensures
     removes.3 (c.accepts-more.ensures ∙ ap (accepts c.meet.new.tally) c.count-2.ensures) in
-    let step : Round g.P.Ports.told (record { hub = old.hub; tally = old.tally; })
+    let step : Round g.P.Ports.told (record { hub = old.hub; tally = old.tally })
     (admits.0 ++ meets.0 ++ removes.0 ++ wait_where stirred c.accepts-more.result)
-    (record { hub = c.remove_closed-removed.new.hub; tally = c.meet.new.tally; }) = record {
+    (record { hub = c.remove_closed-removed.new.hub; tally = c.meet.new.tally }) = record {
       admission = admits.0;
       meeting = meets.0;
       removal = removes.0;
@@ -35,5 +35,5 @@ returns-clause-round g c =
           c.rest.ensures,
       subst (λ (a : Serving g.row.P.Denot). Round g.P.Ports.told a
           (admits.0 ++ meets.0 ++ removes.0 ++ wait_where stirred c.accepts-more.result)
-          (record { hub = c.remove_closed-removed.new.hub; tally = c.meet.new.tally; })) c.self.view_is step,
+          (record { hub = c.remove_closed-removed.new.hub; tally = c.meet.new.tally })) c.self.view_is step,
     )
