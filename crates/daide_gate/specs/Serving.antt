@@ -226,3 +226,10 @@ IsServeCause settings (Faults.Config fault) = IsHubCause settings.config setting
 IsServeCause settings Faults.Sessions = IsHubCause settings.config settings.max_sessions HubErrors.Sessions
 IsServeCause settings Faults.Memory = IsHubCause settings.config settings.max_sessions HubErrors.Memory
 IsServeCause settings Faults.RoundsSpent = IsHubCause settings.config settings.max_sessions HubErrors.Memory
+
+-- a fault of the settings, told before the system is asked anything
+abbrev pub IsOfSettings : ServeFault → Type 0
+IsOfSettings (Faults.Config fault) = Unit {0}
+IsOfSettings Faults.Sessions = Unit {0}
+IsOfSettings Faults.Memory = ⊥
+IsOfSettings Faults.RoundsSpent = ⊥

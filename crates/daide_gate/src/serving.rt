@@ -7,14 +7,14 @@ ghost use Rattle.daide_session.specs.Config.{config_fault};
 ghost use Rattle.daide_session.specs.Hub.{IsHubSize};
 ghost use Rattle.daide_gate.specs.System.{SystemAnswer, Tells};
 ghost use Rattle.daide_gate.specs.Serving.{IsWithin, Admits, Meets, TurnsAll, any_moved, RemovesClosed, parting, wait_where};
-ghost use Rattle.daide_gate.specs.Serving.{any_stirs, Round, is_done, opening, Serves, fault_of, IsServeCause};
+ghost use Rattle.daide_gate.specs.Serving.{any_stirs, Round, is_done, opening, Serves, fault_of, IsServeCause, IsOfSettings};
 
 use crate::metered::Metered;
 use crate::settings::Settings;
 use crate::system::{Connect, Notice, System};
 use crate::tally::Tally;
 use daide_session::config::ConfigError;
-use daide_session::hub::{Hub, HubError};
+use daide_session::hub::{AddFault, Hub, HubError};
 use daide_session::ports::Ports;
 use std::alloc::{Allocator, Global};
 use std::marker::Model;
@@ -114,7 +114,8 @@ fn meet<P: Ports, A: Allocator + Copy, S: System<P>>(
             tally.connecting -= 1;
             match hub.add(Metered::new(ports, tally.turns)) {
                 Ok(_place) => Ok(true),
-                Err((_fault, _ports)) => Err(ServeFault::Memory),
+                Err((AddFault::Memory, _ports)) => Err(ServeFault::Memory),
+                Err((AddFault::Full, _ports)) => unreachable!(),
             }
         }
     }
@@ -242,6 +243,7 @@ pub fn serve<P: Ports, A: Allocator + Copy, S: System<P>>(
     ensures served { OnOk result ((answers : List (SystemAnswer P))
         × Tells (S.told system.old) answers (S.told system.new) × Serves P.told settings.now answers) }
     ensures refused { IfErr result (IsServeCause settings.now) }
+    ensures unasked { IfErr result (λ fault. IsOfSettings fault → system.new ≡ system.old) }
 {
     let mut service = Service::<P, A>::new(alloc, settings)?;
     for _round in 0..u64::MAX {
