@@ -1,7 +1,7 @@
 -- What a reader gave, joined over its reads.
 use Rattle.std.proofs.Common.{◌≡◌, ℕ, zero, suc, ◌+◌, ◌<◌, ◌≤◌, take, List, [], ◌∷◌, ◌++◌, length, Option, Some, None}
 use Rattle.std.proofs.Common.{IfSome, append-nil, append_assoc, length-append, arith, ap, sym, ◌∙◌}
-use Rattle.std.specs.Io.KnownBytes.{Consumes, Keeps, IsAtEnd}
+use Rattle.std.specs.Io.KnownBytes.{Consumes, IsAtEnd}
 
 -- a front has no more than was asked for
 pub front_few : (n : ℕ) (l : List ℕ) → length (take n l) ≤ n

@@ -1,11 +1,11 @@
 -- Turns in a row.
-use Rattle.std.proofs.Common.{◌≡◌, ℕ, ◌+◌, ◌≤◌, Bool, true, false, List, [], ◌∷◌, ◌++◌, Option}
-use Rattle.std.proofs.Common.{refl, sym, subst, suc, add-one}
+use Rattle.std.proofs.Common.{◌≡◌, ℕ, ◌+◌, ◌≤◌, false, List, Option}
+use Rattle.std.proofs.Common.{sym, subst, add-one}
 use Rattle.daide_machine.specs.Wires.{Gateway, is_closed}
 use Rattle.daide_session.specs.Record.{PortAnswer, Relays, Carries}
 use Rattle.daide_session.specs.Turn.{Then, Turn}
 use Rattle.daide_gate.specs.Relay.{Turns, MakesTurns}
-use Rattle.daide_gate.specs.declared.relaying.RelayEnd.TheVariants.{Closed, TurnsSpent}
+use Rattle.daide_gate.specs.declared.relaying.RelayEnd.TheVariants.{Closed}
 use Rattle.daide_session.proofs.Stretches.{relays_append, carries_then, carries_weaker}
 use Rattle.daide_session.proofs.TurnLemmas.{turn_relays}
 

@@ -1,7 +1,7 @@
 -- What one answer of the ports does to a session and its wires.
 use Rattle.std.proofs.Common.{◌≡◌, ℕ, ◌<◌, ◌≤◌, Bool, true, false, cond, ltb, eqb, List, [], ◌∷◌, ◌++◌, length, take}
 use Rattle.std.proofs.Common.{drop}
-use Rattle.std.proofs.Common.{refl, sym, ap, ◌∙◌, subst, arith, append_assoc, append-nil, length-append, zero, suc, inl}
+use Rattle.std.proofs.Common.{refl, sym, ap, ◌∙◌, subst, arith, append_assoc, append-nil, zero, suc, inl}
 use Rattle.std.proofs.Common.{inr}
 use Rattle.std.proofs.Common.{◌⊎◌}
 use Rattle.std.proofs.lemmas.List.{take-append-le, take-append-drop, take_all}
@@ -11,7 +11,7 @@ use Rattle.daide_frame.specs.declared.side.Side.TheVariants.{Bot, Server}
 use Rattle.daide_machine.specs.declared.note.Note.{Note}
 use Rattle.daide_machine.specs.Events.{Event, Ends, Pops, bytes_come, other}
 use Rattle.daide_machine.specs.Machine.{Sent, Effect, Runs, is_over}
-use Rattle.daide_machine.specs.Wires.{Gateway, waiting, sent_to, bytes_of, without, first_len}
+use Rattle.daide_machine.specs.Wires.{Gateway, waiting, sent_to, bytes_of, without}
 use Rattle.daide_machine.specs.Wires.{Goes, Lost, Wrote, IsFrontOf}
 use Rattle.daide_machine.proofs.WireLemmas.{bytes_of-append}
 use Rattle.daide_session.specs.declared.ports.Pull.TheVariants.{Got, Idle, Ended}

@@ -10,7 +10,7 @@ use Rattle.daide_machine.proofs.OneRun.{one_run, runs_join}
 use Rattle.daide_machine.proofs.PieceRuns.{over_stays}
 use Rattle.daide_machine.proofs.WireLemmas.{sent_to-append, bytes_of-append}
 use Rattle.daide_session.specs.Record.{PortAnswer, event_of, events_of, took, taken, fails, has_failed, Moved, Relays}
-use Rattle.daide_session.specs.Record.{Carries, Tells}
+use Rattle.daide_session.specs.Record.{Carries}
 use Rattle.daide_session.specs.Turn.{Then}
 
 -- ---- lists along an append
