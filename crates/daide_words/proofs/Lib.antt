@@ -1,0 +1,4 @@
+pub mod WordLists
+pub mod OperandRules
+pub mod WhereStopped
+pub mod AcceptedCodes
