@@ -1,8 +1,8 @@
 -- The codes of accepted words are free, and tokens are told from them.
-use Rattle.std.proofs.Common.{◌≡◌, ℕ, zero, suc, ◌+◌, ◌-◌, ◌<◌, ◌≤◌, Bool, true, false, not, ◌&&◌, ◌||◌, ◌==◌, nat_eq, nat_le, List}
-use Rattle.std.proofs.Common.{[], ◌∷◌, ◌++◌, map, length, Option, Some, None, if◌then◌else◌, refl, sym, ap, ◌∙◌, subst, arith, leb-true}
+use Rattle.std.proofs.Common.{◌≡◌, ℕ, zero, suc, ◌+◌, ◌<◌, ◌≤◌, Bool, true, false, not, ◌&&◌, ◌||◌, ◌==◌, nat_eq, nat_le, List}
+use Rattle.std.proofs.Common.{[], ◌∷◌, ◌++◌, length, Option, Some, None, if◌then◌else◌, refl, sym, ap, ◌∙◌, subst, arith, leb-true}
 use Rattle.std.specs.Prelude.{is_ok, is_none, Result, Ok, Err}
-use Rattle.std.specs.List.{list_all, list_any, range_with_len}
+use Rattle.std.specs.List.{list_any}
 use Rattle.std.proofs.lemmas.Bool.{eqb-true}
 use Rattle.std.proofs.lemmas.Bool.Decides.{nat_tests}
 use Rattle.daide_token.specs.declared.class.Class.{Class}
@@ -15,7 +15,7 @@ use Rattle.daide_grammar.specs.Proved.Alternatives.{both-pass}
 use Rattle.daide_words.specs.declared.word.Word as code
 use Rattle.daide_words.specs.declared.word.WordError.{WordError}
 use Rattle.daide_words.specs.declared.word.WordError.TheVariants as faults
-use Rattle.daide_words.specs.Word.{grammar_word, grammar_words, names_of}
+use Rattle.daide_words.specs.Word.{grammar_words, names_of}
 use Rattle.daide_words.specs.Accepted.{is_free_name, is_free_code, is_barred, has_press, may_hold, word_fault, are_accepted_after}
 use Rattle.daide_words.specs.Places.{place_from}
 use Rattle.daide_words.specs.OverWords.{are_free}

@@ -2,3 +2,5 @@ pub mod WordLists
 pub mod OperandRules
 pub mod WhereStopped
 pub mod AcceptedCodes
+mod WordFacts
+pub mod OverMessages

@@ -11,7 +11,7 @@ use Rattle.daide_grammar.specs.declared.symbol.Sym.TheVariants.{Closing}
 use Rattle.daide_grammar.specs.Answers.{Answer, Take, Skip, Stop}
 use Rattle.daide_grammar.specs.Numbers.{word_number}
 use Rattle.daide_grammar.specs.Rules.{is_stop}
-use Rattle.daide_grammar.specs.Forms.{Slot, Kind, accepts}
+use Rattle.daide_grammar.specs.Forms.{Slot, accepts}
 use Rattle.daide_grammar.specs.Symbols.{Entry, entries, entry_at, this_or, form_of, slot_of, may_end_of, answer_by, table_answer}
 use Rattle.daide_grammar.specs.Words.{AddedWord, Words}
 use Rattle.daide_grammar.specs.Proved.Alternatives.{both-pass}
@@ -22,7 +22,7 @@ use Rattle.daide_grammar.specs.SideMessages.{standard}
 use Rattle.daide_words.specs.declared.word.Word as code
 use Rattle.daide_words.specs.Word.{grammar_word, grammar_words}
 use Rattle.daide_words.specs.Words.{word_at}
-use Rattle.daide_words.specs.OverWords.{stands, operand_symbol, this_word, word_from, if_stands, word_answer, answer_over}
+use Rattle.daide_words.specs.OverWords.{this_word, word_from, if_stands, word_answer, answer_over}
 use Rattle.daide_words.specs.Proved.WordForms.{plain-no-word}
 
 -- a class with a word's number is that word's

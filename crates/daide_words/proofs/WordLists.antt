@@ -1,5 +1,5 @@
 -- Words whose names and meanings are kept apart.
-use Rattle.std.proofs.Common.{◌≡◌, ℕ, zero, suc, ◌+◌, ◌≤◌, ◌<◌, Bool, true, false, ◌&&◌, List, [], ◌∷◌, ◌++◌, length, map, take, refl, sym, ap, ◌∙◌, arith, subst, append_assoc, append-nil, nat_le, leb-true, leb-false, if◌then◌else◌, Result, Ok, Err, slice_set, get_or, ◌==◌, Option, Some, None, IfSome}
+use Rattle.std.proofs.Common.{◌≡◌, ℕ, zero, suc, ◌+◌, ◌≤◌, ◌<◌, Bool, true, false, ◌&&◌, List, [], ◌∷◌, ◌++◌, length, take, refl, sym, ap, ◌∙◌, arith, subst, append_assoc, append-nil, nat_le, leb-true, leb-false, if◌then◌else◌, Result, Err, slice_set, get_or, ◌==◌, Option, Some, None, IfSome}
 use Rattle.std.proofs.lemmas.List.{get_or-take}
 use Rattle.daide_words.specs.Words.{word_at}
 use Rattle.daide_words.specs.Places.{place_from}

@@ -13,7 +13,6 @@ use Rattle.daide_words.specs.declared.operand.Operand.TheVariants as operands
 use Rattle.daide_words.specs.declared.word.Word.{Word}
 use Rattle.daide_words.specs.declared.word.WordError.{WordError}
 use Rattle.daide_words.specs.declared.word.WordError.TheVariants as faults
-use Rattle.daide_words.specs.Word.{names_of}
 
 -- a letter from A to Z
 abbrev pub is_capital : ℕ → Bool

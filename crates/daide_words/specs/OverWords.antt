@@ -1,6 +1,6 @@
 -- What a token means to a symbol where an operator added words: where a word may stand, its operand in brackets follows
 -- it; everything else means what it means in the protocol's own table. (own)
-use Rattle.std.specs.Prelude.{ℕ, suc, Bool, true, false, not, ◌&&◌, ◌==◌, nat_le, nat_eq, List, [], ◌∷◌, Option, Some, None}
+use Rattle.std.specs.Prelude.{ℕ, suc, Bool, true, false, not, ◌&&◌, ◌==◌, nat_le, nat_eq, [], ◌∷◌, Option, Some, None}
 use Rattle.std.specs.Prelude.{if◌then◌else◌}
 use Rattle.std.specs.List.{list_all}
 use Rattle.daide_token.specs.declared.class.Class.{Class}

@@ -1,5 +1,5 @@
 -- A word of an operator, and what it means to the grammar. (own)
-use Rattle.std.specs.Prelude.{ℕ, List, [], ◌∷◌, map}
+use Rattle.std.specs.Prelude.{List, [], ◌∷◌, map}
 use Rattle.daide_token.specs.Names.{Named}
 use Rattle.daide_grammar.specs.Words.{AddedWord, Words, WordSlot, press_word, arrangement_word, WordOperand, one_power}
 use Rattle.daide_grammar.specs.Words.{some_powers, some_provinces, an_order, an_arrangement, a_press}

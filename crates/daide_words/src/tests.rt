@@ -13,23 +13,32 @@ use daide_token::class::Class;
 use daide_token::token::Token;
 use std::alloc::{AllocError, Global};
 
+/// A word by its parts.
+fn word(name: [u8; 3], code: u16, slot: Slot, level: Level, operand: Operand) -> Word {
+    Word {
+        name,
+        code: Token::from_code(code),
+        slot,
+        level,
+        operand,
+    }
+}
+
 /// A press of a power from level 20 on.
-const XYZ: Word = Word {
-    name: *b"XYZ",
-    code: Token::from_code(0x4A40),
-    slot: Slot::Press,
-    level: Level::L20,
-    operand: Operand::Power,
-};
+fn xyz() -> Word {
+    word(*b"XYZ", 0x4A40, Slot::Press, Level::L20, Operand::Power)
+}
 
 /// An arrangement of an arrangement from level 30 on.
-const QQQ: Word = Word {
-    name: *b"QQQ",
-    code: Token::from_code(0x4A41),
-    slot: Slot::Arrangement,
-    level: Level::L30,
-    operand: Operand::Arrangement,
-};
+fn qqq() -> Word {
+    word(
+        *b"QQQ",
+        0x4A41,
+        Slot::Arrangement,
+        Level::L30,
+        Operand::Arrangement,
+    )
+}
 
 #[test]
 fn slots_and_operands_have_their_names(rt: HostRuntime) {
@@ -56,43 +65,49 @@ fn slots_and_operands_have_their_names(rt: HostRuntime) {
     }
 }
 
+/// A name, a code, a level and an operand of a word that makes an arrangement, and why it is refused after XYZ.
+const REFUSED: [([u8; 3], u16, Level, Operand, WordError); 16] = [
+    (*b"GOF", 0x4AFF, Level::L30, Operand::Power, WordError::Name),
+    (*b"xyz", 0x4AFF, Level::L30, Operand::Power, WordError::Name),
+    (*b"XYZ", 0x4AFF, Level::L30, Operand::Power, WordError::Name),
+    (*b"A1B", 0x4AFF, Level::L30, Operand::Power, WordError::Name),
+    (*b"NEW", 0x4A10, Level::L30, Operand::Power, WordError::Code),
+    (*b"NEW", 0x4A0D, Level::L30, Operand::Power, WordError::Code),
+    (*b"NEW", 0x4A12, Level::L30, Operand::Power, WordError::Code),
+    (*b"NEW", 0x4A1B, Level::L30, Operand::Power, WordError::Code),
+    (*b"NEW", 0x4A40, Level::L30, Operand::Power, WordError::Code),
+    (*b"NEW", 0x4B00, Level::L30, Operand::Power, WordError::Code),
+    (*b"NEW", 0x49FF, Level::L30, Operand::Power, WordError::Code),
+    (*b"NEW", 0x4AFF, Level::L0, Operand::Power, WordError::Level),
+    (
+        *b"NEW",
+        0x4AFF,
+        Level::L30,
+        Operand::Press,
+        WordError::Operand,
+    ),
+    (*b"GOF", 0x4A10, Level::L30, Operand::Power, WordError::Name),
+    (*b"NEW", 0x4A10, Level::L0, Operand::Power, WordError::Code),
+    (*b"NEW", 0x4AFF, Level::L0, Operand::Press, WordError::Level),
+];
+
 #[test]
 fn words_are_refused_by_their_first_fault(rt: HostRuntime) {
     let mut words = Words::new();
     assert_eq!(rt; words.names().len(), 0);
-    assert_eq!(rt; words.add(XYZ), Ok(()));
-    let good = Word {
-        name: *b"NEW",
-        code: Token::from_code(0x4AFF),
-        ..QQQ
-    };
-    let none = Level::L0;
-    let press = Operand::Press;
-    let other = |code| Token::from_code(code);
-    for (word, fault) in [
-        (Word { name: *b"GOF", ..good }, WordError::Name),
-        (Word { name: *b"xyz", ..good }, WordError::Name),
-        (Word { name: *b"XYZ", ..good }, WordError::Name),
-        (Word { name: *b"A1B", ..good }, WordError::Name),
-        (Word { code: other(0x4A10), ..good }, WordError::Code),
-        (Word { code: other(0x4A0D), ..good }, WordError::Code),
-        (Word { code: other(0x4A12), ..good }, WordError::Code),
-        (Word { code: other(0x4A1B), ..good }, WordError::Code),
-        (Word { code: other(0x4A40), ..good }, WordError::Code),
-        (Word { code: other(0x4B00), ..good }, WordError::Code),
-        (Word { code: other(0x49FF), ..good }, WordError::Code),
-        (Word { level: none, ..good }, WordError::Level),
-        (Word { operand: press, ..good }, WordError::Operand),
-        (Word { name: *b"GOF", code: other(0x4A10), ..good }, WordError::Name),
-        (Word { code: other(0x4A10), level: none, ..good }, WordError::Code),
-        (Word { level: none, operand: press, ..good }, WordError::Level),
-    ] {
-        assert_eq!(rt; words.add(word), Err(fault));
+    assert_eq!(rt; words.add(xyz()), Ok(()));
+    for (name, code, level, operand, fault) in REFUSED {
+        let refused = word(name, code, Slot::Arrangement, level, operand);
+        assert_eq!(rt; words.add(refused), Err(fault), "at {code}");
         assert_eq!(rt; words.names().len(), 1);
     }
-    assert_eq!(rt; words.add(good), Ok(()));
-    assert_eq!(rt; words.names(), [(XYZ.code, XYZ.name), (good.code, good.name)].as_slice());
-    assert_eq!(rt; words.get(1), Some(good));
+    assert_eq!(rt; words.add(qqq()), Ok(()));
+    let names = [
+        (Token::from_code(0x4A40), *b"XYZ"),
+        (Token::from_code(0x4A41), *b"QQQ"),
+    ];
+    assert_eq!(rt; words.names(), names.as_slice());
+    assert_eq!(rt; words.get(1), Some(qqq()));
     assert_eq!(rt; words.get(2), None);
 }
 
@@ -100,16 +115,21 @@ fn words_are_refused_by_their_first_fault(rt: HostRuntime) {
 fn seventeenth_word_is_refused(rt: HostRuntime) {
     let mut words = Words::new();
     for number in 0..16u8 {
-        let word = Word {
-            name: [b'Q', b'Q', b'A' + number],
-            code: Token::from_code(0x4A50 + u16::from(number)),
-            ..XYZ
-        };
-        assert_eq!(rt; words.add(word), Ok(()));
+        let name = [b'Q', b'Q', b'A' + number];
+        let added = word(
+            name,
+            0x4A50 + u16::from(number),
+            Slot::Press,
+            Level::L20,
+            Operand::Power,
+        );
+        assert_eq!(rt; words.add(added), Ok(()));
     }
-    assert_eq!(rt; words.add(Word { name: *b"gof", ..XYZ }), Err(WordError::Full));
+    let last = word(*b"gof", 0x4A10, Slot::Press, Level::L20, Operand::Power);
+    assert_eq!(rt; words.add(last), Err(WordError::Full));
     assert_eq!(rt; words.names().len(), 16);
-    assert_eq!(rt; Extended::new(words).class_of(Token::from_code(0x4A5F)).class(), Class::Word(15));
+    let class = Extended::new(words).class_of(Token::from_code(0x4A5F));
+    assert_eq!(rt; class.class(), Class::Word(15));
 }
 
 /// The tokens of a message as it is printed.
@@ -119,8 +139,8 @@ fn tokens_of(alloc: Global, text: &str) -> Result<Vec<Token>, AllocError> {
         let token = match word {
             "(" => Some(Token::from_code(0x4000)),
             ")" => Some(Token::from_code(0x4001)),
-            "XYZ" => Some(XYZ.code),
-            "QQQ" => Some(QQQ.code),
+            "XYZ" => Some(xyz().code),
+            "QQQ" => Some(qqq().code),
             _ => Token::by_name(word),
         };
         tokens.push(token.unwrap_or(Token::from_code(0xFFFF)))?;
@@ -140,8 +160,7 @@ fn place_in<T: Predict>(
     stack.push(table.start(Side2::Client, level))?;
     for (place, token) in tokens.iter().enumerate() {
         let class = table.class_of(*token);
-        let mut taken = false;
-        while !taken {
+        for _ in 0..64 {
             let Some(symbol) = stack.pop() else {
                 return Ok(Some(place));
             };
@@ -149,14 +168,17 @@ fn place_in<T: Predict>(
             if answer.is_stop() {
                 return Ok(Some(place));
             }
-            taken = answer.is_take();
-            for cell in &answer.cells()[..answer.len()] {
+            let cells = answer.cells();
+            for cell in cells.iter().take(answer.len()) {
                 stack.push(*cell)?;
+            }
+            if answer.is_take() {
+                break;
             }
         }
     }
-    while let Some(symbol) = stack.pop() {
-        if !table.may_end(symbol) {
+    for symbol in stack.iter() {
+        if !table.may_end(*symbol) {
             return Ok(Some(tokens.len()));
         }
     }
@@ -168,21 +190,56 @@ const MESSAGES: [(&str, Level, Option<usize>, Option<usize>); 11] = [
     ("SND ( FRA ) ( XYZ ( ENG ) )", Level::L20, None, Some(5)),
     ("SND ( FRA ) ( XYZ ( ENG ) )", Level::L60, None, Some(5)),
     ("SND ( FRA ) ( XYZ ( ENG ) )", Level::L10, Some(5), Some(5)),
-    ("SND ( FRA ) ( XYZ ( ENG FRA ) )", Level::L20, Some(8), Some(5)),
+    (
+        "SND ( FRA ) ( XYZ ( ENG FRA ) )",
+        Level::L20,
+        Some(8),
+        Some(5),
+    ),
     ("SND ( FRA ) ( TRY ( XYZ ) )", Level::L10, None, None),
-    ("SND ( FRA ) ( PRP ( XYZ ( ENG ) ) )", Level::L20, Some(7), Some(7)),
-    ("SND ( FRA ) ( PRP ( QQQ ( DRW ) ) )", Level::L20, Some(7), Some(7)),
-    ("SND ( FRA ) ( PRP ( AND ( QQQ ( DRW ) ) ( DRW ) ) )", Level::L30, None, Some(9)),
-    ("SND ( FRA ) ( PRP ( AND ( QQQ ( AND ( DRW ) ( DRW ) ) ) ( DRW ) ) )", Level::L30, Some(11), Some(9)),
-    ("SND ( FRA ) ( PRP ( AND ( QQQ ( AND ( DRW ) ( DRW ) ) ) ( DRW ) ) )", Level::L50, None, Some(9)),
-    ("SND ( FRA ) ( FCT ( QQQ ( QRY ( DRW ) ) ) )", Level::L60, Some(9), Some(7)),
+    (
+        "SND ( FRA ) ( PRP ( XYZ ( ENG ) ) )",
+        Level::L20,
+        Some(7),
+        Some(7),
+    ),
+    (
+        "SND ( FRA ) ( PRP ( QQQ ( DRW ) ) )",
+        Level::L20,
+        Some(7),
+        Some(7),
+    ),
+    (
+        "SND ( FRA ) ( PRP ( AND ( QQQ ( DRW ) ) ( DRW ) ) )",
+        Level::L30,
+        None,
+        Some(9),
+    ),
+    (
+        "SND ( FRA ) ( PRP ( AND ( QQQ ( AND ( DRW ) ( DRW ) ) ) ( DRW ) ) )",
+        Level::L30,
+        Some(11),
+        Some(9),
+    ),
+    (
+        "SND ( FRA ) ( PRP ( AND ( QQQ ( AND ( DRW ) ( DRW ) ) ) ( DRW ) ) )",
+        Level::L50,
+        None,
+        Some(9),
+    ),
+    (
+        "SND ( FRA ) ( FCT ( QQQ ( QRY ( DRW ) ) ) )",
+        Level::L60,
+        Some(9),
+        Some(7),
+    ),
 ];
 
 #[test]
 fn words_stand_where_they_may(rt: HostRuntime) -> Result<(), AllocError> {
     let mut words = Words::new();
-    assert_eq!(rt; words.add(XYZ), Ok(()));
-    assert_eq!(rt; words.add(QQQ), Ok(()));
+    assert_eq!(rt; words.add(xyz()), Ok(()));
+    assert_eq!(rt; words.add(qqq()), Ok(()));
     for (text, level, with, without) in MESSAGES {
         let tokens = tokens_of(rt.alloc(), text)?;
         let mut table = Extended::new(words);
@@ -198,12 +255,12 @@ fn words_stand_where_they_may(rt: HostRuntime) -> Result<(), AllocError> {
 #[test]
 fn answers_are_counted(rt: HostRuntime) {
     let mut words = Words::new();
-    assert_eq!(rt; words.add(XYZ), Ok(()));
+    assert_eq!(rt; words.add(xyz()), Ok(()));
     let mut table = Extended::new(words);
     let start = table.start(Side2::Client, Level::L0);
-    let word = table.class_of(XYZ.code);
+    let word = table.class_of(xyz().code);
     assert_eq!(rt; word.class(), Class::Word(0));
-    assert_eq!(rt; table.class_of(QQQ.code).class(), Class::Other);
+    assert_eq!(rt; table.class_of(qqq().code).class(), Class::Other);
     assert!(rt; table.predict(start, word).is_stop());
     assert!(rt; !table.may_end(start));
     assert_eq!(rt; table.asked(), 2);

@@ -1,7 +1,6 @@
 -- With words of free codes each class of the protocol's has its tokens as before, and each word its own class.
-use Rattle.std.proofs.Common.{◌≡◌, ◌≢◌, ℕ, suc, ◌+◌, ◌<◌, Bool, true, false, not, ◌&&◌, ◌==◌, nat_eq, nat_le, List, [], ◌∷◌, ◌↔◌}
-use Rattle.std.proofs.Common.{◌⊎◌, inl, inr, refl, sym, ◌∙◌, ap, subst, arith, if◌then◌else◌}
-use Rattle.std.specs.List.{list_all}
+use Rattle.std.proofs.Common.{◌≡◌, ℕ, suc, ◌+◌, ◌<◌, Bool, true, false, not, ◌==◌, nat_le, List, [], ◌∷◌, ◌↔◌}
+use Rattle.std.proofs.Common.{◌⊎◌, inl, inr, refl, sym, ◌∙◌, ap, arith, if◌then◌else◌}
 use Rattle.std.proofs.lemmas.Bool.{eqb-true, eq-eqb}
 use Rattle.daide_token.specs.declared.class.Class.{Class}
 use Rattle.daide_token.specs.declared.class.Class.TheVariants.{Bra, Ket, Other, Word}
@@ -11,7 +10,7 @@ use Rattle.daide_token.specs.ClassLaws.{class_of-token_of, class_bra, class_ket,
 use Rattle.daide_grammar.specs.declared.level.Level.{Level}
 use Rattle.daide_grammar.specs.Level.{level_number}
 use Rattle.daide_grammar.specs.Classes.{class_number, same_class}
-use Rattle.daide_grammar.specs.Forms.{is, Slot, Form, ◌·◌, tok, group, Dialect}
+use Rattle.daide_grammar.specs.Forms.{is, Slot, ◌·◌, tok, group, Dialect}
 use Rattle.daide_grammar.specs.Matches.{Matches, first, second}
 use Rattle.daide_grammar.specs.SideMessages.{dialect_from, dialect_of}
 use Rattle.daide_grammar.specs.Words.{AddedWord, Words, operand_in}

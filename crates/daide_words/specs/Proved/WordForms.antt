@@ -1,5 +1,5 @@
 -- The forms of added words: what begins with a word goes on with its operand.
-use Rattle.std.proofs.Common.{◌≡◌, ℕ, suc, ◌+◌, ◌≤◌, Bool, true, false, ◌&&◌, nat_eq, nat_le, List, [], ◌∷◌, Option, Some, None}
+use Rattle.std.proofs.Common.{◌≡◌, ℕ, suc, ◌+◌, ◌≤◌, Bool, true, false, ◌&&◌, nat_eq, nat_le, List, [], ◌∷◌, Option, Some}
 use Rattle.std.proofs.Common.{◌⊎◌, inl, inr, ◌↔◌, IsTrue, refl, sym, ◌∙◌, ap, subst, arith, ltb-true}
 use Rattle.std.specs.List.{list_any, list_all}
 use Rattle.std.proofs.lemmas.Bool.{eqb-true, eq-eqb}
@@ -11,7 +11,7 @@ use Rattle.daide_grammar.specs.declared.symbol.Sym.{Sym}
 use Rattle.daide_grammar.specs.Level.{level_number}
 use Rattle.daide_grammar.specs.Classes.{class_number}
 use Rattle.daide_grammar.specs.Forms.{Kind, is, any_word, accepts, Slot, Press_slot, Arrangement_slot, Flat_slot, Added, Form}
-use Rattle.daide_grammar.specs.Forms.{one, never, ◌·◌, tok, group, named, from, Dialect}
+use Rattle.daide_grammar.specs.Forms.{one, never, ◌·◌, tok, group, named, Dialect}
 use Rattle.daide_grammar.specs.Matches.{Matches, token, both, first, second, by_name}
 use Rattle.daide_grammar.specs.Symbols.{form_of, Entry, entries, slot_of}
 use Rattle.daide_grammar.specs.SideMessages.{dialect_from, SymbolMatchesIn}

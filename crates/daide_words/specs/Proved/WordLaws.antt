@@ -1,5 +1,5 @@
 -- The laws of prediction, with words of free codes.
-use Rattle.std.proofs.Common.{◌≡◌, ℕ, ◌≤◌, Bool, true, false, List, [], ◌∷◌, refl, ap, ◌∙◌, sym, arith, if◌then◌else◌}
+use Rattle.std.proofs.Common.{◌≡◌, Bool, true, false, [], ◌∷◌, refl, ap, arith, if◌then◌else◌}
 use Rattle.daide_grammar.specs.declared.level.Level.{Level}
 use Rattle.daide_grammar.specs.declared.side.Side2.{Side2}
 use Rattle.daide_grammar.specs.Symbols.{may_end_of, opening_of}

@@ -1,22 +1,20 @@
 -- The answers with added words agree with the languages.
-use Rattle.std.proofs.Common.{◌≡◌, ℕ, zero, suc, ◌+◌, ◌<◌, Bool, true, false, List, [], ◌∷◌, Option, Some, None, ◌⊎◌, inl, inr, ◌↔◌}
-use Rattle.std.proofs.Common.{IsTrue, refl, sym, ◌∙◌, ap, subst}
-use Rattle.std.specs.List.{list_all}
+use Rattle.std.proofs.Common.{◌≡◌, ℕ, Bool, true, false, List, [], ◌∷◌, Option, Some, None, ◌⊎◌, inl, inr, ◌↔◌}
+use Rattle.std.proofs.Common.{refl, sym, ◌∙◌, ap, subst}
 use Rattle.daide_token.specs.declared.class.Class.{Class}
 use Rattle.daide_token.specs.declared.class.Class.TheVariants.{Word}
 use Rattle.daide_grammar.specs.declared.level.Level.{Level}
 use Rattle.daide_grammar.specs.declared.level.Level.TheVariants.{L0, L10, L20, L30, L40, L50, L60}
 use Rattle.daide_grammar.specs.declared.symbol.Sym.{Sym}
-use Rattle.daide_grammar.specs.declared.symbol.Sym.TheVariants.{Closing, Press, Arrangement, Fact, Operand}
-use Rattle.daide_grammar.specs.Forms.{Kind, accepts, Slot, Press_slot, Arrangement_slot, Flat_slot, Form, group, Dialect}
+use Rattle.daide_grammar.specs.declared.symbol.Sym.TheVariants.{Press, Arrangement, Fact, Operand}
+use Rattle.daide_grammar.specs.Forms.{Slot, Press_slot, Arrangement_slot, Flat_slot, Form, group, Dialect}
 use Rattle.daide_grammar.specs.Matches.{Matches}
 use Rattle.daide_grammar.specs.Answers.{Answer, Take, Skip, Stop}
-use Rattle.daide_grammar.specs.Symbols.{form_of, Entry, entries, entry_at, this_or, may_end_of, slot_of, answer_by, table_answer}
+use Rattle.daide_grammar.specs.Symbols.{form_of, slot_of, table_answer}
 use Rattle.daide_grammar.specs.SideMessages.{dialect_of, SymbolMatchesIn}
 use Rattle.daide_grammar.specs.Words.{AddedWord, Words, WordOperand, one_power, some_powers, some_provinces, an_order}
 use Rattle.daide_grammar.specs.Words.{an_arrangement, a_press, operand_in}
-use Rattle.daide_grammar.specs.Proved.Alternatives.{both-pass, alone, unalone}
-use Rattle.daide_grammar.specs.Proved.RightEntries.{is_plain, added_right}
+use Rattle.daide_grammar.specs.Proved.Alternatives.{alone, unalone}
 use Rattle.daide_grammar.specs.Proved.MovesAgree.{Proper, NoWord, IsStandard, standard-no-word, AllMatchIn, take-law, skip-law}
 use Rattle.daide_grammar.specs.Proved.MovesAgree.{stop-law, no-yes}
 use Rattle.daide_words.specs.OverWords.{operand_symbol, stands, word_from, if_stands, word_answer, answer_over}

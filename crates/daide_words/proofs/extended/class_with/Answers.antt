@@ -1,10 +1,8 @@
-use Rattle.std.proofs.Common.{rules, ◌≡◌, length, Some, None, sym, ap, ◌∙◌, arith}
+use Rattle.std.proofs.Common.{Some, None, sym, ap, ◌∙◌}
 use Rattle.daide_grammar.specs.Classes.{class_number}
 use Rattle.daide_words.specs.Words.{words_of}
-use Rattle.daide_words.specs.Word.{names_of}
 use Rattle.daide_words.specs.Places.{place_from}
-use Rattle.daide_words.proofs.WordLists.{names-few}
-use Rattle.daide_words.proofs.AcceptedCodes.{class_or, class_told, class_kept}
+use Rattle.daide_words.proofs.AcceptedCodes.{class_told, class_kept}
 use Rattle.daide_words.proofs.extended.class_with.Goals as goal
 
 pub returns-in-Some : goal.returns-in-Some

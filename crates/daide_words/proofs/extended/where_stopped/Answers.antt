@@ -1,4 +1,4 @@
-use Rattle.std.proofs.Common.{◌≡◌, Some, None, sym, ap, ◌∙◌, option_map}
+use Rattle.std.proofs.Common.{Some, None, sym, ap, ◌∙◌, option_map}
 use Rattle.daide_grammar.specs.Answers.{Stop}
 use Rattle.daide_grammar.specs.Rules.{deed}
 use Rattle.daide_grammar.specs.Symbols.{slot_of}

@@ -1,4 +1,4 @@
-use Rattle.std.proofs.Common.{◌≡◌, Some, sym, ap, ◌∙◌}
+use Rattle.std.proofs.Common.{Some, sym, ap, ◌∙◌}
 use Rattle.daide_grammar.specs.Symbols.{slot_of}
 use Rattle.daide_words.specs.Place.{grammar_place}
 use Rattle.daide_words.proofs.OperandRules.{operand_slot, no_slot}

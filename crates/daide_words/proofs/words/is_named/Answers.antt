@@ -1,4 +1,3 @@
-use Rattle.std.proofs.Common.{false, true}
 use Rattle.std.proofs.lemmas.Str.{IsUtf8-from_ascii}
 use Rattle.daide_words.proofs.WordLists.{capitals_are_ascii}
 use Rattle.daide_words.proofs.words.is_named.Goals as goal

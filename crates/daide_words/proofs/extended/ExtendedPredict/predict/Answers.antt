@@ -1,6 +1,5 @@
 use Rattle.std.proofs.Common.{refl, sym, ap, ◌∙◌}
 use Rattle.daide_grammar.specs.Rules.{is_stop}
-use Rattle.daide_words.specs.Word.{grammar_words}
 use Rattle.daide_words.specs.Words.{words_of}
 use Rattle.daide_words.specs.Extended.{spoken_words}
 use Rattle.daide_words.specs.OverWords.{answer_over}

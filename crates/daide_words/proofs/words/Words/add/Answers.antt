@@ -1,6 +1,5 @@
-use Rattle.std.proofs.Common.{rules, ◌≡◌, ◌<◌, ◌≤◌, length, take, true, sym, ap, ◌∙◌, arith}
+use Rattle.std.proofs.Common.{rules, ◌≡◌, length, sym, ap, ◌∙◌, arith}
 use Rattle.std.specs.Prelude.{is_ok}
-use Rattle.daide_words.specs.Word.{names_of}
 use Rattle.daide_words.specs.Words.{words_of}
 use Rattle.daide_words.specs.Accepted.{word_fault}
 use Rattle.daide_words.proofs.WordLists.{has_room, kept, kept-accepted}

@@ -1,5 +1,4 @@
 use Rattle.std.proofs.Common.{rules, ◌≡◌, length, sym, ap, ◌∙◌, arith}
-use Rattle.daide_words.specs.Word.{names_of}
 use Rattle.daide_words.specs.Words.{words_of}
 use Rattle.daide_words.proofs.WordLists.{behind, names-length, names-few, first_words-at}
 use Rattle.daide_words.proofs.words.Words.get.Goals as goal
