@@ -8,7 +8,7 @@ use Rattle.daide_frame.specs.declared.side.Side.{Side}
 use Rattle.daide_frame.specs.declared.side.Side.TheVariants.{Bot, Server}
 use Rattle.daide_reader.specs.declared.verdict.Verdict.{Verdict}
 use Rattle.daide_machine.specs.Machine.{Sent}
-use Rattle.daide_machine.specs.Wires.{same_side, is_answer, awaits}
+use Rattle.daide_machine.specs.Wires.{same_side, is_answer, has_answer}
 use Rattle.daide_session.specs.declared.wire.Waiting.{Waiting}
 use Rattle.daide_session.specs.declared.wire.Waiting.TheVariants.{Answer, Fm, Em}
 use Rattle.daide_session.specs.Both.{Both, at, put}
@@ -17,7 +17,7 @@ use Rattle.daide_session.specs.Wire.{Queue, pushed}
 use Rattle.daide_session.specs.Traffic.{answer_at, answers_of, bytes_in, frame_of, behind, frames_of, answer_mark}
 use Rattle.daide_session.specs.Traffic.{end_mark}
 use Rattle.daide_session.specs.Traffic.{count_of, presence, IsBegun, is_end, has_end, posted}
-use Rattle.daide_session.proofs.BothLemmas.{other_at}
+use Rattle.daide_session.proofs.BothLemmas.{other_at, put_all}
 
 -- ---- counts
 
@@ -57,18 +57,16 @@ count_pushed w Server mark item = omega (arith, count_push mark w.server.items i
 -- a mark that the frame has not is counted as before; one that none had, at most once
 pub unmarked_pushed : (w : Both Queue) (to one : Side) (mark : Waiting → ℕ) (item : Waiting) → mark item ≡ 0 →
     count_of mark (at (put w to (pushed (at w to) item)) one).items ≡ count_of mark (at w one).items
-unmarked_pushed w Bot Bot mark item e = omega (arith, count_push mark w.bot.items item)
-unmarked_pushed w Bot Server mark item e = refl
-unmarked_pushed w Server Bot mark item e = refl
-unmarked_pushed w Server Server mark item e = omega (arith, count_push mark w.server.items item)
+unmarked_pushed w to one mark item e =
+    put_all (λ (s : Side) (q : Queue). count_of mark q.items ≡ count_of mark (at w s).items) w to
+    (pushed (at w to) item) (omega (arith, e, count_push mark (at w to).items item)) (λ s. refl) one
 
 pub first_pushed : (w : Both Queue) (to one : Side) (mark : Waiting → ℕ) (item : Waiting) → mark item ≤ 1 →
-    count_of mark (at w to).items ≡ 0 → count_of mark (at w one).items ≤ 1 →
+    count_of mark (at w to).items ≡ 0 → ((wire : Side) → count_of mark (at w wire).items ≤ 1) →
     count_of mark (at (put w to (pushed (at w to) item)) one).items ≤ 1
-first_pushed w Bot Bot mark item l z few = omega (arith, count_push mark w.bot.items item)
-first_pushed w Bot Server mark item l z few = few
-first_pushed w Server Bot mark item l z few = few
-first_pushed w Server Server mark item l z few = omega (arith, count_push mark w.server.items item)
+first_pushed w to one mark item l z few =
+    put_all (λ (s : Side) (q : Queue). count_of mark q.items ≤ 1) w to (pushed (at w to) item)
+    (omega (arith, l, z, count_push mark (at w to).items item)) few one
 
 -- ---- a frame behind the others
 
@@ -81,10 +79,9 @@ pub begun_pushed : (a : Side → List ℕ) (w : Both Queue) (to one : Side) (ite
     0 < length (bytes_in a item) →
     ((wire : Side) → IsBegun a (at w wire).written (at w wire).items) →
     IsBegun a (at (put w to (pushed (at w to) item)) one).written (at (put w to (pushed (at w to) item)) one).items
-begun_pushed a w Bot Bot item some h = begun_push a w.bot.written w.bot.items item some (h Bot)
-begun_pushed a w Bot Server item some h = h Server
-begun_pushed a w Server Bot item some h = h Bot
-begun_pushed a w Server Server item some h = begun_push a w.server.written w.server.items item some (h Server)
+begun_pushed a w to one item some h =
+    put_all (λ (s : Side) (q : Queue). IsBegun a q.written q.items) w to (pushed (at w to) item)
+    (begun_push a (at w to).written (at w to).items item some (h to)) h one
 
 frames_push : (to : Side) (a : Side → List ℕ) (n : ℕ) (items : List Waiting) (item : Waiting) → IsBegun a n items →
     behind n (map (frame_of to a) (items ++ item ∷ []))
@@ -150,41 +147,41 @@ both_unseen side a b w same none =
 
 -- ---- whether an answer waits
 
-awaits_none : (side to : Side) (a : Side → List ℕ) (items : List Waiting) → count_of (answer_mark side) items ≡ 0 →
-    awaits side (map (frame_of to a) items) ≡ false
-awaits_none side to a [] none = refl
-awaits_none side to a (x ∷ items) none = go (is_answer side (answers_of x)) refl
-    (awaits_none side to a items (omega arith))
+no_answer : (side to : Side) (a : Side → List ℕ) (items : List Waiting) → count_of (answer_mark side) items ≡ 0 →
+    has_answer side (map (frame_of to a) items) ≡ false
+no_answer side to a [] none = refl
+no_answer side to a (x ∷ items) none = go (is_answer side (answers_of x)) refl
+    (no_answer side to a items (omega arith))
   where
-    go : (k : Bool) → is_answer side (answers_of x) ≡ k → awaits side (map (frame_of to a) items) ≡ false →
-        (is_answer side (answers_of x) || awaits side (map (frame_of to a) items)) ≡ false
+    go : (k : Bool) → is_answer side (answers_of x) ≡ k → has_answer side (map (frame_of to a) items) ≡ false →
+        (is_answer side (answers_of x) || has_answer side (map (frame_of to a) items)) ≡ false
     go true e more = let one : answer_mark side x ≡ 1 = rw e at (mark_is side x) in absurd (omega arith)
     go false e more = rw e more
 
-awaits_some : (side to : Side) (a : Side → List ℕ) (items : List Waiting) → 0 < count_of (answer_mark side) items →
-    awaits side (map (frame_of to a) items) ≡ true
-awaits_some side to a [] some = absurd (omega arith)
-awaits_some side to a (x ∷ items) some = go (is_answer side (answers_of x)) refl (awaits_some side to a items)
+some_answer : (side to : Side) (a : Side → List ℕ) (items : List Waiting) → 0 < count_of (answer_mark side) items →
+    has_answer side (map (frame_of to a) items) ≡ true
+some_answer side to a [] some = absurd (omega arith)
+some_answer side to a (x ∷ items) some = go (is_answer side (answers_of x)) refl (some_answer side to a items)
   where
     go : (k : Bool) → is_answer side (answers_of x) ≡ k →
-        (0 < count_of (answer_mark side) items → awaits side (map (frame_of to a) items) ≡ true) →
-        (is_answer side (answers_of x) || awaits side (map (frame_of to a) items)) ≡ true
+        (0 < count_of (answer_mark side) items → has_answer side (map (frame_of to a) items) ≡ true) →
+        (is_answer side (answers_of x) || has_answer side (map (frame_of to a) items)) ≡ true
     go true e more = rw e refl
     go false e more = let none : answer_mark side x ≡ 0 = rw e at (mark_is side x) in rw e (more (omega arith))
 
-pub awaits_behind : (side : Side) (n : ℕ) (frames : List Sent) → awaits side (behind n frames) ≡ awaits side frames
-awaits_behind side n [] = refl
-awaits_behind side n (frame ∷ frames) = refl
+pub answer_behind : (side : Side) (n : ℕ) (frames : List Sent) → has_answer side (behind n frames) ≡ has_answer side frames
+answer_behind side n [] = refl
+answer_behind side n (frame ∷ frames) = refl
 
 pub unawaited : (side to : Side) (a : Side → List ℕ) (q : Queue) → count_of (answer_mark side) q.items ≡ 0 →
-    awaits side (frames_of to a q) ≡ false
-unawaited side to a q none = awaits_behind side q.written (map (frame_of to a) q.items)
-    ∙ awaits_none side to a q.items none
+    has_answer side (frames_of to a q) ≡ false
+unawaited side to a q none = answer_behind side q.written (map (frame_of to a) q.items)
+    ∙ no_answer side to a q.items none
 
 pub awaited : (side to : Side) (a : Side → List ℕ) (q : Queue) → 0 < count_of (answer_mark side) q.items →
-    awaits side (frames_of to a q) ≡ true
-awaited side to a q some = awaits_behind side q.written (map (frame_of to a) q.items)
-    ∙ awaits_some side to a q.items some
+    has_answer side (frames_of to a q) ≡ true
+awaited side to a q some = answer_behind side q.written (map (frame_of to a) q.items)
+    ∙ some_answer side to a q.items some
 
 -- ---- whether a frame ends the session
 

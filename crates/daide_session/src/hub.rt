@@ -102,6 +102,7 @@ impl<P: Ports, A: Allocator + Copy> Hub<P, A> {
     /// nothing and hands the ports back.
     pub fn add(&mut self, ports: P) -> Result<usize, (AddFault, P)>
         ensures place { IfOk result (λ i. i ≡ length self.old.places) }
+        ensures room { OnOk result (length self.old.places < self.old.max) }
         ensures added { OnOk result (Adds self.old ports self.new) }
         ensures refused { IfErr result (λ refusal. IsAddCause self.old refusal.0) }
         ensures unchanged { OnErr result (self.new ≡ self.old) }
@@ -133,6 +134,14 @@ impl<P: Ports, A: Allocator + Copy> Hub<P, A> {
         ensures { IfSome (slice_get self.now.places i) (λ place. result.now ≡ place.0) }
     {
         &self.places[i].session
+    }
+
+    /// The ports of the session at a place.
+    pub fn ports(&self, i: usize) -> &P
+        requires { i < length self.now.places }
+        ensures { IfSome (slice_get self.now.places i) (λ place. result.now ≡ place.1) }
+    {
+        &self.places[i].ports
     }
 
     /// How many sessions there are.

@@ -2,6 +2,7 @@
 #![tactic(auto)]
 
 pub mod class;
+mod class_number;
 pub mod laws;
 mod names;
 #[cfg(test)]
