@@ -14,6 +14,8 @@ pub mod judge;
 pub mod lines;
 pub mod play;
 pub mod report;
+#[cfg(test)]
+mod tests;
 
 pub use check::check_log;
 pub use fault::LogFault;
