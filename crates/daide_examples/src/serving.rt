@@ -310,10 +310,11 @@ fn spent_turns_end_an_open_wire(rt: HostRuntime) -> Result<(), Fail> {
         Event::Retired,
     ];
     assert_eq!(rt; stage.events.as_slice(), want.as_slice());
-    let calls = match stage.retired.as_slice() {
-        [ports] => ports.calls().unwrap_or(&[]),
-        _ => &[],
+    let Some(ports) = stage.retired.first() else {
+        assert!(rt; false, "its ports were taken");
+        return Ok(());
     };
+    let calls = ports.calls().unwrap_or(&[]);
     let want = bytes_of(&rt, "00 00 00 04 00 01 DA 10")?;
     assert_eq!(rt; sent(&rt, calls, Server)?.as_slice(), want.as_slice());
     Ok(())
