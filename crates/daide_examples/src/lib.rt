@@ -25,6 +25,8 @@ mod rules;
 #[cfg(test)]
 mod script;
 #[cfg(test)]
+mod serving;
+#[cfg(test)]
 mod sessions;
 #[cfg(test)]
 mod settings;

@@ -7,3 +7,5 @@ pub mod OneWay
 pub mod Members
 pub mod SettingsFacts
 pub mod RelayLemmas
+pub mod ServingLemmas
+pub mod RemovalLemmas

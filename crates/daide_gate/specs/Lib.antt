@@ -4,3 +4,6 @@ pub mod Found
 pub mod Settings
 pub mod Given
 pub mod Relay
+pub mod System
+pub mod Metered
+pub mod Serving

@@ -6,9 +6,15 @@
 
 pub mod frame_view;
 pub mod laws;
+pub mod metered;
 pub mod relaying;
+pub mod serving;
 pub mod settings;
+pub mod system;
+mod tally;
 
 pub use frame_view::{ShowFault, show};
 pub use relaying::{RelayEnd, relay};
+pub use serving::{ServeFault, Service, serve};
 pub use settings::{Address, Key, Settings, SettingsError, read_settings};
+pub use system::{Connect, Notice, System};

@@ -31,10 +31,6 @@ same_is : (side : Side) → same_side side side ≡ true
 same_is Bot = refl
 same_is Server = refl
 
-other_differs : (side : Side) → same_side (other side) side ≡ false
-other_differs Bot = refl
-other_differs Server = refl
-
 items_of-placed : (n : ℕ) (items : List Item) (more : List Placed) →
     items_of (placed_at n items ++ more) ≡ items ++ items_of more
 items_of-placed n [] more = refl

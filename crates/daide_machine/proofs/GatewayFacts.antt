@@ -14,8 +14,8 @@ use Rattle.daide_machine.specs.declared.phase.Phase.TheVariants.{Open, Over}
 use Rattle.daide_machine.specs.declared.note.Deed.TheVariants as Deeds
 use Rattle.daide_machine.specs.declared.note.Note.TheVariants as Notes
 use Rattle.daide_machine.specs.Machine.{Limits, Sent, fm_bytes, in_phase, opening, with_pending}
-use Rattle.daide_machine.specs.Wires.{Gateway, Holding, room_of, is_answering, is_closed, without, first_len, bytes_of}
-use Rattle.daide_machine.specs.Wires.{held_after, grown, counts_from, asked_at_most}
+use Rattle.daide_machine.specs.Wires.{Gateway, Holding, waiting, room_of, is_awaited, is_closed, without, first_len}
+use Rattle.daide_machine.specs.Wires.{bytes_of, held_after, grown, counts_from, asked_at_most}
 use Rattle.daide_machine.specs.Weight.{weight_of, weight_bound, steps_bound}
 
 -- ---- sessions of which this is held
@@ -214,10 +214,11 @@ room_while_answering : (room_of (answering_bot Open unclosed (answer Bot Bot unc
 unfolding room_of missing head_in head_of
 room_while_answering = (refl, refl, refl, refl, refl, refl, refl, refl, refl, refl)
 
+abbrev ended : Gateway
+ended = answering_bot Over [] (ending Bot fm_bytes ∷ []) (ending Server fm_bytes ∷ [])
+
 -- an FM or EM of the session's own answers no frame, so it keeps no side waiting
-endings_answer_none : (is_answering (answering_bot Over [] (ending Bot fm_bytes ∷ []) (ending Server fm_bytes ∷ [])) Bot
-    ≡ false)
-    × (is_answering (answering_bot Over [] (ending Bot fm_bytes ∷ []) (ending Server fm_bytes ∷ [])) Server ≡ false)
+endings_answer_none : (is_awaited (waiting ended) Bot ≡ false) × (is_awaited (waiting ended) Server ≡ false)
 endings_answer_none = (refl, refl)
 
 -- closed once it is over and both wires have all

@@ -4,10 +4,9 @@ use Rattle.daide_frame.specs.Frames.{last_items}
 use Rattle.daide_reader.specs.declared.verdict.Verdict.{Verdict}
 use Rattle.daide_machine.specs.declared.phase.Phase.{Phase}
 use Rattle.daide_machine.specs.declared.phase.Phase.TheVariants.{WaitIm, WaitRm, Open, Over}
-use Rattle.daide_frame.specs.declared.side.Side.{Side}
 use Rattle.daide_machine.specs.Events.{Event, Comes, Ends, Loses, Pops}
 use Rattle.daide_machine.specs.Machine.{SessionState, Effect, Outcome, Runs, event_outcome, with_pending, coming}
-use Rattle.daide_machine.specs.Machine.{is_over, end, popped}
+use Rattle.daide_machine.specs.Machine.{is_over, popped}
 use Rattle.daide_machine.proofs.FramesHeard.{items_limits, with_limits}
 
 popped_limits : (phase : Phase) (s : SessionState) → (popped phase s).state.limits ≡ s.limits

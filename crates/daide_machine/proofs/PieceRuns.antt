@@ -45,10 +45,6 @@ over_stays s (e ∷ es) h =
 
 -- ---- the bytes of a side, changed again
 
-pending_is : (s : SessionState) (side : Side) (a : List ℕ) → (coming (with_pending s side a) side).pending ≡ a
-pending_is s Bot a = refl
-pending_is s Server a = refl
-
 phase_is : (s : SessionState) (side : Side) (a : List ℕ) → (with_pending s side a).phase ≡ s.phase
 phase_is s Bot a = refl
 phase_is s Server a = refl

@@ -11,7 +11,8 @@ use Rattle.daide_frame.specs.declared.head.Kind.TheVariants.{Im, Rm, Dm, Fm, Em}
 use Rattle.daide_frame.specs.declared.head.Head.{Head}
 use Rattle.daide_frame.specs.declared.code.Code.{Code}
 use Rattle.daide_frame.specs.declared.code.Code.TheVariants.{ImTimeout, ImNotFirst, SecondIm, ImFromServer}
-use Rattle.daide_frame.specs.declared.code.Code.TheVariants.{UnknownMessage, DmBeforeRm, RmNotFirst, SecondRm, RmFromClient}
+use Rattle.daide_frame.specs.declared.code.Code.TheVariants.{UnknownMessage, DmBeforeRm, RmNotFirst, SecondRm}
+use Rattle.daide_frame.specs.declared.code.Code.TheVariants.{RmFromClient}
 use Rattle.daide_frame.specs.Code.{code_number}
 use Rattle.daide_frame.specs.Head.{is_im}
 use Rattle.daide_frame.specs.InitialMessage.{im_of}

@@ -5,7 +5,7 @@ use Rattle.daide_frame.specs.declared.side.Side.{Side}
 use Rattle.daide_frame.specs.Frames.{announced, head_in}
 use Rattle.daide_grammar.specs.Depth.{open_brackets}
 use Rattle.daide_machine.specs.Machine.{coming}
-use Rattle.daide_machine.specs.Wires.{Gateway, Holding, holding, is_answering, is_dm_head}
+use Rattle.daide_machine.specs.Wires.{Gateway, Holding, holding, waiting, is_awaited, is_dm_head}
 
 -- the lengths of the six collections: two bodies, two stacks, two lists of frames that wait
 unfoldable pub weight_of : Gateway → ℕ
@@ -34,8 +34,8 @@ pub record IsKeptSmall (cap : ℕ) (h : Holding) : Type 0 where
 -- the table's answers that a side's message may take: four a token, and four at its end
 abbrev pub steps_bound : Gateway → Side → ℕ
 steps_bound g side =
-    4 * length (tokens_held g.state.limits.cap (holding g side).held) + (if is_answering g side then 4 else 0)
+    4 * length (tokens_held g.state.limits.cap (holding g side).held) + (if is_awaited (waiting g) side then 4 else 0)
 
 -- where no answer to a side's last frame waits, the bytes that are held are those since its last whole frame
 abbrev pub IsTied : Gateway → Type 0
-IsTied g = (side : Side) → is_answering g side ≡ false → (holding g side).held ≡ (coming g.state side).pending
+IsTied g = (side : Side) → is_awaited (waiting g) side ≡ false → (holding g side).held ≡ (coming g.state side).pending

@@ -86,19 +86,19 @@ is_answer side None = false
 is_answer side (Some one) = same_side one side
 
 -- whether one of the frames answers a side's last frame
-abbrev pub awaits : Side → List Sent → Bool
-awaits side [] = false
-awaits side (frame ∷ frames) = is_answer side frame.answers || awaits side frames
+abbrev pub has_answer : Side → List Sent → Bool
+has_answer side [] = false
+has_answer side (frame ∷ frames) = is_answer side frame.answers || has_answer side frames
 
--- whether an answer to a side's last frame waits for a wire
-abbrev pub is_answering : Gateway → Side → Bool
-is_answering g side = awaits side g.to_bot || awaits side g.to_server
+-- whether an answer to a side's last frame waits for one of the two wires
+abbrev pub is_awaited : (Side → List Sent) → Side → Bool
+is_awaited wires side = has_answer side (wires Bot) || has_answer side (wires Server)
 
 -- how many bytes of a side are taken next: none where an answer to its last frame waits, or the session
 -- is over; else what is missing of the header or the body
 unfoldable pub room_of : Gateway → Side → ℕ
 room_of g side =
-    if is_over g.state.phase || is_answering g side then 0
+    if is_over g.state.phase || is_awaited (waiting g) side then 0
     else missing g.state.limits.cap (coming g.state side).pending
 
 abbrev pub no_frame : List Sent → Bool
@@ -147,9 +147,10 @@ pub record Goes (old : Gateway) (events : List Event) (told : Note) (new : Gatew
 
 -- What is held of a side whose answer is gone: nothing; of any other, what was held. No table was asked.
 pub record LetsGo (old new : Gateway) : Type 0 where
-  pub gone : (side : Side) → is_answering old side ≡ true → is_answering new side ≡ false →
+  pub gone : (side : Side) → is_awaited (waiting old) side ≡ true → is_awaited (waiting new) side ≡ false →
       ((holding new side).held ≡ []) × ((holding new side).total ≡ (holding old side).total)
-  pub kept : (side : Side) → is_answering new side ≡ is_answering old side → holding new side ≡ holding old side
+  pub kept : (side : Side) → is_awaited (waiting new) side ≡ is_awaited (waiting old) side →
+      holding new side ≡ holding old side
 
 -- One event, after which the session is over and nothing waits for the wire that failed.
 pub record Lost (old : Gateway) (side : Side) (new : Gateway) : Type 0 where

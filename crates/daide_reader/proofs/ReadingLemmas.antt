@@ -1,9 +1,8 @@
 -- A reader after one more token.
-use Rattle.std.proofs.Common.{◌≡◌, ◌≢◌, ℕ, zero, suc, ◌+◌, ◌-◌, ◌*◌, ◌%◌, ◌^◌, ◌≤◌, ◌<◌, ◌==◌, Bool, true, false, ◌||◌, List, [], ◌∷◌, ◌++◌, length, reverse, Option, None, Some, IfSome, IsSome, IsTrue, is_some, refl, sym, ◌∙◌, ap, subst, arith, add-one, if◌then◌else◌, ◌⊎◌, ◌↔◌, inl, inr}
+use Rattle.std.proofs.Common.{◌≡◌, ◌≢◌, ℕ, zero, suc, ◌+◌, ◌-◌, ◌*◌, ◌%◌, ◌^◌, ◌≤◌, ◌<◌, ◌==◌, Bool, true, false, ◌||◌, List, [], ◌∷◌, ◌++◌, length, reverse, Option, None, Some, IfSome, IsSome, IsTrue, is_some, refl, sym, ◌∙◌, ap, subst, arith, if◌then◌else◌, ◌⊎◌, ◌↔◌, inl, inr}
 use Rattle.std.proofs.lemmas.List.{length-append}
 use Rattle.std.proofs.lemmas.Bool.{eqb-true}
 use Rattle.daide_token.specs.declared.class.Class.{Class}
-use Rattle.daide_token.specs.Token.{bra, ket}
 use Rattle.daide_grammar.specs.declared.symbol.Sym.{Sym}
 use Rattle.daide_grammar.specs.Answers.{Answer}
 use Rattle.daide_grammar.specs.declared.predict.Predict.{Ghosts}
@@ -18,20 +17,10 @@ use Rattle.daide_reader.specs.declared.outline.Outline.{Outline}
 use Rattle.daide_reader.specs.Stack.{IsRefused, steps_at}
 use Rattle.daide_reader.specs.Outline.{IsOutlineOf, with_token}
 use Rattle.daide_reader.specs.Reading.{Reading, IsRaised, StandsAfter, StackOrPlace, HasPlace, IsSteady, IsSettled, steps_since, brackets_open}
-use Rattle.daide_reader.proofs.StackLemmas.{after_plain, after_open, after_close, four_steps}
+use Rattle.daide_reader.proofs.StackLemmas.{lawful_more, four_steps}
 use Rattle.daide_grammar.proofs.Counting.{counted-snoc}
 use Rattle.daide_reader.proofs.OutlineLemmas.{outline-snoc}
 use Rattle.daide_reader.proofs.ErrorPlaceLemmas.{expects_start, expects_taken, wrong_here, place_kept}
-
-closes_one : (n less : ℕ) → n ≡ less + 1 → count_one false true (Some n) ≡ Some less
-closes_one n less e = rw (e, add-one) refl
-
--- a token that is no bracket
-is_no_bra : (t : ℕ) → is_bra t ≡ false → t ≢ bra
-is_no_bra t h e = let yes : is_bra t ≡ true = ap is_bra e in let f : true ≡ false = sym yes ∙ h in cc
-
-is_no_ket : (t : ℕ) → is_ket t ≡ false → t ≢ ket
-is_no_ket t h e = let yes : is_ket t ≡ true = ap is_ket e in let f : true ≡ false = sym yes ∙ h in cc
 
 -- what a reader's count says, in a message that does not begin with PRN
 pub counted_now : (u : Option ℕ) (p : List ℕ) → begins_with_prn p ≡ false
@@ -59,31 +48,7 @@ stands_along {T = T} table words first max_depth old new p same h =
 module _ {T : Type 0} (table : Ghosts T)
     (laws : (w : Words) → PredictLaws (table.class_of w) (table.language w) (table.moves w) (table.ends w) (table.lawful w))
     (words : Words) where
-  -- the stack after a token is lawful at the new count
-  pub lawful_more : (t n max_depth : ℕ) (stack after : List Sym) → table.lawful words stack n → n ≤ max_depth
-      → (is_bra t ≡ true → n ≢ max_depth) → stack_after (table.moves words) (table.class_of words t) stack ≡ Some after
-      → (k : ℕ) × (count_one (is_bra t) (is_ket t) (Some n) ≡ Some k) × (k ≤ max_depth) × table.lawful words after k
-  lawful_more t n max_depth stack after ok deep fits e = go (is_bra t) (is_ket t) refl refl
-    where
-      go : (opens closes : Bool) → is_bra t ≡ opens → is_ket t ≡ closes
-          → (k : ℕ) × (count_one (is_bra t) (is_ket t) (Some n) ≡ Some k) × (k ≤ max_depth) × table.lawful words after k
-      go true closes x y =
-          let apart = fits x in
-          let is_open = ((laws words).only_bra t).1 (eqb-true t bra x) in
-          (n + 1, rw x refl, omega arith, after_open _ _ _ _ _ (laws words) t stack after n ok e is_open)
-      go false true x y =
-          let is_close = ((laws words).only_ket t).1 (eqb-true t ket y) in
-          let less = after_close _ _ _ _ _ (laws words) t stack after n ok e is_close in
-          (less.0, rw (x, y) (closes_one n less.0 less.1), (let is = less.1 in omega arith), less.2)
-      go false false x y =
-          let not_open = is_no_bra t x in
-          let not_close = is_no_ket t y in
-          let next = after_plain _ _ _ _ _ (laws words) t stack after n ok e
-          (λ is. not_open (((laws words).only_bra t).0 is))
-          (λ is. not_close (((laws words).only_ket t).0 is)) in
-          (n, rw (x, y) refl, deep, next)
-
-  -- and has room
+  -- the stack after a token has room
   pub room_more : (size t n max_depth : ℕ) (stack : List Sym) → table.lawful words stack n → n ≤ max_depth
       → 8 * max_depth + 16 ≤ size → (is_bra t ≡ true → n ≢ max_depth)
       → IfSome (stack_after (table.moves words) (table.class_of words t) stack) (λ after. length after ≤ size)
@@ -93,7 +58,7 @@ module _ {T : Type 0} (table : Ghosts T)
           → IfSome o (λ after. length after ≤ size)
       go None e = tt
       go (Some after) e =
-          let next = lawful_more t n max_depth stack after ok deep fits e in
+          let next = lawful_more _ _ _ _ _ (laws words) t n max_depth stack after ok deep fits e in
           let few_entries = (laws words).few_entries after next.0 next.3 in
           let below = next.2 in
           omega arith

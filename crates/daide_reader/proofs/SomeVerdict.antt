@@ -1,7 +1,7 @@
 -- Each list of tokens has a verdict: the one that a table finds which keeps the laws of prediction. It is computed, so
 -- that examples can be.
 use Rattle.std.proofs.Common.{◌≡◌, ◌≢◌, ℕ, zero, suc, ◌+◌, ◌-◌, ◌≤◌, ◌==◌, ◌&&◌, Bool, true, false, List, [], ◌∷◌, ◌++◌}
-use Rattle.std.proofs.Common.{length, reverse, drop, Option, None, Some, refl, sym, ap, subst, ◌∙◌, arith, add-one}
+use Rattle.std.proofs.Common.{length, reverse, drop, Option, None, Some, refl, sym, ap, subst, ◌∙◌, arith}
 use Rattle.std.proofs.Common.{append_assoc, append-nil}
 use Rattle.std.proofs.Common.{if◌then◌else◌, ◌⊎◌, inl, inr}
 use Rattle.std.proofs.lemmas.Bool.{eqb-true, eq-eqb}
@@ -9,7 +9,6 @@ use Rattle.std.proofs.lemmas.List.{length-append}
 use Rattle.std.specs.List.{list_all}
 use Rattle.daide_token.specs.declared.class.Class.{Class}
 use Rattle.daide_token.specs.Class.{class_of as token_class}
-use Rattle.daide_token.specs.Token.{bra, ket}
 use Rattle.daide_grammar.specs.declared.level.Level.{Level}
 use Rattle.daide_grammar.specs.declared.side.Side2.{Side2}
 use Rattle.daide_grammar.specs.declared.symbol.Sym.{Sym}
@@ -31,7 +30,7 @@ use Rattle.daide_reader.specs.Verdict.{HasVerdict}
 use Rattle.daide_reader.specs.ViablePrefix.{IsMessageOf}
 use Rattle.daide_reader.proofs.ErrorPlaceLemmas.{expects_start, expects_taken, wrong_here, place_kept}
 use Rattle.daide_reader.proofs.PlainVerdicts.{plain_verdicts}
-use Rattle.daide_reader.proofs.StackLemmas.{after_plain, after_open, after_close}
+use Rattle.daide_reader.proofs.StackLemmas.{lawful_more}
 use Rattle.daide_reader.proofs.VerdictLemmas.{ended, unended, placed, unbalanced, relayed_report, unpaired_report}
 
 -- the ends of a list of tokens
@@ -50,22 +49,17 @@ prn_front : (p m : List ℕ) (t : ℕ) → begins_with_prn (p ++ t ∷ []) ≡ b
 prn_front [] m t = refl
 prn_front (x ∷ p) m t = refl
 
--- a token that is no bracket
-no_bra : (t : ℕ) → is_bra t ≡ false → t ≢ bra
-no_bra t h e = let yes : is_bra t ≡ true = ap is_bra e in let f : true ≡ false = sym yes ∙ h in cc
-
-no_ket : (t : ℕ) → is_ket t ≡ false → t ≢ ket
-no_ket t h e = let yes : is_ket t ≡ true = ap is_ket e in let f : true ≡ false = sym yes ∙ h in cc
-
 -- the open brackets after a token that a table takes
 abbrev open_after : Bool → Bool → ℕ → ℕ
 open_after true closes n = n + 1
 open_after false true n = n - 1
 open_after false false n = n
 
-one_less : (n less : ℕ) → n ≡ less + 1 → count_one false true (Some n) ≡ Some (n - 1)
-one_less n less e =
-    rw (e, add-one) (let same : less ≡ suc less - 1 = omega arith in ap (λ (k : ℕ). Some k) same)
+open_counted : (opens closes : Bool) (n k : ℕ) → count_one opens closes (Some n) ≡ Some k → k ≡ open_after opens closes n
+open_counted true closes n k e = cc
+open_counted false true zero k e = cc
+open_counted false true (suc n) k e = let same : n ≡ k = cc in omega (arith, same)
+open_counted false false n k e = cc
 
 both_tests : (a b : Bool) → (a && b) ≡ true → (a ≡ true) × (b ≡ true)
 both_tests true true e = (refl, refl)
@@ -112,41 +106,6 @@ module _ (class_of : ℕ → Class) (language : Sym → List ℕ → Type 0) (mo
     (may_end : Sym → Bool) (lawful : List Sym → ℕ → Type 0)
     (laws : PredictLaws class_of language moves may_end lawful) (first : Sym) (max_depth : ℕ)
     (begins : lawful (first ∷ []) 0) where
-  -- the stack after a token is lawful at the brackets that are open then
-  record Goes (t n : ℕ) (after : List Sym) : Type 0 where
-    count : count_one (is_bra t) (is_ket t) (Some n) ≡ Some (open_after (is_bra t) (is_ket t) n)
-    few : open_after (is_bra t) (is_ket t) n ≤ max_depth
-    ok : lawful after (open_after (is_bra t) (is_ket t) n)
-
-  goes : (t n : ℕ) (stack after : List Sym) → lawful stack n → n ≤ max_depth → (is_bra t ≡ true → n ≢ max_depth) →
-      stack_after moves (class_of t) stack ≡ Some after → Goes t n after
-  goes t n stack after ok few fits e = go (is_bra t) (is_ket t) refl refl
-    where
-      go : (opens closes : Bool) → is_bra t ≡ opens → is_ket t ≡ closes → Goes t n after
-      go true closes x y =
-          let apart = fits x in
-          let opening = (laws.only_bra t).1 (eqb-true t bra x) in
-          record {
-            count = rw x refl;
-            few = rw x (omega arith);
-            ok = rw x (after_open class_of language moves may_end lawful laws t stack after n ok e opening);
-          }
-      go false true x y =
-          let closing = (laws.only_ket t).1 (eqb-true t ket y) in
-          let less = after_close class_of language moves may_end lawful laws t stack after n ok e closing in
-          let is : less.0 ≡ n - 1 = (let one = less.1 in omega arith) in
-          record {
-            count = rw (x, y) (one_less n less.0 less.1);
-            few = rw (x, y) (omega arith);
-            ok = rw (x, y) (subst (lawful after) is less.2);
-          }
-      go false false x y = record {
-        count = rw (x, y) refl;
-        few = rw (x, y) few;
-        ok = rw (x, y) (after_plain class_of language moves may_end lawful laws t stack after n ok e
-            (λ is. no_bra t x ((laws.only_bra t).0 is)) (λ is. no_ket t y ((laws.only_ket t).0 is)));
-      }
-
   -- what a walk says of the tokens
   abbrev IsWalked : Walked → List ℕ → Type 0
   IsWalked (WrongAt i) m = HasPlace (language first) max_depth m i
@@ -190,14 +149,18 @@ module _ (class_of : ℕ → Class) (language : Sym → List ℕ → Type 0) (mo
           IsWalked (walk class_of moves may_end max_depth (t ∷ m) stack n (length p)) (p ++ t ∷ m)
       by_stack d None e later = rw (d, e) (wrong (inr e))
       by_stack d (Some after) e later =
-          let next = goes t n stack after ok few (fits_at d) e in
-          let more = later after (open_after (is_bra t) (is_ket t) n)
-          (counted-snoc p t ∙ (ap (count_one (is_bra t) (is_ket t)) is_count ∙ next.count)) next.few next.ok
+          let next = lawful_more class_of language moves may_end lawful laws t n max_depth stack after ok few
+          (fits_at d) e in
+          let more = later after next.0
+          (counted-snoc p t ∙ (ap (count_one (is_bra t) (is_ket t)) is_count ∙ next.1)) next.2 next.3
           (expects_taken class_of language moves may_end lawful laws first max_depth p t n stack after plain is_count
           few (fits_at d) ok expects e) in
           let now = open_after (is_bra t) (is_ket t) n in
+          let same = open_counted (is_bra t) (is_ket t) n next.0 next.1 in
           let whole = subst (IsWalked (walk class_of moves may_end max_depth m after now (length (p ++ t ∷ []))))
-          (append_assoc p (t ∷ []) m) more in
+          (append_assoc p (t ∷ []) m)
+          (subst (λ (k : ℕ). IsWalked (walk class_of moves may_end max_depth m after k (length (p ++ t ∷ []))) ((p ++ t ∷ []) ++ m))
+          same more) in
           rw (d, e) (subst (λ (k : ℕ). IsWalked (walk class_of moves may_end max_depth m after now k) (p ++ t ∷ m))
           (length-append p (t ∷ [])) whole)
 

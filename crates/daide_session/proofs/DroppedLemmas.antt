@@ -16,8 +16,8 @@ use Rattle.daide_session.specs.Traffic.{Arrival, Fields, IsBegun, IsReleased, Is
 use Rattle.daide_session.specs.Traffic.{answer_mark}
 use Rattle.daide_session.specs.Traffic.{answered_by, answers_of, arrival_of, behind, bytes_in, count_of, end_mark}
 use Rattle.daide_session.specs.Traffic.{frame_of}
-use Rattle.daide_session.specs.Traffic.{frames_of, is_awaited, others, pending_by, presence, traffic_of}
-use Rattle.daide_session.proofs.AwaitedLemmas.{awaited_field, seen}
+use Rattle.daide_session.specs.Traffic.{frames_of, others, pending_by, presence, traffic_of}
+use Rattle.daide_session.proofs.AwaitedLemmas.{IsSeen, seen}
 use Rattle.daide_session.proofs.BothLemmas.{both_same}
 use Rattle.daide_session.proofs.GoneLemmas.{lets_same}
 use Rattle.daide_session.proofs.MarksLemmas.{least, mark_is}
@@ -27,68 +27,6 @@ record IsDropped (f n : Fields) (to : Side) (x : Waiting) (items : List Waiting)
   wires : n.wires ≡ put f.wires to (record { written = 0; items = items })
   sides : (one : Side) → IsReleased (answers_of x) one (at f.sides one) (at n.sides one)
 
--- an answer waits once
-dropped_presence : (f n : Fields) (to : Side) (x : Waiting) (items : List Waiting) → IsSound f →
-    IsDropped f n to x items →
-    (one : Side) → presence (at n.sides one).verdict + answer_mark one x ≡ presence (at f.sides one).verdict
-dropped_presence f n to x items i d one = go (is_answer one (answers_of x)) refl
-  where
-    more : count_of (answer_mark one) (at f.wires to).items ≡ answer_mark one x + count_of (answer_mark one) items
-    more = ap (count_of (answer_mark one)) d.was
-
-    once : (wire : Side) → count_of (answer_mark one) (at f.wires wire).items ≤ presence (at f.sides one).verdict
-    once Bot = omega (arith, i.once one)
-    once Server = omega (arith, i.once one)
-
-    go : (k : Bool) → is_answer one (answers_of x) ≡ k →
-        presence (at n.sides one).verdict + answer_mark one x ≡ presence (at f.sides one).verdict
-    go true e =
-        let mark : answer_mark one x ≡ 1 = rw e at (mark_is one x) in
-        let gone : presence (at n.sides one).verdict ≡ 0 = ap presence ((d.sides one).its e).unanswered in
-        omega (arith, more, once to, least (at f.sides one).verdict)
-    go false e =
-        let mark : answer_mark one x ≡ 0 = rw e at (mark_is one x) in
-        let same : presence (at n.sides one).verdict ≡ presence (at f.sides one).verdict =
-        ap (λ (y : Inbound). presence y.verdict) ((d.sides one).kept e) in
-        omega arith
-
--- a frame that still waits has the bytes that it had
-kept_bytes : (f n : Fields) (to : Side) (x : Waiting) (items : List Waiting) → IsSound f → IsDropped f n to x items →
-    (item : Waiting) → ((one : Side) → answer_mark one item ≤ presence (at n.sides one).verdict) →
-    bytes_in (answer_at n.sides) item ≡ bytes_in (answer_at f.sides) item
-kept_bytes f n to x items i d (Answer side) here = go (is_answer side (answers_of x)) refl
-  where
-    self : (one : Side) → answer_mark one (Answer one) ≡ 1
-    self Bot = refl
-    self Server = refl
-
-    go : (k : Bool) → is_answer side (answers_of x) ≡ k → answer_at n.sides side ≡ answer_at f.sides side
-    go true e =
-        let gone : presence (at n.sides side).verdict ≡ 0 = ap presence ((d.sides side).its e).unanswered in
-        absurd (omega (arith, here side, self side))
-    go false e = rw ((d.sides side).kept e) refl
-kept_bytes f n to x items i d Fm here = refl
-kept_bytes f n to x items i d (Em code) here = refl
-
-kept_frames : (f n : Fields) (to one : Side) (x : Waiting) (items : List Waiting) → IsSound f →
-    IsDropped f n to x items →
-    (some : List Waiting) → ((side : Side) → count_of (answer_mark side) some ≤ presence (at n.sides side).verdict) →
-    map (frame_of one (answer_at n.sides)) some ≡ map (frame_of one (answer_at f.sides)) some
-kept_frames f n to one x items i d [] here = refl
-kept_frames f n to one x items i d (y ∷ some) here =
-    rw (
-      kept_bytes f n to x items i d y (λ side. omega (arith, here side)),
-      kept_frames f n to one x items i d some (λ side. omega (arith, here side)),
-    ) refl
-
-kept_begun : (f n : Fields) (to : Side) (x : Waiting) (items : List Waiting) → IsSound f → IsDropped f n to x items →
-    (k : ℕ) (some : List Waiting) → ((side : Side) → count_of (answer_mark side) some ≤ presence
-    (at n.sides side).verdict) →
-    IsBegun (answer_at f.sides) k some → IsBegun (answer_at n.sides) k some
-kept_begun f n to x items i d k [] here h = h
-kept_begun f n to x items i d k (y ∷ some) here h =
-    rw (kept_bytes f n to x items i d y (λ side. omega (arith, here side))) h
-
 -- a frame of which nothing is gone is begun
 fresh : (answers : Side → List ℕ) (items : List Waiting) →
     ((side : Side) → 1 ≤ count_of (answer_mark side) items → 0 < length (answers side)) → IsBegun answers 0 items
@@ -97,21 +35,6 @@ fresh answers (Answer Bot ∷ items) full = full Bot (omega arith)
 fresh answers (Answer Server ∷ items) full = full Server (omega arith)
 fresh answers (Fm ∷ items) full = omega arith
 fresh answers (Em code ∷ items) full = omega arith
-
-dropped_once : (f n : Fields) (to : Side) (x : Waiting) (items : List Waiting) → IsSound f → IsDropped f n to x items →
-    (one : Side) → count_of (answer_mark one) n.wires.bot.items + count_of (answer_mark one) n.wires.server.items
-    ≡ presence (at n.sides one).verdict
-dropped_once f n to x items i d one = rw d.wires (go to d.was)
-  where
-    left : presence (at n.sides one).verdict + answer_mark one x ≡ presence (at f.sides one).verdict
-    left = dropped_presence f n to x items i d one
-
-    go : (wire : Side) → (at f.wires wire).items ≡ x ∷ items →
-        count_of (answer_mark one) (put f.wires wire (record { written = 0; items = items })).bot.items
-        + count_of (answer_mark one) (put f.wires wire (record { written = 0; items = items })).server.items
-        ≡ presence (at n.sides one).verdict
-    go Bot e = omega (arith, left, i.once one, ap (count_of (answer_mark one)) e)
-    go Server e = omega (arith, left, i.once one, ap (count_of (answer_mark one)) e)
 
 -- ---- what a side is after the first frame is gone
 
@@ -160,51 +83,6 @@ released_after old new b some = record {
     still None e h = absurd (omega (arith, e))
     still (Some verdict) e h = absurd (cc)
 
-dropped_side : (f n : Fields) (to : Side) (x : Waiting) (items : List Waiting) → IsSound f → IsDropped f n to x items →
-    (one : Side) → IsSideAfter (at f.sides one) (at n.sides one)
-dropped_side f n to x items i d one = go (is_answer one (answers_of x)) refl
-  where
-    go : (k : Bool) → is_answer one (answers_of x) ≡ k → IsSideAfter (at f.sides one) (at n.sides one)
-    go true e =
-        let mark : answer_mark one x ≡ 1 = rw e at (mark_is one x) in
-        let count = dropped_presence f n to x items i d one in
-        released_after (at f.sides one) (at n.sides one) ((d.sides one).its e)
-        (omega (arith, count, least (at f.sides one).verdict))
-    go false e =
-        subst (λ (y : Inbound). IsSideAfter (at f.sides one) y) (sym ((d.sides one).kept e))
-        (same_after (at f.sides one))
-
-dropped_goes : (f n : Fields) (to : Side) (x : Waiting) (items : List Waiting) → IsSound f → IsSound n →
-    IsDropped f n to x items → LetsGo (traffic_of f) (traffic_of n)
-dropped_goes f n to x items i j d = record {
-  cap = (dropped_side f n to x items i d Bot).cap;
-  max_depth = (dropped_side f n to x items i d Bot).max_depth;
-  coming = λ one. ap (λ (a : Arrival). a.coming) (new one) ∙ (side one).coming
-      ∙ sym (ap (λ (a : Arrival). a.coming) (old one));
-  total = λ one. ap (λ (a : Arrival). a.holding.total) (new one) ∙ (side one).total
-      ∙ sym (ap (λ (a : Arrival). a.holding.total) (old one));
-  fewer = λ one e. waits_new one ∙ (side one).fewer (sym (waits_old one) ∙ e);
-  gone = λ one some none. ap (λ (a : Arrival). a.holding.held) (new one)
-      ∙ (side one).gone (sym (waits_old one) ∙ some) (sym (waits_new one) ∙ none);
-  kept = λ one e. ap (λ (a : Arrival). a.holding) (new one)
-      ∙ (side one).kept (sym (waits_new one) ∙ e ∙ waits_old one) ∙ sym (ap (λ (a : Arrival). a.holding) (old one));
-}
-  where
-    side : (one : Side) → IsSideAfter (at f.sides one) (at n.sides one)
-    side one = dropped_side f n to x items i d one
-
-    old : (one : Side) → at (traffic_of f).sides one ≡ arrival_of (at f.sides one)
-    old one = (seen f (traffic_of f) one one refl i refl).arrival
-
-    new : (one : Side) → at (traffic_of n).sides one ≡ arrival_of (at n.sides one)
-    new one = (seen n (traffic_of n) one one refl j refl).arrival
-
-    waits_old : (one : Side) → is_awaited (traffic_of f) one ≡ is_some (at f.sides one).verdict
-    waits_old one = awaited_field f (traffic_of f) one one refl i refl
-
-    waits_new : (one : Side) → is_awaited (traffic_of n) one ≡ is_some (at n.sides one).verdict
-    waits_new one = awaited_field n (traffic_of n) one one refl j refl
-
 -- ---- what waits after the first frame is gone
 
 behind_none : (frames : List Sent) → behind 0 frames ≡ frames
@@ -212,117 +90,225 @@ behind_none [] = refl
 behind_none (frame ∷ frames) = refl
 
 -- what a drop leaves
-pub record IsLeft (f n : Fields) (to : Side) : Type 0 where
+pub record IsLeft (t : Traffic) (n : Fields) (to : Side) : Type 0 where
   pub sound : IsSound n
-  pub goes : LetsGo (traffic_of f) (traffic_of n)
-  pub waiting : (traffic_of n).waiting ≡ put (traffic_of f).waiting to (others (at (traffic_of f).waiting to))
+  pub goes : LetsGo t (traffic_of n)
+  pub waiting : (traffic_of n).waiting ≡ put t.waiting to (others (at t.waiting to))
 
 abbrev after_drop : Both Queue → Side → List Waiting → Both Queue
 after_drop w to items = put w to (record { written = 0; items = items })
 
-left_one : (f n : Fields) (to : Side) (x : Waiting) (items : List Waiting) → IsSound f → IsDropped f n to x items →
-    IsLeft f n to
-left_one f n to x items i d = record {
-  sound = sound;
-  goes = dropped_goes f n to x items i sound d;
-  waiting = subst (λ (w : Both Queue). (traffic_of (record { sides = n.sides; wires = w })).waiting
-      ≡ put (traffic_of f).waiting to (others (at (traffic_of f).waiting to))) (sym d.wires) (told to d.was here);
-}
+module _ (f n : Fields) (to : Side) (x : Waiting) (items : List Waiting) (i : IsSound f) (d : IsDropped f n to x items)
   where
-    cap_of : (one : Side) → (at n.sides one).cap ≡ (at f.sides one).cap
-    cap_of one = (dropped_side f n to x items i d one).cap
+    -- an answer waits once
+    dropped_presence : (one : Side) → presence (at n.sides one).verdict + answer_mark one x ≡ presence (at f.sides one).verdict
+    dropped_presence one = go (is_answer one (answers_of x)) refl
+      where
+        more : count_of (answer_mark one) (at f.wires to).items ≡ answer_mark one x + count_of (answer_mark one) items
+        more = ap (count_of (answer_mark one)) d.was
 
-    depth_of : (one : Side) → (at n.sides one).max_depth ≡ (at f.sides one).max_depth
-    depth_of one = (dropped_side f n to x items i d one).max_depth
+        once : (wire : Side) → count_of (answer_mark one) (at f.wires wire).items ≤ presence (at f.sides one).verdict
+        once Bot = omega (arith, i.once one)
+        once Server = omega (arith, i.once one)
 
-    once : (one : Side) → count_of (answer_mark one) n.wires.bot.items + count_of (answer_mark one) n.wires.server.items
-        ≡ presence (at n.sides one).verdict
-    once one = dropped_once f n to x items i d one
+        go : (k : Bool) → is_answer one (answers_of x) ≡ k →
+            presence (at n.sides one).verdict + answer_mark one x ≡ presence (at f.sides one).verdict
+        go true e =
+            let mark : answer_mark one x ≡ 1 = rw e at (mark_is one x) in
+            let gone : presence (at n.sides one).verdict ≡ 0 = ap presence ((d.sides one).its e).unanswered in
+            omega (arith, more, once to, least (at f.sides one).verdict)
+        go false e =
+            let mark : answer_mark one x ≡ 0 = rw e at (mark_is one x) in
+            let same : presence (at n.sides one).verdict ≡ presence (at f.sides one).verdict =
+            ap (λ (y : Inbound). presence y.verdict) ((d.sides one).kept e) in
+            omega arith
 
-    on_wire : (one wire : Side) → count_of (answer_mark one) (at n.wires wire).items ≤ presence (at n.sides one).verdict
-    on_wire one Bot = omega (arith, once one)
-    on_wire one Server = omega (arith, once one)
+    -- a frame that still waits has the bytes that it had
+    kept_bytes : (item : Waiting) → ((one : Side) → answer_mark one item ≤ presence (at n.sides one).verdict) →
+        bytes_in (answer_at n.sides) item ≡ bytes_in (answer_at f.sides) item
+    kept_bytes (Answer side) here = go (is_answer side (answers_of x)) refl
+      where
+        self : (one : Side) → answer_mark one (Answer one) ≡ 1
+        self Bot = refl
+        self Server = refl
 
-    here : (one wire : Side) → count_of (answer_mark one) (at (after_drop f.wires to items) wire).items
-        ≤ presence (at n.sides one).verdict
-    here one wire = subst (λ (w : Both Queue). count_of (answer_mark one) (at w wire).items ≤ presence
-        (at n.sides one).verdict)
-        d.wires (on_wire one wire)
+        go : (k : Bool) → is_answer side (answers_of x) ≡ k → answer_at n.sides side ≡ answer_at f.sides side
+        go true e =
+            let gone : presence (at n.sides side).verdict ≡ 0 = ap presence ((d.sides side).its e).unanswered in
+            absurd (omega (arith, here side, self side))
+        go false e = rw ((d.sides side).kept e) refl
+    kept_bytes Fm here = refl
+    kept_bytes (Em code) here = refl
 
-    ends : (wire one : Side) → (at f.wires wire).items ≡ x ∷ items →
-        count_of end_mark (at (after_drop f.wires wire items) one).items ≤ 1
-    ends Bot Bot e = omega (arith, ap (count_of end_mark) e, i.ends Bot)
-    ends Bot Server e = i.ends Server
-    ends Server Bot e = i.ends Bot
-    ends Server Server e = omega (arith, ap (count_of end_mark) e, i.ends Server)
+    kept_frames : (one : Side) (some : List Waiting) → ((side : Side) → count_of (answer_mark side) some ≤ presence (at n.sides side).verdict) →
+        map (frame_of one (answer_at n.sides)) some ≡ map (frame_of one (answer_at f.sides)) some
+    kept_frames one [] here = refl
+    kept_frames one (y ∷ some) here =
+        rw (
+          kept_bytes y (λ side. omega (arith, here side)),
+          kept_frames one some (λ side. omega (arith, here side)),
+        ) refl
 
-    filled : (one : Side) → presence (at n.sides one).verdict ≡ 1 → (k : Bool) → is_answer one (answers_of x) ≡ k →
-        0 < length (answer_at n.sides one)
-    filled one h true e =
-        let gone : presence (at n.sides one).verdict ≡ 0 = ap presence ((d.sides one).its e).unanswered in
-        absurd (omega arith)
-    filled one h false e =
-        let same = (d.sides one).kept e in
-        subst (λ (y : Inbound). 0 < length (answer_of y)) (sym same)
-        (i.filled one (sym (ap (λ (y : Inbound). presence y.verdict) same) ∙ h))
-
-    full : (one : Side) → 1 ≤ presence (at n.sides one).verdict → 0 < length (answer_at n.sides one)
-    full one h = filled one (omega (arith, least (at n.sides one).verdict)) (is_answer one (answers_of x)) refl
-
-    begun : (wire one : Side) →
-        ((side two : Side) → count_of (answer_mark side) (at (after_drop f.wires wire items) two).items
-        ≤ presence (at n.sides side).verdict) →
-        IsBegun (answer_at n.sides) (at (after_drop f.wires wire items) one).written
-        (at (after_drop f.wires wire items) one).items
-    begun Bot Bot h = fresh (answer_at n.sides) items (λ side some. full side (omega (arith, h side Bot)))
-    begun Bot Server h =
-        kept_begun f n to x items i d f.wires.server.written f.wires.server.items (λ side. h side Server)
-        (i.begun Server)
-    begun Server Bot h =
-        kept_begun f n to x items i d f.wires.bot.written f.wires.bot.items (λ side. h side Bot) (i.begun Bot)
-    begun Server Server h = fresh (answer_at n.sides) items (λ side some. full side (omega (arith, h side Server)))
-
-    tail : (one : Side) (k : ℕ) (its : List Waiting) → its ≡ x ∷ items →
-        ((side : Side) → count_of (answer_mark side) items ≤ presence (at n.sides side).verdict) →
-        behind 0 (map (frame_of one (answer_at n.sides)) items)
-        ≡ others (behind k (map (frame_of one (answer_at f.sides)) its))
-    tail one k its e h =
-        behind_none (map (frame_of one (answer_at n.sides)) items)
-        ∙ kept_frames f n to one x items i d items h
-        ∙ sym (ap (λ (t : List Waiting). others (behind k (map (frame_of one (answer_at f.sides)) t))) e)
-
-    still : (one : Side) (q : Queue) → ((side : Side) → count_of (answer_mark side) q.items ≤ presence
+    kept_begun : (k : ℕ) (some : List Waiting) → ((side : Side) → count_of (answer_mark side) some ≤ presence
         (at n.sides side).verdict) →
-        frames_of one (answer_at n.sides) q ≡ frames_of one (answer_at f.sides) q
-    still one q h = ap (behind q.written) (kept_frames f n to one x items i d q.items h)
+        IsBegun (answer_at f.sides) k some → IsBegun (answer_at n.sides) k some
+    kept_begun k [] here h = h
+    kept_begun k (y ∷ some) here h =
+        rw (kept_bytes y (λ side. omega (arith, here side))) h
 
-    told : (wire : Side) → (at f.wires wire).items ≡ x ∷ items →
-        ((side two : Side) → count_of (answer_mark side) (at (after_drop f.wires wire items) two).items
-        ≤ presence (at n.sides side).verdict) →
-        (traffic_of (record { sides = n.sides; wires = after_drop f.wires wire items })).waiting
-        ≡ put (traffic_of f).waiting wire (others (at (traffic_of f).waiting wire))
-    told Bot e h = both_same _ _ (tail Bot f.wires.bot.written f.wires.bot.items e (λ side. h side Bot))
-        (still Server f.wires.server (λ side. h side Server))
-    told Server e h = both_same _ _ (still Bot f.wires.bot (λ side. h side Bot))
-        (tail Server f.wires.server.written f.wires.server.items e (λ side. h side Server))
+    dropped_once : (one : Side) → count_of (answer_mark one) n.wires.bot.items + count_of (answer_mark one) n.wires.server.items
+        ≡ presence (at n.sides one).verdict
+    dropped_once one = rw d.wires (go to d.was)
+      where
+        left : presence (at n.sides one).verdict + answer_mark one x ≡ presence (at f.sides one).verdict
+        left = dropped_presence one
 
-    sound : IsSound n
-    sound = record {
-      its_side = λ one. (dropped_side f n to x items i d one).side ∙ i.its_side one;
-      same_cap = cap_of Server ∙ i.same_cap ∙ sym (cap_of Bot);
-      same_depth = depth_of Server ∙ i.same_depth ∙ sym (depth_of Bot);
-      once = once;
-      ends = λ one. subst (λ (w : Both Queue). count_of end_mark (at w one).items ≤ 1) (sym d.wires)
-          (ends to one d.was);
-      filled = λ one h. filled one h (is_answer one (answers_of x)) refl;
-      begun = λ one. subst (λ (w : Both Queue). IsBegun (answer_at n.sides) (at w one).written (at w one).items)
-          (sym d.wires)
-          (begun to one here);
+        go : (wire : Side) → (at f.wires wire).items ≡ x ∷ items →
+            count_of (answer_mark one) (put f.wires wire (record { written = 0; items = items })).bot.items
+            + count_of (answer_mark one) (put f.wires wire (record { written = 0; items = items })).server.items
+            ≡ presence (at n.sides one).verdict
+        go Bot e = omega (arith, left, i.once one, ap (count_of (answer_mark one)) e)
+        go Server e = omega (arith, left, i.once one, ap (count_of (answer_mark one)) e)
+
+    dropped_side : (one : Side) → IsSideAfter (at f.sides one) (at n.sides one)
+    dropped_side one = go (is_answer one (answers_of x)) refl
+      where
+        go : (k : Bool) → is_answer one (answers_of x) ≡ k → IsSideAfter (at f.sides one) (at n.sides one)
+        go true e =
+            let mark : answer_mark one x ≡ 1 = rw e at (mark_is one x) in
+            let count = dropped_presence one in
+            released_after (at f.sides one) (at n.sides one) ((d.sides one).its e)
+            (omega (arith, count, least (at f.sides one).verdict))
+        go false e =
+            subst (λ (y : Inbound). IsSideAfter (at f.sides one) y) (sym ((d.sides one).kept e))
+            (same_after (at f.sides one))
+
+    dropped_goes : IsSound n → LetsGo (traffic_of f) (traffic_of n)
+    dropped_goes j = record {
+      cap = (dropped_side Bot).cap;
+      max_depth = (dropped_side Bot).max_depth;
+      coming = λ one. ap (λ (a : Arrival). a.coming) (now one).arrival ∙ (side one).coming
+          ∙ sym (ap (λ (a : Arrival). a.coming) (was one).arrival);
+      total = λ one. ap (λ (a : Arrival). a.holding.total) (now one).arrival ∙ (side one).total
+          ∙ sym (ap (λ (a : Arrival). a.holding.total) (was one).arrival);
+      fewer = λ one e. (now one).awaited ∙ (side one).fewer (sym ((was one).awaited) ∙ e);
+      gone = λ one some none. ap (λ (a : Arrival). a.holding.held) (now one).arrival
+          ∙ (side one).gone (sym ((was one).awaited) ∙ some) (sym ((now one).awaited) ∙ none);
+      kept = λ one e. ap (λ (a : Arrival). a.holding) (now one).arrival
+          ∙ (side one).kept (sym ((now one).awaited) ∙ e ∙ (was one).awaited) ∙ sym (ap (λ (a : Arrival). a.holding) (was one).arrival);
     }
+      where
+        side : (one : Side) → IsSideAfter (at f.sides one) (at n.sides one)
+        side one = dropped_side one
+
+        was : (one : Side) → IsSeen f (traffic_of f) one one
+        was one = seen f (traffic_of f) one one refl i refl
+
+        now : (one : Side) → IsSeen n (traffic_of n) one one
+        now one = seen n (traffic_of n) one one refl j refl
+
+    left_one : IsLeft (traffic_of f) n to
+    left_one = record {
+      sound = sound;
+      goes = dropped_goes sound;
+      waiting = subst (λ (w : Both Queue). (traffic_of (record { sides = n.sides; wires = w })).waiting
+          ≡ put (traffic_of f).waiting to (others (at (traffic_of f).waiting to))) (sym d.wires) (told to d.was here);
+    }
+      where
+        cap_of : (one : Side) → (at n.sides one).cap ≡ (at f.sides one).cap
+        cap_of one = (dropped_side one).cap
+
+        depth_of : (one : Side) → (at n.sides one).max_depth ≡ (at f.sides one).max_depth
+        depth_of one = (dropped_side one).max_depth
+
+        once : (one : Side) → count_of (answer_mark one) n.wires.bot.items + count_of (answer_mark one) n.wires.server.items
+            ≡ presence (at n.sides one).verdict
+        once one = dropped_once one
+
+        on_wire : (one wire : Side) → count_of (answer_mark one) (at n.wires wire).items ≤ presence (at n.sides one).verdict
+        on_wire one Bot = omega (arith, once one)
+        on_wire one Server = omega (arith, once one)
+
+        here : (one wire : Side) → count_of (answer_mark one) (at (after_drop f.wires to items) wire).items
+            ≤ presence (at n.sides one).verdict
+        here one wire = subst (λ (w : Both Queue). count_of (answer_mark one) (at w wire).items ≤ presence
+            (at n.sides one).verdict)
+            d.wires (on_wire one wire)
+
+        ends : (wire one : Side) → (at f.wires wire).items ≡ x ∷ items →
+            count_of end_mark (at (after_drop f.wires wire items) one).items ≤ 1
+        ends Bot Bot e = omega (arith, ap (count_of end_mark) e, i.ends Bot)
+        ends Bot Server e = i.ends Server
+        ends Server Bot e = i.ends Bot
+        ends Server Server e = omega (arith, ap (count_of end_mark) e, i.ends Server)
+
+        filled : (one : Side) → presence (at n.sides one).verdict ≡ 1 → (k : Bool) → is_answer one (answers_of x) ≡ k →
+            0 < length (answer_at n.sides one)
+        filled one h true e =
+            let gone : presence (at n.sides one).verdict ≡ 0 = ap presence ((d.sides one).its e).unanswered in
+            absurd (omega arith)
+        filled one h false e =
+            let same = (d.sides one).kept e in
+            subst (λ (y : Inbound). 0 < length (answer_of y)) (sym same)
+            (i.filled one (sym (ap (λ (y : Inbound). presence y.verdict) same) ∙ h))
+
+        full : (one : Side) → 1 ≤ presence (at n.sides one).verdict → 0 < length (answer_at n.sides one)
+        full one h = filled one (omega (arith, least (at n.sides one).verdict)) (is_answer one (answers_of x)) refl
+
+        begun : (wire one : Side) →
+            ((side two : Side) → count_of (answer_mark side) (at (after_drop f.wires wire items) two).items
+            ≤ presence (at n.sides side).verdict) →
+            IsBegun (answer_at n.sides) (at (after_drop f.wires wire items) one).written
+            (at (after_drop f.wires wire items) one).items
+        begun Bot Bot h = fresh (answer_at n.sides) items (λ side some. full side (omega (arith, h side Bot)))
+        begun Bot Server h =
+            kept_begun f.wires.server.written f.wires.server.items (λ side. h side Server)
+            (i.begun Server)
+        begun Server Bot h =
+            kept_begun f.wires.bot.written f.wires.bot.items (λ side. h side Bot) (i.begun Bot)
+        begun Server Server h = fresh (answer_at n.sides) items (λ side some. full side (omega (arith, h side Server)))
+
+        tail : (one : Side) (k : ℕ) (its : List Waiting) → its ≡ x ∷ items →
+            ((side : Side) → count_of (answer_mark side) items ≤ presence (at n.sides side).verdict) →
+            behind 0 (map (frame_of one (answer_at n.sides)) items)
+            ≡ others (behind k (map (frame_of one (answer_at f.sides)) its))
+        tail one k its e h =
+            behind_none (map (frame_of one (answer_at n.sides)) items)
+            ∙ kept_frames one items h
+            ∙ sym (ap (λ (t : List Waiting). others (behind k (map (frame_of one (answer_at f.sides)) t))) e)
+
+        still : (one : Side) (q : Queue) → ((side : Side) → count_of (answer_mark side) q.items ≤ presence
+            (at n.sides side).verdict) →
+            frames_of one (answer_at n.sides) q ≡ frames_of one (answer_at f.sides) q
+        still one q h = ap (behind q.written) (kept_frames one q.items h)
+
+        told : (wire : Side) → (at f.wires wire).items ≡ x ∷ items →
+            ((side two : Side) → count_of (answer_mark side) (at (after_drop f.wires wire items) two).items
+            ≤ presence (at n.sides side).verdict) →
+            (traffic_of (record { sides = n.sides; wires = after_drop f.wires wire items })).waiting
+            ≡ put (traffic_of f).waiting wire (others (at (traffic_of f).waiting wire))
+        told Bot e h = both_same _ _ (tail Bot f.wires.bot.written f.wires.bot.items e (λ side. h side Bot))
+            (still Server f.wires.server (λ side. h side Server))
+        told Server e h = both_same _ _ (still Bot f.wires.bot (λ side. h side Bot))
+            (tail Server f.wires.server.written f.wires.server.items e (λ side. h side Server))
+
+        sound : IsSound n
+        sound = record {
+          its_side = λ one. (dropped_side one).side ∙ i.its_side one;
+          same_cap = cap_of Server ∙ i.same_cap ∙ sym (cap_of Bot);
+          same_depth = depth_of Server ∙ i.same_depth ∙ sym (depth_of Bot);
+          once = once;
+          ends = λ one. subst (λ (w : Both Queue). count_of end_mark (at w one).items ≤ 1) (sym d.wires)
+              (ends to one d.was);
+          filled = λ one h. filled one h (is_answer one (answers_of x)) refl;
+          begun = λ one. subst (λ (w : Both Queue). IsBegun (answer_at n.sides) (at w one).written (at w one).items)
+              (sym d.wires)
+              (begun to one here);
+        }
 
 left_none : (f n : Fields) (to : Side) → IsSound f → (at f.wires to).items ≡ [] →
-    n.wires ≡ after_drop f.wires to [] → ((one : Side) → at n.sides one ≡ at f.sides one) → IsLeft f n to
-left_none f n to i none wires sides = subst (λ (m : Fields). IsLeft f m to) (sym same) (record {
+    n.wires ≡ after_drop f.wires to [] → ((one : Side) → at n.sides one ≡ at f.sides one) → IsLeft (traffic_of f) n to
+left_none f n to i none wires sides = subst (λ (m : Fields). IsLeft (traffic_of f) m to) (sym same) (record {
   sound = i;
   goes = lets_same (traffic_of f);
   waiting = told to none;
@@ -359,10 +345,10 @@ left_none f n to i none wires sides = subst (λ (m : Fields). IsLeft f m to) (sy
 left : (f n : Fields) (to : Side) → IsSound f →
     n.wires ≡ put f.wires to (record { written = 0; items = tail_of (at f.wires to).items }) →
     ((one : Side) → IsReleased (answered_by (first_of (at f.wires to).items)) one (at f.sides one) (at n.sides one)) →
-    IsLeft f n to
+    IsLeft (traffic_of f) n to
 left f n to i wires sides = go (at f.wires to).items refl
   where
-    go : (its : List Waiting) → (at f.wires to).items ≡ its → IsLeft f n to
+    go : (its : List Waiting) → (at f.wires to).items ≡ its → IsLeft (traffic_of f) n to
     go [] e = left_none f n to i e (rw e at wires) (λ one. (rw e at (sides one)).kept refl)
     go (x ∷ its) e = left_one f n to x its i (record {
       was = e;
@@ -370,20 +356,14 @@ left f n to i wires sides = go (at f.wires to).items refl
       sides = λ one. rw e at (sides one);
     })
 
--- what a call says that drops the first frame, where t is the value that the fields stand for
-pub record IsDroppedFirst (f n : Fields) (t : Traffic) (to : Side) : Type 0 where
-  pub sound : IsSound n
-  pub goes : LetsGo t (traffic_of n)
-  pub waiting : (traffic_of n).waiting ≡ put t.waiting to (others (at t.waiting to))
-
+-- what a call leaves that drops the first frame, where t is the value that the fields stand for
 pub dropped_first : (f n : Fields) (t : Traffic) (to : Side) (gone : Option Waiting) → traffic_of f ≡ t → IsSound f →
     gone ≡ first_of (at f.wires to).items →
     n.wires ≡ put f.wires to (record { written = 0; items = tail_of (at f.wires to).items }) →
     IsReleased (answered_by gone) Bot f.sides.bot n.sides.bot →
-    IsReleased (answered_by gone) Server f.sides.server n.sides.server → IsDroppedFirst f n t to
+    IsReleased (answered_by gone) Server f.sides.server n.sides.server → IsLeft t n to
 dropped_first f n t to gone is i e wires b s =
-    let l = left f n to i wires (rw e at sides) in
-    subst (λ (v : Traffic). IsDroppedFirst f n v to) is (record { sound = l.sound; goes = l.goes; waiting = l.waiting })
+    subst (λ (v : Traffic). IsLeft v n to) is (left f n to i wires (rw e at sides))
   where
     sides : (one : Side) → IsReleased (answered_by gone) one (at f.sides one) (at n.sides one)
     sides Bot = b

@@ -1,5 +1,5 @@
 -- What is handed to a wire next is a front of the first frame that waits for it.
-use Rattle.std.proofs.Common.{◌≡◌, ℕ, ◌-◌, ◌≤◌, List, [], ◌∷◌, drop, Some, None}
+use Rattle.std.proofs.Common.{◌≡◌, ℕ, ◌-◌, ◌≤◌, List, [], ◌∷◌, drop, Some}
 use Rattle.std.proofs.Common.{refl, sym, ap, ◌∙◌, subst, arith, length-drop, append-nil}
 use Rattle.daide_frame.specs.declared.side.Side.{Side}
 use Rattle.daide_frame.specs.declared.side.Side.TheVariants.{Bot, Server}
@@ -56,12 +56,7 @@ front_is sides to gone (Fm ∷ items) h =
 front_is sides to gone (Em code ∷ items) h =
     (omega (arith, length-drop gone (em_bytes code), h), ([], sym (append-nil (drop gone (em_bytes code)))))
 
--- by the first of the frames
-pub front_none : (sides : Both Inbound) (gone : ℕ) (items : List Waiting) → first_of items ≡ None →
-    ◌≡◌ {A = List ℕ} [] (front_of sides gone items)
-front_none sides gone [] e = refl
-front_none sides gone (item ∷ items) e = absurd (cc)
-
+-- the first of the frames alone tells it
 pub front_some : (sides : Both Inbound) (gone : ℕ) (items : List Waiting) (item : Waiting) → first_of items
     ≡ Some item →
     front_of sides gone (item ∷ []) ≡ front_of sides gone items

@@ -6,15 +6,15 @@ use Rattle.std.specs.Prelude.{◌||◌}
 use Rattle.daide_frame.specs.declared.side.Side.{Side}
 use Rattle.daide_frame.specs.declared.side.Side.TheVariants.{Bot, Server}
 use Rattle.daide_machine.specs.Machine.{Sent}
-use Rattle.daide_machine.specs.Wires.{Holding, awaits, first_len}
+use Rattle.daide_machine.specs.Wires.{Holding, has_answer, is_awaited, first_len}
 use Rattle.daide_session.specs.declared.wire.Waiting.{Waiting}
 use Rattle.daide_session.specs.Both.{Both, at, put}
 use Rattle.daide_session.specs.Wire.{Queue}
 use Rattle.daide_session.specs.Traffic.{Arrival, Fields, IsBegun, IsSound, LetsGo, Traffic, answer_at, answer_mark}
 use Rattle.daide_session.specs.Traffic.{behind, bytes_in, count_of, end_mark}
-use Rattle.daide_session.specs.Traffic.{frames_of, frames_to, holding, is_awaited, others, presence, traffic_of}
+use Rattle.daide_session.specs.Traffic.{frames_of, frames_to, holding, others, presence, traffic_of}
 use Rattle.daide_session.proofs.FrontLemmas.{waits_at}
-use Rattle.daide_session.proofs.MarksLemmas.{awaits_behind}
+use Rattle.daide_session.proofs.MarksLemmas.{answer_behind}
 
 -- ---- bytes of the first frame
 
@@ -77,17 +77,16 @@ advance_sound f t to one n q is i s l e =
 
 -- nothing is let go where the same answers wait
 behind_awaited : (w : Both (List Sent)) (to : Side) (n : ℕ) (side : Side) →
-    (awaits side (put w to (behind n (at w to))).bot || awaits side (put w to (behind n (at w to))).server)
-    ≡ (awaits side w.bot || awaits side w.server)
-behind_awaited w Bot n side = ap (λ (b : Bool). b || awaits side w.server) (awaits_behind side n w.bot)
-behind_awaited w Server n side = ap (λ (b : Bool). awaits side w.bot || b) (awaits_behind side n w.server)
+    (has_answer side (put w to (behind n (at w to))).bot || has_answer side (put w to (behind n (at w to))).server)
+    ≡ (has_answer side w.bot || has_answer side w.server)
+behind_awaited w Bot n side = ap (λ (b : Bool). b || has_answer side w.server) (answer_behind side n w.bot)
+behind_awaited w Server n side = ap (λ (b : Bool). has_answer side w.bot || b) (answer_behind side n w.server)
 
 behind_same : (old new : Traffic) (to : Side) (n : ℕ) → new.waiting
     ≡ put old.waiting to (behind n (at old.waiting to)) →
-    (side : Side) → is_awaited new side ≡ is_awaited old side
-unfolding is_awaited
+    (side : Side) → is_awaited (at new.waiting) side ≡ is_awaited (at old.waiting) side
 behind_same old new to n waiting side =
-    ap (λ (w : Both (List Sent)). awaits side w.bot || awaits side w.server) waiting
+    ap (λ (w : Both (List Sent)). has_answer side w.bot || has_answer side w.server) waiting
     ∙ behind_awaited old.waiting to n side
 
 pub lets_none_go : (old new : Traffic) (to : Side) (n : ℕ) → new.cap ≡ old.cap → new.max_depth ≡ old.max_depth →
@@ -122,18 +121,18 @@ lets_more old mid new a b = record {
   coming = λ side. b.coming side ∙ a.coming side;
   total = λ side. b.total side ∙ a.total side;
   fewer = λ side e. b.fewer side (a.fewer side e);
-  gone = λ side some none. gone_by side some none (is_awaited mid side) refl;
-  kept = λ side e. kept_by side e (is_awaited mid side) refl (is_awaited old side) refl;
+  gone = λ side some none. gone_by side some none (is_awaited (at mid.waiting) side) refl;
+  kept = λ side e. kept_by side e (is_awaited (at mid.waiting) side) refl (is_awaited (at old.waiting) side) refl;
 }
   where
-    gone_by : (side : Side) → is_awaited old side ≡ true → is_awaited new side ≡ false → (k : Bool) →
-        is_awaited mid side ≡ k → (holding new side).held ≡ []
+    gone_by : (side : Side) → is_awaited (at old.waiting) side ≡ true → is_awaited (at new.waiting) side ≡ false → (k : Bool) →
+        is_awaited (at mid.waiting) side ≡ k → (holding new side).held ≡ []
     gone_by side some none true e = b.gone side e none
     gone_by side some none false e =
         ap (λ (h : Holding). h.held) (b.kept side (none ∙ sym e)) ∙ a.gone side some e
 
-    kept_by : (side : Side) → is_awaited new side ≡ is_awaited old side → (k : Bool) → is_awaited mid side ≡ k →
-        (l : Bool) → is_awaited old side ≡ l → holding new side ≡ holding old side
+    kept_by : (side : Side) → is_awaited (at new.waiting) side ≡ is_awaited (at old.waiting) side → (k : Bool) → is_awaited (at mid.waiting) side ≡ k →
+        (l : Bool) → is_awaited (at old.waiting) side ≡ l → holding new side ≡ holding old side
     kept_by side e true m true o = b.kept side (e ∙ o ∙ sym m) ∙ a.kept side (m ∙ sym o)
     kept_by side e false m true o = let bad = sym (b.fewer side m) ∙ e ∙ o in absurd (cc)
     kept_by side e true m false o = let bad = sym (a.fewer side o) ∙ m in absurd (cc)

@@ -8,7 +8,7 @@ use Rattle.daide_frame.specs.declared.side.Side.{Side}
 use Rattle.daide_frame.specs.declared.side.Side.TheVariants.{Bot, Server}
 use Rattle.daide_reader.specs.declared.verdict.Verdict.{Verdict}
 use Rattle.daide_machine.specs.Machine.{Sent}
-use Rattle.daide_machine.specs.Wires.{same_side, is_answer, awaits}
+use Rattle.daide_machine.specs.Wires.{same_side, is_answer, has_answer}
 use Rattle.daide_session.specs.declared.wire.Waiting.{Waiting}
 use Rattle.daide_session.specs.declared.wire.Waiting.TheVariants.{Answer, Fm, Em}
 use Rattle.daide_session.specs.Both.{Both, at, put}
@@ -150,41 +150,41 @@ both_unseen side a b w same none =
 
 -- ---- whether an answer waits
 
-awaits_none : (side to : Side) (a : Side → List ℕ) (items : List Waiting) → count_of (answer_mark side) items ≡ 0 →
-    awaits side (map (frame_of to a) items) ≡ false
-awaits_none side to a [] none = refl
-awaits_none side to a (x ∷ items) none = go (is_answer side (answers_of x)) refl
-    (awaits_none side to a items (omega arith))
+no_answer : (side to : Side) (a : Side → List ℕ) (items : List Waiting) → count_of (answer_mark side) items ≡ 0 →
+    has_answer side (map (frame_of to a) items) ≡ false
+no_answer side to a [] none = refl
+no_answer side to a (x ∷ items) none = go (is_answer side (answers_of x)) refl
+    (no_answer side to a items (omega arith))
   where
-    go : (k : Bool) → is_answer side (answers_of x) ≡ k → awaits side (map (frame_of to a) items) ≡ false →
-        (is_answer side (answers_of x) || awaits side (map (frame_of to a) items)) ≡ false
+    go : (k : Bool) → is_answer side (answers_of x) ≡ k → has_answer side (map (frame_of to a) items) ≡ false →
+        (is_answer side (answers_of x) || has_answer side (map (frame_of to a) items)) ≡ false
     go true e more = let one : answer_mark side x ≡ 1 = rw e at (mark_is side x) in absurd (omega arith)
     go false e more = rw e more
 
-awaits_some : (side to : Side) (a : Side → List ℕ) (items : List Waiting) → 0 < count_of (answer_mark side) items →
-    awaits side (map (frame_of to a) items) ≡ true
-awaits_some side to a [] some = absurd (omega arith)
-awaits_some side to a (x ∷ items) some = go (is_answer side (answers_of x)) refl (awaits_some side to a items)
+some_answer : (side to : Side) (a : Side → List ℕ) (items : List Waiting) → 0 < count_of (answer_mark side) items →
+    has_answer side (map (frame_of to a) items) ≡ true
+some_answer side to a [] some = absurd (omega arith)
+some_answer side to a (x ∷ items) some = go (is_answer side (answers_of x)) refl (some_answer side to a items)
   where
     go : (k : Bool) → is_answer side (answers_of x) ≡ k →
-        (0 < count_of (answer_mark side) items → awaits side (map (frame_of to a) items) ≡ true) →
-        (is_answer side (answers_of x) || awaits side (map (frame_of to a) items)) ≡ true
+        (0 < count_of (answer_mark side) items → has_answer side (map (frame_of to a) items) ≡ true) →
+        (is_answer side (answers_of x) || has_answer side (map (frame_of to a) items)) ≡ true
     go true e more = rw e refl
     go false e more = let none : answer_mark side x ≡ 0 = rw e at (mark_is side x) in rw e (more (omega arith))
 
-pub awaits_behind : (side : Side) (n : ℕ) (frames : List Sent) → awaits side (behind n frames) ≡ awaits side frames
-awaits_behind side n [] = refl
-awaits_behind side n (frame ∷ frames) = refl
+pub answer_behind : (side : Side) (n : ℕ) (frames : List Sent) → has_answer side (behind n frames) ≡ has_answer side frames
+answer_behind side n [] = refl
+answer_behind side n (frame ∷ frames) = refl
 
 pub unawaited : (side to : Side) (a : Side → List ℕ) (q : Queue) → count_of (answer_mark side) q.items ≡ 0 →
-    awaits side (frames_of to a q) ≡ false
-unawaited side to a q none = awaits_behind side q.written (map (frame_of to a) q.items)
-    ∙ awaits_none side to a q.items none
+    has_answer side (frames_of to a q) ≡ false
+unawaited side to a q none = answer_behind side q.written (map (frame_of to a) q.items)
+    ∙ no_answer side to a q.items none
 
 pub awaited : (side to : Side) (a : Side → List ℕ) (q : Queue) → 0 < count_of (answer_mark side) q.items →
-    awaits side (frames_of to a q) ≡ true
-awaited side to a q some = awaits_behind side q.written (map (frame_of to a) q.items)
-    ∙ awaits_some side to a q.items some
+    has_answer side (frames_of to a q) ≡ true
+awaited side to a q some = answer_behind side q.written (map (frame_of to a) q.items)
+    ∙ some_answer side to a q.items some
 
 -- ---- whether a frame ends the session
 

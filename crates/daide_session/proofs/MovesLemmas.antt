@@ -8,12 +8,12 @@ use Rattle.daide_grammar.specs.declared.level.Level.TheVariants.{L0}
 use Rattle.daide_machine.specs.declared.phase.Phase.TheVariants.{Over}
 use Rattle.daide_machine.specs.Events.{other}
 use Rattle.daide_machine.specs.Machine.{Sent, Coming, fault, fm_to, em_to, coming, is_over}
-use Rattle.std.specs.Prelude.{◌||◌, ◌==◌}
+use Rattle.std.specs.Prelude.{◌==◌}
 use Rattle.daide_frame.specs.Frames.{missing}
-use Rattle.daide_machine.specs.Wires.{Gateway, waiting, same_side, frames_to, awaits, is_answering, room_of}
+use Rattle.daide_machine.specs.Wires.{Gateway, waiting, same_side, frames_to, is_awaited, room_of}
 use Rattle.daide_session.specs.declared.stage.Stage.{Stage}
 use Rattle.daide_session.specs.Both.{Both, at}
-use Rattle.daide_session.specs.Traffic.{Traffic, posted, end_to, is_awaited, pending}
+use Rattle.daide_session.specs.Traffic.{Traffic, posted, end_to, pending}
 use Rattle.daide_session.specs.Session.{state_of, gateway_of}
 use Rattle.daide_session.specs.Reaction.{Moves, KeepsSides}
 
@@ -77,15 +77,7 @@ failed old mid new stage later side code keeps post end close = record {
     fm : List Sent
     fm = fm_to stage.phase (other side)
 
-pub awaited_same : (t u : Traffic) (side : Side) → u.waiting ≡ t.waiting → is_awaited u side ≡ is_awaited t side
-unfolding is_awaited
-awaited_same t u side e = ap (λ (w : Both (List Sent)). awaits side w.bot || awaits side w.server) e
-
 -- ---- the room
-
-pub answering_is : (t : Traffic) (s : Stage) (side : Side) → is_answering (gateway_of t s) side ≡ is_awaited t side
-unfolding is_awaited
-answering_is t s side = refl
 
 pub coming_at : (t : Traffic) (s : Stage) (side : Side) → coming (state_of t s) side ≡ (at t.sides side).coming
 coming_at t s Bot = refl
@@ -94,14 +86,14 @@ coming_at t s Server = refl
 -- where a session takes bytes
 pub record IsFree (g : Gateway) (side : Side) : Type 0 where
   pub live : is_over g.state.phase ≡ false
-  pub free : is_answering g side ≡ false
+  pub free : is_awaited (waiting g) side ≡ false
   pub room : room_of g side ≡ missing g.state.limits.cap (coming g.state side).pending
 
 pub free_of : (g : Gateway) (side : Side) → 0 < room_of g side → IsFree g side
 unfolding room_of
-free_of g side h = go (is_over g.state.phase) refl (is_answering g side) refl
+free_of g side h = go (is_over g.state.phase) refl (is_awaited (waiting g) side) refl
   where
-    go : (a : Bool) → is_over g.state.phase ≡ a → (b : Bool) → is_answering g side ≡ b → IsFree g side
+    go : (a : Bool) → is_over g.state.phase ≡ a → (b : Bool) → is_awaited (waiting g) side ≡ b → IsFree g side
     go true e b f = absurd (let none = rw e at h in omega (arith, none))
     go false e true f = absurd (let none = rw (e, f) at h in omega (arith, none))
     go false e false f = record { live = e; free = f; room = rw (e, f) refl }
@@ -129,15 +121,15 @@ pub room_over : (g : Gateway) (side : Side) → is_over g.state.phase ≡ true �
 unfolding room_of
 room_over g side e = rw e refl
 
-pub room_busy : (g : Gateway) (side : Side) → is_answering g side ≡ true → room_of g side ≡ 0
+pub room_awaited : (g : Gateway) (side : Side) → is_awaited (waiting g) side ≡ true → room_of g side ≡ 0
 unfolding room_of
-room_busy g side e = go (is_over g.state.phase) refl
+room_awaited g side e = go (is_over g.state.phase) refl
   where
     go : (b : Bool) → is_over g.state.phase ≡ b → room_of g side ≡ 0
     go true f = rw f refl
     go false f = rw (f, e) refl
 
-pub room_open : (g : Gateway) (side : Side) → is_over g.state.phase ≡ false → is_answering g side ≡ false →
+pub room_open : (g : Gateway) (side : Side) → is_over g.state.phase ≡ false → is_awaited (waiting g) side ≡ false →
     room_of g side ≡ missing g.state.limits.cap (coming g.state side).pending
 unfolding room_of
 room_open g side e f = rw (e, f) refl

@@ -12,7 +12,7 @@ use Rattle.daide_session.specs.Inbound.{Inbound, Begins, Reads}
 use Rattle.daide_session.specs.Traffic.{Arrival, Traffic, Fields, IsSound, IsGrown, IsStarted, answer_at, arrival_of}
 use Rattle.daide_session.specs.Traffic.{pending}
 use Rattle.daide_session.specs.Traffic.{pending_by, presence, traffic_of}
-use Rattle.daide_session.proofs.AwaitedLemmas.{pending_field, seen, silent}
+use Rattle.daide_session.proofs.AwaitedLemmas.{IsSeenFree, silent}
 use Rattle.daide_session.proofs.MarksLemmas.{agrees_put, begun_unseen, both_unseen}
 
 abbrev pub with_side : Fields → Side → Inbound → Fields
@@ -41,19 +41,22 @@ pub depths : (f : Fields) (side : Side) (x : Inbound) → IsSound f → IsSameSi
 depths f Bot x i e = i.same_depth ∙ sym e.max_depth
 depths f Server x i e = e.max_depth ∙ i.same_depth
 
-pub sound_side : (f : Fields) (side : Side) (x : Inbound) → IsSound f → IsSameSide (at f.sides side) x →
-    (at f.sides side).verdict ≡ None → x.verdict ≡ None → IsSound (with_side f side x)
-sound_side f side x i e free none = record {
+pub sound_side : {f : Fields} {t : Traffic} {given side : Side} (x : Inbound) → IsSeenFree f t given side →
+    IsSameSide (at f.sides side) x → x.verdict ≡ None → IsSound (with_side f side x)
+sound_side {f} {t} {given} {side} x h e none = record {
   its_side = λ one. its_sides f side one x i e;
   same_cap = caps f side x i e;
   same_depth = depths f side x i e;
-  once = λ one. i.once one ∙ sym (ap presence (same side one free));
+  once = λ one. i.once one ∙ sym (ap presence (same side one h.free));
   ends = i.ends;
-  filled = λ one h. fill side one free h;
+  filled = λ one some. fill side one h.free some;
   begun = λ to. begun_unseen side (answer_at f.sides) (answer_at (put f.sides side x)) (agrees_put f.sides side x)
-      (at f.wires to).written (at f.wires to).items (silent f side to i free) (i.begun to);
+      (at f.wires to).written (at f.wires to).items (silent f side to i h.free) (i.begun to);
 }
   where
+    i : IsSound f
+    i = h.seen.sound
+
     none_there : {A : Type 0} → (o : Option Verdict) → o ≡ None → presence o ≡ 1 → A
     none_there o e h = let bad = rw e at h in absurd (omega arith)
 
@@ -72,12 +75,12 @@ sound_side f side x i e free none = record {
     same Server Server e = none ∙ sym e
 
 -- what waits is the same
-pub waiting_side : (f : Fields) (t : Traffic) (side : Side) (x : Inbound) → traffic_of f ≡ t → IsSound f →
-    (at f.sides side).verdict ≡ None → (traffic_of (with_side f side x)).waiting ≡ t.waiting
-waiting_side f t side x is i free =
-    both_unseen side (answer_at f.sides) (answer_at (put f.sides side x)) f.wires (agrees_put f.sides side x)
-    (λ to. silent f side to i free)
-    ∙ ap (λ (v : Traffic). v.waiting) is
+pub waiting_side : {f : Fields} {t : Traffic} {side one : Side} (x : Inbound) → IsSeenFree f t side one →
+    (traffic_of (with_side f one x)).waiting ≡ t.waiting
+waiting_side {f} {t} {side} {one} x h =
+    both_unseen one (answer_at f.sides) (answer_at (put f.sides one x)) f.wires (agrees_put f.sides one x)
+    (λ to. silent f one to h.seen.sound h.free)
+    ∙ ap (λ (v : Traffic). v.waiting) h.seen.is
 
 -- ---- a value t that the fields stand for, and a side that is known
 
@@ -111,12 +114,11 @@ started_of old new level free b = record {
   base = b.base;
 }
 
-pub started : (f : Fields) (t : Traffic) (side one : Side) (x : Inbound) (level : Level) → traffic_of f ≡ t →
-    IsSound f →
-    side ≡ one → (at f.sides one).verdict ≡ None → Begins (at f.sides one) level (at f.sides one).held x →
+pub started : {f : Fields} {t : Traffic} {side one : Side} {x : Inbound} {level : Level} → IsSeenFree f t side one →
+    Begins (at f.sides one) level (at f.sides one).held x →
     IsStarted (at t.sides side) level (at (traffic_of (with_side f one x)).sides side)
-started f t side one x level is i s free b =
-    rw ((seen f t side one is i s).arrival, arrived f side one x s) (started_of (at f.sides one) x level free b)
+started {f} {t} {side} {one} {x} {level} h b =
+    rw (h.seen.arrival, arrived f side one x h.seen.its) (started_of (at f.sides one) x level h.free b)
 
 -- the frame has more bytes
 grown_of : (old new : Inbound) (bytes : List ℕ) → old.verdict ≡ None → Reads old bytes new →
@@ -131,31 +133,24 @@ grown_of old new bytes free r = record {
   uncounted = rw free r.uncounted;
 }
 
-pub grown : (f : Fields) (t : Traffic) (side one : Side) (x : Inbound) (piece : List ℕ) → traffic_of f ≡ t → IsSound f →
-    side ≡ one → (at f.sides one).verdict ≡ None → Reads (at f.sides one)
-    (fed (at f.sides one).cap (at f.sides one).held piece) x →
+pub grown : {f : Fields} {t : Traffic} {side one : Side} (x : Inbound) (piece : List ℕ) → IsSeenFree f t side one →
+    Reads (at f.sides one) (fed (at f.sides one).cap (at f.sides one).held piece) x →
     IsGrown t.cap (at t.sides side) (fed t.cap (pending t side) piece) (at (traffic_of (with_side f one x)).sides side)
-grown f t side one x piece is i s free r =
-    let see = seen f t side one is i s in
-    rw (pending_field f t side one is i s free, see.arrival, arrived f side one x s, see.cap)
-    (grown_of (at f.sides one) x (fed (at f.sides one).cap (at f.sides one).held piece) free r)
+grown {f} {t} {side} {one} x piece h r =
+    rw (h.pending, h.seen.arrival, arrived f side one x h.seen.its, h.seen.cap)
+    (grown_of (at f.sides one) x (fed (at f.sides one).cap (at f.sides one).held piece) h.free r)
 
 -- what was told of the piece
 pub record IsToldOf (cap : ℕ) (bytes piece : List ℕ) (step : Step) (new_cap : ℕ) (new_bytes : List ℕ) : Type 0 where
   pub items : fed_items cap bytes piece ≡ told step (head_in new_cap new_bytes) (drop 4 new_bytes)
   pub whole : IsFault step ⊎ (new_bytes ≡ bytes ++ piece)
 
-pub told_of : (f : Fields) (t : Traffic) (side one : Side) (x : Inbound) (piece : List ℕ) (step : Step) → traffic_of f
-    ≡ t →
-    IsSound f → side ≡ one → (at f.sides one).verdict ≡ None → x.verdict ≡ None → x.cap ≡ (at f.sides one).cap →
+pub told_of : {f : Fields} {t : Traffic} {side one : Side} (x : Inbound) (piece : List ℕ) (step : Step) →
+    IsSeenFree f t side one → x.verdict ≡ None → x.cap ≡ (at f.sides one).cap →
     IsToldOf (at f.sides one).cap (at f.sides one).held piece step x.cap x.held →
     IsToldOf t.cap (pending t side) piece step (traffic_of (with_side f one x)).cap
     (pending (traffic_of (with_side f one x)) side)
-told_of f t side one x piece step is i s free none same h =
+told_of {f} {t} {side} {one} x piece step h none same told =
     subst (λ (n : ℕ). IsToldOf t.cap (pending t side) piece step n (pending (traffic_of (with_side f one x)) side))
-    (same ∙ sym ((seen f t side one is i s).cap) ∙ sym (cap_kept f t one x is same))
-    (subst (λ (q : List ℕ). IsToldOf t.cap (pending t side) piece step x.cap q)
-    (sym (pending_arrived f side one x s none))
-    (subst (λ (p : List ℕ). IsToldOf t.cap p piece step x.cap x.held) (sym (pending_field f t side one is i s free))
-    (subst (λ (n : ℕ). IsToldOf n (at f.sides one).held piece step x.cap x.held)
-    (sym ((seen f t side one is i s).cap)) h)))
+    (same ∙ sym h.seen.cap ∙ sym (cap_kept f t one x h.seen.is same))
+    (rw (pending_arrived f side one x h.seen.its none, h.pending, h.seen.cap) told)

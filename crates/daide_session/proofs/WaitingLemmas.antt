@@ -6,7 +6,6 @@ use Rattle.daide_frame.specs.declared.side.Side.TheVariants.{Bot, Server}
 use Rattle.daide_frame.specs.declared.head.Head.{Head}
 use Rattle.daide_frame.specs.declared.code.Code.{Code}
 use Rattle.daide_frame.specs.Head.{head_bytes}
-use Rattle.daide_grammar.specs.declared.level.Level.{Level}
 use Rattle.daide_reader.specs.declared.verdict.Verdict.{Verdict}
 use Rattle.daide_machine.specs.Answers.{answer_bytes}
 use Rattle.daide_machine.specs.Machine.{IsRight, Sent, question_of}
@@ -17,7 +16,7 @@ use Rattle.daide_session.specs.Wire.{Queue, pushed}
 use Rattle.daide_session.specs.Traffic.{Arrival, Fields, IsSound, Traffic, answer_at, answer_mark, bytes_in, count_of}
 use Rattle.daide_session.specs.Traffic.{end_mark, end_to, ending_of, frame_of, has_end, noted, pending, posted}
 use Rattle.daide_session.specs.Traffic.{presence, traffic_of}
-use Rattle.daide_session.proofs.AwaitedLemmas.{pending_field, seen, silent}
+use Rattle.daide_session.proofs.AwaitedLemmas.{IsSeenFree, silent}
 use Rattle.daide_session.proofs.BothLemmas.{at_put}
 use Rattle.daide_session.proofs.FrontLemmas.{waits_at}
 use Rattle.daide_session.proofs.MarksLemmas.{agrees_put, begun_pushed, begun_unseen, both_unseen, count_pushed}
@@ -96,60 +95,49 @@ replied_waiting f side to x i free =
     after = answer_at (put f.sides side x)
 
 -- the side's frame is answered, and the wires are as they were but for the answer
-pub record IsPosted (f : Fields) (side one to : Side) (head : Head) (verdict : Verdict) (x : Inbound) (w : Both Queue) :
-    Type 0 where
-  pub its : side ≡ one
-  pub free : (at f.sides one).verdict ≡ None
+pub record IsPosted (f : Fields) (t : Traffic) (side one to : Side) (head : Head) (verdict : Verdict) (x : Inbound)
+    (w : Both Queue) : Type 0 where
+  pub seen : IsSeenFree f t side one
   pub answers : Answers (at f.sides one) head verdict x
   pub wires : w ≡ put f.wires to (pushed (at f.wires to) (Answer side))
 
-pub post_sound : (f : Fields) (side one to : Side) (head : Head) (verdict : Verdict) (x : Inbound) (w : Both Queue) →
-    IsSound f → IsPosted f side one to head verdict x w → IsSound (record { sides = put f.sides one x; wires = w })
-post_sound f side one to head verdict x w i p =
+pub post_sound : {f : Fields} {t : Traffic} {side one to : Side} {head : Head} {verdict : Verdict} {x : Inbound}
+    {w : Both Queue} → IsPosted f t side one to head verdict x w → IsSound (record { sides = put f.sides one x; wires = w })
+post_sound {f} {t} {side} {one} {to} {head} {verdict} {x} p =
     let a = p.answers in
     subst (λ (v : Both Queue). IsSound (record { sides = put f.sides one x; wires = v }))
-    (sym (p.wires ∙ ap (λ (s : Side). put f.wires to (pushed (at f.wires to) (Answer s))) p.its))
-    (replied_sound f one to x i p.free (record { side = a.side; cap = a.cap; max_depth = a.max_depth })
+    (sym (p.wires ∙ ap (λ (s : Side). put f.wires to (pushed (at f.wires to) (Answer s))) p.seen.seen.its))
+    (replied_sound f one to x p.seen.seen.sound p.seen.free
+    (record { side = a.side; cap = a.cap; max_depth = a.max_depth })
     (ap presence a.verdict_set) (answer_some (at f.sides one) x head verdict a))
 
-pub post_waiting : (f : Fields) (t : Traffic) (side one to : Side) (head : Head) (verdict : Verdict) (x : Inbound)
-    (w : Both Queue) → traffic_of f ≡ t → IsSound f → IsPosted f side one to head verdict x w →
+pub post_waiting : {f : Fields} {t : Traffic} {side one to : Side} {head : Head} {verdict : Verdict} {x : Inbound}
+    {w : Both Queue} → IsPosted f t side one to head verdict x w →
     (traffic_of (record { sides = put f.sides one x; wires = w })).waiting ≡ posted t.waiting (record {
       to = to;
       answers = Some side;
       bytes = answer_bytes head (drop 4 (pending t side)) verdict;
     })
-post_waiting f t side one to head verdict x w is i p =
+post_waiting {f} {t} {side} {one} {to} {head} {verdict} {x} p =
+    let its = p.seen.seen.its in
     let bytes : answer_of x ≡ answer_bytes head (drop 4 (pending t side)) verdict =
     answer_is (at f.sides one) x head verdict p.answers
-    ∙ ap (λ (b : List ℕ). answer_bytes head (drop 4 b) verdict) (sym (pending_field f t side one is i p.its p.free)) in
+    ∙ ap (λ (b : List ℕ). answer_bytes head (drop 4 b) verdict) (sym p.seen.pending) in
     ap (λ (v : Both Queue). (traffic_of (record { sides = put f.sides one x; wires = v })).waiting)
-    (p.wires ∙ ap (λ (s : Side). put f.wires to (pushed (at f.wires to) (Answer s))) p.its)
-    ∙ replied_waiting f one to x i p.free
-    ∙ ap (λ (v : Traffic). posted v.waiting (record { to = to; answers = Some one; bytes = answer_of x })) is
-    ∙ ap (λ (s : Side). posted t.waiting (record { to = to; answers = Some s; bytes = answer_of x })) (sym p.its)
+    (p.wires ∙ ap (λ (s : Side). put f.wires to (pushed (at f.wires to) (Answer s))) its)
+    ∙ replied_waiting f one to x p.seen.seen.sound p.seen.free
+    ∙ ap (λ (v : Traffic). posted v.waiting (record { to = to; answers = Some one; bytes = answer_of x })) p.seen.seen.is
+    ∙ ap (λ (s : Side). posted t.waiting (record { to = to; answers = Some s; bytes = answer_of x })) (sym its)
     ∙ ap (λ (b : List ℕ). posted t.waiting (record { to = to; answers = Some side; bytes = b })) bytes
 
 -- the verdict is the grammar's of what the value t shows
-pub post_right : (f : Fields) (t : Traffic) (side one : Side) (head : Head) (verdict : Verdict) → traffic_of f ≡ t →
-    IsSound f → side ≡ one → (at f.sides one).verdict ≡ None →
-    IsRight [] (at f.sides one).max_depth
+pub post_right : {f : Fields} {t : Traffic} {side one : Side} (head : Head) (verdict : Verdict) →
+    IsSeenFree f t side one → IsRight [] (at f.sides one).max_depth
     (question_of (at f.sides one).side (at f.sides one).level head (drop 4 (at f.sides one).held)) verdict →
     IsRight [] t.max_depth (question_of side (noted t side) head (drop 4 (pending t side))) verdict
-post_right f t side one head verdict is i s free right =
-    let see = seen f t side one is i s in
-    let level : noted t side ≡ (at f.sides one).level = ap (λ (a : Arrival). a.coming.noted) see.arrival in
-    subst (λ (n : ℕ). IsRight [] n (question_of side (noted t side) head (drop 4 (pending t side))) verdict)
-    (sym see.max_depth)
-    (subst (λ (l : Level). IsRight [] (at f.sides one).max_depth
-    (question_of side l head (drop 4 (pending t side))) verdict)
-    (sym level)
-    (subst (λ (b : List ℕ). IsRight [] (at f.sides one).max_depth
-    (question_of side (at f.sides one).level head (drop 4 b)) verdict)
-    (sym (pending_field f t side one is i s free))
-    (subst (λ (x : Side). IsRight [] (at f.sides one).max_depth
-    (question_of x (at f.sides one).level head (drop 4 (at f.sides one).held)) verdict)
-    (i.its_side one ∙ sym s) right)))
+post_right {f} {t} {side} {one} head verdict h right =
+    let level : noted t side ≡ (at f.sides one).level = ap (λ (a : Arrival). a.coming.noted) h.seen.arrival in
+    rw (h.seen.max_depth, level, h.pending, h.seen.its ∙ sym (h.seen.sound.its_side one)) right
 
 -- ---- an end
 

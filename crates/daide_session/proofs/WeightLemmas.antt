@@ -1,5 +1,5 @@
 -- What a session weighs, and what its readers' tables were asked.
-use Rattle.std.proofs.Common.{◌≡◌, ℕ, ◌+◌, ◌*◌, ◌≤◌, Bool, true, false, cond, List, length, drop, refl, sym, ap, ◌∙◌}
+use Rattle.std.proofs.Common.{◌≡◌, ℕ, ◌+◌, ◌*◌, ◌≤◌, Bool, true, false, cond, List, length, drop, refl, sym, ap}
 use Rattle.std.proofs.Common.{subst, arith}
 use Rattle.std.specs.Prelude.{min, ◌||◌, ◌==◌}
 use Rattle.std.proofs.lemmas.List.Sums.{count_by-le-length}
@@ -10,13 +10,12 @@ use Rattle.daide_frame.specs.Frames.{announced, head_in}
 use Rattle.daide_grammar.specs.Paired.{begins_with_prn}
 use Rattle.daide_grammar.specs.Depth.{open_brackets, closes_early, bras}
 use Rattle.daide_reader.proofs.BodyLemmas.{tokens_of-length}
-use Rattle.daide_machine.specs.Wires.{Holding, is_answering, is_dm_head}
+use Rattle.daide_machine.specs.Wires.{Holding, waiting, is_awaited, is_dm_head}
 use Rattle.daide_machine.specs.Weight.{tokens_held, direction_bound, weight_of, weight_bound, steps_bound, IsTied}
 use Rattle.daide_session.specs.declared.stage.Stage.{Stage}
 use Rattle.daide_session.specs.Both.{at}
-use Rattle.daide_session.specs.Traffic.{Traffic, pending, is_awaited}
+use Rattle.daide_session.specs.Traffic.{Traffic, pending}
 use Rattle.daide_session.specs.Session.{gateway_of}
-use Rattle.daide_session.proofs.MovesLemmas.{answering_is}
 use Rattle.daide_session.proofs.ReactionLemmas.{holding_at}
 
 -- ---- the open brackets of a message that is held
@@ -80,19 +79,17 @@ weight_few t s a b c d k l x y m n = omega (arith, x, y, m, n)
 
 -- what is held of a side that waits for no answer, as both its calls tell it
 pub tied_by : (t : Traffic) (s : Stage) →
-    (is_awaited t Bot ≡ false → t.sides.bot.holding.held ≡ pending t Bot) →
-    (is_awaited t Server ≡ false → t.sides.server.holding.held ≡ pending t Server) → IsTied (gateway_of t s)
-tied_by t s bot server Bot free = bot (sym (answering_is t s Bot) ∙ free)
-tied_by t s bot server Server free = server (sym (answering_is t s Server) ∙ free)
+    (is_awaited (at t.waiting) Bot ≡ false → t.sides.bot.holding.held ≡ pending t Bot) →
+    (is_awaited (at t.waiting) Server ≡ false → t.sides.server.holding.held ≡ pending t Server) → IsTied (gateway_of t s)
+tied_by t s bot server Bot free = bot free
+tied_by t s bot server Server free = server free
 
 -- ---- the steps
 
 pub steps_few : (t : Traffic) (s : Stage) (side : Side) (steps : ℕ) →
-    steps ≤ 4 * length (tokens_held t.cap (at t.sides side).holding.held) + cond (is_awaited t side) 4 0 →
+    steps ≤ 4 * length (tokens_held t.cap (at t.sides side).holding.held) + cond (is_awaited (at t.waiting) side) 4 0 →
     steps ≤ steps_bound (gateway_of t s) side
 steps_few t s side steps few =
     subst (λ (h : Holding).
-    steps ≤ 4 * length (tokens_held t.cap h.held) + cond (is_answering (gateway_of t s) side) 4 0)
-    (sym (holding_at t s side))
-    (subst (λ (b : Bool). steps ≤ 4 * length (tokens_held t.cap (at t.sides side).holding.held) + cond b 4 0)
-    (sym (answering_is t s side)) few)
+    steps ≤ 4 * length (tokens_held t.cap h.held) + cond (is_awaited (waiting (gateway_of t s)) side) 4 0)
+    (sym (holding_at t s side)) few

@@ -8,7 +8,7 @@ use Rattle.daide_frame.specs.declared.side.Side.TheVariants.{Bot, Server}
 use Rattle.daide_machine.specs.declared.note.Note.TheVariants as Notes
 use Rattle.daide_machine.specs.Events.{Loses, other}
 use Rattle.daide_machine.specs.Machine.{Sent, SessionState, Runs, is_over, fm_to, may_reach}
-use Rattle.daide_machine.specs.Wires.{Holding, holding, is_answer, awaits, is_answering, same_side}
+use Rattle.daide_machine.specs.Wires.{Holding, holding, is_answer, has_answer, is_awaited, waiting, same_side}
 use Rattle.daide_machine.specs.Wires.{frames_to, sent_to, bytes_of, without, Goes, Lost, Wrote, LetsGo}
 use Rattle.daide_session.specs.declared.stage.Stage.{Stage}
 use Rattle.daide_session.specs.Both.{Both, at, put}
@@ -16,7 +16,7 @@ use Rattle.daide_session.specs.Traffic.{Traffic, Arrival}
 use Rattle.daide_session.specs.Traffic.{LetsGo as LetsTrafficGo}
 use Rattle.daide_session.specs.Session.{state_of, gateway_of}
 use Rattle.daide_session.specs.Reaction.{Moves, KeepsSides, stopped}
-use Rattle.daide_session.proofs.MovesLemmas.{waiting_at, answering_is}
+use Rattle.daide_session.proofs.MovesLemmas.{waiting_at}
 use Rattle.daide_session.proofs.ReactionLemmas.{holding_at}
 use Rattle.daide_session.proofs.SessionLemmas.{goes_event, stop_note, stopped_over}
 
@@ -33,37 +33,37 @@ put_there w Server frames = refl
 
 -- ---- an end lets nobody wait
 
-awaits-append : (side : Side) (a b : List Sent) → awaits side b ≡ false → awaits side (a ++ b) ≡ awaits side a
-awaits-append side [] b e = e
-awaits-append side (x ∷ a) b e = ap (λ (k : Bool). is_answer side x.answers || k) (awaits-append side a b e)
+has_answer-append : (side : Side) (a b : List Sent) → has_answer side b ≡ false → has_answer side (a ++ b) ≡ has_answer side a
+has_answer-append side [] b e = e
+has_answer-append side (x ∷ a) b e = ap (λ (k : Bool). is_answer side x.answers || k) (has_answer-append side a b e)
 
 end_quiet : (one wire : Side) (s : SessionState) (side : Side) →
-    awaits one (sent_to wire (stopped s side).effects) ≡ false
+    has_answer one (sent_to wire (stopped s side).effects) ≡ false
 end_quiet one wire s side = go (is_over s.phase) refl
   where
     frame : Sent
     frame = record { to = other side; answers = None; bytes = 3 ∷ 0 ∷ 0 ∷ 0 ∷ [] }
 
-    for_wire : (k : Bool) → awaits one (cond k (frame ∷ []) [] ++ []) ≡ false
+    for_wire : (k : Bool) → has_answer one (cond k (frame ∷ []) [] ++ []) ≡ false
     for_wire true = refl
     for_wire false = refl
 
     reached : (k : Bool) → may_reach s.phase (other side) ≡ k →
-        awaits one (frames_to wire (fm_to s.phase (other side)) ++ []) ≡ false
+        has_answer one (frames_to wire (fm_to s.phase (other side)) ++ []) ≡ false
     reached true e = rw e (for_wire (same_side (other side) wire))
     reached false e = rw e refl
 
-    go : (k : Bool) → is_over s.phase ≡ k → awaits one (sent_to wire (stopped s side).effects) ≡ false
+    go : (k : Bool) → is_over s.phase ≡ k → has_answer one (sent_to wire (stopped s side).effects) ≡ false
     go true e = rw e refl
     go false e = rw e (reached (may_reach s.phase (other side)) refl)
 
 -- after a side's end the same sides wait for an answer
-stopped_awaits : (t u : Traffic) (s r : Stage) (side one : Side) →
+stopped_awaited : (t u : Traffic) (s r : Stage) (side one : Side) →
     Moves (gateway_of t s) (stopped (state_of t s) side) (gateway_of u r) →
-    is_answering (gateway_of u r) one ≡ is_answering (gateway_of t s) one
-stopped_awaits t u s r side one m = both
-    (ap (awaits one) (m.sent Bot) ∙ awaits-append one t.waiting.bot _ (end_quiet one Bot (state_of t s) side))
-    (ap (awaits one) (m.sent Server) ∙ awaits-append one t.waiting.server _ (end_quiet one Server (state_of t s) side))
+    is_awaited (waiting (gateway_of u r)) one ≡ is_awaited (waiting (gateway_of t s)) one
+stopped_awaited t u s r side one m = both
+    (ap (has_answer one) (m.sent Bot) ∙ has_answer-append one t.waiting.bot _ (end_quiet one Bot (state_of t s) side))
+    (ap (has_answer one) (m.sent Server) ∙ has_answer-append one t.waiting.server _ (end_quiet one Server (state_of t s) side))
   where
     both : {a b c d : Bool} → a ≡ b → c ≡ d → (a || c) ≡ (b || d)
     both e f = rw (e, f) refl
@@ -74,18 +74,17 @@ gone_state : (u v : Traffic) (s : Stage) → LetsTrafficGo u v → state_of v s 
 gone_state u v s l = rw (l.cap, l.max_depth, l.coming Bot, l.coming Server) refl
 
 lets_go : (t u v : Traffic) (s r : Stage) →
-    ((one : Side) → is_answering (gateway_of u r) one ≡ is_answering (gateway_of t s) one) → u.sides ≡ t.sides →
+    ((one : Side) → is_awaited (waiting (gateway_of u r)) one ≡ is_awaited (waiting (gateway_of t s)) one) → u.sides ≡ t.sides →
     LetsTrafficGo u v → LetsGo (gateway_of t s) (gateway_of v r)
 lets_go t u v s r same sides l = record {
   gone = λ one waited free.
-      let was = sym (answering_is u r one) ∙ (same one ∙ waited) in
-      let none = sym (answering_is v r one) ∙ free in (
-        ap (λ (h : Holding). h.held) (holding_at v r one) ∙ l.gone one was none,
+      let was = same one ∙ waited in (
+        ap (λ (h : Holding). h.held) (holding_at v r one) ∙ l.gone one was free,
         ap (λ (h : Holding). h.total) (holding_at v r one)
             ∙ (l.total one ∙ ap (λ (h : Holding). h.total) (before one)),
       );
   kept = λ one e. holding_at v r one
-      ∙ (l.kept one (sym (answering_is v r one) ∙ (e ∙ (sym (same one) ∙ answering_is u r one))) ∙ before one);
+      ∙ (l.kept one (e ∙ sym (same one)) ∙ before one);
 }
   where
     before : (one : Side) → (at u.sides one).holding ≡ holding (gateway_of t s) one
@@ -122,7 +121,7 @@ lost_of t u v s r side m keeps l wait = record {
       ∙ (ap (λ (w : Both (List Sent)). at w (other side)) wait
       ∙ (put_there u.waiting side [] ∙ (sym (waiting_at u r (other side)) ∙ stop.kept (other side))));
   over = ap (λ (x : SessionState). is_over x.phase) (state ∙ m.state) ∙ stopped_over (state_of t s) side;
-  held = lets_go t u v s r (λ one. stopped_awaits t u s r side one m) keeps.sides l;
+  held = lets_go t u v s r (λ one. stopped_awaited t u s r side one m) keeps.sides l;
 }
   where
     stop : Goes (gateway_of t s) (Loses side ∷ []) Notes.Nothing (gateway_of u r)

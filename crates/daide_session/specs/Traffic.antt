@@ -10,7 +10,7 @@ use Rattle.daide_grammar.specs.declared.level.Level.TheVariants.{L0}
 use Rattle.daide_reader.specs.declared.verdict.Verdict.{Verdict}
 use Rattle.daide_machine.specs.Events.{other}
 use Rattle.daide_machine.specs.Machine.{Coming, Sent, fm_bytes, em_bytes}
-use Rattle.daide_machine.specs.Wires.{Holding, same_side, is_answer, awaits, is_dm_head}
+use Rattle.daide_machine.specs.Wires.{Holding, same_side, is_answer, is_awaited, is_dm_head}
 use Rattle.daide_session.specs.declared.wire.Waiting.{Waiting}
 use Rattle.daide_session.specs.declared.wire.Waiting.TheVariants.{Answer, Fm, Em}
 use Rattle.daide_session.specs.Both.{Both, at, put}
@@ -40,10 +40,6 @@ noted t side = (at t.sides side).coming.noted
 
 abbrev pub holding : Traffic → Side → Holding
 holding t side = (at t.sides side).holding
-
--- whether an answer to a side's last frame waits for a wire
-unfoldable pub is_awaited : Traffic → Side → Bool
-is_awaited t side = awaits side t.waiting.bot || awaits side t.waiting.server
 
 -- ---- what the calls do
 
@@ -99,9 +95,11 @@ pub record LetsGo (old new : Traffic) : Type 0 where
   pub max_depth : new.max_depth ≡ old.max_depth
   pub coming : (side : Side) → (at new.sides side).coming ≡ (at old.sides side).coming
   pub total : (side : Side) → (holding new side).total ≡ (holding old side).total
-  pub fewer : (side : Side) → is_awaited old side ≡ false → is_awaited new side ≡ false
-  pub gone : (side : Side) → is_awaited old side ≡ true → is_awaited new side ≡ false → (holding new side).held ≡ []
-  pub kept : (side : Side) → is_awaited new side ≡ is_awaited old side → holding new side ≡ holding old side
+  pub fewer : (side : Side) → is_awaited (at old.waiting) side ≡ false → is_awaited (at new.waiting) side ≡ false
+  pub gone : (side : Side) → is_awaited (at old.waiting) side ≡ true → is_awaited (at new.waiting) side ≡ false →
+      (holding new side).held ≡ []
+  pub kept : (side : Side) → is_awaited (at new.waiting) side ≡ is_awaited (at old.waiting) side →
+      holding new side ≡ holding old side
 
 -- a frame waits behind the others for its wire
 abbrev pub posted : Both (List Sent) → Sent → Both (List Sent)

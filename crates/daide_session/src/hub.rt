@@ -135,6 +135,14 @@ impl<P: Ports, A: Allocator + Copy> Hub<P, A> {
         &self.places[i].session
     }
 
+    /// The ports of the session at a place.
+    pub fn ports(&self, i: usize) -> &P
+        requires { i < length self.now.places }
+        ensures { IfSome (slice_get self.now.places i) (λ place. result.now ≡ place.1) }
+    {
+        &self.places[i].ports
+    }
+
     /// How many sessions there are.
     pub fn count(&self) -> usize
         ensures { result ≡ length self.now.places }

@@ -127,7 +127,7 @@ impl<A: Allocator> Inbound<A> {
     }
 
     /// Whether an answer to the last frame waits.
-    pub fn is_busy(&self) -> bool
+    pub fn is_awaited(&self) -> bool
         ensures { result ≡ is_some self.now.verdict }
     {
         self.verdict.is_some()

@@ -7,8 +7,9 @@ ghost use Rattle.daide_frame.specs.declared.head.Kind.TheVariants as Kinds;
 ghost use Rattle.daide_frame.specs.declared.cutter.Step.TheVariants.{Headed, Bodied};
 ghost use Rattle.daide_frame.specs.Frames.{Begun, Whole, head_in, told, IsWholeBody};
 ghost use Rattle.daide_machine.specs.Machine.{untimely as untimely_code, is_over as is_over_phase};
+ghost use Rattle.daide_machine.specs.Wires.{is_awaited};
 ghost use Rattle.daide_session.specs.Both.{at};
-ghost use Rattle.daide_session.specs.Traffic.{pending, holding, is_awaited, has_end};
+ghost use Rattle.daide_session.specs.Traffic.{pending, holding, has_end};
 ghost use Rattle.daide_session.specs.Session.{gateway_of};
 ghost use Rattle.daide_session.specs.Reaction.{Reacts, IsBegun, note_by, check_of};
 
@@ -41,7 +42,7 @@ fn check_frame(kind: Kind, body: &[u8]) -> Result<(), Code>
 fn begin<A: Allocator>(traffic: &mut Traffic<A>, stage: &mut Stage, side: Side, head: Head) -> Note
     requires live { is_over_phase stage.old.phase ≡ false }
     requires no_end { (wire : Side) → has_end (at traffic.old.waiting wire) ≡ false }
-    requires free { is_awaited traffic.old side ≡ false }
+    requires free { is_awaited (at traffic.old.waiting) side ≡ false }
     requires bodiless { drop 4 (pending traffic.old side) ≡ [] }
     requires tied { (holding traffic.old side).held ≡ pending traffic.old side }
     ensures reacts { Reacts (gateway_of traffic.old stage.old) side (Begun head ∷ []) result
@@ -61,7 +62,7 @@ fn begin<A: Allocator>(traffic: &mut Traffic<A>, stage: &mut Stage, side: Side, 
 /// frame is dropped, where the answer may not go out.
 fn answer<A: Allocator>(traffic: &mut Traffic<A>, stage: &mut Stage, side: Side, head: Head) -> Note
     requires live { is_over_phase stage.old.phase ≡ false }
-    requires free { is_awaited traffic.old side ≡ false }
+    requires free { is_awaited (at traffic.old.waiting) side ≡ false }
     requires tied { (holding traffic.old side).held ≡ pending traffic.old side }
     requires head { head_in traffic.old.cap (pending traffic.old side) ≡ Some head }
     requires good { check_of head.kind (drop 4 (pending traffic.old side)) ≡ Ok tt }
@@ -97,7 +98,7 @@ fn complete<A: Allocator>(
 ) -> Note
     requires live { is_over_phase stage.old.phase ≡ false }
     requires no_end { (wire : Side) → has_end (at traffic.old.waiting wire) ≡ false }
-    requires free { is_awaited traffic.old side ≡ false }
+    requires free { is_awaited (at traffic.old.waiting) side ≡ false }
     requires tied { (holding traffic.old side).held ≡ pending traffic.old side }
     requires head { head_in traffic.old.cap (pending traffic.old side) ≡ Some head }
     requires full { IsWholeBody (Some head) (drop 4 (pending traffic.old side)) }
@@ -119,7 +120,7 @@ pub fn react<A: Allocator>(
 ) -> Note
     requires live { is_over_phase stage.old.phase ≡ false }
     requires no_end { (wire : Side) → has_end (at traffic.old.waiting wire) ≡ false }
-    requires free { is_awaited traffic.old side ≡ false }
+    requires free { is_awaited (at traffic.old.waiting) side ≡ false }
     requires tied { (holding traffic.old side).held ≡ pending traffic.old side }
     requires bodiless { (head : Head) → step ≡ Headed → head_in traffic.old.cap (pending traffic.old side) ≡ Some head
         → drop 4 (pending traffic.old side) ≡ [] }

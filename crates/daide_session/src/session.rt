@@ -15,7 +15,7 @@ ghost use Rattle.std.specs.Prelude.{◌≡◌, ℕ, ◌+◌, ◌*◌, ◌<◌, �
 ghost use Rattle.daide_frame.specs.declared.side.Side.{Side};
 ghost use Rattle.daide_machine.specs.Events.{Ends, Pops, bytes_come};
 ghost use Rattle.daide_machine.specs.Machine.{is_over as is_over_phase};
-ghost use Rattle.daide_machine.specs.Wires.{IsFrontOf, first_len, waiting, front_of, holding, is_answering, room_of};
+ghost use Rattle.daide_machine.specs.Wires.{IsFrontOf, first_len, waiting, front_of, holding, is_awaited, room_of};
 ghost use Rattle.daide_machine.specs.Wires.{steps_of, is_closed, IsNew, Goes};
 ghost use Rattle.daide_machine.specs.Wires.{Lost, Wrote, Takes, HoldsTheSame, AsksNothing};
 ghost use Rattle.daide_machine.specs.Weight.{weight_of, weight_bound, steps_bound, IsKeptSmall, IsTied};
@@ -91,10 +91,10 @@ impl<A: Allocator> Session<A> {
     /// the session is over; else what is missing of its header or its body, which is something.
     pub fn room(&self, side: Side) -> usize
         ensures missing { result ≡ room_of self.now side }
-        ensures waited_for { is_over_phase self.now.state.phase ≡ false → is_answering self.now side ≡ false
+        ensures waited_for { is_over_phase self.now.state.phase ≡ false → is_awaited (waiting self.now) side ≡ false
             → 0 < result }
     {
-        if self.is_over() || self.traffic.is_busy(side) {
+        if self.is_over() || self.traffic.is_awaited(side) {
             return 0;
         }
         self.traffic.room(side)

@@ -14,13 +14,13 @@ ghost use Rattle.daide_grammar.specs.Depth.{open_brackets};
 ghost use Rattle.daide_machine.specs.Machine.{IsRight, question_of, is_dm, answer_to};
 ghost use Rattle.daide_machine.specs.Machine.{destination as destination_of};
 ghost use Rattle.daide_machine.specs.Weight.{tokens_held};
-ghost use Rattle.daide_machine.specs.Wires.{IsFrontOf, first_len, without, bytes_of, steps_of};
+ghost use Rattle.daide_machine.specs.Wires.{IsFrontOf, first_len, without, bytes_of, is_awaited, steps_of};
 ghost use Rattle.daide_reader.specs.Reading.{IsRaised};
 ghost use Rattle.daide_session.specs.Both.{at, both, put};
 ghost use Rattle.daide_session.specs.Inbound.{Answers};
 ghost use Rattle.daide_session.specs.Wire.{first_of, pushed, tail_of};
 ghost use Rattle.daide_session.specs.declared.wire.Waiting.TheVariants.{Answer};
-ghost use Rattle.daide_session.specs.Traffic.{pending, noted, holding, is_awaited, IsQuiet, Keeps, IsGrown, IsStarted};
+ghost use Rattle.daide_session.specs.Traffic.{pending, noted, holding, IsQuiet, Keeps, IsGrown, IsStarted};
 ghost use Rattle.daide_session.specs.Traffic.{IsAnswered, IsCleared, LetsGo, posted, has_end, end_to};
 ghost use Rattle.daide_session.specs.Traffic.{answer_at, answered_by, behind, ending_of, others, size_of_first};
 ghost use Rattle.daide_session.specs.Traffic.{IsReleased};
@@ -186,13 +186,14 @@ impl<A: Allocator + Copy> Traffic<A> {
 impl<A: Allocator> Traffic<A> {
     /// Whether an answer to a side's last frame waits. Where none does, the bytes that are held are those since
     /// the last whole frame.
-    pub fn is_busy(&self, side: Side) -> bool
-        ensures value { result ≡ is_awaited self.now side }
-        ensures tied { is_awaited self.now side ≡ false → (holding self.now side).held ≡ pending self.now side }
+    pub fn is_awaited(&self, side: Side) -> bool
+        ensures value { result ≡ is_awaited (at self.now.waiting) side }
+        ensures tied { is_awaited (at self.now.waiting) side ≡ false
+            → (holding self.now side).held ≡ pending self.now side }
     {
         match side {
-            Side::Bot => self.bot.is_busy(),
-            Side::Server => self.server.is_busy(),
+            Side::Bot => self.bot.is_awaited(),
+            Side::Server => self.server.is_awaited(),
         }
     }
 
@@ -223,7 +224,8 @@ impl<A: Allocator> Traffic<A> {
         ensures within { length result.now ≤ announced self.now.cap (holding self.now side).held }
         ensures capped { announced self.now.cap (holding self.now side).held ≤ self.now.cap }
         ensures short { length result.now ≤ 65526 }
-        ensures tied { is_awaited self.now side ≡ false → (holding self.now side).held ≡ pending self.now side }
+        ensures tied { is_awaited (at self.now.waiting) side ≡ false
+            → (holding self.now side).held ≡ pending self.now side }
     {
         match side {
             Side::Bot => self.bot.body(),
@@ -268,7 +270,7 @@ impl<A: Allocator> Traffic<A> {
     pub fn steps(&self, side: Side) -> u64
         ensures value { result ≡ steps_of (holding self.now side) }
         ensures few { result ≤ 4 * length (tokens_held self.now.cap (holding self.now side).held)
-            + (if is_awaited self.now side then 4 else 0) }
+            + (if is_awaited (at self.now.waiting) side then 4 else 0) }
     {
         match side {
             Side::Bot => self.bot.steps(),
@@ -278,7 +280,7 @@ impl<A: Allocator> Traffic<A> {
 
     /// Takes a side's next bytes, at most as many as there is room for, and reads the tokens that they end.
     pub fn feed(&mut self, side: Side, piece: &[u8]) -> Step
-        requires free { is_awaited self.old side ≡ false }
+        requires free { is_awaited (at self.old.waiting) side ≡ false }
         requires room { length piece.now ≤ missing self.old.cap (pending self.old side) }
         ensures keeps { Keeps side self.old self.new }
         ensures waiting { self.new.waiting ≡ self.old.waiting }
@@ -304,7 +306,7 @@ impl<A: Allocator> Traffic<A> {
 
     /// At a side's header, of whose body nothing came: its message is read at this level.
     pub fn begin(&mut self, side: Side, level: Level)
-        requires free { is_awaited self.old side ≡ false }
+        requires free { is_awaited (at self.old.waiting) side ≡ false }
         requires bodiless { drop 4 (pending self.old side) ≡ [] }
         ensures keeps { Keeps side self.old self.new }
         ensures waiting { self.new.waiting ≡ self.old.waiting }
@@ -319,7 +321,7 @@ impl<A: Allocator> Traffic<A> {
     /// Judges a side's frame, which is whole, and lets the answer wait for the wire toward which it goes. `head`
     /// is the frame's header.
     pub fn reply(&mut self, side: Side, head: Head) -> Verdict
-        requires free { is_awaited self.old side ≡ false }
+        requires free { is_awaited (at self.old.waiting) side ≡ false }
         requires head { head_in self.old.cap (pending self.old side) ≡ Some head }
         ensures right { IsRight [] self.old.max_depth
             (question_of side (noted self.old side) head (drop 4 (pending self.old side))) result }
@@ -350,7 +352,7 @@ impl<A: Allocator> Traffic<A> {
 
     /// Drops a side's frame, whole or not.
     pub fn clear(&mut self, side: Side)
-        requires free { is_awaited self.old side ≡ false }
+        requires free { is_awaited (at self.old.waiting) side ≡ false }
         ensures keeps { Keeps side self.old self.new }
         ensures waiting { self.new.waiting ≡ self.old.waiting }
         ensures cleared { IsCleared (at self.old.sides side) (at self.new.sides side) }

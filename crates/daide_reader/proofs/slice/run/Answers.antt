@@ -5,7 +5,8 @@ use Rattle.daide_grammar.specs.Words.{Words}
 use Rattle.daide_grammar.specs.Paired.{begins_with_prn}
 use Rattle.daide_reader.specs.Outline.{outline_of}
 use Rattle.daide_reader.specs.Reading.{IsRaised, StandsAfter, reading}
-use Rattle.daide_reader.proofs.ReadingLemmas.{raised_by, raised_more, counts_more, few_steps, room_more, lawful_more}
+use Rattle.daide_reader.proofs.ReadingLemmas.{raised_by, raised_more, counts_more, few_steps, room_more}
+use Rattle.daide_reader.proofs.StackLemmas.{lawful_more}
 use Rattle.daide_reader.proofs.SliceLemmas.{front_not_prn, length_front, open_told, run_taken, run_refused}
 use Rattle.daide_reader.proofs.BodyLemmas.{tokens_of-length}
 use Rattle.daide_reader.proofs.slice.run.Goals as goal
@@ -42,7 +43,7 @@ loop-i-preserved g c =
     let taken = c.in-Some.ensures.taken in
     let asked = c.step.ensures.steps in
     let fits = c.in-Some.ensures.fits refl in
-    let next = lawful_more Predict g.met.T.Predict.laws w t c.loop-i.opened c.args.max_depth _ _ inv.lawful inv.deep fits taken in
+    let next = lawful_more _ _ _ _ _ (g.met.T.Predict.laws w) t c.loop-i.opened c.args.max_depth _ _ inv.lawful inv.deep fits taken in
     let now : next.0 ≡ c.step.new.opened = sym (open_told c.step.new.opened next.0 (sym c.step.ensures.counted ∙ next.1)) in
     let counts : count_one (is_bra t) (is_ket t) (Some c.loop-i.opened) ≡ Some c.step.new.opened = next.1 ∙ ap (λ (k : ℕ). Some k) now in
     let more = c.token_at-token.ensures.front in

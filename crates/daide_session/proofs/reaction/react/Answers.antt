@@ -3,18 +3,19 @@ use Rattle.daide_frame.specs.declared.head.Head.{Head}
 use Rattle.daide_frame.specs.declared.cutter.Step.{Step}
 use Rattle.daide_frame.specs.declared.cutter.Step.TheVariants.{Bodied}
 use Rattle.daide_frame.specs.Frames.{Item, Whole, head_in, told, IsWholeBody}
-use Rattle.daide_machine.specs.Machine.{Coming}
+use Rattle.daide_machine.specs.Machine.{Coming, Sent}
+use Rattle.daide_machine.specs.Wires.{is_awaited}
+use Rattle.daide_session.specs.Both.{Both, at}
 use Rattle.daide_session.specs.Traffic.{pending}
 use Rattle.daide_session.specs.Session.{gateway_of}
 use Rattle.daide_session.specs.Reaction.{Reacts}
-use Rattle.daide_session.proofs.MovesLemmas.{awaited_same}
 use Rattle.daide_session.proofs.ReactionLemmas.{begun_and_empty, told_empty, no_body, no_code}
 use Rattle.daide_session.proofs.reaction.react.Goals as goal
 
 pub complete-requires-in-Nothing-clause-free : goal.complete-requires-in-Nothing-clause-free
 complete-requires-in-Nothing-clause-free g c =
     let begun = c.in-Nothing.ensures.begun (no_code _ c.in-Nothing.ensures.note) in
-    awaited_same c.args.traffic.now c.begin-in-Bodied-Some.new.traffic c.args.side begun.waiting ∙ c.requires.free
+    ap (λ (w : Both (List Sent)). is_awaited (at w) c.args.side) begun.waiting ∙ c.requires.free
 
 pub returns-in-Nothing : goal.returns-in-Nothing
 returns-in-Nothing g c =

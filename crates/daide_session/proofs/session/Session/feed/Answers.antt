@@ -6,12 +6,12 @@ use Rattle.daide_frame.specs.declared.cutter.Step.TheVariants.{Headed}
 use Rattle.daide_frame.specs.Frames.{told, head_in}
 use Rattle.daide_machine.specs.Machine.{Sent, Coming}
 use Rattle.daide_machine.specs.Events.{bytes_come}
-use Rattle.daide_machine.specs.Wires.{Gateway, Goes, Takes}
+use Rattle.daide_machine.specs.Wires.{Gateway, Goes, Takes, is_awaited}
 use Rattle.daide_session.specs.Both.{Both, at}
 use Rattle.daide_session.specs.Traffic.{pending, has_end}
 use Rattle.daide_session.specs.Session.{gateway_of}
 use Rattle.daide_session.proofs.HeaderAlone.{headed_alone}
-use Rattle.daide_session.proofs.MovesLemmas.{free_for, not_empty, answering_is, awaited_same, waiting_at}
+use Rattle.daide_session.proofs.MovesLemmas.{free_for, not_empty, waiting_at}
 use Rattle.daide_session.proofs.MovesLemmas.{fits}
 use Rattle.daide_session.proofs.SessionLemmas.{standing_on}
 use Rattle.daide_session.proofs.FeedLemmas.{goes_fed, goes_nowhere, takes_some, takes_nothing}
@@ -32,7 +32,7 @@ feed-step-requires-clause-free g c =
     let s = c.self.inside.stage in
     let free = free_for (gateway_of t s) c.args.self.now c.args.side c.args.piece.now c.is_empty.result
     c.is_empty.ensures c.if-is_empty.false c.requires c.self.view_is in
-    sym (answering_is t s c.args.side) ∙ free.free
+    free.free
 
 pub feed-step-requires-clause-room : goal.feed-step-requires-clause-room
 feed-step-requires-clause-room g c =
@@ -64,8 +64,7 @@ react-requires-clause-free g c =
     let s = c.self.inside.stage in
     let free = free_for (gateway_of t s) c.args.self.now c.args.side c.args.piece.now c.is_empty.result
     c.is_empty.ensures c.if-is_empty.false c.requires c.self.view_is in
-    awaited_same t c.feed-step.new.self c.args.side c.feed-step.ensures.waiting
-    ∙ (sym (answering_is t s c.args.side) ∙ free.free)
+    ap (λ (w : Both (List Sent)). is_awaited (at w) c.args.side) c.feed-step.ensures.waiting ∙ free.free
 
 pub react-requires-clause-bodiless : goal.react-requires-clause-bodiless
 react-requires-clause-bodiless g c = λ head step head_is.

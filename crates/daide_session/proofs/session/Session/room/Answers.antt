@@ -1,23 +1,23 @@
 use Rattle.std.proofs.Common.{ℕ, ◌<◌, sym, ap, ◌∙◌, subst}
 use Rattle.daide_frame.specs.Frames.{missing}
 use Rattle.daide_machine.specs.Machine.{Coming, is_over}
-use Rattle.daide_machine.specs.Wires.{Gateway, room_of, is_answering}
+use Rattle.daide_machine.specs.Wires.{Gateway, waiting, room_of, is_awaited}
 use Rattle.daide_machine.proofs.FramesHeard.{not_both}
 use Rattle.daide_session.specs.Session.{gateway_of}
-use Rattle.daide_session.proofs.MovesLemmas.{room_over, room_busy, room_open, answering_is, coming_at}
+use Rattle.daide_session.proofs.MovesLemmas.{room_over, room_awaited, room_open, coming_at}
 use Rattle.daide_session.proofs.session.Session.room.Goals.{then-is_over-via-then-is_over}
-use Rattle.daide_session.proofs.session.Session.room.Goals.{then-is_over-via-else-is_over+then-is_busy}
+use Rattle.daide_session.proofs.session.Session.room.Goals.{then-is_over-via-else-is_over+then-is_awaited}
 use Rattle.daide_session.proofs.session.Session.room.Goals as goal
 
 pub returns-then-is_over-clause-missing : goal.returns-then-is_over-clause-missing
 returns-then-is_over-clause-missing g c = elim c.then-is_over.branch [
   | then-is_over-via-then-is_over w ↦
       sym (room_over c.args.self.now c.args.side (sym c.is_over.ensures ∙ w.if-is_over.true))
-  | then-is_over-via-else-is_over+then-is_busy w ↦
+  | then-is_over-via-else-is_over+then-is_awaited w ↦
       let t = c.self.inside.traffic in
       let s = c.self.inside.stage in
-      sym (room_busy (gateway_of t s) c.args.side (answering_is t s c.args.side
-      ∙ (sym w.is_busy.ensures.value ∙ w.if-is_busy.true)))
+      sym (room_awaited (gateway_of t s) c.args.side (sym w.is_awaited.ensures.value
+      ∙ w.if-is_awaited.true))
       ∙ ap (λ (v : Gateway). room_of v c.args.side) c.self.view_is
 ]
 
@@ -25,12 +25,12 @@ pub returns-then-is_over-clause-waited_for : goal.returns-then-is_over-clause-wa
 returns-then-is_over-clause-waited_for g c = λ live free. elim c.then-is_over.branch [
   | then-is_over-via-then-is_over w ↦
       absurd (not_both (is_over c.args.self.now.state.phase) (sym c.is_over.ensures ∙ w.if-is_over.true) live)
-  | then-is_over-via-else-is_over+then-is_busy w ↦
+  | then-is_over-via-else-is_over+then-is_awaited w ↦
       let t = c.self.inside.traffic in
       let s = c.self.inside.stage in
-      absurd (not_both (is_answering c.args.self.now c.args.side)
-      (ap (λ (v : Gateway). is_answering v c.args.side) (sym c.self.view_is) ∙ (answering_is t s c.args.side
-      ∙ (sym w.is_busy.ensures.value ∙ w.if-is_busy.true))) free)
+      absurd (not_both (is_awaited (waiting c.args.self.now) c.args.side)
+      (ap (λ (v : Gateway). is_awaited (waiting v) c.args.side) (sym c.self.view_is) ∙ (sym w.is_awaited.ensures.value
+      ∙ w.if-is_awaited.true)) free)
 ]
 
 -- what is missing of the side's next frame
@@ -39,13 +39,13 @@ returns-clause-missing g c =
     let t = c.self.inside.traffic in
     let s = c.self.inside.stage in
     let side = c.args.side in
-    let free = sym c.is_busy.ensures.value ∙ c.if-is_busy.false in
+    let free = sym c.is_awaited.ensures.value ∙ c.if-is_awaited.false in
     let live = ap (λ (v : Gateway). is_over v.state.phase) c.self.view_is
     ∙ (sym c.is_over.ensures ∙ c.if-is_over.false) in
     c.room.ensures
-    ∙ (ap (missing t.cap) (c.is_busy.ensures.tied free)
+    ∙ (ap (missing t.cap) (c.is_awaited.ensures.tied free)
     ∙ (ap (λ (x : Coming). missing t.cap x.pending) (sym (coming_at t s side))
-    ∙ (sym (room_open (gateway_of t s) side live (answering_is t s side ∙ free))
+    ∙ (sym (room_open (gateway_of t s) side live free)
     ∙ ap (λ (v : Gateway). room_of v side) c.self.view_is)))
 
 pub returns-clause-waited_for : goal.returns-clause-waited_for
@@ -57,6 +57,6 @@ returns-clause-waited_for g c = λ live free.
     let some = c.self.invariant.wanted here side in
     subst (λ (n : ℕ). 0 < n)
     (ap (λ (x : Coming). missing t.cap x.pending) (coming_at t s side)
-    ∙ (sym (ap (missing t.cap) (c.is_busy.ensures.tied (sym c.is_busy.ensures.value ∙ c.if-is_busy.false)))
+    ∙ (sym (ap (missing t.cap) (c.is_awaited.ensures.tied (sym c.is_awaited.ensures.value ∙ c.if-is_awaited.false)))
     ∙ sym c.room.ensures))
     some

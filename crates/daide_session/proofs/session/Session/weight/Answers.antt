@@ -1,48 +1,48 @@
 use Rattle.std.proofs.Common.{◌+◌, ◌≤◌, length, ap, ◌∙◌, subst, arith}
 use Rattle.daide_machine.specs.Wires.{Gateway}
 use Rattle.daide_machine.specs.Weight.{weight_of, weight_bound, IsTied}
-use Rattle.daide_session.proofs.WeightLemmas.{light, weight_is, weight_few, tied_by}
+use Rattle.daide_session.proofs.WeightLemmas.{IsLight, light, weight_is, weight_few, tied_by}
+use Rattle.daide_session.proofs.session.Session.weight.Given.{Over}
+use Rattle.daide_session.proofs.session.Session.weight.Goals.{After-entries, After-entries-2}
 use Rattle.daide_session.proofs.session.Session.weight.Goals as goal
+
+bot : (g : Over) (c : After-entries g) →
+    IsLight c.self.inside.traffic.cap c.self.inside.traffic.sides.bot.holding.held (length c.body.result.now)
+    c.entries.result
+bot g c =
+    let t = c.self.inside.traffic in
+    light t.cap t.sides.bot.holding.held c.body.result.now c.entries.result c.body.ensures.value c.body.ensures.within
+    c.body.ensures.capped c.body.ensures.short c.entries.ensures.few
+
+server : (g : Over) (c : After-entries-2 g) →
+    IsLight c.self.inside.traffic.cap c.self.inside.traffic.sides.server.holding.held (length c.body-2.result.now)
+    c.entries-2.result
+server g c =
+    let t = c.self.inside.traffic in
+    light t.cap t.sides.server.holding.held c.body-2.result.now c.entries-2.result c.body-2.ensures.value
+    c.body-2.ensures.within c.body-2.ensures.capped c.body-2.ensures.short c.entries-2.ensures.few
 
 pub overflow_add-bot : goal.overflow_add-bot
 overflow_add-bot g c =
-    let t = c.self.inside.traffic in
-    let bot = light t.cap t.sides.bot.holding.held c.body.result.now c.entries.result c.body.ensures.value
-    c.body.ensures.within c.body.ensures.capped c.body.ensures.short c.entries.ensures.few in
-    let small = bot.small in
+    let small = (bot g (goal.at.overflow_add-bot g c).After-entries).small in
     omega (arith, small)
 
 pub overflow_add-server : goal.overflow_add-server
 overflow_add-server g c =
-    let t = c.self.inside.traffic in
-    let server = light t.cap t.sides.server.holding.held c.body-2.result.now c.entries-2.result c.body-2.ensures.value
-    c.body-2.ensures.within c.body-2.ensures.capped c.body-2.ensures.short c.entries-2.ensures.few in
-    let small = server.small in
+    let small = (server g (goal.at.overflow_add-server g c).After-entries-2).small in
     omega (arith, small)
 
 pub overflow_add-result : goal.overflow_add-result
 overflow_add-result g c =
-    let t = c.self.inside.traffic in
-    let bot = light t.cap t.sides.bot.holding.held c.body.result.now c.entries.result c.body.ensures.value
-    c.body.ensures.within c.body.ensures.capped c.body.ensures.short c.entries.ensures.few in
-    let server = light t.cap t.sides.server.holding.held c.body-2.result.now c.entries-2.result c.body-2.ensures.value
-    c.body-2.ensures.within c.body-2.ensures.capped c.body-2.ensures.short c.entries-2.ensures.few in
-    let a = bot.small in
-    let b = server.small in
+    let a = (bot g (goal.at.overflow_add-result g c).After-entries).small in
+    let b = (server g (goal.at.overflow_add-result g c).After-entries-2).small in
     omega (arith, a, b)
 
 pub overflow_add-result-3 : goal.overflow_add-result-3
 overflow_add-result-3 g c =
-    let t = c.self.inside.traffic in
-    let bot = light t.cap t.sides.bot.holding.held c.body.result.now c.entries.result c.body.ensures.value
-    c.body.ensures.within c.body.ensures.capped c.body.ensures.short c.entries.ensures.few in
-    let server = light t.cap t.sides.server.holding.held c.body-2.result.now c.entries-2.result c.body-2.ensures.value
-    c.body-2.ensures.within c.body-2.ensures.capped c.body-2.ensures.short c.entries-2.ensures.few in
-    let a = bot.small in
-    let b = server.small in
-    let three = c.count.ensures.at_most_three in
-    let three2 = c.count-2.ensures.at_most_three in
-    omega (arith, a, b, three, three2)
+    let a = (bot g (goal.at.overflow_add-result-3 g c).After-entries).small in
+    let b = (server g (goal.at.overflow_add-result-3 g c).After-entries-2).small in
+    omega (arith, a, b, c.count.ensures.at_most_three, c.count-2.ensures.at_most_three)
 
 pub returns-clause-value : goal.returns-clause-value
 returns-clause-value g c =
@@ -53,17 +53,14 @@ returns-clause-value g c =
 
 pub returns-clause-weight : goal.returns-clause-weight
 returns-clause-weight g c =
-    let t = c.self.inside.traffic in
-    let bot = light t.cap t.sides.bot.holding.held c.body.result.now c.entries.result c.body.ensures.value
-    c.body.ensures.within c.body.ensures.capped c.body.ensures.short c.entries.ensures.few in
-    let server = light t.cap t.sides.server.holding.held c.body-2.result.now c.entries-2.result c.body-2.ensures.value
-    c.body-2.ensures.within c.body-2.ensures.capped c.body-2.ensures.short c.entries-2.ensures.few in
+    let a = bot g (goal.at.returns-clause-weight g c).After-entries in
+    let b = server g (goal.at.returns-clause-weight g c).After-entries-2 in
     subst (λ (v : Gateway). length c.body.result.now + c.entries.result
     + (length c.body-2.result.now + c.entries-2.result) + (c.count.result + c.count-2.result) ≤ weight_bound v)
     c.self.view_is
-    (weight_few t c.self.inside.stage (length c.body.result.now) c.entries.result (length c.body-2.result.now)
-    c.entries-2.result c.count.result c.count-2.result bot.within server.within c.count.ensures.at_most_three
-    c.count-2.ensures.at_most_three)
+    (weight_few c.self.inside.traffic c.self.inside.stage (length c.body.result.now) c.entries.result
+    (length c.body-2.result.now) c.entries-2.result c.count.result c.count-2.result a.within b.within
+    c.count.ensures.at_most_three c.count-2.ensures.at_most_three)
 
 pub returns-clause-tied : goal.returns-clause-tied
 returns-clause-tied g c = subst IsTied c.self.view_is

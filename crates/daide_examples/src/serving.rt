@@ -1,0 +1,404 @@
+//! Whole runs in memory: what the system was asked, in which order, and what each bot was served.
+
+use crate::relays::{NEVER, QUIET, sent};
+use crate::script::bytes_of;
+use daide_frame::side::Side::Server;
+use daide_gate::serving::{ServeFault, serve};
+use daide_gate::settings::{Settings, read_settings};
+use daide_gate::system::{Connect, Notice, System};
+use daide_session::config::ConfigError;
+use daide_session::memory_ports::{Arrival, MemoryPorts, Script};
+use linked_list_allocator::LocalHeap;
+use std::alloc::Global;
+use std::test::Fail;
+
+/// What became of a connect, in a script.
+#[derive(Clone, Copy, Debug)]
+enum Fate {
+    Ready,
+    Failed,
+    Pending,
+}
+
+/// What the system was asked, and answered.
+#[derive(Clone, Copy, Debug, PartialEq, Eq)]
+enum Event {
+    Came,
+    NoneCame,
+    Ready,
+    Failed,
+    Pending,
+    Retired,
+    Told(Notice),
+    Waited(bool),
+}
+
+/// What happens in a run. After the last accept each one brings a bot; after the last fate each connect is there.
+#[derive(Clone, Copy, Debug)]
+struct Scene {
+    accepts: &'static [bool],
+    fates: &'static [Fate],
+    bot: Script<'static>,
+}
+
+/// A system that plays a scene; its server is quiet.
+#[derive(Drop)]
+struct Stage {
+    alloc: Global,
+    scene: Scene,
+    accepts: usize,
+    fates: usize,
+    /// How many bots are held now, and were held at most; how many were retired.
+    held: usize,
+    most: usize,
+    events: Vec<Event>,
+    retired: Vec<MemoryPorts<'static>>,
+}
+
+impl Stage {
+    fn new(alloc: Global, scene: Scene) -> Stage {
+        Stage {
+            alloc,
+            scene,
+            accepts: 0,
+            fates: 0,
+            held: 0,
+            most: 0,
+            events: Vec::new(alloc),
+            retired: Vec::new(alloc),
+        }
+    }
+
+    fn note(&mut self, event: Event) {
+        let _ = self.events.push(event);
+    }
+}
+
+impl System<MemoryPorts<'static>> for Stage {
+    ghost use Rattle.std.specs.Prelude.{None};
+
+    ghost told = { λ _. None };
+
+    fn accept(&mut self) -> bool {
+        let came = self
+            .scene
+            .accepts
+            .get(self.accepts)
+            .is_none_or(|came| *came);
+        self.accepts = self.accepts.saturating_add(1);
+        if came {
+            self.held = self.held.saturating_add(1);
+            self.most = self.most.max(self.held);
+            self.note(Event::Came);
+        } else {
+            self.note(Event::NoneCame);
+        }
+        came
+    }
+
+    fn connected(&mut self) -> Connect<MemoryPorts<'static>> {
+        let fate = self.scene.fates.get(self.fates);
+        self.fates = self.fates.saturating_add(1);
+        match fate {
+            None | Some(Fate::Ready) => {
+                self.note(Event::Ready);
+                Connect::Ready(MemoryPorts::new(self.alloc, self.scene.bot, QUIET, NEVER))
+            }
+            Some(Fate::Failed) => {
+                self.held = self.held.saturating_sub(1);
+                self.note(Event::Failed);
+                Connect::Failed
+            }
+            Some(Fate::Pending) => {
+                self.note(Event::Pending);
+                Connect::Pending
+            }
+        }
+    }
+
+    fn retire(&mut self, ports: MemoryPorts<'static>) {
+        self.held = self.held.saturating_sub(1);
+        self.note(Event::Retired);
+        let _ = self.retired.push(ports);
+    }
+
+    fn tell(&mut self, notice: Notice) {
+        self.note(Event::Told(notice));
+    }
+
+    fn wait(&mut self, accepts: bool) {
+        self.note(Event::Waited(accepts));
+    }
+}
+
+/// A bot that ends at once.
+const ENDS: Script<'static> = Script {
+    pulls: &[Arrival::End],
+    puts: &[],
+};
+
+/// A bot that says nothing in its first turn, and ends in its second.
+const ENDS_LATER: Script<'static> = Script {
+    pulls: &[Arrival::Idle, Arrival::End],
+    puts: &[],
+};
+
+/// A bot that opens, and says no more.
+const OPENS_ALONE: Script<'static> = Script {
+    pulls: &[Arrival::Bytes(&[0, 0, 0, 4, 0, 1, 0xDA, 0x10])],
+    puts: &[],
+};
+
+fn settings(
+    alloc: Global,
+    max_sessions: usize,
+    sessions: u32,
+    turns: u64,
+) -> Result<Settings, Fail> {
+    let mut settings = read_settings(alloc, "listen = \"a\"\nserver = \"b\"\nmax_body = 512\n")?;
+    settings.max_sessions = max_sessions;
+    settings.sessions = sessions;
+    settings.turns = turns;
+    Ok(settings)
+}
+
+/// Each run: its scene, the settings `max_sessions`, `sessions` and `turns`, and what the system was asked.
+const RUNS: &[(Scene, usize, u32, u64, &[Event])] = &[
+    // an accept that brings none, a connect that hangs, waits that return at once
+    (
+        Scene {
+            accepts: &[false],
+            fates: &[Fate::Pending, Fate::Pending],
+            bot: ENDS,
+        },
+        16,
+        1,
+        9,
+        &[
+            Event::NoneCame,
+            Event::Waited(true),
+            Event::Came,
+            Event::Pending,
+            Event::Pending,
+            Event::Waited(false),
+            Event::Ready,
+            Event::Retired,
+        ],
+    ),
+    // the server can't be reached: the bot counts as served
+    (
+        Scene {
+            accepts: &[],
+            fates: &[Fate::Failed],
+            bot: ENDS,
+        },
+        1,
+        1,
+        9,
+        &[Event::Came, Event::Failed, Event::Told(Notice::CannotReach)],
+    ),
+    // one at once: the next comes when the first is gone
+    (
+        Scene {
+            accepts: &[],
+            fates: &[],
+            bot: ENDS_LATER,
+        },
+        1,
+        2,
+        9,
+        &[
+            Event::Came,
+            Event::Ready,
+            Event::Retired,
+            Event::Came,
+            Event::Ready,
+            Event::Retired,
+        ],
+    ),
+    // a connect under way takes the one place
+    (
+        Scene {
+            accepts: &[],
+            fates: &[Fate::Pending, Fate::Pending, Fate::Failed],
+            bot: ENDS,
+        },
+        1,
+        2,
+        9,
+        &[
+            Event::Came,
+            Event::Pending,
+            Event::Pending,
+            Event::Waited(false),
+            Event::Failed,
+            Event::Told(Notice::CannotReach),
+            Event::Came,
+            Event::Ready,
+            Event::Retired,
+        ],
+    ),
+    // two at once: a round takes up one connect
+    (
+        Scene {
+            accepts: &[],
+            fates: &[Fate::Pending],
+            bot: ENDS_LATER,
+        },
+        2,
+        2,
+        9,
+        &[
+            Event::Came,
+            Event::Pending,
+            Event::Came,
+            Event::Ready,
+            Event::Ready,
+            Event::Retired,
+            Event::Retired,
+        ],
+    ),
+    // a silent bot: its fourth turn is one too many
+    (
+        Scene {
+            accepts: &[],
+            fates: &[],
+            bot: QUIET,
+        },
+        1,
+        1,
+        3,
+        &[
+            Event::Came,
+            Event::Ready,
+            Event::Waited(false),
+            Event::Waited(false),
+            Event::Told(Notice::TurnsSpent),
+            Event::Retired,
+        ],
+    ),
+];
+
+#[test]
+fn system_is_asked_round_by_round(rt: HostRuntime) -> Result<(), Fail> {
+    for (scene, max_sessions, sessions, turns, want) in RUNS {
+        let settings = settings(rt.alloc(), *max_sessions, *sessions, *turns)?;
+        let mut stage = Stage::new(rt.alloc(), *scene);
+        assert_eq!(rt; serve(rt.alloc(), &settings, &mut stage), Ok(()));
+        assert_eq!(rt; stage.events.as_slice(), *want, "{scene:?}");
+    }
+    Ok(())
+}
+
+/// A bot's IM is read in two turns and written in two. When its turns are spent an FM waits for the server; the wire
+/// fails then, so the server gets no more than the IM.
+#[test]
+fn spent_turns_end_an_open_wire(rt: HostRuntime) -> Result<(), Fail> {
+    let settings = settings(rt.alloc(), 1, 1, 5)?;
+    let scene = Scene {
+        accepts: &[],
+        fates: &[],
+        bot: OPENS_ALONE,
+    };
+    let mut stage = Stage::new(rt.alloc(), scene);
+    assert_eq!(rt; serve(rt.alloc(), &settings, &mut stage), Ok(()));
+    let want = [
+        Event::Came,
+        Event::Ready,
+        Event::Waited(false),
+        Event::Told(Notice::TurnsSpent),
+        Event::Retired,
+    ];
+    assert_eq!(rt; stage.events.as_slice(), want.as_slice());
+    let Some(ports) = stage.retired.first() else {
+        assert!(rt; false, "its ports were taken");
+        return Ok(());
+    };
+    let calls = ports.calls().unwrap_or(&[]);
+    let want = bytes_of(&rt, "00 00 00 04 00 01 DA 10")?;
+    assert_eq!(rt; sent(&rt, calls, Server)?.as_slice(), want.as_slice());
+    Ok(())
+}
+
+#[test]
+fn hundred_bots_sixteen_at_once(rt: HostRuntime) -> Result<(), Fail> {
+    let settings = settings(rt.alloc(), 16, 100, 30)?;
+    let scene = Scene {
+        accepts: &[true, false, true, false],
+        fates: &[Fate::Failed, Fate::Pending, Fate::Failed],
+        bot: QUIET,
+    };
+    let mut stage = Stage::new(rt.alloc(), scene);
+    assert_eq!(rt; serve(rt.alloc(), &settings, &mut stage), Ok(()));
+    assert_eq!(rt; stage.held, 0);
+    assert_eq!(rt; stage.most, 16);
+    assert_eq!(rt; stage.retired.len(), 98);
+    Ok(())
+}
+
+/// Over heaps from empty to ample: want of memory by its name, and nothing else.
+#[test]
+fn want_of_memory_ends_a_run(rt: HostRuntime) -> Result<(), Fail> {
+    let settings = settings(rt.alloc(), 1, 1, 9)?;
+    let scene = Scene {
+        accepts: &[],
+        fates: &[],
+        bot: ENDS,
+    };
+    let mut without_hub = 0u32;
+    let mut without_session = 0u32;
+    let mut whole = 0u32;
+    for step in 0..300 {
+        let heap = LocalHeap::new(rt.alloc(), 32 * step)?;
+        let mut stage = Stage::new(rt.alloc(), scene);
+        match serve(&heap, &settings, &mut stage) {
+            Ok(()) => whole = whole.saturating_add(1),
+            Err(fault) => {
+                assert_eq!(rt; fault, ServeFault::Memory);
+                if stage.events.is_empty() {
+                    without_hub = without_hub.saturating_add(1);
+                } else {
+                    without_session = without_session.saturating_add(1);
+                }
+            }
+        }
+    }
+    assert!(rt; without_hub > 0, "{without_hub}");
+    assert!(rt; without_session > 0, "{without_session}");
+    assert!(rt; whole > 0, "{whole}");
+    Ok(())
+}
+
+#[test]
+fn faults_of_a_run_before_anybody_is_asked(rt: HostRuntime) -> Result<(), Fail> {
+    let scene = Scene {
+        accepts: &[],
+        fates: &[],
+        bot: ENDS,
+    };
+    let mut wrong = settings(rt.alloc(), 0, 1, 9)?;
+    let mut stage = Stage::new(rt.alloc(), scene);
+    assert_eq!(rt;
+        serve(rt.alloc(), &wrong, &mut stage),
+        Err(ServeFault::Sessions)
+    );
+    wrong.config.max_depth = 63;
+    assert_eq!(rt;
+        serve(rt.alloc(), &wrong, &mut stage),
+        Err(ServeFault::Config(ConfigError::Depth))
+    );
+    assert!(rt; stage.events.is_empty());
+    assert_eq!(rt;
+        ServeFault::Memory.to_string(rt.alloc())?.as_str(),
+        "out of memory"
+    );
+    assert_eq!(rt;
+        Notice::TurnsSpent.to_string(rt.alloc())?.as_str(),
+        "turns spent"
+    );
+    assert_eq!(rt;
+        Notice::CannotReach.to_string(rt.alloc())?.as_str(),
+        "cannot reach the server"
+    );
+    Ok(())
+}
