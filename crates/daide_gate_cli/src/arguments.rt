@@ -7,9 +7,11 @@ use std::alloc::{AllocError, Global};
 
 /// What the words ask for.
 #[derive(Clone, Copy, Debug, PartialEq, Eq)]
-pub enum Order {
+pub enum Order<'a> {
     /// Show one frame, judged as the side's at the level.
     Show(Side, Level),
+    /// Serve with the settings of the file at this path.
+    Run(&'a str),
     /// `--side` names no side.
     BadSide,
     /// `--level` names no level.
@@ -23,7 +25,7 @@ Without a command it does what 'show' does with its defaults. The options of 'sh
       --level <N>    0, 10, 20, 30, 40, 50 or 60 [default: 0]
 
 Exit status:
-  0  the frame would be relayed; help and version
+  0  the frame would be relayed; all bots were served; help and version
   1  a fault of the input, the output or memory, told in one line on standard error
   2  words that are not understood
   3  the frame is shown, and would not be relayed";
@@ -32,6 +34,11 @@ Exit status:
 const SHOW_NOTES: &str = "\
 The input has at most 200,000 bytes. Spaces, tabs and line ends are dropped wherever they stand.
 The exit status is 0 where the frame would be relayed and 3 where not; 'daide-gate --help' has all.";
+
+/// What a run says, and what its exit status says of it.
+const RUN_NOTES: &str = "\
+It prints 'listening' once bots may come. What ends no run, as a server that can't be reached, is told in a
+line on standard error. The exit status is 0 once all bots were served, and 1 where no bot can be.";
 
 /// The command line that is understood. Both options take any word, so that a wrong one is told in
 /// the program's own words.
@@ -51,11 +58,22 @@ pub fn command<'a>(alloc: Global) -> Result<Command<'a>, AllocError> {
         .after_help(SHOW_NOTES)
         .arg(side)?
         .arg(level)?;
+    let settings = Arg::new(alloc, "SETTINGS")
+        .required(true)
+        .action(ArgAction::Set)
+        .help("The file of settings; docs/FORMATS.md and examples/settings.toml have its keys");
+    let run = Command::new(alloc, "run")
+        .about(
+            "Serves bots, each with a connection of its own to the server, until all were served",
+        )
+        .after_help(RUN_NOTES)
+        .arg(settings)?;
     Command::new(alloc, "daide-gate")
         .version("0.1.0")
         .about("A gateway between one bot and a DAIDE server")
         .after_help(NOTES)
-        .subcommand(show)
+        .subcommand(show)?
+        .subcommand(run)
 }
 
 fn side_of(word: &str) -> Option<Side> {
@@ -81,8 +99,9 @@ fn level_of(word: &str) -> Option<Level> {
 
 /// What the words ask for; without any, what `show` does with its defaults. A bad side is told
 /// before a bad level.
-pub fn order_of(matches: &ArgMatches) -> Order {
+pub fn order_of<'a>(matches: &ArgMatches<'a>) -> Order<'a> {
     let (side, level) = match matches.subcommand() {
+        Some(("run", run)) => return Order::Run(run.get_str("SETTINGS").unwrap_or("")),
         Some((_, show)) => (show.get_str("side"), show.get_str("level")),
         None => (None, None),
     };

@@ -4,12 +4,18 @@
 //! any streams, so that each run is a row of a test.
 #![tactic(auto)]
 
+mod admission;
 mod arguments;
+mod closing;
 mod faults;
+mod ports;
 mod program;
+mod running;
+mod system;
 mod terminal;
 #[cfg(test)]
 mod tests;
+mod watch;
 
 use faults::{FAULT, USAGE};
 use program::answer;

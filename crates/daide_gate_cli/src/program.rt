@@ -2,6 +2,7 @@
 
 use crate::arguments::{Order, command, order_of};
 use crate::faults::{CLEAN, FAULT, NOT_RELAYED, USAGE, tell};
+use crate::running::run;
 use clap::error::ErrorKind;
 use daide_frame::side::Side;
 use daide_gate::frame_view::show;
@@ -9,6 +10,8 @@ use daide_grammar::level::Level;
 use std::convert::AsStr;
 use std::io;
 use std::io::{Read, Write};
+use std::net::Net;
+use std::rt::{Clock, Files};
 
 /// Shows the frame of the input.
 fn run_show<R: AllocGlobal, I: Read, O: Write, E: Write>(
@@ -27,7 +30,7 @@ fn run_show<R: AllocGlobal, I: Read, O: Write, E: Write>(
 
 /// Does what the words ask for, and gives the exit status. The first word is the program's name.
 /// Only a fault that could not be told is an error.
-pub fn answer<R: AllocGlobal, S: AsStr, I: Read, O: Write, E: Write>(
+pub fn answer<R: AllocGlobal + Files + Clock + Net, S: AsStr, I: Read, O: Write, E: Write>(
     rt: &R,
     words: &[S],
     input: &mut I,
@@ -55,6 +58,7 @@ pub fn answer<R: AllocGlobal, S: AsStr, I: Read, O: Write, E: Write>(
     };
     match order_of(&matches) {
         Order::Show(side, level) => run_show(rt, (side, level), input, output, errors),
+        Order::Run(path) => run(rt, path, output, errors),
         Order::BadSide => tell(errors, "bad side", USAGE),
         Order::BadLevel => tell(errors, "bad level", USAGE),
     }

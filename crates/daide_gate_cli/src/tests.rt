@@ -1,5 +1,8 @@
 //! Runs of the program, a row each, and `show` where something is refused.
 
+mod gateway;
+mod stage;
+
 use crate::program::answer;
 use daide_frame::side::Side;
 use daide_gate::frame_view::{ShowFault, show};
@@ -7,11 +10,17 @@ use daide_grammar::level::Level;
 use linked_list_allocator::LocalHeap;
 use std::io;
 use std::io::{ErrorKind, Read, Write};
+use std::net::Net;
 use std::process::Abort;
+use std::rt::{Clock, Files};
 use std::test::Fail;
 
 /// What a run prints, what it tells on standard error, and its status.
-fn run<R: AllocGlobal>(rt: &R, words: &[&str], input: &[u8]) -> Result<(String, String, u8), Fail> {
+fn run<R: AllocGlobal + Files + Clock + Net>(
+    rt: &R,
+    words: &[&str],
+    input: &[u8],
+) -> Result<(String, String, u8), Fail> {
     let mut bytes = input;
     let mut output = Vec::new(rt.alloc());
     let mut errors = Vec::new(rt.alloc());
@@ -92,6 +101,7 @@ show --level=x --side=x | 02000002480F | | bad side | 2
 | 02000002480F | DM 2/OBS/relay/ | | 0
 --version | | daide-gate 0.1.0/ | | 0
 -V | | daide-gate 0.1.0/ | | 0
+run no-such-file | | | settings could not be read | 1
 ";
 
 /// The line that tells a fault, if there is one, and nothing else.
@@ -112,7 +122,7 @@ fn words_of<'a, R: AllocGlobal>(rt: &R, text: &'a str) -> Result<Vec<&'a str>, F
 }
 
 /// Runs a row of the table, and looks at what it prints, tells and answers.
-fn check_run<R: AllocGlobal + Abort>(rt: &R, row: &str) -> Result<(), Fail> {
+fn check_run<R: AllocGlobal + Files + Clock + Net + Abort>(rt: &R, row: &str) -> Result<(), Fail> {
     let mut fields = row.split('|');
     let words = words_of(rt, fields.next().unwrap_or(""))?;
     let input = fields.next().unwrap_or("");
@@ -141,10 +151,11 @@ fn shown_frames(rt: HostRuntime) -> Result<(), Fail> {
 const USAGES: &str = "\
 --help | Usage: daide-gate [COMMAND] | 0
 --help | show  Shows one frame, read as hexadecimal digits from standard input | 0
+--help | run   Serves bots, each with a connection of its own to the server, until all were served | 0
 --help | Without a command it does what 'show' does with its defaults. | 0
 --help | --side <SIDE>  bot or server [default: bot] | 0
 --help | --level <N>    0, 10, 20, 30, 40, 50 or 60 [default: 0] | 0
---help | 0  the frame would be relayed; help and version | 0
+--help | 0  the frame would be relayed; all bots were served; help and version | 0
 --help | 1  a fault of the input, the output or memory, told in one line on standard error | 0
 --help | 2  words that are not understood | 0
 --help | 3  the frame is shown, and would not be relayed | 0
@@ -154,6 +165,10 @@ show --help | Usage: daide-gate show [OPTIONS] | 0
 show -h | Whose frame it is, bot or server [default: bot] | 0
 help show | The level of press, 0, 10, 20, 30, 40, 50 or 60 [default: 0] | 0
 show --help | The exit status is 0 where the frame would be relayed and 3 where not | 0
+run --help | Usage: daide-gate run <SETTINGS> | 0
+help run | The exit status is 0 once all bots were served, and 1 where no bot can be. | 0
+run | error: the following required arguments were not provided: | 2
+run a b | error: unexpected argument 'b' found | 2
 tell | error: unrecognized subcommand 'tell' | 2
 --side bot | error: unexpected argument '--side' found | 2
 show more | error: unexpected argument 'more' found | 2
@@ -164,7 +179,10 @@ show --level 0 --level 0 | error: the argument '--level <N>' cannot be used mult
 ";
 
 /// Runs a row of that table: the text stands in one stream, and the other is empty.
-fn check_usage<R: AllocGlobal + Abort>(rt: &R, row: &str) -> Result<(), Fail> {
+fn check_usage<R: AllocGlobal + Files + Clock + Net + Abort>(
+    rt: &R,
+    row: &str,
+) -> Result<(), Fail> {
     let mut fields = row.split('|');
     let words = words_of(rt, fields.next().unwrap_or(""))?;
     let part = fields.next().unwrap_or("").trim();

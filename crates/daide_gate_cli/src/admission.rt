@@ -1,0 +1,179 @@
+//! Bots that come, and their connects to the server.
+//!
+//! Neither an accept nor a connect is waited for. The server's name was resolved at the start; where it has several
+//! addresses they are tried in turn, within one time for all.
+
+use crate::ports::{Socket, SocketPorts};
+use crate::watch::{Place, Watch};
+use mio::Interest;
+use mio::net::{TcpListener, TcpStream};
+use std::io::ErrorKind;
+use std::net::{Net, SocketAddr};
+use std::rt::Clock;
+use std::time::{Duration, Instant};
+
+/// How many seconds a server is tried for a bot.
+const CONNECT_SECONDS: u64 = 5;
+
+/// How many milliseconds no bot is taken after an accept that failed, as for want of descriptors.
+const ACCEPT_PAUSE: u64 = 100;
+
+/// Where bots come.
+#[derive(Drop)]
+pub struct Door<'w> {
+    listener: TcpListener,
+    place: Place<'w>,
+}
+
+impl<'w> Door<'w> {
+    /// Follows a listener, where that can be.
+    pub fn new<R: Clock>(watch: &'w Watch<R>, listener: TcpListener) -> Option<Door<'w>> {
+        let mut listener = listener;
+        let place = watch.follow(&mut listener, Interest::READABLE)?;
+        Some(Door { listener, place })
+    }
+
+    /// Ends the pause after an accept that failed, where it is over.
+    pub fn reopen<R: Clock>(&self, watch: &Watch<R>) {
+        let flags = self.place.flags;
+        if watch.is_over(flags.due.get()) {
+            flags.due.set(None);
+            flags.is_readable.set(true);
+        }
+    }
+
+    /// The connection of a bot that came. After an accept that failed none is taken for a while.
+    pub fn accept<R: Clock>(&self, watch: &Watch<R>) -> Option<TcpStream> {
+        self.reopen(watch);
+        let flags = self.place.flags;
+        if !flags.is_readable.get() {
+            return None;
+        }
+        match self.listener.accept() {
+            Ok((stream, _)) => return Some(stream),
+            Err(error) => {
+                flags.is_readable.set(false);
+                if error.kind() != ErrorKind::WouldBlock {
+                    flags
+                        .due
+                        .set(watch.after(Duration::from_millis(ACCEPT_PAUSE)));
+                }
+            }
+        }
+        None
+    }
+}
+
+/// What became of one bot's connect.
+#[derive(Clone, Copy, Debug, PartialEq, Eq)]
+enum Progress {
+    Connected,
+    Failed,
+    Pending,
+}
+
+/// A bot whose connect to the server is under way.
+#[derive(Drop)]
+pub struct Arrival<'w> {
+    bot: Socket<'w>,
+    server: Option<Socket<'w>>,
+    /// How many addresses were tried.
+    tried: usize,
+    /// When the server is given up.
+    gives_up: Option<Instant>,
+    /// When the time for the initial message is over.
+    im_over: Option<Instant>,
+}
+
+/// What became of a bot: its ports, its own socket where the server can't be reached, or nothing yet.
+#[derive(Drop)]
+pub enum Outcome<'w, R: Clock> {
+    Joined(SocketPorts<'w, R>),
+    Unreached(Socket<'w>),
+    Pending(Arrival<'w>),
+}
+
+impl<'w> Arrival<'w> {
+    /// A bot that came now; its connect begins with the first look at it.
+    pub fn new<R: Clock>(watch: &Watch<R>, bot: Socket<'w>, im_time: Duration) -> Arrival<'w> {
+        Arrival {
+            bot,
+            server: None,
+            tried: 0,
+            gives_up: watch.after(Duration::from_secs(CONNECT_SECONDS)),
+            im_over: watch.after(im_time),
+        }
+    }
+
+    /// Begins to connect to the next address to which that can be done.
+    fn try_next<R: Clock, N: Net>(&mut self, watch: &'w Watch<R>, net: &N, servers: &[SocketAddr]) {
+        self.server = None;
+        for address in servers.iter().skip(self.tried) {
+            self.tried = self.tried.saturating_add(1);
+            let Ok(stream) = TcpStream::connect(net, *address) else {
+                continue;
+            };
+            if let Some(socket) = Socket::new(watch, stream) {
+                socket.place.flags.due.set(self.gives_up);
+                self.server = Some(socket);
+                return;
+            }
+        }
+    }
+
+    /// What is known of the connect to the present address.
+    fn progress(&self) -> Progress {
+        let Some(server) = &self.server else {
+            return Progress::Failed;
+        };
+        if !server.place.flags.is_writable.get() {
+            return Progress::Pending;
+        }
+        match server.stream.take_error() {
+            Ok(None) => {}
+            _ => return Progress::Failed,
+        }
+        if server.stream.peer_addr().is_ok() {
+            return Progress::Connected;
+        }
+        server.place.flags.is_writable.set(false);
+        Progress::Pending
+    }
+
+    /// Goes on with the connect, as far as that is without waiting.
+    pub fn advance<R: Clock, N: Net>(
+        self,
+        watch: &'w Watch<R>,
+        net: &N,
+        servers: &[SocketAddr],
+    ) -> Outcome<'w, R> {
+        let mut arrival = self;
+        if arrival.tried == 0 {
+            arrival.try_next(watch, net, servers);
+        }
+        for _ in 0..=servers.len() {
+            match arrival.progress() {
+                Progress::Connected => return arrival.join(watch),
+                Progress::Pending => break,
+                Progress::Failed if arrival.tried < servers.len() => {
+                    arrival.try_next(watch, net, servers);
+                }
+                Progress::Failed => return Outcome::Unreached(arrival.bot),
+            }
+        }
+        if watch.is_over(arrival.gives_up) {
+            return Outcome::Unreached(arrival.bot);
+        }
+        Outcome::Pending(arrival)
+    }
+
+    /// The ports of a bot whose server is there.
+    fn join<R: Clock>(self, watch: &'w Watch<R>) -> Outcome<'w, R> {
+        let Some(server) = self.server else {
+            return Outcome::Unreached(self.bot);
+        };
+        server.place.flags.due.set(None);
+        self.bot.place.flags.due.set(self.im_over);
+        Outcome::Joined(SocketPorts::new(watch, self.bot, server))
+    }
+}

@@ -1,0 +1,120 @@
+//! Closing in stages, so that the last message of a session isn't destroyed by a reset.
+//!
+//! A socket that is closed while bytes of its peer are unread resets the connection, and what was written last may
+//! never arrive. So writing is shut down first; what still comes is read and dropped, within bounds; then the socket
+//! is closed.
+
+ghost use Rattle.std.specs.Prelude.{◌≤◌};
+
+use crate::ports::{Socket, SocketPorts};
+use crate::watch::Watch;
+use daide_session::ports::Pull;
+use std::alloc::{AllocError, Global};
+use std::net::Shutdown;
+use std::rt::Clock;
+use std::time::Duration;
+
+/// The most bytes that are read and dropped of a socket.
+const MOST_DROPPED: usize = 1 << 20;
+
+/// How many seconds they are waited for.
+const SECONDS: u64 = 1;
+
+/// The most bytes that are dropped of a socket in one round.
+const PIECE: usize = 4096;
+
+/// How many sockets close at once; where one more comes, the one that began first is closed.
+pub const MOST_CLOSING: usize = 256;
+
+/// A socket whose writing is shut down.
+#[derive(Drop)]
+struct Closing<'w> {
+    socket: Socket<'w>,
+    /// How many bytes may still come.
+    left: usize,
+}
+
+impl<'w> Closing<'w> {
+    /// Shuts down writing.
+    fn new<R: Clock>(watch: &Watch<R>, socket: Socket<'w>) -> Closing<'w> {
+        // One that is gone already has nothing to shut down.
+        let _ = socket.stream.shutdown(Shutdown::Write);
+        socket
+            .place
+            .flags
+            .due
+            .set(watch.after(Duration::from_secs(SECONDS)));
+        Closing {
+            socket,
+            left: MOST_DROPPED,
+        }
+    }
+
+    /// Drops a piece of what came, and answers whether the socket is to be closed now.
+    fn drops_last<R: Clock>(&mut self, watch: &Watch<R>) -> bool
+        ensures { self.new.left ≤ self.old.left }
+    {
+        let mut piece = [0; PIECE];
+        let room = self.left.min(PIECE);
+        match self.socket.pull(&mut piece[..room]) {
+            Pull::Got(count) => self.left -= count,
+            Pull::Idle => {}
+            Pull::Ended => return true,
+        }
+        let due = self.socket.place.flags.due.get();
+        self.left == 0 || due.is_none() || watch.is_over(due)
+    }
+}
+
+/// The sockets that close.
+#[derive(Drop)]
+pub struct Closings<'w> {
+    sockets: Vec<Closing<'w>>,
+}
+
+impl<'w> Closings<'w> {
+    /// None yet, and room for all.
+    pub fn new(alloc: Global) -> Result<Closings<'w>, AllocError> {
+        Ok(Closings {
+            sockets: Vec::with_capacity(alloc, MOST_CLOSING)?,
+        })
+    }
+
+    /// Begins to close a socket.
+    pub fn begin<R: Clock>(&mut self, watch: &Watch<R>, socket: Socket<'w>) {
+        if self.sockets.len() >= MOST_CLOSING {
+            self.sockets.remove(0);
+        }
+        // There is room: a socket for which there were none would be closed at once.
+        let _ = self.sockets.push(Closing::new(watch, socket));
+    }
+
+    /// Begins to close both sockets of a session.
+    pub fn begin_both<R: Clock>(&mut self, watch: &Watch<R>, ports: SocketPorts<'w, R>) {
+        self.begin(watch, ports.bot);
+        self.begin(watch, ports.server);
+    }
+
+    /// Drops a piece of what came on each, and closes those that are to be.
+    pub fn advance<R: Clock>(&mut self, watch: &Watch<R>) {
+        for i in (0..self.sockets.len()).rev() {
+            if let Some(closing) = self.sockets.get_mut(i)
+                && closing.drops_last(watch)
+            {
+                self.sockets.remove(i);
+            }
+        }
+    }
+
+    /// Whether there are none.
+    pub fn is_empty(&self) -> bool {
+        self.sockets.is_empty()
+    }
+
+    /// Whether more may have come on one of them.
+    pub fn is_ready(&self) -> bool {
+        self.sockets
+            .iter()
+            .any(|closing| closing.socket.place.flags.is_readable.get())
+    }
+}

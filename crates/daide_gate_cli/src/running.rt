@@ -1,0 +1,145 @@
+//! `run`: the gateway at work, until all its bots were served.
+
+ghost use Rattle.std.specs.Prelude.{◌≡◌, ◌≤◌, length, string_bytes, IfOk, IfSome};
+
+use crate::faults::{CLEAN, FAULT, tell};
+use crate::system::{Sockets, most_sockets};
+use crate::watch::{Watch, WatchFault};
+use daide_gate::serving::{ServeFault, serve};
+use daide_gate::settings::{Settings, SettingsError, read_settings};
+use mio::net::TcpListener;
+use std::alloc::{Allocator, Global};
+use std::io::{ErrorKind, Read, Write};
+use std::net::{Net, SocketAddr, ToSocketAddrs};
+use std::rt::{Clock, Files};
+use std::{fs, io};
+use thiserror::Error;
+
+/// The most bytes that a file of settings may have.
+const MOST_BYTES: usize = 65_536;
+
+/// Why a run doesn't begin, or ends early.
+#[derive(Clone, Copy, Debug, PartialEq, Eq, Error)]
+pub enum RunFault {
+    /// The file can't be read, is too long, or is not UTF-8.
+    #[error("settings could not be read")]
+    Unreadable,
+    #[error("{0}")]
+    Settings(SettingsError),
+    /// The address can't be listened on.
+    #[error("cannot listen")]
+    Listen,
+    #[error("out of memory")]
+    Memory,
+    #[error("{0}")]
+    Serve(ServeFault),
+}
+
+/// Reads a text of settings, which has a bound.
+pub fn read_text<A: Allocator, I: Read>(alloc: A, input: &mut I) -> Result<String<A>, RunFault>
+    ensures fits { IfOk result (λ text. length (string_bytes text) ≤ 65_536) }
+    ensures whole { IfOk result (λ text. IfSome (I.remaining input.old) (λ all. string_bytes text ≡ all)) }
+{
+    let mut bytes = Vec::new(alloc);
+    match input.take(MOST_BYTES as u64 + 1).read_to_end(&mut bytes) {
+        Ok(_) => {}
+        Err(error) if error.kind() == ErrorKind::OutOfMemory => return Err(RunFault::Memory),
+        Err(_) => return Err(RunFault::Unreadable),
+    }
+    if bytes.len() > MOST_BYTES {
+        return Err(RunFault::Unreadable);
+    }
+    match String::from_utf8(bytes) {
+        Ok(text) => Ok(text),
+        Err(_) => Err(RunFault::Unreadable),
+    }
+}
+
+/// The text of a file of settings.
+fn text_at<R: AllocGlobal + Files>(rt: &R, path: &str) -> Result<String, RunFault> {
+    let mut file = fs::open(rt, path).map_err(|_| RunFault::Unreadable)?;
+    read_text(rt.alloc(), &mut file)
+}
+
+/// A listener at the first of an address's meanings that can be listened on.
+fn listener_at<R: Net>(net: &R, address: &str) -> Result<TcpListener, RunFault> {
+    let addresses = address.to_socket_addrs(net).map_err(|_| RunFault::Listen)?;
+    for address in addresses {
+        if let Ok(listener) = TcpListener::bind(net, address) {
+            return Ok(listener);
+        }
+    }
+    Err(RunFault::Listen)
+}
+
+/// The meanings of the server's address; none of a name that nobody knows, so that no bot's connect succeeds.
+fn servers_at<R: Net>(alloc: Global, net: &R, address: &str) -> Result<Vec<SocketAddr>, RunFault> {
+    let mut servers = Vec::new(alloc);
+    if let Ok(addresses) = address.to_socket_addrs(net) {
+        for address in addresses {
+            servers.push(address).map_err(|_| RunFault::Memory)?;
+        }
+    }
+    Ok(servers)
+}
+
+/// Serves at a listener.
+fn serve_at<R: AllocGlobal + Clock + Net, O: Write, E: Write>(
+    rt: &R,
+    settings: &Settings,
+    output: &mut O,
+    errors: &mut E,
+) -> Result<(), RunFault> {
+    let listener = listener_at(rt, settings.listen.as_str())?;
+    let servers = servers_at(rt.alloc(), rt, settings.server.as_str())?;
+    let sockets = most_sockets(settings.max_sessions);
+    let watch = Watch::new(rt.alloc(), rt, rt, sockets).map_err(|fault| match fault {
+        WatchFault::System => RunFault::Listen,
+        WatchFault::Memory => RunFault::Memory,
+    })?;
+    let servers = servers.as_slice();
+    let mut system = Sockets::new(
+        rt.alloc(),
+        rt,
+        &watch,
+        listener,
+        servers,
+        settings,
+        errors,
+    ).ok_or(RunFault::Memory)?;
+    // Where nobody reads it the run goes on.
+    let _ = writeln!(output, "listening");
+    let _ = output.flush();
+    let served = serve(rt.alloc(), settings, &mut system);
+    system.finish();
+    served.map_err(RunFault::Serve)
+}
+
+/// Serves with the settings of a text.
+pub fn run_text<R: AllocGlobal + Clock + Net, O: Write, E: Write>(
+    rt: &R,
+    text: &str,
+    output: &mut O,
+    errors: &mut E,
+) -> Result<(), RunFault> {
+    let settings = read_settings(rt.alloc(), text).map_err(RunFault::Settings)?;
+    serve_at(rt, &settings, output, errors)
+}
+
+/// Reads the settings of a file, listens, says so, and serves until all bots were served. Only a fault that could
+/// not be told is an error.
+pub fn run<R: AllocGlobal + Files + Clock + Net, O: Write, E: Write>(
+    rt: &R,
+    path: &str,
+    output: &mut O,
+    errors: &mut E,
+) -> io::Result<u8> {
+    let ended = match text_at(rt, path) {
+        Ok(text) => run_text(rt, text.as_str(), output, errors),
+        Err(fault) => Err(fault),
+    };
+    match ended {
+        Ok(()) => Ok(CLEAN),
+        Err(fault) => tell(errors, fault, FAULT),
+    }
+}

@@ -1,0 +1,147 @@
+//! What a run asks of the system, over sockets.
+
+ghost use Rattle.std.specs.Prelude.{None};
+
+use crate::admission::{Arrival, Door, Outcome};
+use crate::closing::{Closings, MOST_CLOSING};
+use crate::ports::{Socket, SocketPorts};
+use crate::watch::Watch;
+use daide_gate::settings::Settings;
+use daide_gate::system::{Connect, Notice, System};
+use mio::net::TcpListener;
+use std::alloc::Global;
+use std::io::Write;
+use std::net::{Net, SocketAddr};
+use std::rt::Clock;
+use std::time::Duration;
+
+/// How many sockets a run with so many sessions has at most: the listener, two a session, and those that close.
+pub fn most_sockets(max_sessions: usize) -> usize {
+    max_sessions
+        .saturating_mul(2)
+        .saturating_add(MOST_CLOSING)
+        .saturating_add(1)
+}
+
+/// The sockets of a run beside those of its sessions.
+#[derive(Drop)]
+pub struct Sockets<'w, R: Clock + Net, E: Write + Drop> {
+    runtime: &'w R,
+    watch: &'w Watch<&'w R>,
+    door: Door<'w>,
+    servers: &'w [SocketAddr],
+    im_time: Duration,
+    arrivals: Vec<Arrival<'w>>,
+    closings: Closings<'w>,
+    errors: E,
+}
+
+impl<'w, R: Clock + Net, E: Write + Drop> Sockets<'w, R, E> {
+    /// The sockets of a run that no bot came to yet; none where memory is refused or the listener can't be followed.
+    pub fn new(
+        alloc: Global,
+        runtime: &'w R,
+        watch: &'w Watch<&'w R>,
+        listener: TcpListener,
+        servers: &'w [SocketAddr],
+        settings: &Settings,
+        errors: E,
+    ) -> Option<Sockets<'w, R, E>> {
+        Some(Sockets {
+            runtime,
+            watch,
+            door: Door::new(watch, listener)?,
+            servers,
+            im_time: Duration::from_secs(u64::from(settings.im_seconds)),
+            arrivals: Vec::with_capacity(alloc, settings.max_sessions).ok()?,
+            closings: Closings::new(alloc).ok()?,
+            errors,
+        })
+    }
+
+    /// Sees to what closes and to a door that was shut, and looks what came.
+    pub fn look(&mut self) {
+        self.tidy();
+        self.watch.look();
+    }
+
+    /// Goes on with the sockets that close, and reopens the door where its pause is over.
+    fn tidy(&mut self) {
+        self.door.reopen(self.watch);
+        self.closings.advance(self.watch);
+    }
+
+    /// Waits until the last sockets are closed, which takes a second at most.
+    pub fn finish(&mut self) {
+        for _ in 0..u64::MAX {
+            self.tidy();
+            if self.closings.is_empty() {
+                return;
+            }
+            self.rest();
+        }
+    }
+
+    /// Waits, but where a socket that closes may have more to drop.
+    fn rest(&mut self) {
+        if self.closings.is_ready() {
+            self.watch.look();
+        } else {
+            self.watch.wait();
+        }
+    }
+}
+
+impl<'w, R: Clock + Net, E: Write + Drop> System<SocketPorts<'w, &'w R>> for Sockets<'w, R, E> {
+    ghost use Rattle.std.specs.Prelude.{None};
+
+    ghost told = { λ _. None };
+
+    fn accept(&mut self) -> bool {
+        self.closings.advance(self.watch);
+        let Some(stream) = self.door.accept(self.watch) else {
+            return false;
+        };
+        let Some(bot) = Socket::new(self.watch, stream) else {
+            return false;
+        };
+        let arrival = Arrival::new(self.watch, bot, self.im_time);
+        self.arrivals.push(arrival).is_ok()
+    }
+
+    fn connected(&mut self) -> Connect<SocketPorts<'w, &'w R>> {
+        // One that is pending goes to the end, so after a look at each the order is as before.
+        for _ in 0..self.arrivals.len() {
+            if self.arrivals.is_empty() {
+                break;
+            }
+            let arrival = self.arrivals.remove(0);
+            match arrival.advance(self.watch, self.runtime, self.servers) {
+                Outcome::Joined(ports) => return Connect::Ready(ports),
+                Outcome::Unreached(bot) => {
+                    self.closings.begin(self.watch, bot);
+                    return Connect::Failed;
+                }
+                Outcome::Pending(arrival) => {
+                    // There is room for as many as came.
+                    let _ = self.arrivals.push(arrival);
+                }
+            }
+        }
+        Connect::Pending
+    }
+
+    fn retire(&mut self, ports: SocketPorts<'w, &'w R>) {
+        self.closings.begin_both(self.watch, ports);
+    }
+
+    fn tell(&mut self, notice: Notice) {
+        // Where nobody reads it the run goes on.
+        let _ = writeln!(self.errors, "daide-gate: {notice}");
+    }
+
+    fn wait(&mut self, _accepts: bool) {
+        self.tidy();
+        self.rest();
+    }
+}

@@ -1,0 +1,199 @@
+//! What is known of each socket without asking the system: whether a call may do something, and when something is
+//! to be done though nothing comes.
+//!
+//! The table is shared by `&`, so that the ports in a hub see what the loop's wait was told. An idle session reads
+//! two flags of it, and makes no call to the system.
+
+use mio::event::{Event, Source};
+use mio::{Events, Interest, Poll, Registry, Token};
+use std::alloc::Global;
+use std::cell::{Cell, RefCell};
+use std::net::Net;
+use std::rt::Clock;
+use std::time::{Duration, Instant};
+
+/// How many events one wait takes over; what is more comes with the next.
+const EVENTS: usize = 256;
+
+/// What is known of one socket.
+#[derive(Drop)]
+pub struct Flags {
+    is_taken: Cell<bool>,
+    /// Whether a read, or a listener's accept, may give something.
+    pub is_readable: Cell<bool>,
+    /// Whether a write may take something.
+    pub is_writable: Cell<bool>,
+    /// The moment at which something is to be done.
+    pub due: Cell<Option<Instant>>,
+}
+
+/// The table of a run, and the moment of its present round.
+#[derive(Drop)]
+pub struct Watch<R: Clock> {
+    clock: R,
+    registry: Registry,
+    waiter: RefCell<Waiter>,
+    /// None where the clock can't be read: then no time passes.
+    now: Cell<Option<Instant>>,
+    round: Cell<u64>,
+    flags: Vec<Flags>,
+}
+
+/// The system's side of the table.
+#[derive(Drop)]
+struct Waiter {
+    poll: Poll,
+    events: Events,
+}
+
+/// Why there is no table.
+#[derive(Clone, Copy, Debug, PartialEq, Eq)]
+pub enum WatchFault {
+    /// The system has no descriptor for it.
+    System,
+    /// Memory was refused.
+    Memory,
+}
+
+/// A socket's row of the table, which is free again where this is dropped.
+pub struct Place<'w> {
+    pub flags: &'w Flags,
+}
+
+impl Drop for Place<'_> {
+    fn drop(self) {
+        self.flags.is_taken.set(false);
+        let Place { flags: _ } = self;
+    }
+}
+
+impl Flags {
+    /// A row that no socket has.
+    fn new() -> Flags {
+        Flags {
+            is_taken: Cell::new(false),
+            is_readable: Cell::new(false),
+            is_writable: Cell::new(false),
+            due: Cell::new(None),
+        }
+    }
+
+    /// Takes the row for a socket of which nothing is known.
+    fn take(&self) {
+        self.is_taken.set(true);
+        self.is_readable.set(false);
+        self.is_writable.set(false);
+        self.due.set(None);
+    }
+
+    /// Notes what the system told of the socket. An end or a failure is told by the next call.
+    fn note(&self, event: &Event) {
+        if event.is_readable() || event.is_read_closed() || event.is_error() {
+            self.is_readable.set(true);
+        }
+        if event.is_writable() || event.is_write_closed() || event.is_error() {
+            self.is_writable.set(true);
+        }
+    }
+
+    /// The moment that is waited for, of a socket that is there.
+    fn awaited(&self) -> Option<Instant> {
+        if self.is_taken.get() {
+            self.due.get()
+        } else {
+            None
+        }
+    }
+}
+
+impl<R: Clock + Drop> Watch<R> {
+    /// A table of so many sockets.
+    pub fn new<N: Net>(
+        alloc: Global,
+        clock: R,
+        net: &N,
+        sockets: usize,
+    ) -> Result<Watch<R>, WatchFault> {
+        let poll = Poll::new(net).map_err(|_| WatchFault::System)?;
+        let registry = poll.registry().try_clone().map_err(|_| WatchFault::System)?;
+        let events = Events::with_capacity(alloc, EVENTS).map_err(|_| WatchFault::Memory)?;
+        let mut flags = Vec::with_capacity(alloc, sockets).map_err(|_| WatchFault::Memory)?;
+        for _ in 0..sockets {
+            flags.push(Flags::new()).map_err(|_| WatchFault::Memory)?;
+        }
+        let now = Instant::now(&clock).ok();
+        Ok(Watch {
+            clock,
+            registry,
+            waiter: RefCell::new(Waiter { poll, events }),
+            now: Cell::new(now),
+            round: Cell::new(0),
+            flags,
+        })
+    }
+}
+
+impl<R: Clock> Watch<R> {
+    /// The number of the present round.
+    pub fn round(&self) -> u64 {
+        self.round.get()
+    }
+
+    /// So long after the moment of the present round.
+    pub fn after(&self, duration: Duration) -> Option<Instant> {
+        self.now.get()?.checked_add(duration)
+    }
+
+    /// Whether a moment is over.
+    pub fn is_over(&self, moment: Option<Instant>) -> bool {
+        match (moment, self.now.get()) {
+            (Some(moment), Some(now)) => moment <= now,
+            _ => false,
+        }
+    }
+
+    /// Follows a socket, where the table has a row for it and the system agrees.
+    pub fn follow<S: Source>(&self, source: &mut S, interest: Interest) -> Option<Place<'_>> {
+        let token = self.flags.iter().position(|flags| !flags.is_taken.get())?;
+        let flags = self.flags.get(token)?;
+        flags.take();
+        let place = Place { flags };
+        self.registry.register(source, Token(token), interest).ok()?;
+        Some(place)
+    }
+
+    /// How long nothing is to be done, if nothing comes; none where no moment is waited for.
+    fn patience(&self) -> Option<Duration> {
+        let nearest = self.flags.iter().filter_map(|flags| flags.awaited()).min()?;
+        Some(nearest.saturating_duration_since(self.now.get()?))
+    }
+
+    /// Begins a round: takes over what the system tells within a time, and reads the clock.
+    fn begin_round(&self, timeout: Option<Duration>) {
+        self.round.set(self.round.get().wrapping_add(1));
+        if let Ok(mut waiter) = self.waiter.try_borrow_mut() {
+            let Waiter { poll, events } = &mut *waiter;
+            // Of a wait that fails there are no events.
+            let _ = poll.poll(events, timeout);
+            for event in events.iter() {
+                let Token(token) = event.token();
+                if let Some(flags) = self.flags.get(token) {
+                    flags.note(event);
+                }
+            }
+        }
+        if let Ok(now) = Instant::now(&self.clock) {
+            self.now.set(Some(now));
+        }
+    }
+
+    /// Begins a round with what the system tells now.
+    pub fn look(&self) {
+        self.begin_round(Some(Duration::ZERO));
+    }
+
+    /// Begins a round as soon as a socket is ready, or at the nearest moment that one waits for.
+    pub fn wait(&self) {
+        self.begin_round(self.patience());
+    }
+}
