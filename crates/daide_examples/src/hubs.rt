@@ -1,6 +1,6 @@
 //! Many sessions in one loop: places, refusals, and that none hears of another.
 
-use crate::relays::{NEVER, OPEN_BRACKET, OPENS, QUIET, WIDEST, sent};
+use crate::relays::{NEVER, OPENS, QUIET, WIDEST, sent};
 use crate::script::bytes_of;
 use daide_frame::side::Side::{Bot, Server};
 use daide_session::config::{Config, ConfigError};
@@ -8,6 +8,7 @@ use daide_session::hub::{AddFault, Hub, HubError};
 use daide_session::memory_ports::{Acceptance, Arrival, MemoryPorts, Script};
 use daide_session::ports::Ports;
 use linked_list_allocator::LocalHeap;
+use std::process::Abort;
 use std::test::Fail;
 
 #[test]
@@ -54,8 +55,8 @@ const KEEPS_A_BYTE: Script<'static> = Script {
     puts: &[Acceptance::Takes(3), Acceptance::Takes(0)],
 };
 
-/// A bot with the longest body, of numbers.
-const LONGEST: Script<'static> = Script {
+/// A bot that sends GOF and an open bracket in single bytes, and ends.
+const BY_BYTES: Script<'static> = Script {
     pulls: &[
         Arrival::Bytes(&[0, 0, 0, 4, 0, 1, 0xDA, 0x10]),
         Arrival::Idle,
@@ -64,12 +65,27 @@ const LONGEST: Script<'static> = Script {
         Arrival::Idle,
         Arrival::Idle,
         Arrival::Idle,
-        Arrival::Bytes(&[2, 0, 0xFF, 0xF6]),
-        Arrival::Bytes(&[0; 65_526]),
+        Arrival::Bytes(&[2]),
+        Arrival::Bytes(&[0]),
+        Arrival::Bytes(&[0]),
+        Arrival::Bytes(&[4]),
+        Arrival::Bytes(&[0x48]),
+        Arrival::Bytes(&[0x03]),
+        Arrival::Bytes(&[0x40]),
+        Arrival::Bytes(&[0]),
         Arrival::End,
     ],
     puts: &[],
 };
+
+/// The longest body: 32,763 times GOF, behind its header.
+fn longest_frame(rt: &(impl Abort + AllocGlobal)) -> Result<Vec<u8>, Fail> {
+    let mut frame = bytes_of(rt, "02 00 FF F6")?;
+    for _token in 0..32_763 {
+        frame.extend_from_slice(&[0x48, 0x03])?;
+    }
+    Ok(frame)
+}
 
 /// A full hub hands the very ports back; a session that is over gives its ports, and the one behind it moves
 /// down and goes on.
@@ -126,18 +142,55 @@ fn hub_places_move_down(rt: HostRuntime) -> Result<(), Fail> {
     Ok(())
 }
 
-/// While one session reads the longest body, another gets a message in single bytes: its ports, handed back,
-/// were sent exactly its own answers.
+/// Takes the first session out of a hub, and compares what its two wires took.
+fn was_sent(
+    rt: &(impl Abort + AllocGlobal),
+    hub: &mut Hub<MemoryPorts<'_>>,
+    to_bot: &[u8],
+    to_server: &[u8],
+) -> Result<(), Fail> {
+    let mut back = None;
+    if hub.count() > 0 {
+        back = hub.remove_over(0);
+    }
+    let Some(ports) = back else {
+        assert!(rt; false, "it is over, and nothing waits");
+        return Ok(());
+    };
+    let calls = ports.calls().unwrap_or(&[]);
+    assert_eq!(rt; sent(rt, calls, Bot)?.as_slice(), to_bot);
+    assert_eq!(rt; sent(rt, calls, Server)?.as_slice(), to_server);
+    Ok(())
+}
+
+/// While one session reads the longest body, another gets a message in single bytes, and then both bots end: the
+/// ports of each, handed back, were sent exactly its own answers.
 #[test]
 fn sessions_hear_nothing_of_each_other(rt: HostRuntime) -> Result<(), Fail> {
+    let longest = longest_frame(&rt)?;
+    let pulls = [
+        Arrival::Bytes(&[0, 0, 0, 4, 0, 1, 0xDA, 0x10]),
+        Arrival::Idle,
+        Arrival::Idle,
+        Arrival::Idle,
+        Arrival::Idle,
+        Arrival::Idle,
+        Arrival::Idle,
+        Arrival::Bytes(longest.as_slice()),
+        Arrival::End,
+    ];
+    let feeding = Script {
+        pulls: &pulls,
+        puts: &[],
+    };
     let mut hub = Hub::new(rt.alloc(), WIDEST, 2)?;
     assert_eq!(rt;
-        hub.add(MemoryPorts::new(rt.alloc(), OPEN_BRACKET, OPENS, NEVER))
+        hub.add(MemoryPorts::new(rt.alloc(), BY_BYTES, OPENS, NEVER))
             .ok(),
         Some(0)
     );
     assert_eq!(rt;
-        hub.add(MemoryPorts::new(rt.alloc(), LONGEST, OPENS, NEVER))
+        hub.add(MemoryPorts::new(rt.alloc(), feeding, OPENS, NEVER))
             .ok(),
         Some(1)
     );
@@ -149,22 +202,26 @@ fn sessions_hear_nothing_of_each_other(rt: HostRuntime) -> Result<(), Fail> {
         }
     }
     assert!(rt; hub.weight() <= 2 * (2 * 65_526 + 16 * 62 + 96));
-    let mut back = None;
-    if hub.count() > 0 {
-        back = hub.remove_over(0);
-    }
-    let Some(ports) = back else {
-        assert!(rt; false, "both bots ended");
-        return Ok(());
-    };
-    let calls = ports.calls().unwrap_or(&[]);
-    let want = bytes_of(
+    let to_server = bytes_of(&rt, "00 00 00 04 00 01 DA 10  03 00 00 00")?;
+
+    // the RM, and PRN ( GOF ( )
+    let to_bot = bytes_of(
         &rt,
         "01 00 00 00  02 00 00 0A 48 13 40 00 48 03 40 00 40 01",
     )?;
-    assert_eq!(rt; sent(&rt, calls, Bot)?.as_slice(), want.as_slice());
-    let want = bytes_of(&rt, "00 00 00 04 00 01 DA 10  03 00 00 00")?;
-    assert_eq!(rt; sent(&rt, calls, Server)?.as_slice(), want.as_slice());
+    was_sent(&rt, &mut hub, to_bot.as_slice(), to_server.as_slice())?;
+
+    // the RM, and HUH ( GOF ERR GOF .. GOF )
+    let mut to_bot = bytes_of(
+        &rt,
+        "01 00 00 00  02 00 FF FE  48 06 40 00 48 03 49 02",
+    )?;
+    for _token in 0..32_762 {
+        to_bot.extend_from_slice(&[0x48, 0x03])?;
+    }
+    to_bot.extend_from_slice(&[0x40, 0x01])?;
+    was_sent(&rt, &mut hub, to_bot.as_slice(), to_server.as_slice())?;
+    assert_eq!(rt; hub.count(), 0);
     Ok(())
 }
 

@@ -212,7 +212,7 @@ impl<'a, A: Allocator + Copy> Ports for Watching<'a, A> {
 }
 
 /// A bot that opens, leaves a bracket open, and ends.
-pub const OPEN_BRACKET: Script<'static> = Script {
+const OPEN_BRACKET: Script<'static> = Script {
     pulls: &[
         Arrival::Bytes(&[0, 0, 0, 4, 0, 1, 0xDA, 0x10]),
         Arrival::Idle,

@@ -3,8 +3,9 @@
 //! A cutter holds one frame at a time, and never more of it than its cap allows: it says at each moment
 //! how many bytes it takes. Its memory is taken once, in `new`; no later call can want for any.
 
-ghost use Rattle.std.specs.Prelude.{◌≡◌, ◌+◌, ◌*◌, ◌<◌, ◌≤◌, [], ◌∷◌, ◌++◌, length, take, drop, ◌⊎◌, IfOk, None};
-ghost use Rattle.daide_frame.specs.Frames.{alien_in, last_items, fed, fed_items, answer_to, told, IsFault, IsEnd, IsWholeBody, head_in, missing, announced};
+ghost use Rattle.std.specs.Prelude.{◌≡◌, ◌+◌, ◌*◌, ◌<◌, ◌≤◌, [], ◌∷◌, ◌++◌, length, take, drop, slice_index, ◌⊎◌, IfOk, None};
+ghost use Rattle.daide_token.specs.Token.{token_of_bytes};
+ghost use Rattle.daide_frame.specs.Frames.{alien_in, first_alien, further, last_items, fed, fed_items, answer_to, told, IsFault, IsEnd, IsWholeBody, head_in, missing, announced};
 ghost use Rattle.daide_frame.specs.Cutter.{IsFed};
 ghost use Rattle.daide_frame.specs.declared.cutter.Step.TheVariants.{More, Bodied};
 
@@ -55,6 +56,38 @@ impl<A: Allocator> Model for Cutter<A> {
     ghost invariant = { λ c. IsConsistent c.cap c.have c.header c.head c.is_faulty c.body.items (vec_capacity c.body) };
 }
 
+/// A token of a body.
+#[inline(always)]
+fn token_at(body: &[u8], place: usize) -> Token
+    requires { 2 * place + 1 < length body.now }
+    ensures { result ≡ token_of_bytes (slice_index body.now (2 * place) ∷ slice_index body.now (2 * place + 1) ∷ []) }
+{
+    Token::from_be([body[2 * place], body[2 * place + 1]])
+}
+
+/// How many tokens of a body have a known category, at least: those that were looked at before, and four by four those
+/// behind them, as long as all four have one.
+fn known_front(body: &[u8], known: usize) -> usize
+    requires counted { 2 * known ≤ length body.now }
+    requires none { first_alien body.now ≡ further (2 * known) (first_alien (drop (2 * known) body.now)) }
+    ensures counted { 2 * result ≤ length body.now }
+    ensures none { first_alien body.now ≡ further (2 * result) (first_alien (drop (2 * result) body.now)) }
+{
+    let tokens = body.len() / 2;
+    let mut i = known;
+    while tokens - i >= 4 {
+        if !token_at(body, i).has_known_category()
+            || !token_at(body, i + 1).has_known_category()
+            || !token_at(body, i + 2).has_known_category()
+            || !token_at(body, i + 3).has_known_category()
+        {
+            return i;
+        }
+        i += 4;
+    }
+    i
+}
+
 /// Where the first token of a category that is not known ends in a body, of which more may come. Only a
 /// diplomacy message is made of tokens. The first `known` tokens were looked at before.
 fn alien_end(head: Head, body: &[u8], known: usize) -> Option<usize>
@@ -66,9 +99,8 @@ fn alien_end(head: Head, body: &[u8], known: usize) -> Option<usize>
     let Kind::Dm = head.kind else {
         return None;
     };
-    for i in known..body.len() / 2 {
-        let token = Token::from_be([body[2 * i], body[2 * i + 1]]);
-        if !token.has_known_category() {
+    for i in known_front(body, known)..body.len() / 2 {
+        if !token_at(body, i).has_known_category() {
             return Some(2 * i + 2);
         }
     }

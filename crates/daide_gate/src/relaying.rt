@@ -1,14 +1,12 @@
 //! The loop over turns, which ends with the session.
 
-ghost use Rattle.std.specs.Prelude.{◌≡◌, ℕ, ◌+◌, ◌≤◌, not, length};
-ghost use Rattle.daide_frame.specs.declared.side.Side.{Side};
-ghost use Rattle.daide_machine.specs.Wires.{holding, steps_of, is_closed};
-ghost use Rattle.daide_machine.specs.Weight.{weight_of, weight_bound, steps_bound, IsKeptSmall};
+ghost use Rattle.std.specs.Prelude.{◌≡◌, ◌≤◌, not};
+ghost use Rattle.daide_machine.specs.Wires.{is_closed};
+ghost use Rattle.daide_machine.specs.Weight.{weight_of, weight_bound};
 ghost use Rattle.daide_session.specs.Record.{Carries, Relays};
 ghost use Rattle.daide_session.specs.Headline.{Headline};
 ghost use Rattle.daide_gate.specs.Relay.{MakesTurns, is_spent};
 
-use daide_frame::side::Side;
 use daide_session::exchange::turn;
 use daide_session::ports::Ports;
 use daide_session::session::Session;
@@ -46,18 +44,6 @@ fn make_turns<A: Allocator, P: Ports>(
     }
 }
 
-/// Asks a session what it keeps, so that its bounds are known where it stands.
-fn ask_bounds<A: Allocator>(session: &Session<A>)
-    ensures directions { (side : Side) → IsKeptSmall session.now.state.limits.cap (holding session.now side) }
-    ensures further { length session.now.to_bot + length session.now.to_server ≤ 64 }
-    ensures weight { weight_of session.now ≤ weight_bound session.now }
-    ensures steps { (side : Side) → steps_of (holding session.now side) ≤ steps_bound session.now side }
-{
-    session.weight();
-    session.steps(Side::Bot);
-    session.steps(Side::Server);
-}
-
 /// Makes turns while the session isn't closed, and at most so many. Beside the session it keeps one array of
 /// 512 bytes.
 pub fn relay<A: Allocator, P: Ports>(
@@ -72,6 +58,6 @@ pub fn relay<A: Allocator, P: Ports>(
     ensures headline { Carries Headline session.old (P.told ports.old) session.new (P.told ports.new) }
 {
     let end = make_turns(session, ports, turns);
-    ask_bounds(session);
+    session.bounds();
     end
 }

@@ -2,7 +2,6 @@ pub mod Counting
 pub mod DepthLemmas
 pub mod ErrPutIn
 pub mod BracketFacts
-pub mod ClassNumbers
 pub mod BalancedLemmas
 pub mod Languages
 pub mod LevelsGrow

@@ -1,11 +1,37 @@
 -- The numbers of symbols and classes, by which the constant table is looked up. (own)
 use Rattle.std.specs.Prelude.{ℕ, ◌+◌, Bool, true, false, List, [], ◌∷◌, ◌++◌, slice_index_or, Option, Some, None}
 use Rattle.daide_token.specs.declared.class.Class.{Class}
-use Rattle.daide_token.specs.declared.class.Class.TheVariants.{Bra, Ket, Num, Power, Note, Outcome, Coast, Season, Text, Province, Amy, Flt, Cto, Cvy, Hld, Mto, Sup, Via, Dsb, Rto, Bld, Rem, Wve, Ccd, Drw, Frm, Gof, Hlo, Hst, Huh, Iam, Lod, Map, Mdf, Mis, Nme, Not, Now, Obs, Off, Ord, Out, Prn, Rej, Sco, Slo, Snd, Sub, Sve, Thx, Tme, Yes, Adm, Smr, Aly, And, Bwx, Dmz, Fct, Idk, Ins, Occ, Orr, Pce, Prp, Qry, Scd, Sry, Sug, Thk, Try, Vss, Xdo, Lvl, Mrt, Uno, Param, Other, Alien, Word}
+use Rattle.daide_token.specs.declared.class.Class.TheVariants.{Bra, Ket, Num, Power, Note, Outcome, Coast, Season, Text}
+use Rattle.daide_token.specs.declared.class.Class.TheVariants.{Province, Amy, Flt, Cto, Cvy, Hld, Mto, Sup, Via, Dsb}
+use Rattle.daide_token.specs.declared.class.Class.TheVariants.{Rto, Bld, Rem, Wve, Ccd, Drw, Frm, Gof, Hlo, Hst, Huh}
+use Rattle.daide_token.specs.declared.class.Class.TheVariants.{Iam, Lod, Map, Mdf, Mis, Nme, Not, Now, Obs, Off, Ord}
+use Rattle.daide_token.specs.declared.class.Class.TheVariants.{Out, Prn, Rej, Sco, Slo, Snd, Sub, Sve, Thx, Tme, Yes}
+use Rattle.daide_token.specs.declared.class.Class.TheVariants.{Adm, Smr, Aly, And, Bwx, Dmz, Fct, Idk, Ins, Occ, Orr}
+use Rattle.daide_token.specs.declared.class.Class.TheVariants.{Pce, Prp, Qry, Scd, Sry, Sug, Thk, Try, Vss, Xdo, Lvl}
+use Rattle.daide_token.specs.declared.class.Class.TheVariants.{Mrt, Uno, Param, Other, Alien, Word}
 use Rattle.daide_grammar.specs.declared.level.Level.{Level}
 use Rattle.daide_grammar.specs.declared.level.Level.TheVariants.{L0, L10, L20, L30, L40, L50, L60}
 use Rattle.daide_grammar.specs.declared.symbol.Sym.{Sym}
-use Rattle.daide_grammar.specs.declared.symbol.Sym.TheVariants.{Closing, OnePower, OneProvince, OneCoast, OneNumber, OneNote, OneFleet, Waived, ConvoyTo, Through, Against, TextGroup, Texts, PowerGroup, PowersGroup, MaybePowersGroup, Powers, NumberGroup, MaybeNumberGroup, MaybeNumber, ProvincesGroup, MaybeProvincesGroup, Provinces, TurnGroup, OneTurn, WordsGroup, WordList, AnyGroup, Any, OnePlace, PlacesGroup, Places, UnitGroup, UnitGroups, OneUnit, UnitType, OrderGroup, Orders, OneOrder, OrderTail, SupportTail, ShareGroup, Shares, SubmitTail, SubmitFirst, CancelGroup, Cancel, ReplyGroup, Reply, WhoGroup, Who, ParamsGroup, Params, OneParam, CentresGroup, OwnersGroup, Owners, Owned, BordersGroup, BordersList, Borders, KindList, KindPlaces, Stands, OneStand, StandTail, MissingTail, MissingFirst, NoteGroup, OutcomesGroup, Outcomes, OneOutcome, CivilDisorderGroup, CivilDisorder, Players, OnePlayer, ArrangementGroup, Arrangement, FactGroup, Fact, OperandGroup, Operands, Operand, PressGroup, Press, SendGroup, MaybeSendGroup, Send, SendTail, SendFirst, Client, RequestGroup, Request, Server}
+use Rattle.daide_grammar.specs.declared.symbol.Sym.TheVariants.{Closing, OnePower, OneProvince, OneCoast, OneNumber}
+use Rattle.daide_grammar.specs.declared.symbol.Sym.TheVariants.{OneNote, OneFleet, Waived, ConvoyTo, Through, Against}
+use Rattle.daide_grammar.specs.declared.symbol.Sym.TheVariants.{TextGroup, Texts, PowerGroup, PowersGroup}
+use Rattle.daide_grammar.specs.declared.symbol.Sym.TheVariants.{MaybePowersGroup, Powers, NumberGroup, MaybeNumberGroup}
+use Rattle.daide_grammar.specs.declared.symbol.Sym.TheVariants.{MaybeNumber, ProvincesGroup, MaybeProvincesGroup}
+use Rattle.daide_grammar.specs.declared.symbol.Sym.TheVariants.{Provinces, TurnGroup, OneTurn, WordsGroup, WordList}
+use Rattle.daide_grammar.specs.declared.symbol.Sym.TheVariants.{AnyGroup, Any, OnePlace, PlacesGroup, Places, UnitGroup}
+use Rattle.daide_grammar.specs.declared.symbol.Sym.TheVariants.{UnitGroups, OneUnit, UnitType, OrderGroup, Orders}
+use Rattle.daide_grammar.specs.declared.symbol.Sym.TheVariants.{OneOrder, OrderTail, SupportTail, ShareGroup, Shares}
+use Rattle.daide_grammar.specs.declared.symbol.Sym.TheVariants.{SubmitTail, SubmitFirst, CancelGroup, Cancel}
+use Rattle.daide_grammar.specs.declared.symbol.Sym.TheVariants.{ReplyGroup, Reply, WhoGroup, Who, ParamsGroup, Params}
+use Rattle.daide_grammar.specs.declared.symbol.Sym.TheVariants.{OneParam, CentresGroup, OwnersGroup, Owners, Owned}
+use Rattle.daide_grammar.specs.declared.symbol.Sym.TheVariants.{BordersGroup, BordersList, Borders, KindList}
+use Rattle.daide_grammar.specs.declared.symbol.Sym.TheVariants.{KindPlaces, Stands, OneStand, StandTail, MissingTail}
+use Rattle.daide_grammar.specs.declared.symbol.Sym.TheVariants.{MissingFirst, NoteGroup, OutcomesGroup, Outcomes}
+use Rattle.daide_grammar.specs.declared.symbol.Sym.TheVariants.{OneOutcome, CivilDisorderGroup, CivilDisorder, Players}
+use Rattle.daide_grammar.specs.declared.symbol.Sym.TheVariants.{OnePlayer, ArrangementGroup, Arrangement, FactGroup}
+use Rattle.daide_grammar.specs.declared.symbol.Sym.TheVariants.{Fact, OperandGroup, Operands, Operand, PressGroup}
+use Rattle.daide_grammar.specs.declared.symbol.Sym.TheVariants.{Press, SendGroup, MaybeSendGroup, Send, SendTail}
+use Rattle.daide_grammar.specs.declared.symbol.Sym.TheVariants.{SendFirst, Client, RequestGroup, Request, Server}
 
 -- a symbol at each level, the lowest first
 abbrev pub at_levels : (Level → Sym) → List Sym

@@ -1,5 +1,6 @@
 -- The rules of the constant table: what a token may mean to a symbol, each meaning by its number. (own)
-use Rattle.std.specs.Prelude.{◌≡◌, ℕ, ◌<◌, nat_eq, List, [], map, take, reverse, slice_index, slice_index_or, if◌then◌else◌, Bool, true, false}
+use Rattle.std.specs.Prelude.{◌≡◌, ℕ, ◌<◌, nat_eq, List, [], map, take, reverse, slice_index, slice_index_or}
+use Rattle.std.specs.Prelude.{if◌then◌else◌, Bool, true, false}
 use Rattle.daide_grammar.specs.declared.symbol.Sym.{Sym}
 use Rattle.daide_grammar.specs.declared.table.rules.TheConstants.{LENGTHS, RESTS}
 use Rattle.daide_grammar.specs.Answers.{Answer, Take, Skip, Stop}

@@ -5,7 +5,6 @@ ghost use Rattle.daide_token.specs.declared.class.Class.TheVariants.{Word};
 ghost use Rattle.daide_grammar.specs.Classes.{class_number};
 ghost use Rattle.daide_grammar.specs.Numbers.{class_at, is_bracket, word_number};
 
-use crate::class_number::number_of;
 use crate::table::names::CLASSES;
 use daide_token::class::Class;
 use std::marker::Model;
@@ -53,7 +52,7 @@ impl Column {
         ensures { result ≡ class }
     {
         Column {
-            number: number_of(class) as u8,
+            number: class.number() as u8,
         }
     }
 

@@ -15,7 +15,6 @@ ghost use Rattle.daide_grammar.specs.Matches.{Matches};
 ghost use Rattle.daide_grammar.specs.Balanced.{IsBalanced};
 ghost use Rattle.daide_grammar.specs.Paired.{IsPaired, begins_with_prn};
 ghost use Rattle.daide_grammar.specs.Depth.{depth_of};
-ghost use Rattle.daide_grammar.specs.Classes.{same_class};
 ghost use Rattle.daide_grammar.specs.Forms.{accepts};
 ghost use Rattle.daide_grammar.specs.Answers.{Take, Skip, Stop};
 ghost use Rattle.daide_grammar.specs.Symbols.{entries, may_end_of, opening_of, table_answer};
@@ -85,12 +84,6 @@ pub fn moves_agree()
     ensures stops { (sym : Sym) (t : ℕ) (m : List ℕ) → table_answer sym (class_of t) ≡ Stop →
         ¬ SymbolMatches sym [] × ¬ SymbolMatches sym (t ∷ m) }
     ensures ends { (sym : Sym) → (may_end_of sym ≡ true) ↔ SymbolMatches sym [] }
-{}
-
-/// Two classes have one number exactly where they are one class. Forms and table compare classes by
-/// their numbers, so a place of a form takes the tokens of its own class and no others.
-pub fn numbers_tell_classes_apart()
-    ensures { (c d : Class) → (same_class c d ≡ true) ↔ (c ≡ d) }
 {}
 
 /// Each symbol stands for some list, so every stack of symbols can be completed.

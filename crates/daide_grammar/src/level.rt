@@ -1,7 +1,7 @@
 //! Levels of press.
 
 ghost use Rattle.std.specs.Prelude.{◌≡◌};
-ghost use Rattle.daide_grammar.specs.Level.{greatest_level, level_number, level_of_number};
+ghost use Rattle.daide_grammar.specs.Level.{first_not_above, greatest_level, level_number, level_of_number, levels_down};
 
 /// A level of press: what the powers may say to one another.
 #[derive(Clone, Copy, Debug, PartialEq, Eq, PartialOrd, Ord)]
@@ -59,15 +59,24 @@ impl Level {
     pub fn of_lvl(n: i16, top: Level) -> Level
         ensures { result ≡ greatest_level n top }
     {
-        let bound = i32::from(n).min(i32::from(top.number()));
-        match bound {
-            60.. => Level::L60,
-            50.. => Level::L50,
-            40.. => Level::L40,
-            30.. => Level::L30,
-            20.. => Level::L20,
-            10.. => Level::L10,
-            _ => Level::L0,
-        }
+        let Ok(number) = u16::try_from(n) else {
+            return Level::L0;
+        };
+        highest(number.min(top.number()))
+    }
+}
+
+/// The greatest level whose number is not above this one.
+fn highest(number: u16) -> Level
+    ensures { result ≡ first_not_above number levels_down }
+{
+    match number {
+        60.. => Level::L60,
+        50.. => Level::L50,
+        40.. => Level::L40,
+        30.. => Level::L30,
+        20.. => Level::L20,
+        10.. => Level::L10,
+        _ => Level::L0,
     }
 }

@@ -5,7 +5,6 @@
 //! `predict` what a reader may know of any table, and `laws` what holds of the grammar as a whole.
 #![tactic(auto)]
 
-mod class_number;
 pub mod column;
 pub mod dense;
 pub mod laws;

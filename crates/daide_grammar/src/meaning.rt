@@ -6,7 +6,7 @@ ghost use Rattle.daide_grammar.specs.Answers.{symbols_of};
 use crate::symbol::Sym;
 
 /// At most five symbols, in the order in which they must follow. No rest of the grammar is longer.
-#[derive(Clone, Copy, Debug, PartialEq, Eq)]
+#[derive(Clone, Copy)]
 pub struct Rest {
     len: u8,
     symbols: [Sym; 5],
@@ -37,7 +37,7 @@ impl Rest {
 }
 
 /// What a token means to the symbol that is expected.
-#[derive(Clone, Copy, Debug, PartialEq, Eq)]
+#[derive(Clone, Copy)]
 pub enum Meaning {
     /// The token begins the symbol, and these must follow.
     Take(Rest),

@@ -17,7 +17,6 @@ mod requests;
 mod rules;
 mod server;
 
-use crate::class_number::number_of;
 use crate::column::Column;
 use crate::level::Level;
 use crate::meaning::{Meaning, Rest};
@@ -108,7 +107,7 @@ fn must<const N: usize>(wanted: Class, class: Class, rest: [Sym; N]) -> Meaning
     requires { N ≤ 5 }
     ensures { answer_of result ≡ (if same_class wanted class then Take rest.entry else Stop) }
 {
-    if number_of(wanted) == number_of(class) {
+    if wanted.number() == class.number() {
         Meaning::Take(Rest::of(rest))
     } else {
         Meaning::Stop
@@ -120,7 +119,7 @@ fn may<const N: usize>(wanted: Class, class: Class, rest: [Sym; N]) -> Meaning
     requires { N ≤ 5 }
     ensures { answer_of result ≡ (if same_class wanted class then Take rest.entry else Skip) }
 {
-    if number_of(wanted) == number_of(class) {
+    if wanted.number() == class.number() {
         Meaning::Take(Rest::of(rest))
     } else {
         Meaning::Skip

@@ -13,11 +13,10 @@ use crate::table::names::SYMBOLS;
 use std::marker::Model;
 
 /// What the reader still expects. A symbol holds its level where the level matters.
-#[derive(Clone, Copy, Debug, PartialEq, Eq, Default)]
+#[derive(Clone, Copy, Debug)]
 pub enum Sym {
     // single tokens
     /// `)`
-    #[default]
     Closing,
     /// `power`
     OnePower,

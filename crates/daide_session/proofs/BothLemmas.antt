@@ -16,6 +16,14 @@ pub at_put : {A : Type 0} (b : Both A) (side : Side) (x : A) → at (put b side 
 at_put b Bot x = refl
 at_put b Server x = refl
 
+-- what holds of something new at a side, and of each side before, holds of each side after
+pub put_all : {A : Type 0} (P : Side → A → Type 0) (b : Both A) (side : Side) (x : A) → P side x →
+    ((one : Side) → P one (at b one)) → (one : Side) → P one (at (put b side x) one)
+put_all P b Bot x here there Bot = here
+put_all P b Bot x here there Server = there Server
+put_all P b Server x here there Bot = there Bot
+put_all P b Server x here there Server = here
+
 pub both_same : {A : Type 0} (a b : Both A) → a.bot ≡ b.bot → a.server ≡ b.server → a ≡ b
 both_same {A = A} a b e h =
     ap (λ (x : A). record { bot = x; server = a.server }) e ∙ ap (λ (x : A). record { bot = b.bot; server = x }) h

@@ -18,7 +18,7 @@ use Rattle.daide_session.specs.Traffic.{answered_by, answers_of, arrival_of, beh
 use Rattle.daide_session.specs.Traffic.{frame_of}
 use Rattle.daide_session.specs.Traffic.{frames_of, others, pending_by, presence, traffic_of}
 use Rattle.daide_session.proofs.AwaitedLemmas.{IsSeen, seen}
-use Rattle.daide_session.proofs.BothLemmas.{both_same}
+use Rattle.daide_session.proofs.BothLemmas.{both_same, put_all}
 use Rattle.daide_session.proofs.GoneLemmas.{lets_same}
 use Rattle.daide_session.proofs.MarksLemmas.{least, mark_is}
 
@@ -235,13 +235,6 @@ module _ (f n : Fields) (to : Side) (x : Waiting) (items : List Waiting) (i : Is
             (at n.sides one).verdict)
             d.wires (on_wire one wire)
 
-        ends : (wire one : Side) → (at f.wires wire).items ≡ x ∷ items →
-            count_of end_mark (at (after_drop f.wires wire items) one).items ≤ 1
-        ends Bot Bot e = omega (arith, ap (count_of end_mark) e, i.ends Bot)
-        ends Bot Server e = i.ends Server
-        ends Server Bot e = i.ends Bot
-        ends Server Server e = omega (arith, ap (count_of end_mark) e, i.ends Server)
-
         filled : (one : Side) → presence (at n.sides one).verdict ≡ 1 → (k : Bool) → is_answer one (answers_of x) ≡ k →
             0 < length (answer_at n.sides one)
         filled one h true e =
@@ -299,7 +292,9 @@ module _ (f n : Fields) (to : Side) (x : Waiting) (items : List Waiting) (i : Is
           same_depth = depth_of Server ∙ i.same_depth ∙ sym (depth_of Bot);
           once = once;
           ends = λ one. subst (λ (w : Both Queue). count_of end_mark (at w one).items ≤ 1) (sym d.wires)
-              (ends to one d.was);
+              (put_all (λ (s : Side) (q : Queue). count_of end_mark q.items ≤ 1) f.wires to
+              (record { written = 0; items = items }) (omega (arith, ap (count_of end_mark) d.was, i.ends to)) i.ends
+              one);
           filled = λ one h. filled one h (is_answer one (answers_of x)) refl;
           begun = λ one. subst (λ (w : Both Queue). IsBegun (answer_at n.sides) (at w one).written (at w one).items)
               (sym d.wires)

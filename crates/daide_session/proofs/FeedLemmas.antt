@@ -24,9 +24,9 @@ use Rattle.daide_machine.specs.Wires.{is_dm_head, asked_at_most, Goes, Takes}
 use Rattle.daide_machine.proofs.PieceRuns.{piece_runs, piece_outcome, IsTaken}
 use Rattle.daide_session.specs.declared.stage.Stage.{Stage}
 use Rattle.daide_session.specs.Both.{Both, at}
-use Rattle.daide_session.specs.Traffic.{Traffic, Keeps, IsGrown, pending}
+use Rattle.daide_session.specs.Traffic.{Arrival, Traffic, Keeps, IsGrown, pending}
 use Rattle.daide_session.specs.Session.{state_of, gateway_of}
-use Rattle.daide_session.specs.Reaction.{IsUnread, Reacts}
+use Rattle.daide_session.specs.Reaction.{Asks, IsUnread, Reacts}
 use Rattle.daide_session.proofs.InboundLemmas.{fed_grows, no_dm_before}
 use Rattle.daide_session.proofs.MovesLemmas.{waiting_at, coming_at}
 use Rattle.daide_session.proofs.ReactionLemmas.{holding_at, holding_same}
@@ -181,7 +181,51 @@ unread_before limit b x piece h = ⊎_elim
     no_dm_before limit b g.more (ap (λ (y : List ℕ). is_dm_head (head_in limit y)) (sym g.longer) ∙ e))
     h
 
-pub takes_piece : (t u v : Traffic) (s r : Stage) (side : Side) (x : ℕ) (piece : List ℕ) (items : List Item)
+-- what is held of a side after a piece
+record TakesIn (limit : ℕ) (piece : List ℕ) (note : Note) (old new : Holding) : Type 0 where
+  bytes : new.held ≡ held_after note (fed limit old.held piece)
+  base : new.total_before ≡ counts_from (head_in limit old.held) (head_in limit (fed limit old.held piece)) old
+  no_message : is_dm_head (head_in limit (fed limit old.held piece)) ≡ false → new.total ≡ old.total
+  raised : IsRaised (asked_at_most piece) old.total new.total
+
+takes_in : (limit : ℕ) (a b : Arrival) (new : Holding) (x : ℕ) (piece : List ℕ) (note : Note) →
+    IsGrown limit a (fed limit a.coming.pending (x ∷ piece)) b →
+    IsRaised (4 * (length (x ∷ piece) / 2 + 1)) a.holding.total b.holding.total →
+    new.held ≡ held_after note b.holding.held → Asks limit b.holding new →
+    TakesIn limit (x ∷ piece) note a.holding new
+takes_in limit a b new x piece note pending raised held asks = record {
+  bytes = held ∙ ap (held_after note) grown.held;
+  base = ⊎_elim
+      (λ (e : new.total_before ≡ b.holding.total_before). e ∙ grown.base)
+      (λ (e : IsUnread limit b.holding.held × (new.total_before ≡ b.holding.total)).
+      from_now (subst (λ (y : List ℕ). IsUnread limit y) grown.held e.0) e.1)
+      asks.base
+      ∙ sym (counts_idle (head_in limit a.holding.held) (head_in limit fed_bytes) a.holding uncounted);
+  no_message = λ none. asks.no_message (ap (λ (y : List ℕ). is_dm_head (head_in limit y)) grown.held ∙ none)
+      ∙ grown.no_message none;
+  raised = raised_more (4 * (length (x ∷ piece) / 2 + 1)) 4 (asked_at_most (x ∷ piece)) a.holding.total
+      b.holding.total new.total (omega arith) raised asks.raised;
+}
+  where
+    fed_bytes : List ℕ
+    fed_bytes = fed limit a.holding.held (x ∷ piece)
+
+    grown : IsGrown limit a fed_bytes b
+    grown = subst (λ (y : List ℕ). IsGrown limit a (fed limit y (x ∷ piece)) b) (sym pending.held_before) pending
+
+    uncounted : is_dm_head (head_in limit a.holding.held) ≡ false → a.holding.total_before ≡ a.holding.total
+    uncounted e =
+        grown.uncounted (ap (λ (y : List ℕ). is_dm_head (head_in limit y)) (sym grown.held_before) ∙ e)
+
+    -- the bytes after the piece, of which nothing was read
+    from_now : IsUnread limit fed_bytes → new.total_before ≡ b.holding.total →
+        new.total_before ≡ a.holding.total_before
+    from_now unread e = e ∙ (⊎_elim
+        (λ (none : drop 4 fed_bytes ≡ []). grown.bodiless none)
+        (λ (none : is_dm_head (head_in limit fed_bytes) ≡ false). grown.no_message none)
+        unread ∙ sym (uncounted (unread_before limit a.holding.held x piece unread)))
+
+takes_piece : (t u v : Traffic) (s r : Stage) (side : Side) (x : ℕ) (piece : List ℕ) (items : List Item)
     (note : Note) → Keeps side t u →
     IsGrown t.cap (at t.sides side) (fed t.cap (pending t side) (x ∷ piece)) (at u.sides side) →
     IsRaised (4 * (length (x ∷ piece) / 2 + 1)) (at t.sides side).holding.total (at u.sides side).holding.total →
@@ -189,88 +233,24 @@ pub takes_piece : (t u v : Traffic) (s r : Stage) (side : Side) (x : ℕ) (piece
     Takes (gateway_of t s) side (x ∷ piece) note (gateway_of v r)
 takes_piece t u v s r side x piece items note keeps grown raised h = record {
   nothing = λ none. absurd (cc);
-  bytes = h.held ∙ ap (held_after note) (now_held ∙ sym grown_is);
-  base = base;
-  no_message = λ none. h.asks.no_message (head_now ∙ none)
-      ∙ (total_now ∙ (grown.no_message (by_bytes ∙ none) ∙ sym before_total));
-  raised = raised_more (4 * (length (x ∷ piece) / 2 + 1)) 4 (asked_at_most (x ∷ piece)) (holding g side).total
-      (holding m side).total (holding n side).total (omega arith)
-      (subst (λ (k : ℕ). IsRaised (4 * (length (x ∷ piece) / 2 + 1)) k (holding m side).total) (sym before_total)
-      (subst (λ (k : ℕ). IsRaised (4 * (length (x ∷ piece) / 2 + 1)) (at t.sides side).holding.total k) (sym total_now)
-      raised))
-      h.asks.raised;
+  bytes = taken.bytes;
+  base = taken.base;
+  no_message = taken.no_message;
+  raised = taken.raised;
   other_side = h.other_side ∙ holding_same t u s s (other side) keeps.other_side;
 }
   where
-    g : Gateway
-    g = gateway_of t s
+    now : Holding
+    now = holding (gateway_of v r) side
 
-    m : Gateway
-    m = gateway_of u s
+    asks : Asks t.cap (at u.sides side).holding now
+    asks = subst (λ (n : ℕ). Asks n (at u.sides side).holding now) keeps.cap
+        (subst (λ (k : Holding). Asks u.cap k now) (holding_at u s side) h.asks)
 
-    n : Gateway
-    n = gateway_of v r
-
-    b : List ℕ
-    b = fed t.cap (pending t side) (x ∷ piece)
-
-    before_total : (holding g side).total ≡ (at t.sides side).holding.total
-    before_total = ap (λ (k : Holding). k.total) (holding_at t s side)
-
-    before_base : (holding g side).total_before ≡ (at t.sides side).holding.total_before
-    before_base = ap (λ (k : Holding). k.total_before) (holding_at t s side)
-
-    before_held : (holding g side).held ≡ pending t side
-    before_held = ap (λ (k : Holding). k.held) (holding_at t s side) ∙ grown.held_before
-
-    total_now : (holding m side).total ≡ (at u.sides side).holding.total
-    total_now = ap (λ (k : Holding). k.total) (holding_at u s side)
-
-    now_held : (holding m side).held ≡ b
-    now_held = ap (λ (k : Holding). k.held) (holding_at u s side) ∙ grown.held
-
-    grown_is : fed t.cap (holding g side).held (x ∷ piece) ≡ b
-    grown_is = ap (λ (y : List ℕ). fed t.cap y (x ∷ piece)) before_held
-
-    by_bytes : is_dm_head (head_in t.cap b) ≡ is_dm_head (head_in t.cap (fed t.cap (holding g side).held (x ∷ piece)))
-    by_bytes = ap (λ (y : List ℕ). is_dm_head (head_in t.cap y)) (sym grown_is)
-
-    head_now : is_dm_head (head_in u.cap (holding m side).held)
-        ≡ is_dm_head (head_in t.cap (fed t.cap (holding g side).held (x ∷ piece)))
-    head_now = ap (λ (k : ℕ). is_dm_head (head_in k (holding m side).held)) keeps.cap
-        ∙ (ap (λ (y : List ℕ). is_dm_head (head_in t.cap y)) now_held ∙ by_bytes)
-
-    uncounted : is_dm_head (head_in t.cap (holding g side).held) ≡ false →
-        (holding g side).total_before ≡ (holding g side).total
-    uncounted e = before_base
-        ∙ (grown.uncounted (ap (λ (y : List ℕ). is_dm_head (head_in t.cap y)) (sym before_held) ∙ e)
-        ∙ sym before_total)
-
-    -- the bytes after the piece, of which nothing was read
-    same_total : IsUnread t.cap b → (at u.sides side).holding.total ≡ (at t.sides side).holding.total
-    same_total h = ⊎_elim (λ (e : drop 4 b ≡ []). grown.bodiless e)
-        (λ (e : is_dm_head (head_in t.cap b) ≡ false). grown.no_message e) h
-
-    unread_now : IsUnread u.cap (holding m side).held → IsUnread t.cap b
-    unread_now h = subst (λ (k : ℕ). IsUnread k b) keeps.cap (subst (λ (y : List ℕ). IsUnread u.cap y) now_held h)
-
-    from_now : IsUnread t.cap b → (holding n side).total_before ≡ (holding m side).total →
-        (holding n side).total_before ≡ (holding g side).total_before
-    from_now unread e = e ∙ (total_now ∙ (same_total unread ∙ (sym before_total ∙ sym (uncounted
-        (ap (λ (y : List ℕ). is_dm_head (head_in t.cap y)) before_held
-        ∙ unread_before t.cap (pending t side) x piece unread)))))
-
-    base : (holding n side).total_before
-        ≡ counts_from (head_in t.cap (holding g side).held)
-        (head_in t.cap (fed t.cap (holding g side).held (x ∷ piece))) (holding g side)
-    base = ⊎_elim
-        (λ (e : (holding n side).total_before ≡ (holding m side).total_before).
-        e ∙ (ap (λ (k : Holding). k.total_before) (holding_at u s side) ∙ (grown.base ∙ sym before_base)))
-        (λ (e : IsUnread u.cap (holding m side).held × ((holding n side).total_before ≡ (holding m side).total)).
-        from_now (unread_now e.0) e.1)
-        h.asks.base
-        ∙ sym (counts_idle (head_in t.cap (holding g side).held)
-        (head_in t.cap (fed t.cap (holding g side).held (x ∷ piece))) (holding g side) uncounted)
+    taken : TakesIn t.cap (x ∷ piece) note (holding (gateway_of t s) side) now
+    taken = subst (λ (k : Holding). TakesIn t.cap (x ∷ piece) note k now) (sym (holding_at t s side))
+        (takes_in t.cap (at t.sides side) (at u.sides side) now x piece note grown raised
+        (h.held ∙ ap (λ (k : Holding). held_after note k.held) (holding_at u s side)) asks)
 
 -- the same for any piece that has a byte
 pub takes_some : (t u v : Traffic) (s r : Stage) (side : Side) (piece : List ℕ) (items : List Item) (note : Note) →

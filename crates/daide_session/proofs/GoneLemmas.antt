@@ -13,6 +13,7 @@ use Rattle.daide_session.specs.Wire.{Queue}
 use Rattle.daide_session.specs.Traffic.{Arrival, Fields, IsBegun, IsSound, LetsGo, Traffic, answer_at, answer_mark}
 use Rattle.daide_session.specs.Traffic.{behind, bytes_in, count_of, end_mark}
 use Rattle.daide_session.specs.Traffic.{frames_of, frames_to, holding, others, presence, traffic_of}
+use Rattle.daide_session.proofs.BothLemmas.{put_all}
 use Rattle.daide_session.proofs.FrontLemmas.{waits_at}
 use Rattle.daide_session.proofs.MarksLemmas.{answer_behind}
 
@@ -37,9 +38,12 @@ advanced f to n i l = record {
   same_cap = i.same_cap;
   same_depth = i.same_depth;
   once = λ side. once to side;
-  ends = λ one. ends to one;
+  ends = put_all (λ (s : Side) (q : Queue). count_of end_mark q.items ≤ 1) f.wires to (further (at f.wires to) n)
+      (i.ends to) i.ends;
   filled = i.filled;
-  begun = λ one. begun to one l;
+  begun = put_all (λ (s : Side) (q : Queue). IsBegun (answer_at f.sides) q.written q.items) f.wires to
+      (further (at f.wires to) n) (begun_more (answer_at f.sides) to (at f.wires to).written n (at f.wires to).items l)
+      i.begun;
 }
   where
     once : (wire side : Side) →
@@ -48,22 +52,6 @@ advanced f to n i l = record {
         ≡ presence (at f.sides side).verdict
     once Bot side = i.once side
     once Server side = i.once side
-
-    ends : (wire one : Side) →
-        count_of end_mark (at (put f.wires wire (further (at f.wires wire) n)) one).items ≤ 1
-    ends Bot Bot = i.ends Bot
-    ends Bot Server = i.ends Server
-    ends Server Bot = i.ends Bot
-    ends Server Server = i.ends Server
-
-    begun : (wire one : Side) → n < first_len (frames_to f wire) →
-        IsBegun (answer_at f.sides)
-        (at (put f.wires wire (further (at f.wires wire) n)) one).written
-        (at (put f.wires wire (further (at f.wires wire) n)) one).items
-    begun Bot Bot l = begun_more (answer_at f.sides) Bot f.wires.bot.written n f.wires.bot.items l
-    begun Bot Server l = i.begun Server
-    begun Server Bot l = i.begun Bot
-    begun Server Server l = begun_more (answer_at f.sides) Server f.wires.server.written n f.wires.server.items l
 
 pub advance_sound : (f : Fields) (t : Traffic) (to one : Side) (n : ℕ) (q : Queue) → traffic_of f ≡ t → IsSound f → to
     ≡ one →

@@ -3,6 +3,7 @@ pub mod BothLemmas
 pub mod DroppedLemmas
 pub mod FeedLemmas
 pub mod FrontLemmas
+pub mod FrontsKept
 pub mod GoneLemmas
 pub mod HeadLemmas
 pub mod HeaderAlone

@@ -17,7 +17,7 @@ use Rattle.daide_session.specs.Wire.{Queue, pushed}
 use Rattle.daide_session.specs.Traffic.{answer_at, answers_of, bytes_in, frame_of, behind, frames_of, answer_mark}
 use Rattle.daide_session.specs.Traffic.{end_mark}
 use Rattle.daide_session.specs.Traffic.{count_of, presence, IsBegun, is_end, has_end, posted}
-use Rattle.daide_session.proofs.BothLemmas.{other_at}
+use Rattle.daide_session.proofs.BothLemmas.{other_at, put_all}
 
 -- ---- counts
 
@@ -57,18 +57,16 @@ count_pushed w Server mark item = omega (arith, count_push mark w.server.items i
 -- a mark that the frame has not is counted as before; one that none had, at most once
 pub unmarked_pushed : (w : Both Queue) (to one : Side) (mark : Waiting → ℕ) (item : Waiting) → mark item ≡ 0 →
     count_of mark (at (put w to (pushed (at w to) item)) one).items ≡ count_of mark (at w one).items
-unmarked_pushed w Bot Bot mark item e = omega (arith, count_push mark w.bot.items item)
-unmarked_pushed w Bot Server mark item e = refl
-unmarked_pushed w Server Bot mark item e = refl
-unmarked_pushed w Server Server mark item e = omega (arith, count_push mark w.server.items item)
+unmarked_pushed w to one mark item e =
+    put_all (λ (s : Side) (q : Queue). count_of mark q.items ≡ count_of mark (at w s).items) w to
+    (pushed (at w to) item) (omega (arith, e, count_push mark (at w to).items item)) (λ s. refl) one
 
 pub first_pushed : (w : Both Queue) (to one : Side) (mark : Waiting → ℕ) (item : Waiting) → mark item ≤ 1 →
-    count_of mark (at w to).items ≡ 0 → count_of mark (at w one).items ≤ 1 →
+    count_of mark (at w to).items ≡ 0 → ((wire : Side) → count_of mark (at w wire).items ≤ 1) →
     count_of mark (at (put w to (pushed (at w to) item)) one).items ≤ 1
-first_pushed w Bot Bot mark item l z few = omega (arith, count_push mark w.bot.items item)
-first_pushed w Bot Server mark item l z few = few
-first_pushed w Server Bot mark item l z few = few
-first_pushed w Server Server mark item l z few = omega (arith, count_push mark w.server.items item)
+first_pushed w to one mark item l z few =
+    put_all (λ (s : Side) (q : Queue). count_of mark q.items ≤ 1) w to (pushed (at w to) item)
+    (omega (arith, l, z, count_push mark (at w to).items item)) few one
 
 -- ---- a frame behind the others
 
@@ -81,10 +79,9 @@ pub begun_pushed : (a : Side → List ℕ) (w : Both Queue) (to one : Side) (ite
     0 < length (bytes_in a item) →
     ((wire : Side) → IsBegun a (at w wire).written (at w wire).items) →
     IsBegun a (at (put w to (pushed (at w to) item)) one).written (at (put w to (pushed (at w to) item)) one).items
-begun_pushed a w Bot Bot item some h = begun_push a w.bot.written w.bot.items item some (h Bot)
-begun_pushed a w Bot Server item some h = h Server
-begun_pushed a w Server Bot item some h = h Bot
-begun_pushed a w Server Server item some h = begun_push a w.server.written w.server.items item some (h Server)
+begun_pushed a w to one item some h =
+    put_all (λ (s : Side) (q : Queue). IsBegun a q.written q.items) w to (pushed (at w to) item)
+    (begun_push a (at w to).written (at w to).items item some (h to)) h one
 
 frames_push : (to : Side) (a : Side → List ℕ) (n : ℕ) (items : List Waiting) (item : Waiting) → IsBegun a n items →
     behind n (map (frame_of to a) (items ++ item ∷ []))

@@ -8,11 +8,12 @@ use Rattle.daide_frame.specs.Frames.{fed, fed_items, told, head_in, IsFault}
 use Rattle.daide_grammar.specs.declared.level.Level.{Level}
 use Rattle.daide_reader.specs.declared.verdict.Verdict.{Verdict}
 use Rattle.daide_session.specs.Both.{at, put}
-use Rattle.daide_session.specs.Inbound.{Inbound, Begins, Reads}
+use Rattle.daide_session.specs.Inbound.{Inbound, Begins, Reads, answer_of}
 use Rattle.daide_session.specs.Traffic.{Arrival, Traffic, Fields, IsSound, IsGrown, IsStarted, answer_at, arrival_of}
 use Rattle.daide_session.specs.Traffic.{pending}
 use Rattle.daide_session.specs.Traffic.{pending_by, presence, traffic_of}
 use Rattle.daide_session.proofs.AwaitedLemmas.{IsSeenFree, silent}
+use Rattle.daide_session.proofs.BothLemmas.{put_all}
 use Rattle.daide_session.proofs.MarksLemmas.{agrees_put, begun_unseen, both_unseen}
 
 abbrev pub with_side : Fields → Side → Inbound → Fields
@@ -26,10 +27,8 @@ pub record IsSameSide (old new : Inbound) : Type 0 where
 
 pub its_sides : (f : Fields) (side one : Side) (x : Inbound) → IsSound f → IsSameSide (at f.sides side) x →
     (at (put f.sides side x) one).side ≡ one
-its_sides f Bot Bot x i e = e.side ∙ i.its_side Bot
-its_sides f Bot Server x i e = i.its_side Server
-its_sides f Server Bot x i e = i.its_side Bot
-its_sides f Server Server x i e = e.side ∙ i.its_side Server
+its_sides f side one x i e =
+    put_all (λ (s : Side) (y : Inbound). y.side ≡ s) f.sides side x (e.side ∙ i.its_side side) i.its_side one
 
 pub caps : (f : Fields) (side : Side) (x : Inbound) → IsSound f → IsSameSide (at f.sides side) x →
     (put f.sides side x).server.cap ≡ (put f.sides side x).bot.cap
@@ -47,9 +46,11 @@ sound_side {f} {t} {given} {side} x h e none = record {
   its_side = λ one. its_sides f side one x i e;
   same_cap = caps f side x i e;
   same_depth = depths f side x i e;
-  once = λ one. i.once one ∙ sym (ap presence (same side one h.free));
+  once = λ one. i.once one ∙ sym (ap presence (put_all (λ (s : Side) (y : Inbound). y.verdict ≡ (at f.sides s).verdict)
+      f.sides side x (none ∙ sym h.free) (λ s. refl) one));
   ends = i.ends;
-  filled = λ one some. fill side one h.free some;
+  filled = put_all (λ (s : Side) (y : Inbound). presence y.verdict ≡ 1 → 0 < length (answer_of y)) f.sides side x
+      (none_there x.verdict none) i.filled;
   begun = λ to. begun_unseen side (answer_at f.sides) (answer_at (put f.sides side x)) (agrees_put f.sides side x)
       (at f.wires to).written (at f.wires to).items (silent f side to i h.free) (i.begun to);
 }
@@ -59,20 +60,6 @@ sound_side {f} {t} {given} {side} x h e none = record {
 
     none_there : {A : Type 0} → (o : Option Verdict) → o ≡ None → presence o ≡ 1 → A
     none_there o e h = let bad = rw e at h in absurd (omega arith)
-
-    fill : (changed one : Side) → (at f.sides changed).verdict ≡ None →
-        presence (at (put f.sides changed x) one).verdict ≡ 1 → 0 < length (answer_at (put f.sides changed x) one)
-    fill Bot Bot e h = none_there x.verdict none h
-    fill Bot Server e h = i.filled Server h
-    fill Server Bot e h = i.filled Bot h
-    fill Server Server e h = none_there x.verdict none h
-
-    same : (changed one : Side) → (at f.sides changed).verdict ≡ None →
-        (at (put f.sides changed x) one).verdict ≡ (at f.sides one).verdict
-    same Bot Bot e = none ∙ sym e
-    same Bot Server e = refl
-    same Server Bot e = refl
-    same Server Server e = none ∙ sym e
 
 -- what waits is the same
 pub waiting_side : {f : Fields} {t : Traffic} {side one : Side} (x : Inbound) → IsSeenFree f t side one →

@@ -1,14 +1,14 @@
 -- A session that stands where a run from its opening stands is bounded and exact after each stretch.
-use Rattle.std.proofs.Common.{◌≡◌, ℕ, ◌+◌, ◌≤◌, Bool, true, false, List, [], ◌∷◌, ◌++◌, length, refl, sym, ap, ◌∙◌, subst}
+use Rattle.std.proofs.Common.{◌≡◌, ℕ, Bool, true, false, List, [], ◌∷◌, ◌++◌, refl, sym, ap, ◌∙◌, subst}
 use Rattle.std.proofs.Common.{append_assoc, append-nil}
 use Rattle.std.specs.Prelude.{◌&&◌}
 use Rattle.daide_frame.specs.declared.side.Side.{Side}
 use Rattle.daide_frame.specs.declared.side.Side.TheVariants.{Bot, Server}
 use Rattle.daide_machine.specs.Machine.{Limits, Sent, is_over}
-use Rattle.daide_machine.specs.Wires.{Gateway, waiting, holding, bytes_of, is_closed, no_frame, steps_of}
-use Rattle.daide_machine.specs.Weight.{weight_of, weight_bound, steps_bound, IsKeptSmall}
+use Rattle.daide_machine.specs.Wires.{Gateway, waiting, bytes_of, is_closed, no_frame}
 use Rattle.daide_session.specs.Record.{PortAnswer, Moved, Relays, has_failed}
 use Rattle.daide_session.specs.Turn.{Then}
+use Rattle.daide_session.specs.Bounds.{IsWithinBounds}
 use Rattle.daide_session.specs.Headline.{untouched, IsBoundedAndExact, Headline}
 use Rattle.daide_session.proofs.Stretches.{relays_append}
 
@@ -42,22 +42,12 @@ moved_all false over waited answers took waits f e n h =
 
 -- ---- the headline
 
--- what a session's own contract says of what it keeps
-pub record IsWithinBounds (g : Gateway) : Type 0 where
-  pub directions : (side : Side) → IsKeptSmall g.state.limits.cap (holding g side)
-  pub further : length g.to_bot + length g.to_server ≤ 64
-  pub weight : weight_of g ≤ weight_bound g
-  pub steps : (side : Side) → steps_of (holding g side) ≤ steps_bound g side
-
 pub headline_of : (a : Gateway) (xs : List PortAnswer) (b : Gateway) → IsWithinBounds b → Relays a xs b →
     Headline a xs b
 headline_of a xs b within r limits history stands =
     let all = relays_append (untouched limits) history a xs b stands r in
     record {
-      each_direction = within.directions;
-      further = within.further;
-      weight = within.weight;
-      steps = within.steps;
+      bounds = within;
       sends = all;
       all_sent = λ closed side ok. moved_all (has_failed side (history ++ xs)) (is_over b.state.phase) _ _ _ _ ok
           (nothing_waited limits side) (ap bytes_of (closed_wire b closed side)) (all.wires side);

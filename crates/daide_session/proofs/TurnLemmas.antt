@@ -22,7 +22,7 @@ unmoved a b xs e f =
     (subst (λ (c : Gateway). Relays a [] c) (sym f) (relays_nil a))
 
 heard : (popped : Bool) (a b : Gateway) → Hears popped a b → Relays a (Clock popped ∷ []) b
-heard true a b h = clock_pops a b h.0 h.1
+heard true a b h = clock_pops a b h.0.0 h.0.1
 heard false a b h = subst (λ (c : Gateway). Relays a (Clock false ∷ []) c) (sym h) (clock_runs a)
 
 clock_relays : (a : Gateway) (xs : List PortAnswer) (b : Gateway) → AsksClock a xs b → Relays a xs b
@@ -30,8 +30,8 @@ clock_relays a xs b h = subst (λ (ys : List PortAnswer). Relays a ys b) (sym h.
 
 handed : (side : Side) (put : Put) (front : List ℕ) (a b : Gateway) → IsFrontOf front (waiting a side) →
     IsPutWithin put (length front) → Hands side put a b → Relays a (Offered side front put ∷ []) b
-handed side (Took n) front a b f within h = took_bytes a side front n b f within h
-handed side Failed front a b f within h = put_failed a side front b h
+handed side (Took n) front a b f within h = took_bytes a side front n b f within h.0
+handed side Failed front a b f within h = put_failed a side front b h.0
 
 puts_relay : (side : Side) (a : Gateway) (xs : List PortAnswer) (b : Gateway) → Puts side a xs b → Relays a xs b
 puts_relay side a xs b h = ⊎_elim

@@ -17,7 +17,7 @@ use Rattle.daide_session.specs.Traffic.{Arrival, Fields, IsSound, Traffic, answe
 use Rattle.daide_session.specs.Traffic.{end_mark, end_to, ending_of, frame_of, has_end, noted, pending, posted}
 use Rattle.daide_session.specs.Traffic.{presence, traffic_of}
 use Rattle.daide_session.proofs.AwaitedLemmas.{IsSeenFree, silent}
-use Rattle.daide_session.proofs.BothLemmas.{at_put}
+use Rattle.daide_session.proofs.BothLemmas.{at_put, put_all}
 use Rattle.daide_session.proofs.FrontLemmas.{waits_at}
 use Rattle.daide_session.proofs.MarksLemmas.{agrees_put, begun_pushed, begun_unseen, both_unseen, count_pushed}
 use Rattle.daide_session.proofs.MarksLemmas.{first_pushed}
@@ -55,7 +55,8 @@ replied_sound f side to x i free same one_more some = record {
       ∙ ap (λ (n : ℕ). n + answer_mark one (Answer side)) (i.once one)
       ∙ sym (presence_put f.sides side one x free one_more);
   ends = λ one. rw (unmarked_pushed f.wires to one end_mark (Answer side) refl) (i.ends one);
-  filled = λ one. filled side one;
+  filled = put_all (λ (s : Side) (y : Inbound). presence y.verdict ≡ 1 → 0 < length (answer_of y)) f.sides side x
+      (λ _. some) i.filled;
   begun = λ one. begun_pushed after f.wires to one (Answer side) more
       (λ wire. begun_unseen side (answer_at f.sides) after
       (agrees_put f.sides side x) (at f.wires wire).written (at f.wires wire).items (silent f side wire i free)
@@ -67,13 +68,6 @@ replied_sound f side to x i free same one_more some = record {
 
     more : 0 < length (after side)
     more = rw (at_put f.sides side x) some
-
-    filled : (changed one : Side) → presence (at (put f.sides changed x) one).verdict ≡ 1 →
-        0 < length (answer_at (put f.sides changed x) one)
-    filled Bot Bot h = some
-    filled Bot Server h = i.filled Server h
-    filled Server Bot h = i.filled Bot h
-    filled Server Server h = some
 
 replied_waiting : (f : Fields) (side to : Side) (x : Inbound) → IsSound f → (at f.sides side).verdict ≡ None →
     (traffic_of (record {
@@ -203,7 +197,7 @@ end_sound f t to code w is i none wires =
       once = λ one. (let unmarked = ending_mark one code in let once = i.once one in
           let count = count_pushed f.wires to (answer_mark one) (ending_of code) in omega arith);
       ends = λ one. first_pushed f.wires to one end_mark (ending_of code) (ending_once code)
-          (unended_field f t to is none) (i.ends one);
+          (unended_field f t to is none) i.ends;
       filled = i.filled;
       begun = λ one. begun_pushed (answer_at f.sides) f.wires to one (ending_of code)
           (ending_some (answer_at f.sides) code)

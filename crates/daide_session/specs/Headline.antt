@@ -2,11 +2,11 @@
 -- each direction at most one message's announced length, capped, and eight stack entries for each open bracket
 -- plus sixteen, with 64 further entries in all, takes at most four table steps a token, and sends exactly the
 -- grammar's answers.
-use Rattle.std.specs.Prelude.{◌≡◌, ◌+◌, ◌≤◌, true, false, List, [], ◌++◌, length}
+use Rattle.std.specs.Prelude.{◌≡◌, true, false, List, [], ◌++◌}
 use Rattle.daide_frame.specs.declared.side.Side.{Side}
 use Rattle.daide_machine.specs.Machine.{Limits, opening}
-use Rattle.daide_machine.specs.Wires.{Gateway, Holding, holding, sent_to, bytes_of, is_closed, steps_of}
-use Rattle.daide_machine.specs.Weight.{weight_of, weight_bound, steps_bound, IsKeptSmall}
+use Rattle.daide_machine.specs.Wires.{Gateway, Holding, sent_to, bytes_of, is_closed}
+use Rattle.daide_session.specs.Bounds.{IsWithinBounds}
 use Rattle.daide_session.specs.Record.{PortAnswer, Relays, taken, has_failed}
 
 -- ---- where a session stands
@@ -37,13 +37,8 @@ Stands limits history g = Relays (untouched limits) history g
 -- what holds of a session after all that its ports told since it was made
 pub record IsBoundedAndExact (limits : Limits) (history : List PortAnswer) (g : Gateway) : Type 0 where
   -- it keeps in each direction at most one message's announced length, capped, and eight stack entries for
-  -- each open bracket plus sixteen,
-  pub each_direction : (side : Side) → IsKeptSmall g.state.limits.cap (holding g side)
-  -- with 64 further entries in all,
-  pub further : length g.to_bot + length g.to_server ≤ 64
-  pub weight : weight_of g ≤ weight_bound g
-  -- takes at most four table steps a token,
-  pub steps : (side : Side) → steps_of (holding g side) ≤ steps_bound g side
+  -- each open bracket plus sixteen, with 64 further entries in all, takes at most four table steps a token,
+  pub bounds : IsWithinBounds g
   -- and sends exactly the grammar's answers: what each wire took is a front of them, and, unless it failed,
   -- what waits is all that is left of them
   pub sends : Stands limits history g

@@ -78,6 +78,7 @@ pub record IsTurned {P : Type 0} (told : P → Option (List PortAnswer)) (old ne
   pub delivered : Carries Relays old.0 (told old.1) new.0 (told new.1)
   pub asked : AsksAtMost turn_steps old.0 new.0
   pub weight : weight_of new.0 ≤ weight_bound new.0
+  pub limits : new.0.state.limits ≡ old.0.state.limits
   pub headline : Carries Headline old.0 (told old.1) new.0 (told new.1)
 
 -- ---- the weight

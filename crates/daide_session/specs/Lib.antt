@@ -3,10 +3,12 @@ pub mod Both
 pub mod Inbound
 pub mod Wire
 pub mod Traffic
+pub mod Fronts
 pub mod Session
 pub mod Reaction
 pub mod Record
 pub mod Turn
+pub mod Bounds
 pub mod Headline
 pub mod MemoryPorts
 pub mod Hub

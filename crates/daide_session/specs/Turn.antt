@@ -5,13 +5,14 @@ use Rattle.daide_frame.specs.declared.side.Side.{Side}
 use Rattle.daide_frame.specs.declared.side.Side.TheVariants.{Bot, Server}
 use Rattle.daide_reader.specs.Reading.{IsRaised}
 use Rattle.daide_machine.specs.declared.note.Note.{Note}
-use Rattle.daide_machine.specs.Events.{Event, Ends, Pops, bytes_come}
+use Rattle.daide_machine.specs.Events.{Event, Ends, Pops, bytes_come, other}
 use Rattle.daide_machine.specs.Wires.{Gateway, waiting, front_of, holding, room_of, IsFrontOf}
 use Rattle.daide_machine.specs.Wires.{Goes, Lost, Wrote}
 use Rattle.daide_session.specs.declared.ports.Pull.{Pull}
 use Rattle.daide_session.specs.declared.ports.Pull.TheVariants.{Got, Idle, Ended}
 use Rattle.daide_session.specs.declared.ports.Put.{Put}
 use Rattle.daide_session.specs.declared.ports.Put.TheVariants.{Took, Failed}
+use Rattle.daide_session.specs.Fronts.{KeepsFront}
 use Rattle.daide_session.specs.Record.{PortAnswer, Clock, Pulled, Offered, pulled_len, IsPutWithin}
 
 -- one stretch of answers, and then another
@@ -27,9 +28,9 @@ GoesOn old events new = (note : Note) × Goes old events note new
 
 -- ---- the clock
 
--- the timer of the initial message, where it popped
+-- the timer of the initial message, where it popped; what each wire is handed next stays
 abbrev pub Hears : Bool → Gateway → Gateway → Type 0
-Hears true old new = GoesOn old (Pops ∷ []) new
+Hears true old new = GoesOn old (Pops ∷ []) new × ((side : Side) → KeepsFront old side new)
 Hears false old new = new ≡ old
 
 -- the clock is asked once
@@ -38,10 +39,10 @@ AsksClock old answers new = (popped : Bool) × (answers ≡ Clock popped ∷ [])
 
 -- ---- the puts
 
--- what the wire took is taken off what waits; a wire that failed is lost
+-- what the wire took is taken off what waits; a wire that failed is lost; what the other wire is handed next stays
 abbrev pub Hands : Side → Put → Gateway → Gateway → Type 0
-Hands side (Took n) old new = Wrote old side n new
-Hands side Failed old new = Lost old side new
+Hands side (Took n) old new = Wrote old side n new × KeepsFront old (other side) new
+Hands side Failed old new = Lost old side new × KeepsFront old (other side) new
 
 -- nothing waits, and no put is made
 abbrev pub HasNone : Side → Gateway → List PortAnswer → Gateway → Type 0

@@ -8,8 +8,8 @@ ghost use Rattle.std.specs.Prelude.{◌≡◌, ℕ, ◌+◌, ◌*◌, ◌<◌, �
 ghost use Rattle.daide_frame.specs.declared.side.Side.{Side};
 ghost use Rattle.daide_reader.specs.Reading.{IsRaised};
 ghost use Rattle.daide_machine.specs.Events.{other};
-ghost use Rattle.daide_machine.specs.Wires.{holding, room_of, steps_of, AsksNothing};
-ghost use Rattle.daide_machine.specs.Weight.{weight_of, weight_bound, steps_bound, IsKeptSmall};
+ghost use Rattle.daide_machine.specs.Wires.{holding, room_of, AsksNothing};
+ghost use Rattle.daide_machine.specs.Weight.{weight_of, weight_bound};
 ghost use Rattle.daide_session.specs.Record.{Carries, Relays};
 ghost use Rattle.daide_session.specs.Turn.{AsksClock, Puts, Pulls, Turn, AsksAtMost, turn_steps};
 ghost use Rattle.daide_session.specs.Headline.{Headline};
@@ -90,18 +90,6 @@ fn pull<A: Allocator, P: Ports>(session: &mut Session<A>, ports: &mut P, side: S
     pull_into(session, ports, side, &mut buffer[..len]);
 }
 
-/// Asks a session what it keeps, so that its bounds are known where it stands.
-fn ask_bounds<A: Allocator>(session: &Session<A>)
-    ensures directions { (side : Side) → IsKeptSmall session.now.state.limits.cap (holding session.now side) }
-    ensures further { length session.now.to_bot + length session.now.to_server ≤ 64 }
-    ensures weight { weight_of session.now ≤ weight_bound session.now }
-    ensures steps { (side : Side) → steps_of (holding session.now side) ≤ steps_bound session.now side }
-{
-    session.weight();
-    session.steps(Side::Bot);
-    session.steps(Side::Server);
-}
-
 /// One turn: the clock, then one put to each wire for which something waits, then one pull from each side that
 /// there is room for, the bot first each time.
 pub fn turn<A: Allocator, P: Ports>(session: &mut Session<A>, ports: &mut P)
@@ -117,5 +105,5 @@ pub fn turn<A: Allocator, P: Ports>(session: &mut Session<A>, ports: &mut P)
     put_front(session, ports, Side::Server);
     pull(session, ports, Side::Bot);
     pull(session, ports, Side::Server);
-    ask_bounds(session);
+    session.bounds();
 }

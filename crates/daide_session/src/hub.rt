@@ -102,6 +102,7 @@ impl<P: Ports, A: Allocator + Copy> Hub<P, A> {
     /// nothing and hands the ports back.
     pub fn add(&mut self, ports: P) -> Result<usize, (AddFault, P)>
         ensures place { IfOk result (λ i. i ≡ length self.old.places) }
+        ensures room { OnOk result (length self.old.places < self.old.max) }
         ensures added { OnOk result (Adds self.old ports self.new) }
         ensures refused { IfErr result (λ refusal. IsAddCause self.old refusal.0) }
         ensures unchanged { OnErr result (self.new ≡ self.old) }

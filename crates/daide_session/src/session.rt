@@ -13,7 +13,7 @@
 
 ghost use Rattle.std.specs.Prelude.{◌≡◌, ℕ, ◌+◌, ◌*◌, ◌<◌, ◌≤◌, false, not, [], ◌∷◌, length, Ok, IfOk, IfErr};
 ghost use Rattle.daide_frame.specs.declared.side.Side.{Side};
-ghost use Rattle.daide_machine.specs.Events.{Ends, Pops, bytes_come};
+ghost use Rattle.daide_machine.specs.Events.{Ends, Pops, bytes_come, other};
 ghost use Rattle.daide_machine.specs.Machine.{is_over as is_over_phase};
 ghost use Rattle.daide_machine.specs.Wires.{IsFrontOf, first_len, waiting, front_of, holding, is_awaited, room_of};
 ghost use Rattle.daide_machine.specs.Wires.{steps_of, is_closed, IsNew, Goes};
@@ -22,6 +22,8 @@ ghost use Rattle.daide_machine.specs.Weight.{weight_of, weight_bound, steps_boun
 ghost use Rattle.daide_machine.specs.declared.note.Note.TheVariants.{Nothing};
 ghost use Rattle.daide_session.specs.Config.{config_fault};
 ghost use Rattle.daide_session.specs.Session.{level_in, limits_of, IsCause};
+ghost use Rattle.daide_session.specs.Bounds.{IsWithinBounds};
+ghost use Rattle.daide_session.specs.Fronts.{KeepsFront};
 
 use crate::config::{Config, ConfigError};
 use crate::reaction::react;
@@ -130,6 +132,7 @@ impl<A: Allocator> Session<A> {
     /// The time for the IM is over: in the phase WaitIm that is the bot's fault, else nothing.
     pub fn im_timeout(&mut self) -> Note
         ensures goes { Goes self.old (Pops ∷ []) result self.new }
+        ensures fronts { (side : Side) → KeepsFront self.old side self.new }
         ensures holds { HoldsTheSame self.old self.new }
     {
         match self.stage.phase {
@@ -147,6 +150,7 @@ impl<A: Allocator> Session<A> {
     /// the session ends as by the side's end.
     pub fn lost(&mut self, side: Side)
         ensures lost { Lost self.old side self.new }
+        ensures other_front { KeepsFront self.old (other side) self.new }
         ensures asks_nothing { AsksNothing self.old self.new }
     {
         stop(&mut self.traffic, &mut self.stage, side);
@@ -166,6 +170,7 @@ impl<A: Allocator> Session<A> {
     pub fn wrote(&mut self, side: Side, n: usize)
         requires { n ≤ first_len (waiting self.old side) }
         ensures wrote { Wrote self.old side n self.new }
+        ensures other_front { KeepsFront self.old (other side) self.new }
         ensures asks_nothing { AsksNothing self.old self.new }
     {
         self.traffic.wrote(side, n);
@@ -215,6 +220,16 @@ impl<A: Allocator> Session<A> {
         let bot = self.traffic.body(Side::Bot).len() + self.traffic.entries(Side::Bot);
         let server = self.traffic.body(Side::Server).len() + self.traffic.entries(Side::Server);
         bot + server + (self.traffic.count(Side::Bot) + self.traffic.count(Side::Server))
+    }
+
+    /// Tells that the session is within its bounds, where it stands. It answers nothing and only looks at
+    /// lengths and counts: a caller whose contract owes the bounds calls it before it ends.
+    pub fn bounds(&self)
+        ensures { IsWithinBounds self.now }
+    {
+        self.weight();
+        self.steps(Side::Bot);
+        self.steps(Side::Server);
     }
 
     /// How many answers the table of a side's reader gave since that side's last header, modulo 2^64.

@@ -12,6 +12,7 @@ ghost use Rattle.daide_machine.specs.Machine.{fault, fm_to, is_over as is_over_p
 ghost use Rattle.daide_machine.specs.Wires.{frames_to};
 ghost use Rattle.daide_session.specs.Both.{at};
 ghost use Rattle.daide_session.specs.Traffic.{has_end};
+ghost use Rattle.daide_session.specs.Fronts.{KeepsFronts};
 ghost use Rattle.daide_session.specs.Session.{state_of, gateway_of, IsStanding};
 ghost use Rattle.daide_session.specs.Reaction.{Moves, KeepsSides, stopped};
 
@@ -51,6 +52,7 @@ fn close<A: Allocator>(traffic: &mut Traffic<A>, stage: &mut Stage, side: Side)
     ensures keeps { KeepsSides traffic.old traffic.new }
     ensures sent { (wire : Side) → at traffic.new.waiting wire
         ≡ at traffic.old.waiting wire ++ frames_to wire (fm_to stage.old.phase (other_side side)) }
+    ensures fronts { KeepsFronts traffic.old traffic.new }
 {
     if may_reach(stage.phase, other(side)) {
         traffic.end(other(side), None);
@@ -65,6 +67,7 @@ pub fn stop<A: Allocator>(traffic: &mut Traffic<A>, stage: &mut Stage, side: Sid
     ensures moves { Moves (gateway_of traffic.old stage.old) (stopped (state_of traffic.old stage.old) side)
         (gateway_of traffic.new stage.new) }
     ensures keeps { KeepsSides traffic.old traffic.new }
+    ensures fronts { KeepsFronts traffic.old traffic.new }
 {
     if stage.is_over() {
         return;
@@ -84,6 +87,7 @@ pub fn fail<A: Allocator>(
     ensures moves { Moves (gateway_of traffic.old stage.old) (fault (state_of traffic.old stage.old) side code)
         (gateway_of traffic.new stage.new) }
     ensures keeps { KeepsSides traffic.old traffic.new }
+    ensures fronts { KeepsFronts traffic.old traffic.new }
 {
     traffic.end(side, Some(code));
     close(traffic, stage, side);

@@ -11,6 +11,7 @@ ghost use Rattle.daide_frame.specs.Frames.{announced};
 ghost use Rattle.daide_frame.specs.declared.cutter.Step.TheVariants.{Bodied};
 ghost use Rattle.daide_frame.specs.declared.side.Side.{Side};
 ghost use Rattle.daide_grammar.specs.Depth.{open_brackets};
+ghost use Rattle.daide_machine.specs.Events.{other};
 ghost use Rattle.daide_machine.specs.Machine.{IsRight, question_of, is_dm, answer_to};
 ghost use Rattle.daide_machine.specs.Machine.{destination as destination_of};
 ghost use Rattle.daide_machine.specs.Weight.{tokens_held};
@@ -24,6 +25,7 @@ ghost use Rattle.daide_session.specs.Traffic.{pending, noted, holding, IsQuiet, 
 ghost use Rattle.daide_session.specs.Traffic.{IsAnswered, IsCleared, LetsGo, posted, has_end, end_to};
 ghost use Rattle.daide_session.specs.Traffic.{answer_at, answered_by, behind, ending_of, others, size_of_first};
 ghost use Rattle.daide_session.specs.Traffic.{IsReleased};
+ghost use Rattle.daide_session.specs.Fronts.{KeepsFronts};
 
 use crate::inbound::Inbound;
 use crate::wire::{Waiting, Wire};
@@ -369,6 +371,7 @@ impl<A: Allocator> Traffic<A> {
         ensures limits { (self.new.cap ≡ self.old.cap) × (self.new.max_depth ≡ self.old.max_depth) }
         ensures sides { self.new.sides ≡ self.old.sides }
         ensures waiting { self.new.waiting ≡ posted self.old.waiting (end_to to code) }
+        ensures fronts { KeepsFronts self.old self.new }
     {
         push(&mut self.to_bot, &mut self.to_server, to, ending(code));
     }
@@ -403,6 +406,7 @@ impl<A: Allocator> Traffic<A> {
         ensures limits { (self.new.cap ≡ self.old.cap) × (self.new.max_depth ≡ self.old.max_depth) }
         ensures sides { self.new.sides ≡ self.old.sides }
         ensures waiting { self.new.waiting ≡ put self.old.waiting to (behind n (at self.old.waiting to)) }
+        ensures other_front { at self.new.fronts (other to) ≡ at self.old.fronts (other to) }
     {
         match to {
             Side::Bot => {
@@ -421,6 +425,7 @@ impl<A: Allocator> Traffic<A> {
     fn drop_first(&mut self, to: Side)
         ensures lets_go { LetsGo self.old self.new }
         ensures waiting { self.new.waiting ≡ put self.old.waiting to (others (at self.old.waiting to)) }
+        ensures other_front { at self.new.fronts (other to) ≡ at self.old.fronts (other to) }
     {
         let gone = pop(&mut self.to_bot, &mut self.to_server, to);
         release(gone, &mut self.bot, &mut self.server);
@@ -433,6 +438,7 @@ impl<A: Allocator> Traffic<A> {
         ensures lets_go { LetsGo self.old self.new }
         ensures waiting { self.new.waiting ≡ put self.old.waiting to (without n (at self.old.waiting to)) }
         ensures bytes { bytes_of (at self.new.waiting to) ≡ drop n (bytes_of (at self.old.waiting to)) }
+        ensures other_front { at self.new.fronts (other to) ≡ at self.old.fronts (other to) }
     {
         if n < self.first_len(to) {
             self.advance(to, n);
@@ -445,6 +451,7 @@ impl<A: Allocator> Traffic<A> {
     pub fn lose(&mut self, to: Side)
         ensures lets_go { LetsGo self.old self.new }
         ensures waiting { self.new.waiting ≡ put self.old.waiting to [] }
+        ensures other_front { at self.new.fronts (other to) ≡ at self.old.fronts (other to) }
     {
         for _ in 0..self.count(to) {
             self.drop_first(to);

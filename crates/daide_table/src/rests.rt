@@ -48,10 +48,18 @@ pub fn has_level(sym: Sym) -> bool {
     Symbol::named(sym).number() >= FIRST_WITH_LEVEL
 }
 
+/// Whether two rests are of the same symbols.
+fn is_same(one: &Rest, other: &Rest) -> bool {
+    let (one, other) = (one.as_slice(), other.as_slice());
+    one.len() == other.len()
+        && one.iter().zip(other).all(|(a, b)| Symbol::named(*a).number()
+            == Symbol::named(*b).number())
+}
+
 /// The place of a rest in a list, or the list's length.
 fn place_in(rests: &[Rest], rest: Rest) -> usize {
     for (place, one) in rests.iter().enumerate() {
-        if *one == rest {
+        if is_same(one, &rest) {
             return place;
         }
     }

@@ -122,6 +122,34 @@ fn write_plain(
     )
 }
 
+/// The row of a symbol with a level, where it is another than the level's below. `name` is that row's, and then this
+/// one's.
+fn write_level(
+    text: &mut String,
+    alloc: Global,
+    rests: &Rests,
+    (symbol, place): (Symbol, u8),
+    last: &mut Row,
+    name: &mut String,
+) -> Result<(), AllocError> {
+    let row = row(rests, symbol);
+    let rule = most(&row);
+    let mut others = String::new(alloc);
+    if place == 0 {
+        write!(others, "{rule}")?;
+        *last = [rule; 79];
+    } else if row != *last {
+        write!(others, "{name}!($other $place)")?;
+    } else {
+        return Ok(());
+    }
+    *name = name_of(alloc, symbol.sym(), place)?;
+    let cells = (&row, &*last, others.as_str());
+    write_row(text, alloc, rests, name.as_str(), cells, " $place:literal")?;
+    *last = row;
+    Ok(())
+}
+
 /// The rows of a symbol with a level, from its number at level 0, and the cells of its columns.
 fn write_levels(
     text: &mut String,
@@ -132,38 +160,11 @@ fn write_levels(
 ) -> Result<(), AllocError>
     requires { number ≤ 195 }
 {
-    let sym = Symbol::of(number).sym();
     let mut last = [0; 79];
     let mut name = String::new(alloc);
     for place in 0..7 {
-        let row = row(rests, Symbol::of(number + place));
-        let rule = most(&row);
-        let mut others = String::new(alloc);
-        if place == 0 {
-            write!(others, "{rule}")?;
-            name = row_of(alloc, sym)?;
-            let base = [rule; 79];
-            write_row(
-                text,
-                alloc,
-                rests,
-                name.as_str(),
-                (&row, &base, others.as_str()),
-                " $place:literal",
-            )?;
-        } else if row != last {
-            write!(others, "{name}!($other $place)")?;
-            name = name_of(alloc, sym, place)?;
-            write_row(
-                text,
-                alloc,
-                rests,
-                name.as_str(),
-                (&row, &last, others.as_str()),
-                " $place:literal",
-            )?;
-        }
-        last = row;
+        let symbol = Symbol::of(number + place);
+        write_level(text, alloc, rests, (symbol, place), &mut last, &mut name)?;
         let mut cell = String::new(alloc);
         write!(cell, "{name}!($class {place}),")?;
         cells.item(cell.as_str())?;
@@ -189,20 +190,30 @@ fn columns(alloc: Global) -> Result<String, AllocError> {
     lines.text()
 }
 
-/// The whole text.
-pub fn text(alloc: Global) -> Result<String, AllocError> {
-    let rests = Rests::new(alloc)?;
-    let mut text = String::from_str(alloc, HEAD)?;
-    let mut cells = Lines::new(alloc, "            ");
+/// The rows of the symbols without a level, and the cells of their columns.
+fn write_all_plain(
+    text: &mut String,
+    cells: &mut Lines,
+    alloc: Global,
+    rests: &Rests,
+) -> Result<(), AllocError> {
     for number in 0..FIRST_WITH_LEVEL {
         let symbol = Symbol::of(number);
-        write_plain(&mut text, alloc, &rests, symbol)?;
+        write_plain(text, alloc, rests, symbol)?;
         let name = row_of(alloc, symbol.sym())?;
         let mut cell = String::new(alloc);
         write!(cell, "{name}!($class),")?;
         cells.item(cell.as_str())?;
     }
-    cells.end()?;
+    cells.end()
+}
+
+/// The whole text.
+pub fn text(alloc: Global) -> Result<String, AllocError> {
+    let rests = Rests::new(alloc)?;
+    let mut text = String::from_str(alloc, HEAD)?;
+    let mut cells = Lines::new(alloc, "            ");
+    write_all_plain(&mut text, &mut cells, alloc, &rests)?;
     for kind in 0..18 {
         let number = FIRST_WITH_LEVEL + 7 * kind;
         write_levels(&mut text, &mut cells, alloc, &rests, number)?;

@@ -40,6 +40,17 @@ macro_rules! rest {
 macro_rules! by_level {
 ";
 
+/// What stands before the rules.
+const RULES: &str = "}
+
+/// The cells or lengths of all rules.
+macro_rules! rules {
+    ($of:ident) => {
+        [
+            rest!($of), // 0 stops
+            rest!($of), // 1 skips
+";
+
 /// The end of the file.
 const TAIL: &str = "        ]
     };
@@ -105,12 +116,8 @@ fn no_rules(alloc: Global, rests: &Rests) -> Result<String, AllocError> {
     lines.text()
 }
 
-/// The whole text.
-pub fn text(alloc: Global) -> Result<String, AllocError> {
-    let rests = Rests::new(alloc)?;
-    let mut text = String::from_str(alloc, HEAD)?;
-    numbers(alloc, &mut text)?;
-    text.push_str(REST)?;
+/// The rests with a level, by their rules at level 0.
+fn write_by_level(text: &mut String, alloc: Global, rests: &Rests) -> Result<(), AllocError> {
     for (place, rest) in rests.by_level.iter().enumerate() {
         let rule = place.saturating_mul(7).saturating_add(rests.leveled());
         let symbols = symbols_of(alloc, rest)?;
@@ -119,19 +126,37 @@ pub fn text(alloc: Global) -> Result<String, AllocError> {
             "    ({rule} $of:ident $place:literal) => {{ rest!($of{symbols}) }};"
         )?;
     }
-    text.push_str(
-        "}\n\n/// The cells or lengths of all rules.\nmacro_rules! rules {\n    ($of:ident) => {\n        [\n",
-    )?;
-    text.push_str("            rest!($of), // 0 stops\n            rest!($of), // 1 skips\n")?;
+    Ok(())
+}
+
+/// The rules of the rests without a level.
+fn write_any(text: &mut String, alloc: Global, rests: &Rests) -> Result<(), AllocError> {
     for (place, rest) in rests.any.iter().enumerate() {
         let rule = place.saturating_add(2);
         let symbols = symbols_of(alloc, rest)?;
         writeln!(text, "            rest!($of{symbols}), // {rule}")?;
     }
+    Ok(())
+}
+
+/// The rules of the rests with a level, and those that are none.
+fn write_others(text: &mut String, alloc: Global, rests: &Rests) -> Result<(), AllocError> {
     text.push_str("            // with a level\n")?;
-    text.push_str(each_level(alloc, &rests)?.as_str())?;
+    text.push_str(each_level(alloc, rests)?.as_str())?;
     text.push_str("            // no rules\n")?;
-    text.push_str(no_rules(alloc, &rests)?.as_str())?;
+    text.push_str(no_rules(alloc, rests)?.as_str())
+}
+
+/// The whole text.
+pub fn text(alloc: Global) -> Result<String, AllocError> {
+    let rests = Rests::new(alloc)?;
+    let mut text = String::from_str(alloc, HEAD)?;
+    numbers(alloc, &mut text)?;
+    text.push_str(REST)?;
+    write_by_level(&mut text, alloc, &rests)?;
+    text.push_str(RULES)?;
+    write_any(&mut text, alloc, &rests)?;
+    write_others(&mut text, alloc, &rests)?;
     text.push_str(TAIL)?;
     Ok(text)
 }

@@ -2,5 +2,7 @@ pub mod TableLemmas
 pub mod NameLaws
 pub mod TokenLemmas
 pub mod WholeText
+pub mod ClassNumbers
+pub mod Searches
 mod StandardFacts
 mod SecondListing

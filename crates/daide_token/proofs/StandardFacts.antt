@@ -5,7 +5,7 @@ use Rattle.std.specs.Fmt.{digits}
 use Rattle.daide_token.specs.declared.class.Class.TheVariants as class
 use Rattle.daide_token.specs.Class.{class_of, has_known_category}
 use Rattle.daide_token.specs.Names.{name_of, names, token_named}
-use Rattle.daide_token.specs.Text.{text_of}
+use Rattle.daide_token.specs.Text.{text_of, text_with}
 use Rattle.daide_token.specs.Token.{bra, err, hlo, huh, ket, lvl, number_of, prn, token_of_number, tokens_of}
 
 -- a token that no table lists has a class by its category, and no name
@@ -109,6 +109,13 @@ text-alien = refl
 text-words : text_of (tokens_of (0x48 ∷ 0x03 ∷ 0x40 ∷ 0x00 ∷ 0x4A ∷ 0x12 ∷ 0x40 ∷ 0x01 ∷ [])) ≡ codes "GOF ( #4a12 )"
 unfolding text_of name_of names
 text-words = refl
+
+-- with names that an operator added: the first entry of a token counts, a name of the protocol stays, and so does a
+-- character
+text-added : text_with ((0x4A40, codes "XYZ") ∷ (0x4A40, codes "QQQ") ∷ (0x4803, codes "FOG") ∷ (0x4B61, codes "AAA") ∷ [])
+    (0x4A40 ∷ 0x4803 ∷ 0x4B61 ∷ 0x4A41 ∷ []) ≡ codes "XYZ GOF 'a' #4a41"
+unfolding text_with name_of names
+text-added = refl
 
 text-nothing : text_of [] ≡ []
 unfolding text_of

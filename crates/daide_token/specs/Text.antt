@@ -5,7 +5,9 @@ use Rattle.std.specs.Prelude.{◌++◌, map, slice_index, codes, option_map, unw
 use Rattle.std.specs.List.{join_with_byte}
 use Rattle.std.specs.Fmt.{signed_decimal}
 use Rattle.daide_token.specs.Token.{bra, ket, number_of}
-use Rattle.daide_token.specs.Names.{name_of}
+use Rattle.std.specs.Prelude.{Option}
+use Rattle.std.specs.List.{find}
+use Rattle.daide_token.specs.Names.{Named, name_of}
 
 -- a digit from 0 to 15, in lower case
 abbrev pub hex_digit_of : ℕ → ℕ
@@ -16,12 +18,16 @@ abbrev pub hex_text : ℕ → List ℕ
 hex_text t =
     35 ∷ hex_digit_of (t / 4096) ∷ hex_digit_of (t / 256 % 16) ∷ hex_digit_of (t / 16 % 16) ∷ hex_digit_of (t % 16) ∷ []
 
--- a token by itself: a bracket's sign, a number's decimal form, a name, or its digits
-abbrev pub word_of : ℕ → List ℕ
-word_of t =
+-- the name of a token by its first entry among names that an operator added
+abbrev pub added_name_of : List Named → ℕ → Option (List ℕ)
+added_name_of added t = option_map (λ entry. entry.1) (find (λ entry. entry.0 == t) added)
+
+-- a token by itself: a bracket's sign, a number's decimal form, the protocol's name, an added name, or its digits
+abbrev pub word_with : List Named → ℕ → List ℕ
+word_with added t =
     if t == bra then codes "(" else
     if t == ket then codes ")" else
-    unwrap_or (option_map signed_decimal (number_of t)) (unwrap_or (name_of t) (hex_text t))
+    unwrap_or (option_map signed_decimal (number_of t)) (unwrap_or (name_of t) (unwrap_or (added_name_of added t) (hex_text t)))
 
 -- whether a token is a character that can stand in quotes: from space to tilde, and not the quote itself
 abbrev pub is_quotable : ℕ → Bool
@@ -43,11 +49,15 @@ abbrev pub items_of : List ℕ → List Item
 items_of [] = []
 items_of (t ∷ ts) = if is_quotable t then before_items (t % 256) (items_of ts) else Word t ∷ items_of ts
 
--- an item's text: a run stands between quotes
-abbrev pub item_text : Item → List ℕ
-item_text (Word t) = word_of t
-item_text (Quote characters) = 39 ∷ characters ++ 39 ∷ []
+-- an item's text, with added names: a run stands between quotes
+abbrev pub item_text : List Named → Item → List ℕ
+item_text added (Word t) = word_with added t
+item_text added (Quote characters) = 39 ∷ characters ++ 39 ∷ []
 
 -- the text of some tokens, without a line end
 unfoldable pub text_of : List ℕ → List ℕ
-text_of ts = join_with_byte 32 (map item_text (items_of ts))
+text_of ts = join_with_byte 32 (map (item_text []) (items_of ts))
+
+-- the same with names that an operator added
+unfoldable pub text_with : List Named → List ℕ → List ℕ
+text_with added ts = join_with_byte 32 (map (item_text added) (items_of ts))

@@ -1,6 +1,7 @@
 -- The text in the order in which it is written: what a token adds depends on what was written last.
 use Rattle.std.specs.Prelude.{ℕ, ◌%◌, ◌++◌, if◌then◌else◌, List, [], ◌∷◌}
-use Rattle.daide_token.specs.Text.{is_quotable, word_of}
+use Rattle.daide_token.specs.Text.{is_quotable, word_with}
+use Rattle.daide_token.specs.Names.{Named}
 use Rattle.daide_token.specs.declared.text.Place.{Place}
 use Rattle.daide_token.specs.declared.text.Place.TheVariants.{Start, Word, Quote}
 
@@ -21,12 +22,13 @@ abbrev pub place_after : ℕ → Place
 place_after t = if is_quotable t then Quote else Word
 
 -- what a token adds
-abbrev pub token_text : Place → ℕ → List ℕ
-token_text place t = if is_quotable t then before_character place ++ (t % 256) ∷ [] else before_item place ++ word_of t
+abbrev pub token_text : List Named → Place → ℕ → List ℕ
+token_text added place t =
+    if is_quotable t then before_character place ++ (t % 256) ∷ [] else before_item place ++ word_with added t
 
 -- what some tokens add, to the end
-abbrev pub rest_of_text : Place → List ℕ → List ℕ
-rest_of_text Start [] = []
-rest_of_text Word [] = []
-rest_of_text Quote [] = 39 ∷ []
-rest_of_text place (t ∷ ts) = token_text place t ++ rest_of_text (place_after t) ts
+abbrev pub rest_of_text : List Named → Place → List ℕ → List ℕ
+rest_of_text added Start [] = []
+rest_of_text added Word [] = []
+rest_of_text added Quote [] = 39 ∷ []
+rest_of_text added place (t ∷ ts) = token_text added place t ++ rest_of_text added (place_after t) ts

@@ -1,7 +1,8 @@
 //! Laws of the definitions: the calls that turn tokens into bytes, numbers and names undo each other.
 
-ghost use Rattle.std.specs.Prelude.{[], true, ℕ, ℤ, List, ◌<◌, ◌∷◌, ◌≡◌};
+ghost use Rattle.std.specs.Prelude.{[], true, ℕ, ℤ, List, ◌<◌, ◌∷◌, ◌≡◌, ◌↔◌};
 ghost use Rattle.daide_token.specs.Class.{class_of, has_one_token, is_standard, token_of};
+ghost use Rattle.daide_token.specs.ClassNumbers.{same_class};
 ghost use Rattle.daide_token.specs.declared.class.Class.{Class};
 ghost use Rattle.daide_token.specs.Names.{name_of, token_named};
 ghost use Rattle.daide_token.specs.Token.{bytes_of, bytes_of_tokens, number_of};
@@ -33,4 +34,10 @@ pub fn single_tokens_stand_alone()
     ensures alone { (t : ℕ) → has_one_token (class_of t) ≡ true → t ≡ token_of (class_of t) }
     ensures standard { (t : ℕ) → is_standard (class_of t) ≡ true }
     ensures own { (class : Class) → is_standard class ≡ true → class_of (token_of class) ≡ class }
+{}
+
+/// Two classes have one number exactly where they are one class. Forms and table compare classes by
+/// their numbers, so a place of a form takes the tokens of its own class and no others.
+pub fn numbers_tell_classes_apart()
+    ensures { (c d : Class) → (same_class c d ≡ true) ↔ (c ≡ d) }
 {}

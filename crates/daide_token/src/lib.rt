@@ -2,6 +2,7 @@
 #![tactic(auto)]
 
 pub mod class;
+mod class_number;
 pub mod laws;
 mod names;
 #[cfg(test)]
@@ -10,5 +11,5 @@ pub mod text;
 pub mod token;
 
 pub use class::Class;
-pub use text::write_text;
+pub use text::{write_text, write_text_with};
 pub use token::Token;

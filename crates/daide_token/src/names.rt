@@ -1,6 +1,7 @@
 //! The names of tokens, in one table that is read from both sides.
 
-ghost use Rattle.std.specs.Prelude.{◌≡◌, ◌==◌, ℕ, List, bytes_eq, map, option_map};
+ghost use Rattle.std.specs.Prelude.{◌≡◌, ◌==◌, ℕ, List, bytes_eq, map, option_map, true};
+ghost use Rattle.daide_token.specs.Rising.{rises};
 ghost use Rattle.std.specs.List.{find};
 ghost use Rattle.daide_token.specs.Names.{Named, names, name_of, token_named};
 
@@ -59,17 +60,22 @@ const NAMES: [(u16, &str); 198] = [
 /// The table as a slice.
 #[tactic(auto, unfolding(crate::specs::Names::names))]
 fn table() -> &'static [(u16, &'static str)]
-    ensures { map (λ row. let named : Named = (row.0, row.1.now) in named) result.now ≡ names }
+    ensures rows { map (λ row. let named : Named = (row.0, row.1.now) in named) result.now ≡ names }
+    ensures rising { rises (map (λ row. row.0) result.now) ≡ true }
 {
     &NAMES
 }
 
-/// The name beside a token in a table.
+/// The name beside a token in a table whose tokens rise, found in the middle.
 fn name_in(table: &[(u16, &'static str)], code: u16) -> Option<&'static str>
+    requires { rises (map (λ row. row.0) table.now) ≡ true }
     ensures { option_map (λ name. name.now) result
         ≡ option_map (λ row. row.1.now) (find (λ row. row.0 == code) table.now) }
 {
-    table.iter().find(|row| row.0 == code).map(|row| row.1)
+    match table.binary_search_by_key(&code, |row| row.0) {
+        Ok(place) => Some(table[place].1),
+        Err(_) => None,
+    }
 }
 
 /// The token beside a name in a table.

@@ -1,7 +1,7 @@
 //! Tables of tokens, their classes, names and printed text, byte for byte as the protocol has them.
 
 use crate::class::Class;
-use crate::text::write_text;
+use crate::text::{write_text, write_text_with};
 use crate::token::Token;
 use std::io;
 use std::io::{ErrorKind, Write};
@@ -145,6 +145,20 @@ fn printed_text(rt: HostRuntime) -> Result<(), Fail> {
         write_text(tokens, &mut written).map_err(|_| "not written")?;
         assert_eq!(rt; written.as_slice(), text.as_bytes(), "text of {text}");
     }
+    Ok(())
+}
+
+#[test]
+fn added_names_are_printed(rt: HostRuntime) -> Result<(), &'static str> {
+    let added = [
+        (Token::from_code(0x4A40), *b"XYZ"),
+        (Token::from_code(0x4A40), *b"QQQ"),
+        (Token::from_code(0x4803), *b"FOG"),
+    ];
+    let tokens = [0x4A, 0x40, 0x48, 0x03, 0x4B, 0x61, 0x4A, 0x41];
+    let mut written = Vec::new(rt.alloc());
+    write_text_with(&added, &tokens, &mut written).map_err(|_| "not written")?;
+    assert_eq!(rt; written.as_slice(), b"XYZ GOF 'a' #4a41".as_slice());
     Ok(())
 }
 

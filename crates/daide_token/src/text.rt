@@ -2,7 +2,8 @@
 
 ghost use Rattle.std.specs.Prelude.{IfOk, OnOk, length, ◌%◌, ◌<◌, ◌≡◌};
 ghost use Rattle.std.specs.Io.KnownBytes.{Appends};
-ghost use Rattle.daide_token.specs.Text.{hex_digit_of, hex_text, is_quotable, text_of, word_of};
+ghost use Rattle.std.specs.Prelude.{unwrap_or};
+ghost use Rattle.daide_token.specs.Text.{added_name_of, hex_digit_of, hex_text, is_quotable, text_of, text_with, word_with};
 ghost use Rattle.daide_token.specs.TextSteps.{before_item, place_after, token_text};
 ghost use Rattle.daide_token.specs.Token.{tokens_of};
 
@@ -30,10 +31,24 @@ pub fn write_text<W: Write>(tokens: &[u8], writer: &mut W) -> Result<(), io::Err
     ensures text { OnOk result
         (Appends (W.contents writer.old) (W.contents writer.new) (text_of (tokens_of tokens.now))) }
 {
+    write_text_with(&[], tokens, writer)
+}
+
+/// Writes tokens as `write_text` does, but a token that it would write as its digits by its name among `added`: each
+/// entry is a token and its three letters, and of several entries of one token the first counts.
+pub fn write_text_with<W: Write>(
+    added: &[(Token, [u8; 3])],
+    tokens: &[u8],
+    writer: &mut W,
+) -> Result<(), io::Error>
+    requires { length tokens.now % 2 ≡ 0 }
+    ensures text { OnOk result
+        (Appends (W.contents writer.old) (W.contents writer.new) (text_with added.now (tokens_of tokens.now))) }
+{
     let mut place = Place::Start;
     let mut rest = tokens;
     while let [high, low, others @ ..] = rest {
-        place = write_token(place, Token::from_be([*high, *low]), writer)?;
+        place = write_token(added, place, Token::from_be([*high, *low]), writer)?;
         rest = others;
     }
     if place == Place::Quote {
@@ -43,13 +58,18 @@ pub fn write_text<W: Write>(tokens: &[u8], writer: &mut W) -> Result<(), io::Err
 }
 
 /// Writes one token, and says what was written last.
-fn write_token<W: Write>(place: Place, token: Token, writer: &mut W) -> Result<Place, io::Error>
+fn write_token<W: Write>(
+    added: &[(Token, [u8; 3])],
+    place: Place,
+    token: Token,
+    writer: &mut W,
+) -> Result<Place, io::Error>
     ensures { IfOk result (λ next. (next ≡ place_after token)
-        × Appends (W.contents writer.old) (W.contents writer.new) (token_text place token)) }
+        × Appends (W.contents writer.old) (W.contents writer.new) (token_text added.now place token)) }
 {
     if !quotable(token) {
         begin_item(place, writer)?;
-        write_word(token, writer)?;
+        write_word(added, token, writer)?;
         return Ok(Place::Word);
     }
     if place != Place::Quote {
@@ -80,8 +100,12 @@ fn begin_item<W: Write>(place: Place, writer: &mut W) -> Result<(), io::Error>
 }
 
 /// Writes a token by itself.
-fn write_word<W: Write>(token: Token, writer: &mut W) -> Result<(), io::Error>
-    ensures { OnOk result (Appends (W.contents writer.old) (W.contents writer.new) (word_of token)) }
+fn write_word<W: Write>(
+    added: &[(Token, [u8; 3])],
+    token: Token,
+    writer: &mut W,
+) -> Result<(), io::Error>
+    ensures { OnOk result (Appends (W.contents writer.old) (W.contents writer.new) (word_with added.now token)) }
 {
     match token.code() {
         0x4000 => return writer.write_all(b"("),
@@ -93,8 +117,33 @@ fn write_word<W: Write>(token: Token, writer: &mut W) -> Result<(), io::Error>
     }
     match token.name() {
         Some(name) => writer.write_all(name.as_bytes()),
+        None => write_unnamed(added, token, writer),
+    }
+}
+
+/// Writes a token that the protocol doesn't name: by its first entry among the added names, else as its digits.
+fn write_unnamed<W: Write>(
+    added: &[(Token, [u8; 3])],
+    token: Token,
+    writer: &mut W,
+) -> Result<(), io::Error>
+    ensures { OnOk result (Appends (W.contents writer.old) (W.contents writer.new)
+        (unwrap_or (added_name_of added.now token) (hex_text token))) }
+{
+    match added_name_of(added, token) {
+        Some(name) => writer.write_all(&name),
         None => write_hex(token, writer),
     }
+}
+
+/// The name of a token by its first entry among added names.
+fn added_name_of(added: &[(Token, [u8; 3])], token: Token) -> Option<[u8; 3]>
+    ensures { result ≡ added_name_of added.now token }
+{
+    let code = token.code();
+    let entry = added.iter().find(|entry| entry.0.code() == code)?;
+    let name = entry.1;
+    Some(name)
 }
 
 /// Writes a token as its four digits.

@@ -1,5 +1,6 @@
 -- A list of forms as a sum of lists that hold no choice, and a test that says that one language holds another.
-use Rattle.std.proofs.Common.{◌≡◌, ℕ, Bool, true, false, ◌&&◌, ◌||◌, nat_eq, List, [], ◌∷◌, ◌++◌, map, ◌⊎◌, inl, inr, IsTrue, refl, sym, ◌∙◌, ap, subst, append_assoc, append-nil}
+use Rattle.std.proofs.Common.{◌≡◌, ℕ, Bool, true, false, ◌&&◌, ◌||◌, nat_eq, List, [], ◌∷◌, ◌++◌, map, ◌⊎◌, inl, inr}
+use Rattle.std.proofs.Common.{IsTrue, refl, sym, ◌∙◌, ap, subst, append_assoc, append-nil}
 use Rattle.std.proofs.lemmas.Bool.{eqb-true}
 use Rattle.std.specs.List.{list_any, list_all}
 use Rattle.daide_token.specs.declared.class.Class.{Class}
@@ -7,9 +8,12 @@ use Rattle.daide_grammar.specs.declared.level.Level.{Level}
 use Rattle.daide_grammar.specs.declared.level.Level.TheVariants.{L0, L10, L20, L30, L40, L50, L60}
 use Rattle.daide_grammar.specs.Level.{level_number}
 use Rattle.daide_grammar.specs.Classes.{class_number, same_class}
-use Rattle.daide_grammar.specs.Forms.{Kind, is, any_word, accepts, Name, Place_name, Unit_name, Order_name, Any_name, Request_name, Send_name, Press_name, Arrangement_name, Flat_name, Fact_name, Form, one, never, empty, ◌·◌, ◌∣◌, many, group, named, Dialect}
+use Rattle.daide_grammar.specs.Forms.{Kind, is, any_word, accepts, Name, Place_name, Unit_name, Order_name, Any_name}
+use Rattle.daide_grammar.specs.Forms.{Request_name, Send_name, Press_name, Arrangement_name, Flat_name, Fact_name, Form}
+use Rattle.daide_grammar.specs.Forms.{one, never, empty, ◌·◌, ◌∣◌, many, group, named, Dialect}
 use Rattle.daide_grammar.specs.Message.Lists.{anything}
-use Rattle.daide_grammar.specs.Matches.{Matches, token, nothing, both, first, second, no_more, one_more, bracketed, by_name, MatchAll}
+use Rattle.daide_grammar.specs.Matches.{Matches, token, nothing, both, first, second, no_more, one_more, bracketed}
+use Rattle.daide_grammar.specs.Matches.{by_name, MatchAll}
 use Rattle.daide_grammar.specs.Proved.Reading.{Some-of, Some-first, Some-second, Some-split}
 
 -- each of the one in front of each of the other
@@ -44,7 +48,8 @@ Some-map P f [] h = h
 Some-map P f (x ∷ xs) (inl h) = inl h
 Some-map P f (x ∷ xs) (inr h) = inr (Some-map P f xs h)
 
-Some-unmap : {X Y : Type 0} (P : Y → Type 0) (f : X → Y) (xs : List X) → Some-of P (map f xs) → Some-of (λ x. P (f x)) xs
+Some-unmap : {X Y : Type 0} (P : Y → Type 0) (f : X → Y) (xs : List X) → Some-of P (map f xs) →
+    Some-of (λ x. P (f x)) xs
 Some-unmap P f [] h = h
 Some-unmap P f (x ∷ xs) (inl h) = inl h
 Some-unmap P f (x ∷ xs) (inr h) = inr (Some-unmap P f xs h)
@@ -75,7 +80,8 @@ product-to P (x ∷ xs) ys (inl h) = Some-first P (map (λ y. x ++ y) ys) (produ
 product-to P (x ∷ xs) ys (inr h) = Some-second P (map (λ y. x ++ y) ys) (product xs ys) (product-to P xs ys h)
 
 -- two lists of forms match one after the other
-pub MatchAll-join : (d : Dialect) (ps qs : List Form) (u v : List ℕ) → MatchAll d ps u → MatchAll d qs v → MatchAll d (ps ++ qs) (u ++ v)
+pub MatchAll-join : (d : Dialect) (ps qs : List Form) (u v : List ℕ) → MatchAll d ps u → MatchAll d qs v →
+    MatchAll d (ps ++ qs) (u ++ v)
 MatchAll-join d [] qs u v e n = subst (λ (x : List ℕ). MatchAll d qs (x ++ v)) (sym e) n
 MatchAll-join d (p ∷ ps) qs u v h n =
     (h.0, h.1 ++ v, h.2, MatchAll-join d ps qs h.1 v h.3 n, sym (append_assoc h.0 h.1 v) ∙ ap (λ x. x ++ v) h.4)
@@ -101,28 +107,32 @@ product-match : (d : Dialect) (xs ys : List (List Form)) (u v : List ℕ) → So
 product-match d xs ys u v h k =
     product-to (λ p. MatchAll d p (u ++ v)) xs ys
     (Some-weaker (λ p. MatchAll d p u) (λ p. Some-of (λ q. MatchAll d (p ++ q) (u ++ v)) ys) xs
-    (λ p m. Some-weaker (λ q. MatchAll d q v) (λ q. MatchAll d (p ++ q) (u ++ v)) ys (λ q n. MatchAll-join d p q u v m n) k) h)
+    (λ p m. Some-weaker (λ q. MatchAll d q v) (λ q. MatchAll d (p ++ q) (u ++ v)) ys
+    (λ q n. MatchAll-join d p q u v m n) k) h)
 
 -- a list of tokens in two, of which each side's forms match a part
 abbrev pub Divided : Dialect → (List ℕ → Type 0) → (List ℕ → Type 0) → List ℕ → Type 0
 Divided d P Q w = (u : List ℕ) × (v : List ℕ) × P u × Q v × (u ++ v ≡ w)
 
 -- a list that matches a product is in two parts: for one row of it,
-row-divided : (d : Dialect) (x : List Form) (ys : List (List Form)) (w : List ℕ) → Some-of (λ y. MatchAll d (x ++ y) w) ys →
+row-divided : (d : Dialect) (x : List Form) (ys : List (List Form)) (w : List ℕ) →
+    Some-of (λ y. MatchAll d (x ++ y) w) ys →
     Divided d (MatchAll d x) (λ v. Some-of (λ q. MatchAll d q v) ys) w
 row-divided d x [] w h = absurd h
 row-divided d x (y ∷ ys) w (inl h) = let k = MatchAll-split d x y w h in (k.0, k.1, k.2, inl k.3, k.4)
 row-divided d x (y ∷ ys) w (inr h) = let k = row-divided d x ys w h in (k.0, k.1, k.2, inr k.3, k.4)
 
 -- for its rows,
-rows-divided : (d : Dialect) (xs ys : List (List Form)) (w : List ℕ) → Some-of (λ x. Some-of (λ y. MatchAll d (x ++ y) w) ys) xs →
+rows-divided : (d : Dialect) (xs ys : List (List Form)) (w : List ℕ) →
+    Some-of (λ x. Some-of (λ y. MatchAll d (x ++ y) w) ys) xs →
     Divided d (λ u. Some-of (λ p. MatchAll d p u) xs) (λ v. Some-of (λ q. MatchAll d q v) ys) w
 rows-divided d [] ys w h = absurd h
 rows-divided d (x ∷ xs) ys w (inl h) = let k = row-divided d x ys w h in (k.0, k.1, inl k.2, k.3, k.4)
 rows-divided d (x ∷ xs) ys w (inr h) = let k = rows-divided d xs ys w h in (k.0, k.1, inr k.2, k.3, k.4)
 
 -- and for the whole product
-product-divided : (d : Dialect) (xs ys : List (List Form)) (w : List ℕ) → Some-of (λ p. MatchAll d p w) (product xs ys) →
+product-divided : (d : Dialect) (xs ys : List (List Form)) (w : List ℕ) →
+    Some-of (λ p. MatchAll d p w) (product xs ys) →
     Divided d (λ u. Some-of (λ p. MatchAll d p u) xs) (λ v. Some-of (λ q. MatchAll d q v) ys) w
 product-divided d xs ys w h = rows-divided d xs ys w (product-from (λ p. MatchAll d p w) xs ys h)
 
@@ -132,12 +142,14 @@ only-one P x (inl h) = h
 only-one P x (inr h) = absurd h
 
 -- a name matches as its alternatives do
-name_parts-cover : (d : Dialect) (n : Name) (u : List ℕ) → Matches d (named n) u → Some-of (λ p. MatchAll d p u) (name_parts n)
+name_parts-cover : (d : Dialect) (n : Name) (u : List ℕ) → Matches d (named n) u →
+    Some-of (λ p. MatchAll d p u) (name_parts n)
 unfolding name_parts
 name_parts-cover d Any_name u (by_name m) = inl (alone d anything u m)
 name_parts-cover d n u m = inl (alone d (named n) u m)
 
-name_parts-sound : (d : Dialect) (n : Name) (u : List ℕ) → Some-of (λ p. MatchAll d p u) (name_parts n) → Matches d (named n) u
+name_parts-sound : (d : Dialect) (n : Name) (u : List ℕ) → Some-of (λ p. MatchAll d p u) (name_parts n) →
+    Matches d (named n) u
 unfolding name_parts
 name_parts-sound d Any_name u h = by_name (unalone d anything u (only-one (λ p. MatchAll d p u) (anything ∷ []) h))
 name_parts-sound d n u h = unalone d (named n) u (only-one (λ p. MatchAll d p u) (named n ∷ []) h)
@@ -148,7 +160,8 @@ unfolding parts
 parts-cover d (one k) u m = inl (alone d (one k) u m)
 parts-cover d never u m = elim m [ ]
 parts-cover d empty u nothing = inl refl
-parts-cover d (f · g) w (both {u = u} {v = v} m n) = product-match d (parts f) (parts g) u v (parts-cover d f u m) (parts-cover d g v n)
+parts-cover d (f · g) w (both {u = u} {v = v} m n) =
+    product-match d (parts f) (parts g) u v (parts-cover d f u m) (parts-cover d g v n)
 parts-cover d (f ∣ g) w (first m) = Some-first (λ p. MatchAll d p w) (parts f) (parts g) (parts-cover d f w m)
 parts-cover d (f ∣ g) w (second m) = Some-second (λ p. MatchAll d p w) (parts f) (parts g) (parts-cover d g w m)
 parts-cover d (many f) u m = inl (alone d (many f) u m)
@@ -178,14 +191,16 @@ parts-sound d (group f) w (inr h) = absurd h
 parts-sound d (named n) w h = name_parts-sound d n w h
 
 -- what matches a list of forms matches one of its alternatives
-pub parts_all-cover : (d : Dialect) (fs : List Form) (w : List ℕ) → MatchAll d fs w → Some-of (λ p. MatchAll d p w) (parts_all fs)
+pub parts_all-cover : (d : Dialect) (fs : List Form) (w : List ℕ) → MatchAll d fs w →
+    Some-of (λ p. MatchAll d p w) (parts_all fs)
 unfolding parts_all
 parts_all-cover d [] w e = inl e
 parts_all-cover d (f ∷ fs) w h =
     subst (λ (x : List ℕ). Some-of (λ p. MatchAll d p x) (product (parts f) (parts_all fs))) h.4
     (product-match d (parts f) (parts_all fs) h.0 h.1 (parts-cover d f h.0 h.2) (parts_all-cover d fs h.1 h.3))
 
-pub parts_all-sound : (d : Dialect) (fs : List Form) (w : List ℕ) → Some-of (λ p. MatchAll d p w) (parts_all fs) → MatchAll d fs w
+pub parts_all-sound : (d : Dialect) (fs : List Form) (w : List ℕ) → Some-of (λ p. MatchAll d p w) (parts_all fs) →
+    MatchAll d fs w
 unfolding parts_all
 parts_all-sound d [] w (inl e) = e
 parts_all-sound d [] w (inr e) = absurd e
@@ -202,7 +217,23 @@ same_level l m = nat_eq (level_number l) (level_number m)
 -- the level of a number
 level_of : ℕ → Level
 level_of n =
-    elim (nat_eq n 0) [ true ↦ L0 | false ↦ elim (nat_eq n 10) [ true ↦ L10 | false ↦ elim (nat_eq n 20) [ true ↦ L20 | false ↦ elim (nat_eq n 30) [ true ↦ L30 | false ↦ elim (nat_eq n 40) [ true ↦ L40 | false ↦ elim (nat_eq n 50) [ true ↦ L50 | false ↦ L60 ] ] ] ] ] ]
+    elim (nat_eq n 0) [
+      | true ↦ L0
+      | false ↦ elim (nat_eq n 10) [
+        | true ↦ L10
+        | false ↦ elim (nat_eq n 20) [
+          | true ↦ L20
+          | false ↦ elim (nat_eq n 30) [
+            | true ↦ L30
+            | false ↦ elim (nat_eq n 40) [
+              | true ↦ L40
+              | false ↦ elim
+                  (nat_eq n 50) [ true ↦ L50 | false ↦ L60 ]
+            ]
+          ]
+        ]
+      ]
+    ]
 
 level_of-level_number : (l : Level) → level_of (level_number l) ≡ l
 unfolding level_of
@@ -237,7 +268,8 @@ same_kind _ _ = false
 
 -- a class that one accepts the same kind accepts
 pub same_kind-sound : (k m : Kind) (c : Class) → same_kind k m ≡ true → IsTrue (accepts k c) → IsTrue (accepts m c)
-same_kind-sound (is a) (is b) c e h = subst (λ (n : ℕ). nat_eq n (class_number c) ≡ true) (eqb-true (class_number a) (class_number b) e) h
+same_kind-sound (is a) (is b) c e h =
+    subst (λ (n : ℕ). nat_eq n (class_number c) ≡ true) (eqb-true (class_number a) (class_number b) e) h
 same_kind-sound any_word any_word c e h = h
 same_kind-sound (is a) any_word c e h = cc
 same_kind-sound any_word (is b) c e h = cc
@@ -258,7 +290,8 @@ name_below (Arrangement_name l) (Fact_name m) = same_level l m
 name_below _ _ = false
 
 -- the lists of a name below another are lists of the other
-name_below-sound : (d : Dialect) (n m : Name) (w : List ℕ) → name_below n m ≡ true → Matches d (named n) w → Matches d (named m) w
+name_below-sound : (d : Dialect) (n m : Name) (w : List ℕ) → name_below n m ≡ true → Matches d (named n) w →
+    Matches d (named m) w
 unfolding name_below
 name_below-sound d Place_name Place_name w e h = h
 name_below-sound d Unit_name Unit_name w e h = h
@@ -268,11 +301,14 @@ name_below-sound d (Press_name l) (Press_name m) w e h =
     subst (λ (x : Level). Matches d (named (Press_name x)) w) (same_level-means l m e) h
 name_below-sound d (Request_name l) (Request_name m) w e h =
     subst (λ (x : Level). Matches d (named (Request_name x)) w) (same_level-means l m e) h
-name_below-sound d (Send_name l) (Send_name m) w e h = subst (λ (x : Level). Matches d (named (Send_name x)) w) (same_level-means l m e) h
+name_below-sound d (Send_name l) (Send_name m) w e h =
+    subst (λ (x : Level). Matches d (named (Send_name x)) w) (same_level-means l m e) h
 name_below-sound d (Arrangement_name l) (Arrangement_name m) w e h =
     subst (λ (x : Level). Matches d (named (Arrangement_name x)) w) (same_level-means l m e) h
-name_below-sound d (Flat_name l) (Flat_name m) w e h = subst (λ (x : Level). Matches d (named (Flat_name x)) w) (same_level-means l m e) h
-name_below-sound d (Fact_name l) (Fact_name m) w e h = subst (λ (x : Level). Matches d (named (Fact_name x)) w) (same_level-means l m e) h
+name_below-sound d (Flat_name l) (Flat_name m) w e h =
+    subst (λ (x : Level). Matches d (named (Flat_name x)) w) (same_level-means l m e) h
+name_below-sound d (Fact_name l) (Fact_name m) w e h =
+    subst (λ (x : Level). Matches d (named (Fact_name x)) w) (same_level-means l m e) h
 name_below-sound d (Arrangement_name l) (Fact_name m) w e h =
     by_name (first (subst (λ (x : Level). Matches d (named (Arrangement_name x)) w) (same_level-means l m e) h))
 name_below-sound d _ _ w e h = cc
@@ -289,7 +325,8 @@ below (named n) (named m) = name_below n m
 below _ _ = false
 
 -- a repetition of lists of one form is one of lists of a form above it
-many-below : (d : Dialect) (f g : Form) (w : List ℕ) → ((u : List ℕ) → Matches d f u → Matches d g u) → Matches d (many f) w →
+many-below : (d : Dialect) (f g : Form) (w : List ℕ) → ((u : List ℕ) → Matches d f u → Matches d g u) →
+    Matches d (many f) w →
     Matches d (many g) w
 many-below d f g w k no_more = no_more
 many-below d f g w k (one_more {u = u} {v = v} m n) = one_more (k u m) (many-below d f g v k n)
@@ -315,7 +352,8 @@ below_all [] [] = true
 below_all (f ∷ fs) (g ∷ gs) = below f g && below_all fs gs
 below_all _ _ = false
 
-pub below_all-sound : (d : Dialect) (fs gs : List Form) (w : List ℕ) → below_all fs gs ≡ true → MatchAll d fs w → MatchAll d gs w
+pub below_all-sound : (d : Dialect) (fs gs : List Form) (w : List ℕ) → below_all fs gs ≡ true → MatchAll d fs w →
+    MatchAll d gs w
 unfolding below_all
 below_all-sound d [] [] w e h = h
 below_all-sound d (f ∷ fs) (g ∷ gs) w e h =
@@ -329,16 +367,22 @@ unfoldable pub covers : List (List Form) → List (List Form) → Bool
 covers ps qs = list_all (λ p. list_any (below_all p) qs) ps
 
 -- a list of forms below some alternative matches it
-any-below : (d : Dialect) (p : List Form) (qs : List (List Form)) (w : List ℕ) → list_any (below_all p) qs ≡ true → MatchAll d p w →
+any-below : (d : Dialect) (p : List Form) (qs : List (List Form)) (w : List ℕ) → list_any (below_all p) qs ≡ true →
+    MatchAll d p w →
     Some-of (λ q. MatchAll d q w) qs
 any-below d p [] w e h = cc
 any-below d p (q ∷ qs) w e h =
-    elim (either-passes (below_all p q) (list_any (below_all p) qs) e) [ inl a ↦ inl (below_all-sound d p q w a h) | inr b ↦ inr (any-below d p qs w b h) ]
+    elim (either-passes (below_all p q) (list_any (below_all p) qs) e) [
+      | inl a ↦ inl (below_all-sound d p q w a h)
+      | inr b ↦ inr (any-below d p qs w b h)
+    ]
 
 -- where the one covers, every list of it is one of the other
-pub covers-sound : (d : Dialect) (ps qs : List (List Form)) (w : List ℕ) → covers ps qs ≡ true → Some-of (λ p. MatchAll d p w) ps →
+pub covers-sound : (d : Dialect) (ps qs : List (List Form)) (w : List ℕ) → covers ps qs ≡ true →
+    Some-of (λ p. MatchAll d p w) ps →
     Some-of (λ q. MatchAll d q w) qs
 unfolding covers
 covers-sound d [] qs w e h = absurd h
 covers-sound d (p ∷ ps) qs w e (inl h) = any-below d p qs w (both-pass (list_any (below_all p) qs) (covers ps qs) e).0 h
-covers-sound d (p ∷ ps) qs w e (inr h) = covers-sound d ps qs w (both-pass (list_any (below_all p) qs) (covers ps qs) e).1 h
+covers-sound d (p ∷ ps) qs w e (inr h) =
+    covers-sound d ps qs w (both-pass (list_any (below_all p) qs) (covers ps qs) e).1 h

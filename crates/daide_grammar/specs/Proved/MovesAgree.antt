@@ -1,5 +1,6 @@
 -- What a right table does: its answers agree with the languages of its symbols.
-use Rattle.std.proofs.Common.{◌≡◌, ℕ, ◌<◌, Bool, true, false, not, ◌&&◌, nat_eq, List, [], ◌∷◌, Option, Some, None, ◌⊎◌, ◌↔◌, inl, inr, IsTrue, refl, sym, ◌∙◌, ap, subst}
+use Rattle.std.proofs.Common.{◌≡◌, ℕ, ◌<◌, Bool, true, false, not, ◌&&◌, nat_eq, List, [], ◌∷◌, Option, Some, None, ◌⊎◌}
+use Rattle.std.proofs.Common.{◌↔◌, inl, inr, IsTrue, refl, sym, ◌∙◌, ap, subst}
 use Rattle.std.specs.Bool.{beq}
 use Rattle.std.specs.List.{list_any, list_all}
 use Rattle.std.proofs.lemmas.Bool.{eqb-true, eq-eqb}
@@ -8,19 +9,27 @@ use Rattle.daide_token.specs.declared.class.Class.{Class}
 use Rattle.daide_token.specs.declared.class.Class.TheVariants.{Word}
 use Rattle.daide_grammar.specs.declared.level.Level.{Level}
 use Rattle.daide_grammar.specs.Classes.{class_number, same_class}
-use Rattle.daide_grammar.specs.Forms.{Kind, is, any_word, accepts, Slot, Press_slot, Arrangement_slot, Flat_slot, Name, Added, Form, named, Dialect}
+use Rattle.daide_grammar.specs.Forms.{Kind, is, any_word, accepts, Slot, Press_slot, Arrangement_slot, Flat_slot, Name}
+use Rattle.daide_grammar.specs.Forms.{Added, Form, named, Dialect}
 use Rattle.daide_grammar.specs.Matches.{rule, Matches, by_name, MatchAll}
-use Rattle.daide_grammar.specs.Symbols.{form_of, Entry, entries, this_or, entry_at, forms, may_end_of, slot_of, answer_by, table_answer}
+use Rattle.daide_grammar.specs.Symbols.{form_of, Entry, entries, this_or, entry_at, forms, may_end_of, slot_of}
+use Rattle.daide_grammar.specs.Symbols.{answer_by, table_answer}
 use Rattle.daide_grammar.specs.Answers.{Take, Skip, Stop}
 use Rattle.daide_grammar.specs.SideMessages.{SymbolMatchesIn}
-use Rattle.daide_grammar.specs.Proved.Reading.{Reads, Head, starts, ends, unopened, HeadReads, heads, heads-cover, heads-sound, Some-of, Some-first, Some-second, Some-split, MatchAll_from_Reads, Reads_from_MatchAll}
-use Rattle.daide_grammar.specs.Proved.Alternatives.{same_level, same_level-means, same_kind, same_kind-sound, parts_all, parts_all-cover, parts_all-sound, covers, covers-sound, both-pass, either-passes, alone, unalone}
-use Rattle.daide_grammar.specs.Proved.RightEntries.{after, apart, all_apart, is_added, same_slot, added_right, if_same, known, entry_right, is_end, right_by, right, all_right}
+use Rattle.daide_grammar.specs.Proved.Reading.{Reads, Head, starts, ends, unopened, HeadReads, heads, heads-cover}
+use Rattle.daide_grammar.specs.Proved.Reading.{heads-sound, Some-of, Some-first, Some-second, Some-split}
+use Rattle.daide_grammar.specs.Proved.Reading.{MatchAll_from_Reads, Reads_from_MatchAll}
+use Rattle.daide_grammar.specs.Proved.Alternatives.{same_level, same_level-means, same_kind, same_kind-sound, parts_all}
+use Rattle.daide_grammar.specs.Proved.Alternatives.{parts_all-cover, parts_all-sound, covers, covers-sound, both-pass}
+use Rattle.daide_grammar.specs.Proved.Alternatives.{either-passes, alone, unalone}
+use Rattle.daide_grammar.specs.Proved.RightEntries.{after, apart, all_apart, is_added, same_slot, added_right, if_same}
+use Rattle.daide_grammar.specs.Proved.RightEntries.{known, entry_right, is_end, right_by, right, all_right}
 
 -- Added forms are not empty, and begin with added words.
 pub record Proper (d : Dialect) : Type 0 where
   pub not_empty : (s : Slot) (l : Level) → Matches d (d.added s l) [] → ⊥
-  pub by_word : (s : Slot) (l : Level) (t : ℕ) (w : List ℕ) → Matches d (d.added s l) (t ∷ w) → (k : ℕ) × (d.class_of t ≡ Word k)
+  pub by_word : (s : Slot) (l : Level) (t : ℕ) (w : List ℕ) → Matches d (d.added s l) (t ∷ w) →
+      (k : ℕ) × (d.class_of t ≡ Word k)
   pub token_of : (c : Class) → class_number c < 79 → (t : ℕ) × (d.class_of t ≡ c)
 
 -- no word that may be added at the place begins with the token
@@ -33,7 +42,8 @@ abbrev pub IsStandard : Class → Type 0
 IsStandard c = (k : ℕ) → c ≡ Word k → ⊥
 
 -- none begins with a standard token
-pub standard-no-word : (d : Dialect) (ok : Proper d) (o : Option (Slot × Level)) (t : ℕ) → IsStandard (d.class_of t) → NoWord d o t
+pub standard-no-word : (d : Dialect) (ok : Proper d) (o : Option (Slot × Level)) (t : ℕ) → IsStandard (d.class_of t) →
+    NoWord d o t
 standard-no-word d ok None t std = tt
 standard-no-word d ok (Some p) t std = λ w m. let h = ok.by_word p.0 p.1 t w m in std h.0 h.1
 
@@ -44,11 +54,6 @@ same_kind-back (is a) (is b) c e h =
 same_kind-back any_word any_word c e h = h
 same_kind-back (is a) any_word c e h = cc
 same_kind-back any_word (is b) c e h = cc
-
--- a kind is the same as itself
-same_kind_refl : (k : Kind) → same_kind k k ≡ true
-same_kind_refl (is c) = eq-eqb (class_number c) (class_number c) refl
-same_kind_refl any_word = refl
 
 -- no test both passes and fails
 pub no-yes : (b : Bool) → b ≡ true → b ≡ false → ⊥
@@ -67,7 +72,8 @@ accepts-like any_word c d e = ap (λ n. not (nat_eq 0 n) && not (nat_eq 1 n)) e
 -- kinds that are apart accept no class in common
 pub apart-sound : (k m : Kind) (c : Class) → apart k m ≡ true → IsTrue (accepts k c) → IsTrue (accepts m c) → ⊥
 apart-sound (is a) (is b) c e h i =
-    not-both (same_class a b) (eq-eqb (class_number a) (class_number b) (eqb-true (class_number a) (class_number c) h ∙ sym (eqb-true (class_number b) (class_number c) i))) e
+    not-both (same_class a b) (eq-eqb (class_number a) (class_number b) (eqb-true (class_number a) (class_number c) h
+    ∙ sym (eqb-true (class_number b) (class_number c) i))) e
 apart-sound (is a) any_word c e h i =
     not-both (accepts any_word a) (accepts-like any_word a c (eqb-true (class_number a) (class_number c) h) ∙ i) e
 apart-sound any_word (is b) c e h i =
@@ -86,7 +92,8 @@ this_or-none true x o h = cc
 this_or-none false x o h = (refl, h)
 
 -- a kind of the list that takes the class is a kind of an entry that takes it
-takes-any : (c : Class) (k : Kind) (es : List Entry) → list_any (λ f. same_kind k f.kind) es ≡ true → accepts k c ≡ true → (x : Entry) →
+takes-any : (c : Class) (k : Kind) (es : List Entry) → list_any (λ f. same_kind k f.kind) es ≡ true →
+    accepts k c ≡ true → (x : Entry) →
     list_all (λ f. apart x.kind f.kind) es ≡ true → accepts x.kind c ≡ true → ⊥
 takes-any c k [] m h x a i = cc
 takes-any c k (y ∷ es) m h x a i =
@@ -115,7 +122,8 @@ find-agrees c k (x ∷ es) e a f m h =
     ]
 
 -- where no entry is found, a kind of one of them accepts no such class
-find-none : (c : Class) (k : Kind) (es : List Entry) → entry_at c es ≡ None → list_any (λ f. same_kind k f.kind) es ≡ true →
+find-none : (c : Class) (k : Kind) (es : List Entry) → entry_at c es ≡ None →
+    list_any (λ f. same_kind k f.kind) es ≡ true →
     accepts k c ≡ true → ⊥
 find-none c k [] f m h = cc
 find-none c k (x ∷ es) f m h =
@@ -135,7 +143,8 @@ find-takes c (x ∷ es) e f =
     ]
 
 -- what is found passes every test that all entries pass
-pub find-passes : (test : Entry → Bool) (c : Class) (es : List Entry) (e : Entry) → list_all test es ≡ true → entry_at c es ≡ Some e →
+pub find-passes : (test : Entry → Bool) (c : Class) (es : List Entry) (e : Entry) → list_all test es ≡ true →
+    entry_at c es ≡ Some e →
     test e ≡ true
 find-passes test c [] e a f = cc
 find-passes test c (x ∷ es) e a f =
@@ -159,7 +168,8 @@ same_slot-means Flat_slot Flat_slot e = refl
 same_slot-means _ _ e = cc
 
 -- what stands for the words of a slot reads one of them
-pub added-reads : (d : Dialect) (p : Slot × Level) (fs : List Form) (w : List ℕ) → is_added (Some p) fs ≡ true → Reads d fs w →
+pub added-reads : (d : Dialect) (p : Slot × Level) (fs : List Form) (w : List ℕ) → is_added (Some p) fs ≡ true →
+    Reads d fs w →
     Matches d (d.added p.0 p.1) w
 unfolding is_added
 added-reads d p (named (Added s l) ∷ []) w e r =
@@ -170,18 +180,21 @@ added-reads d p (named (Added s l) ∷ []) w e r =
 added-reads d p _ w e r = cc
 
 -- no list begins with a token at which no added word stands
-no-added : (d : Dialect) (o : Option (Slot × Level)) (fs : List Form) (t : ℕ) (w : List ℕ) → NoWord d o t → is_added o fs ≡ true →
+no-added : (d : Dialect) (o : Option (Slot × Level)) (fs : List Form) (t : ℕ) (w : List ℕ) → NoWord d o t →
+    is_added o fs ≡ true →
     Reads d fs (t ∷ w) → ⊥
 unfolding is_added
 no-added d None fs t w std e r = cc
 no-added d (Some p) fs t w std e r = std w (added-reads d p fs (t ∷ w) e r)
 
 -- alternatives are among those of a choice, on either side
-if_same-here : (P : List Form → Type 0) (b : Bool) (ps qs : List (List Form)) → b ≡ true → Some-of P ps → Some-of P (if_same b ps qs)
+if_same-here : (P : List Form → Type 0) (b : Bool) (ps qs : List (List Form)) → b ≡ true → Some-of P ps →
+    Some-of P (if_same b ps qs)
 if_same-here P true ps qs e h = Some-first P ps qs h
 if_same-here P false ps qs e h = cc
 
-if_same-later : (P : List Form → Type 0) (b : Bool) (ps qs : List (List Form)) → Some-of P qs → Some-of P (if_same b ps qs)
+if_same-later : (P : List Form → Type 0) (b : Bool) (ps qs : List (List Form)) → Some-of P qs →
+    Some-of P (if_same b ps qs)
 if_same-later P true ps qs h = Some-second P ps qs h
 if_same-later P false ps qs h = h
 
@@ -192,18 +205,22 @@ if_same-either P true ps qs h = elim (Some-split P ps qs h) [ inl a ↦ inl (ref
 if_same-either P false ps qs h = inr h
 
 -- what follows the token, where the heads read it
-head-after : (d : Dialect) (ok : Proper d) (o : Option (Slot × Level)) (es : List Entry) (e : Entry) (t : ℕ) (w : List ℕ) → NoWord d o t →
+head-after : (d : Dialect) (ok : Proper d) (o : Option (Slot × Level)) (es : List Entry) (e : Entry) (t : ℕ)
+    (w : List ℕ) → NoWord d o t →
     all_apart es ≡ true → entry_at (d.class_of t) es ≡ Some e →
-    (hs : List Head) → list_all (known o es) hs ≡ true → Some-of (HeadReads d (t ∷ w)) hs → Some-of (λ p. MatchAll d p w) (after e.kind hs)
+    (hs : List Head) → list_all (known o es) hs ≡ true → Some-of (HeadReads d (t ∷ w)) hs →
+    Some-of (λ p. MatchAll d p w) (after e.kind hs)
 unfolding known after
 head-after d ok o es e t w std a f [] k h = h
 head-after d ok o es e t w std a f (starts m fs ∷ hs) k (inl r) =
     if_same-here (λ p. MatchAll d p w) (same_kind m e.kind) (parts_all fs) (after e.kind hs)
-    (find-agrees (d.class_of t) m es e a f (both-pass (list_any (λ g. same_kind m g.kind) es) (list_all (known o es) hs) k).0 r.0)
+    (find-agrees (d.class_of t) m es e a f (both-pass (list_any (λ g. same_kind m g.kind) es) (list_all
+    (known o es) hs) k).0 r.0)
     (parts_all-cover d fs w (MatchAll_from_Reads d r.1))
 head-after d ok o es e t w std a f (starts m fs ∷ hs) k (inr r) =
     if_same-later (λ p. MatchAll d p w) (same_kind m e.kind) (parts_all fs) (after e.kind hs)
-    (head-after d ok o es e t w std a f hs (both-pass (list_any (λ g. same_kind m g.kind) es) (list_all (known o es) hs) k).1 r)
+    (head-after d ok o es e t w std a f hs (both-pass (list_any (λ g. same_kind m g.kind) es) (list_all
+    (known o es) hs) k).1 r)
 head-after d ok o es e t w std a f (ends ∷ hs) k (inl r) = cc
 head-after d ok o es e t w std a f (ends ∷ hs) k (inr r) = head-after d ok o es e t w std a f hs k r
 head-after d ok o es e t w std a f (unopened gs ∷ hs) k (inl r) =
@@ -218,20 +235,26 @@ unfolding after
 after-head d e t w i [] h = h
 after-head d e t w i (starts m fs ∷ hs) h =
     elim (if_same-either (λ p. MatchAll d p w) (same_kind m e.kind) (parts_all fs) (after e.kind hs) h) [
-      | inl a ↦ inl (same_kind-back m e.kind (d.class_of t) a.0 i, Reads_from_MatchAll d fs w (parts_all-sound d fs w a.1))
+      | inl a ↦ inl (
+        same_kind-back m e.kind (d.class_of t) a.0 i,
+        Reads_from_MatchAll d fs w
+            (parts_all-sound d fs w a.1),
+      )
       | inr b ↦ inr (after-head d e t w i hs b)
     ]
 after-head d e t w i (ends ∷ hs) h = inr (after-head d e t w i hs h)
 after-head d e t w i (unopened gs ∷ hs) h = inr (after-head d e t w i hs h)
 
 -- no head reads a token of a class that no entry takes
-no-head : (d : Dialect) (ok : Proper d) (o : Option (Slot × Level)) (es : List Entry) (t : ℕ) (w : List ℕ) → NoWord d o t →
+no-head : (d : Dialect) (ok : Proper d) (o : Option (Slot × Level)) (es : List Entry) (t : ℕ) (w : List ℕ) →
+    NoWord d o t →
     entry_at (d.class_of t) es ≡ None →
     (hs : List Head) → list_all (known o es) hs ≡ true → Some-of (HeadReads d (t ∷ w)) hs → ⊥
 unfolding known
 no-head d ok o es t w std f [] k h = absurd h
 no-head d ok o es t w std f (starts m fs ∷ hs) k (inl r) =
-    find-none (d.class_of t) m es f (both-pass (list_any (λ g. same_kind m g.kind) es) (list_all (known o es) hs) k).0 r.0
+    find-none (d.class_of t) m es f (both-pass (list_any (λ g. same_kind m g.kind) es) (list_all
+    (known o es) hs) k).0 r.0
 no-head d ok o es t w std f (starts m fs ∷ hs) k (inr r) =
     no-head d ok o es t w std f hs (both-pass (list_any (λ g. same_kind m g.kind) es) (list_all (known o es) hs) k).1 r
 no-head d ok o es t w std f (ends ∷ hs) k (inl r) = cc
@@ -249,13 +272,15 @@ end-head d (ends ∷ hs) e = inl refl
 end-head d (unopened gs ∷ hs) e = inr (end-head d hs e)
 
 -- no added word is empty
-not-added-empty : (d : Dialect) (ok : Proper d) (o : Option (Slot × Level)) (fs : List Form) → is_added o fs ≡ true → Reads d fs [] → ⊥
+not-added-empty : (d : Dialect) (ok : Proper d) (o : Option (Slot × Level)) (fs : List Form) → is_added o fs ≡ true →
+    Reads d fs [] → ⊥
 unfolding is_added
 not-added-empty d ok None fs e r = cc
 not-added-empty d ok (Some p) fs e r = ok.not_empty p.0 p.1 (added-reads d p fs [] e r)
 
 -- and a head ends where the empty list is read
-head-end : (d : Dialect) (ok : Proper d) (o : Option (Slot × Level)) (es : List Entry) (hs : List Head) → list_all (known o es) hs ≡ true →
+head-end : (d : Dialect) (ok : Proper d) (o : Option (Slot × Level)) (es : List Entry) (hs : List Head) →
+    list_all (known o es) hs ≡ true →
     Some-of (HeadReads d []) hs → list_any is_end hs ≡ true
 unfolding known
 head-end d ok o es [] k h = absurd h
@@ -265,7 +290,8 @@ head-end d ok o es (starts m fs ∷ hs) k (inr r) =
 head-end d ok o es (ends ∷ hs) k r = refl
 head-end d ok o es (unopened gs ∷ hs) k (inl r) =
     absurd (not-added-empty d ok o gs (both-pass (is_added o gs) (list_all (known o es) hs) k).0 r)
-head-end d ok o es (unopened gs ∷ hs) k (inr r) = head-end d ok o es hs (both-pass (is_added o gs) (list_all (known o es) hs) k).1 r
+head-end d ok o es (unopened gs ∷ hs) k (inr r) =
+    head-end d ok o es hs (both-pass (is_added o gs) (list_all (known o es) hs) k).1 r
 
 -- ---- the laws
 
@@ -286,11 +312,14 @@ beq-same false true e = cc
 
 -- what the test of a symbol consists of
 right_by_parts : (o : Option (Slot × Level)) (b : Bool) (es : List Entry) (hs : List Head) → right_by o b es hs ≡ true →
-    (list_all (entry_right hs) es ≡ true) × (list_all (known o es) hs ≡ true) × (all_apart es ≡ true) × (list_any is_end hs ≡ b) × (added_right o es hs ≡ true)
+    (list_all (entry_right hs) es ≡ true) × (list_all (known o es) hs ≡ true) × (all_apart es ≡ true) ×
+    (list_any is_end hs ≡ b) × (added_right o es hs ≡ true)
 unfolding right_by
 right_by_parts o b es hs e =
-    let a = both-pass (((list_all (entry_right hs) es && list_all (known o es) hs) && all_apart es) && beq (list_any is_end hs) b) (added_right o es hs) e in
-    let p = both-pass ((list_all (entry_right hs) es && list_all (known o es) hs) && all_apart es) (beq (list_any is_end hs) b) a.0 in
+    let a = both-pass (((list_all (entry_right hs) es && list_all (known o es) hs) && all_apart es) && beq
+    (list_any is_end hs) b) (added_right o es hs) e in
+    let p = both-pass ((list_all (entry_right hs) es && list_all (known o es) hs) && all_apart es) (beq
+    (list_any is_end hs) b) a.0 in
     let q = both-pass (list_all (entry_right hs) es && list_all (known o es) hs) (all_apart es) p.0 in
     let r = both-pass (list_all (entry_right hs) es) (list_all (known o es) hs) q.0 in
     (r.0, r.1, q.1, beq-same (list_any is_end hs) b p.1, a.1)
@@ -307,17 +336,22 @@ abbrev pub AllMatchIn : Dialect → List Sym → List ℕ → Type 0
 AllMatchIn d ss w = MatchAll d (forms ss) w
 
 -- a symbol's lists are those that the heads of its form read
-pub to_heads : (d : Dialect) (s : Sym) (w : List ℕ) → SymbolMatchesIn d s w → Some-of (HeadReads d w) (heads d 60 (form_of s ∷ []))
-to_heads d s w m = heads-cover d 60 (form_of s ∷ []) w (Reads_from_MatchAll d (form_of s ∷ []) w (alone d (form_of s) w m))
+pub to_heads : (d : Dialect) (s : Sym) (w : List ℕ) → SymbolMatchesIn d s w →
+    Some-of (HeadReads d w) (heads d 60 (form_of s ∷ []))
+to_heads d s w m =
+    heads-cover d 60 (form_of s ∷ []) w (Reads_from_MatchAll d (form_of s ∷ []) w (alone d (form_of s) w m))
 
-pub from_heads : (d : Dialect) (s : Sym) (w : List ℕ) → Some-of (HeadReads d w) (heads d 60 (form_of s ∷ [])) → SymbolMatchesIn d s w
+pub from_heads : (d : Dialect) (s : Sym) (w : List ℕ) → Some-of (HeadReads d w) (heads d 60 (form_of s ∷ [])) →
+    SymbolMatchesIn d s w
 from_heads d s w h = unalone d (form_of s) w (MatchAll_from_Reads d (heads-sound d 60 (form_of s ∷ []) w h))
 
 -- an entry that is right covers what follows its token, and is covered by it
 covered : (hs : List Head) (e : Entry) → entry_right hs e ≡ true →
-    (covers (parts_all (forms e.rest)) (after e.kind hs) ≡ true) × (covers (after e.kind hs) (parts_all (forms e.rest)) ≡ true)
+    (covers (parts_all (forms e.rest)) (after e.kind hs) ≡ true) × (covers (after e.kind hs) (parts_all
+    (forms e.rest)) ≡ true)
 unfolding entry_right
-covered hs e h = both-pass (covers (parts_all (forms e.rest)) (after e.kind hs)) (covers (after e.kind hs) (parts_all (forms e.rest))) h
+covered hs e h = both-pass (covers (parts_all (forms e.rest)) (after e.kind hs)) (covers (after e.kind hs) (parts_all
+    (forms e.rest))) h
 
 -- where an entry is found, the symbol's language goes on as its rest
 pub entry-law : (d : Dialect) (ok : Proper d) (s : Sym) (e : Entry) (t : ℕ) (w : List ℕ) → NoWord d (slot_of s) t →
@@ -328,7 +362,8 @@ entry-law d ok s e t w std f =
     let hs = heads d 60 (form_of s ∷ []) in
     let c = covered hs e (find-passes (entry_right hs) (d.class_of t) (entries s) e p.entries_right f) in (
       λ m. parts_all-sound d (forms e.rest) w (covers-sound d (after e.kind hs) (parts_all (forms e.rest)) w c.1
-          (head-after d ok (slot_of s) (entries s) e t w std p.kinds_apart f hs p.heads_known (to_heads d s (t ∷ w) m))),
+          (head-after d ok (slot_of s) (entries s) e t w std p.kinds_apart f hs p.heads_known (to_heads d s
+          (t ∷ w) m))),
       λ m. from_heads d s (t ∷ w) (after-head d e t w (find-takes (d.class_of t) (entries s) e f) hs
           (covers-sound d (parts_all (forms e.rest)) (after e.kind hs) w c.0 (parts_all-cover d (forms e.rest) w m))),
     )
@@ -351,13 +386,9 @@ may_end-law d ok s =
 
 -- ---- the laws of the answers
 
--- an entry is found or none is
-pub some-or-none : (o : Option Entry) → ((e : Entry) × (o ≡ Some e)) ⊎ (o ≡ None)
-some-or-none (Some e) = inl (e, refl)
-some-or-none None = inr refl
-
 -- which entry and which end an answer comes from
-pub take-entry : (o : Option Entry) (b : Bool) (rest : List Sym) → answer_by o b ≡ Take rest → (e : Entry) × (o ≡ Some e) × (e.rest ≡ rest)
+pub take-entry : (o : Option Entry) (b : Bool) (rest : List Sym) → answer_by o b ≡ Take rest →
+    (e : Entry) × (o ≡ Some e) × (e.rest ≡ rest)
 take-entry (Some e) b rest h = (e, refl, (cc))
 take-entry None true rest h = cc
 take-entry None false rest h = cc
@@ -382,7 +413,8 @@ take-law d ok s rest t w std h =
     subst (λ (r : List Sym). SymbolMatchesIn d s (t ∷ w) ↔ AllMatchIn d r w) k.2 (entry-law d ok s k.0 t w std k.1)
 
 -- a Skip does
-pub skip-law : (d : Dialect) (ok : Proper d) (s : Sym) (t : ℕ) → NoWord d (slot_of s) t → table_answer s (d.class_of t) ≡ Skip →
+pub skip-law : (d : Dialect) (ok : Proper d) (s : Sym) (t : ℕ) → NoWord d (slot_of s) t →
+    table_answer s (d.class_of t) ≡ Skip →
     SymbolMatchesIn d s [] × ((w : List ℕ) → SymbolMatchesIn d s (t ∷ w) → ⊥)
 unfolding table_answer
 skip-law d ok s t std h =
@@ -390,7 +422,8 @@ skip-law d ok s t std h =
     ((may_end-law d ok s).0 k.1, λ w. no-entry-law d ok s t w std k.0)
 
 -- and a Stop does
-pub stop-law : (d : Dialect) (ok : Proper d) (s : Sym) (t : ℕ) → NoWord d (slot_of s) t → table_answer s (d.class_of t) ≡ Stop →
+pub stop-law : (d : Dialect) (ok : Proper d) (s : Sym) (t : ℕ) → NoWord d (slot_of s) t →
+    table_answer s (d.class_of t) ≡ Stop →
     (SymbolMatchesIn d s [] → ⊥) × ((w : List ℕ) → SymbolMatchesIn d s (t ∷ w) → ⊥)
 unfolding table_answer
 stop-law d ok s t std h =

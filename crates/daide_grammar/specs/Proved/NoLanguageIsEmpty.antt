@@ -1,32 +1,46 @@
 -- No symbol's language is empty: a list of it is found by taking first entries.
-use Rattle.std.proofs.Common.{◌≡◌, ℕ, zero, suc, ◌<◌, Bool, true, false, ◌&&◌, nat_lt, List, [], ◌∷◌, ◌++◌, refl, sym, ◌∙◌, ap, subst, arith, ltb-true, Some}
+use Rattle.std.proofs.Common.{◌≡◌, ℕ, zero, suc, ◌<◌, Bool, true, false, ◌&&◌, nat_lt, List, [], ◌∷◌, ◌++◌, refl, sym}
+use Rattle.std.proofs.Common.{◌∙◌, ap, subst, arith, ltb-true, Some}
 use Rattle.std.proofs.lemmas.Bool.{eq-eqb}
 use Rattle.daide_token.specs.declared.class.Class.{Class}
 use Rattle.daide_token.specs.declared.class.Class.TheVariants.{Obs}
 use Rattle.daide_grammar.specs.declared.level.Level.TheVariants.{L60}
 use Rattle.daide_grammar.specs.declared.symbol.Sym.{Sym}
-use Rattle.daide_grammar.specs.declared.symbol.Sym.TheVariants.{PressGroup, ArrangementGroup, FactGroup, OperandGroup, RequestGroup, SendGroup, Request, Client, SendTail, SendFirst, Send, MaybeSendGroup, Server, Press, Arrangement, Operand, Operands, Fact}
+use Rattle.daide_grammar.specs.declared.symbol.Sym.TheVariants.{PressGroup, ArrangementGroup, FactGroup, OperandGroup}
+use Rattle.daide_grammar.specs.declared.symbol.Sym.TheVariants.{RequestGroup, SendGroup, Request, Client, SendTail}
+use Rattle.daide_grammar.specs.declared.symbol.Sym.TheVariants.{SendFirst, Send, MaybeSendGroup, Server, Press}
+use Rattle.daide_grammar.specs.declared.symbol.Sym.TheVariants.{Arrangement, Operand, Operands, Fact}
 use Rattle.daide_grammar.specs.Classes.{class_number}
 use Rattle.daide_grammar.specs.Forms.{Kind, is, any_word, accepts, Form, Dialect}
 use Rattle.daide_grammar.specs.Matches.{MatchAll}
 use Rattle.daide_grammar.specs.Symbols.{form_of, Entry, entries, entry_at, this_or, forms, may_end_of, slot_of}
 use Rattle.daide_grammar.specs.SideMessages.{SymbolMatchesIn}
 use Rattle.daide_grammar.specs.Proved.Alternatives.{both-pass, MatchAll-split}
-use Rattle.daide_grammar.specs.Proved.MovesAgree.{Proper, IsStandard, standard-no-word, AllMatchIn, entry-law, may_end-law}
+use Rattle.daide_grammar.specs.Proved.MovesAgree.{Proper, IsStandard, standard-no-word, AllMatchIn, entry-law}
+use Rattle.daide_grammar.specs.Proved.MovesAgree.{may_end-law}
 
 -- the class of a token of the kind
 abbrev pub sample : Kind → Class
 sample (is c) = c
 sample any_word = Obs
 
--- whether the symbols end after so many steps, each of which takes a symbol away or replaces it by its first entry's rest
+-- whether the symbols end after so many steps, each of which takes a symbol away or replaces it by its first entry's
+-- rest
 unfoldable pub ends_in : ℕ → List Sym → Bool
 ends_in n [] = true
 ends_in zero (s ∷ ss) = false
 ends_in (suc n) (s ∷ ss) =
-    elim (may_end_of s) [ true ↦ ends_in n ss | false ↦ elim (entries s) [ [] ↦ false | e ∷ es ↦ nat_lt (class_number (sample e.kind)) 79 && ends_in n (e.rest ++ ss) ] ]
+    elim (may_end_of s) [
+      | true ↦ ends_in n ss
+      | false ↦ elim (entries s) [
+        | [] ↦ false
+        | e ∷ es ↦ nat_lt (class_number
+            (sample e.kind)) 79 && ends_in n (e.rest ++ ss)
+      ]
+    ]
 
--- a test that computes: every symbol ends so within forty steps. A symbol that does not is named by the clause that fails
+-- a test that computes: every symbol ends so within forty steps. A symbol that does not is named by the clause that
+-- fails
 pub all_end : (s : Sym) → ends_in 40 (s ∷ []) ≡ true
 unfolding ends_in entries may_end_of
 all_end (PressGroup L60) = refl
@@ -80,10 +94,12 @@ taken : (d : Dialect) (ok : Proper d) (s : Sym) (ss : List Sym) (e : Entry) (es 
     class_number (sample e.kind) < 79 → Inhabited d (e.rest ++ ss) → Inhabited d (s ∷ ss)
 taken d ok s ss e es q h i =
     let tk = ok.token_of (sample e.kind) h in
-    let k = MatchAll-split d (forms e.rest) (forms ss) i.0 (subst (λ (fs : List Form). MatchAll d fs i.0) (forms-append e.rest ss) i.1) in
+    let k = MatchAll-split d (forms e.rest) (forms ss) i.0 (subst (λ (fs : List Form). MatchAll d fs i.0)
+    (forms-append e.rest ss) i.1) in
     let found = subst (λ (x : List Entry). entry_at (d.class_of tk.0) x ≡ Some e) (sym q)
     (first-found (d.class_of tk.0) e es (ap (accepts e.kind) tk.1 ∙ takes-sample e.kind)) in
-    let law = entry-law d ok s e tk.0 k.0 (standard-no-word d ok (slot_of s) tk.0 (subst IsStandard (sym tk.1) (standard-below (sample e.kind) h))) found in
+    let law = entry-law d ok s e tk.0 k.0 (standard-no-word d ok (slot_of s) tk.0 (subst IsStandard (sym tk.1)
+    (standard-below (sample e.kind) h))) found in
     (tk.0 ∷ (k.0 ++ k.1), (tk.0 ∷ k.0, k.1, law.1 k.2, k.3, refl))
 
 -- symbols that end so have a list
@@ -93,13 +109,23 @@ inhabited d ok n [] h = ([], refl)
 inhabited d ok zero (s ∷ ss) h = cc
 inhabited d ok (suc n) (s ∷ ss) h = step (λ ss k. inhabited d ok n ss k) (may_end_of s) (entries s) refl refl h
   where
-    step : ((ss : List Sym) → ends_in n ss ≡ true → Inhabited d ss) → (b : Bool) (es : List Entry) → may_end_of s ≡ b → entries s ≡ es →
-        elim b as (λ _. Bool) [ true ↦ ends_in n ss | false ↦ elim es as (λ _. Bool) [ [] ↦ false | e ∷ es ↦ nat_lt (class_number (sample e.kind)) 79 && ends_in n (e.rest ++ ss) ] ] ≡ true →
+    step : ((ss : List Sym) → ends_in n ss ≡ true → Inhabited d ss) → (b : Bool) (es : List Entry) → may_end_of s ≡ b →
+        entries s ≡ es →
+        elim b as (λ _. Bool) [
+          | true ↦ ends_in n ss
+          | false ↦ elim es as (λ _. Bool) [
+            | [] ↦ false
+            | e ∷ es ↦ nat_lt
+                (class_number (sample e.kind)) 79 && ends_in n (e.rest ++ ss)
+          ]
+        ] ≡ true →
         Inhabited d (s ∷ ss)
     step go true es p q e = skipped d s ss ((may_end-law d ok s).0 p) (go ss e)
     step go false [] p q e = cc
     step go false (x ∷ es) p q e =
-        let r = both-pass (nat_lt (class_number (sample x.kind)) 79) (ends_in n (x.rest ++ ss)) e in taken d ok s ss x es q (ltb-true (class_number (sample x.kind)) 79 r.0) (go (x.rest ++ ss) r.1)
+        let r = both-pass (nat_lt (class_number (sample x.kind)) 79) (ends_in n
+        (x.rest ++ ss)) e in taken d ok s ss x es q (ltb-true (class_number (sample x.kind)) 79 r.0) (go
+        (x.rest ++ ss) r.1)
 
 -- every symbol has a list
 pub symbol-inhabited : (d : Dialect) (ok : Proper d) (s : Sym) → (w : List ℕ) × SymbolMatchesIn d s w

@@ -1,8 +1,8 @@
 -- A symbol and a class of a number have that very number.
-use Rattle.std.proofs.Common.{◌≡◌, ℕ, zero, suc, ◌+◌, ◌<◌, Bool, true, ◌&&◌, nat_eq, List, [], ◌∷◌, length, get_or, refl, ◌∙◌, arith}
+use Rattle.std.proofs.Common.{◌≡◌, ℕ, zero, suc, ◌+◌, ◌<◌, Bool, true, ◌&&◌, nat_eq, List, [], ◌∷◌, length, get_or}
+use Rattle.std.proofs.Common.{refl, ◌∙◌, arith}
 use Rattle.std.proofs.lemmas.Bool.{and_parts, eqb-true}
-use Rattle.daide_token.specs.declared.class.Class.{Class}
-use Rattle.daide_token.specs.declared.class.Class.TheVariants.{Num, Word}
+use Rattle.daide_token.specs.declared.class.Class.TheVariants.{Num}
 use Rattle.daide_grammar.specs.declared.symbol.Sym.TheVariants.{Closing}
 use Rattle.daide_grammar.specs.Classes.{class_number}
 use Rattle.daide_grammar.specs.Numbers.{symbols, symbol_number, symbol_at, classes, class_at}
@@ -42,8 +42,3 @@ pub class_number_back : (n : ℕ) → n < 95 → class_number (class_at n) ≡ n
 class_number_back n h =
     let at : 0 + n ≡ n = omega arith in
     numbered class_number 0 n classes Num refl (rw all_classes h) ∙ at
-
--- a class of the protocol's own is that of its number
-pub class_back : (c : Class) → class_number c < 79 → class_at (class_number c) ≡ c
-class_back (Word k) h = absurd (omega arith)
-class_back _ h = refl

@@ -1,20 +1,25 @@
 -- Reading a list of forms from the left, and what such a list begins with.
-use Rattle.std.proofs.Common.{◌≡◌, ℕ, zero, suc, List, [], ◌∷◌, ◌++◌, Option, Some, None, ◌⊎◌, inl, inr, IsTrue, refl, sym, ◌∙◌, ap, subst, append_assoc}
+use Rattle.std.proofs.Common.{◌≡◌, ℕ, zero, suc, List, [], ◌∷◌, ◌++◌, Option, Some, None, ◌⊎◌, inl, inr, IsTrue, refl}
+use Rattle.std.proofs.Common.{sym, ◌∙◌, ap, subst, append_assoc}
 use Rattle.daide_token.specs.declared.class.Class.TheVariants.{Bra, Ket}
-use Rattle.daide_grammar.specs.Forms.{Kind, is, accepts, Name, Form, one, never, empty, ◌·◌, ◌∣◌, many, group, named, Added, Place_name, Dialect}
-use Rattle.daide_grammar.specs.Matches.{rule, Matches, token, nothing, both, first, second, no_more, one_more, bracketed, by_name, MatchAll}
+use Rattle.daide_grammar.specs.Forms.{Kind, is, accepts, Name, Form, one, never, empty, ◌·◌, ◌∣◌, many, group, named}
+use Rattle.daide_grammar.specs.Forms.{Added, Place_name, Dialect}
+use Rattle.daide_grammar.specs.Matches.{rule, Matches, token, nothing, both, first, second, no_more, one_more}
+use Rattle.daide_grammar.specs.Matches.{bracketed, by_name, MatchAll}
 
 -- a list of forms read from the left, token by token
 pub data Reads (d : Dialect) : List Form → List ℕ → Type 0 where
   end : Reads d [] []
-  take : {k : Kind} {fs : List Form} {t : ℕ} {w : List ℕ} → IsTrue (accepts k (d.class_of t)) → Reads d fs w → Reads d (one k ∷ fs) (t ∷ w)
+  take : {k : Kind} {fs : List Form} {t : ℕ} {w : List ℕ} → IsTrue (accepts k (d.class_of t)) → Reads d fs w →
+      Reads d (one k ∷ fs) (t ∷ w)
   pass : {fs : List Form} {w : List ℕ} → Reads d fs w → Reads d (empty ∷ fs) w
   open' : {f g : Form} {fs : List Form} {w : List ℕ} → Reads d (f ∷ g ∷ fs) w → Reads d ((f · g) ∷ fs) w
   left : {f g : Form} {fs : List Form} {w : List ℕ} → Reads d (f ∷ fs) w → Reads d ((f ∣ g) ∷ fs) w
   right : {f g : Form} {fs : List Form} {w : List ℕ} → Reads d (g ∷ fs) w → Reads d ((f ∣ g) ∷ fs) w
   stop : {f : Form} {fs : List Form} {w : List ℕ} → Reads d fs w → Reads d (many f ∷ fs) w
   again : {f : Form} {fs : List Form} {w : List ℕ} → Reads d (f ∷ many f ∷ fs) w → Reads d (many f ∷ fs) w
-  enter : {f : Form} {fs : List Form} {t : ℕ} {w : List ℕ} → IsTrue (accepts (is Bra) (d.class_of t)) → Reads d (f ∷ one (is Ket) ∷ fs) w →
+  enter : {f : Form} {fs : List Form} {t : ℕ} {w : List ℕ} → IsTrue (accepts (is Bra) (d.class_of t)) →
+      Reads d (f ∷ one (is Ket) ∷ fs) w →
       Reads d (group f ∷ fs) (t ∷ w)
   unfold' : {n : Name} {fs : List Form} {w : List ℕ} → Reads d (rule d n ∷ fs) w → Reads d (named n ∷ fs) w
 
@@ -35,11 +40,13 @@ Reads-front d v (bracketed {u = u} o k b m e) r =
 Reads-front d v (by_name m) r = unfold' (Reads-front d v m r)
 
 -- one form in front of a match of the rest
-front : (d : Dialect) {f : Form} (fs : List Form) {u : List ℕ} (w : List ℕ) → Matches d f u → MatchAll d fs w → MatchAll d (f ∷ fs) (u ++ w)
+front : (d : Dialect) {f : Form} (fs : List Form) {u : List ℕ} (w : List ℕ) → Matches d f u → MatchAll d fs w →
+    MatchAll d (f ∷ fs) (u ++ w)
 front d fs {u} w m r = (u, w, m, r, refl)
 
 -- a bracket, a match, a closing bracket and a match of the rest
-in_brackets : (d : Dialect) (f : Form) (fs : List Form) (t : ℕ) {w : List ℕ} → IsTrue (accepts (is Bra) (d.class_of t)) → (u v : List ℕ) →
+in_brackets : (d : Dialect) (f : Form) (fs : List Form) (t : ℕ) {w : List ℕ} →
+    IsTrue (accepts (is Bra) (d.class_of t)) → (u v : List ℕ) →
     Matches d f u → (x y : List ℕ) → Matches d (one (is Ket)) x → MatchAll d fs y → x ++ y ≡ v → u ++ v ≡ w →
     MatchAll d (group f ∷ fs) (t ∷ w)
 in_brackets d f fs t b u v m x y (token {t = k} e) r p q =
@@ -70,7 +77,8 @@ MatchAll_from_Reads d (unfold' r) = let h = MatchAll_from_Reads d r in (h.0, h.1
 -- and the other way round
 pub Reads_from_MatchAll : (d : Dialect) (fs : List Form) (w : List ℕ) → MatchAll d fs w → Reads d fs w
 Reads_from_MatchAll d [] w e = subst (Reads d []) (sym e) end
-Reads_from_MatchAll d (f ∷ fs) w h = subst (Reads d (f ∷ fs)) h.4 (Reads-front d h.1 h.2 (Reads_from_MatchAll d fs h.1 h.3))
+Reads_from_MatchAll d (f ∷ fs) w h =
+    subst (Reads d (f ∷ fs)) h.4 (Reads-front d h.1 h.2 (Reads_from_MatchAll d fs h.1 h.3))
 
 -- one of the items has P
 abbrev pub Some-of : {X : Type 0} → (X → Type 0) → List X → Type 0
@@ -149,7 +157,8 @@ unopened-reads d (t ∷ w) fs r = r
 by_opening-covers : (d : Dialect) (n : ℕ) (m : Name) (fs : List Form) (w : List ℕ) (o : Option Form) →
     ((f : Form) → o ≡ Some f → rule d m ≡ f) →
     ((f : Form) → Reads d (f ∷ fs) w → Some-of (HeadReads d w) (heads d n (f ∷ fs))) →
-    Reads d (named m ∷ fs) w → Some-of (HeadReads d w) (by_opening o (unopened (named m ∷ fs)) (λ f. heads d n (f ∷ fs)))
+    Reads d (named m ∷ fs) w → Some-of (HeadReads d w) (by_opening o (unopened (named m ∷ fs)) (λ f. heads d n
+    (f ∷ fs)))
 by_opening-covers d n m fs w None k go r = inl (unopened-holds d w (named m ∷ fs) r)
 by_opening-covers d n m fs w (Some f) k go (unfold' r) = go f (subst (λ (g : Form). Reads d (g ∷ fs) w) (k f refl) r)
 
@@ -157,13 +166,16 @@ by_opening-covers d n m fs w (Some f) k go (unfold' r) = go f (subst (λ (g : Fo
 by_opening-sound : (d : Dialect) (n : ℕ) (m : Name) (fs : List Form) (w : List ℕ) (o : Option Form) →
     ((f : Form) → o ≡ Some f → rule d m ≡ f) →
     ((f : Form) → Some-of (HeadReads d w) (heads d n (f ∷ fs)) → Reads d (f ∷ fs) w) →
-    Some-of (HeadReads d w) (by_opening o (unopened (named m ∷ fs)) (λ f. heads d n (f ∷ fs))) → Reads d (named m ∷ fs) w
+    Some-of (HeadReads d w) (by_opening o (unopened (named m ∷ fs)) (λ f. heads d n (f ∷ fs))) → Reads d
+    (named m ∷ fs) w
 by_opening-sound d n m fs w None k go (inl h) = unopened-reads d w (named m ∷ fs) h
 by_opening-sound d n m fs w None k go (inr e) = absurd e
-by_opening-sound d n m fs w (Some f) k go h = unfold' (subst (λ (g : Form). Reads d (g ∷ fs) w) (sym (k f refl)) (go f h))
+by_opening-sound d n m fs w (Some f) k go h =
+    unfold' (subst (λ (g : Form). Reads d (g ∷ fs) w) (sym (k f refl)) (go f h))
 
 -- every reading is by one of the heads
-pub heads-cover : (d : Dialect) (n : ℕ) (fs : List Form) (w : List ℕ) → Reads d fs w → Some-of (HeadReads d w) (heads d n fs)
+pub heads-cover : (d : Dialect) (n : ℕ) (fs : List Form) (w : List ℕ) → Reads d fs w →
+    Some-of (HeadReads d w) (heads d n fs)
 unfolding heads
 heads-cover d n [] [] r = inl refl
 heads-cover d n [] (t ∷ w) r = elim r [ ]
@@ -173,9 +185,12 @@ heads-cover d (suc n) (one k ∷ fs) w (take h r) = inl (h, r)
 heads-cover d (suc n) (never ∷ fs) w r = elim r [ ]
 heads-cover d (suc n) (empty ∷ fs) w (pass r) = heads-cover d n fs w r
 heads-cover d (suc n) ((f · g) ∷ fs) w (open' r) = heads-cover d n (f ∷ g ∷ fs) w r
-heads-cover d (suc n) ((f ∣ g) ∷ fs) w (left r) = Some-first _ (heads d n (f ∷ fs)) (heads d n (g ∷ fs)) (heads-cover d n (f ∷ fs) w r)
-heads-cover d (suc n) ((f ∣ g) ∷ fs) w (right r) = Some-second _ (heads d n (f ∷ fs)) (heads d n (g ∷ fs)) (heads-cover d n (g ∷ fs) w r)
-heads-cover d (suc n) (many f ∷ fs) w (stop r) = Some-first _ (heads d n fs) (heads d n (f ∷ many f ∷ fs)) (heads-cover d n fs w r)
+heads-cover d (suc n) ((f ∣ g) ∷ fs) w (left r) =
+    Some-first _ (heads d n (f ∷ fs)) (heads d n (g ∷ fs)) (heads-cover d n (f ∷ fs) w r)
+heads-cover d (suc n) ((f ∣ g) ∷ fs) w (right r) =
+    Some-second _ (heads d n (f ∷ fs)) (heads d n (g ∷ fs)) (heads-cover d n (g ∷ fs) w r)
+heads-cover d (suc n) (many f ∷ fs) w (stop r) =
+    Some-first _ (heads d n fs) (heads d n (f ∷ many f ∷ fs)) (heads-cover d n fs w r)
 heads-cover d (suc n) (many f ∷ fs) w (again r) =
     Some-second _ (heads d n fs) (heads d n (f ∷ many f ∷ fs)) (heads-cover d n (f ∷ many f ∷ fs) w r)
 heads-cover d (suc n) (group f ∷ fs) w (enter b r) = inl (b, r)
@@ -183,7 +198,8 @@ heads-cover d (suc n) (named m ∷ fs) w r =
     by_opening-covers d n m fs w (opened d m) (opened-rule d m) (λ f h. heads-cover d n (f ∷ fs) w h) r
 
 -- and what a head reads is a reading
-pub heads-sound : (d : Dialect) (n : ℕ) (fs : List Form) (w : List ℕ) → Some-of (HeadReads d w) (heads d n fs) → Reads d fs w
+pub heads-sound : (d : Dialect) (n : ℕ) (fs : List Form) (w : List ℕ) → Some-of (HeadReads d w) (heads d n fs) →
+    Reads d fs w
 unfolding heads
 heads-sound d n [] [] h = end
 heads-sound d n [] (t ∷ w) (inl e) = cc

@@ -1,13 +1,18 @@
 -- Whether the entries of a symbol are right: a test that computes, and what it means.
-use Rattle.std.proofs.Common.{Bool, true, false, not, ◌&&◌, nat_lt, List, [], ◌∷◌, ◌++◌, Option, Some, None, IsTrue, refl}
+use Rattle.std.proofs.Common.{Bool, true, false, not, ◌&&◌, nat_lt, List, [], ◌∷◌, ◌++◌, Option, Some, None, IsTrue}
+use Rattle.std.proofs.Common.{refl}
 use Rattle.std.specs.Bool.{beq}
 use Rattle.std.specs.List.{list_any, list_all}
 use Rattle.daide_grammar.specs.declared.symbol.Sym.{Sym}
 use Rattle.daide_grammar.specs.declared.level.Level.{Level}
 use Rattle.daide_grammar.specs.declared.level.Level.TheVariants.{L60}
-use Rattle.daide_grammar.specs.declared.symbol.Sym.TheVariants.{PressGroup, ArrangementGroup, FactGroup, OperandGroup, RequestGroup, SendGroup, Request, Client, SendTail, SendFirst, Send, MaybeSendGroup, Server, Press, Arrangement, Operand, Operands, Fact}
+use Rattle.daide_grammar.specs.declared.symbol.Sym.TheVariants.{PressGroup, ArrangementGroup, FactGroup, OperandGroup}
+use Rattle.daide_grammar.specs.declared.symbol.Sym.TheVariants.{RequestGroup, SendGroup, Request, Client, SendTail}
+use Rattle.daide_grammar.specs.declared.symbol.Sym.TheVariants.{SendFirst, Send, MaybeSendGroup, Server, Press}
+use Rattle.daide_grammar.specs.declared.symbol.Sym.TheVariants.{Arrangement, Operand, Operands, Fact}
 use Rattle.daide_grammar.specs.Classes.{class_number, same_class}
-use Rattle.daide_grammar.specs.Forms.{Kind, is, any_word, accepts, Slot, Press_slot, Arrangement_slot, Flat_slot, Added, Form, named, Dialect}
+use Rattle.daide_grammar.specs.Forms.{Kind, is, any_word, accepts, Slot, Press_slot, Arrangement_slot, Flat_slot, Added}
+use Rattle.daide_grammar.specs.Forms.{Form, named, Dialect}
 use Rattle.daide_grammar.specs.Symbols.{form_of, Entry, entries, forms, may_end_of, slot_of}
 use Rattle.daide_grammar.specs.Proved.Reading.{Head, starts, ends, unopened, heads}
 use Rattle.daide_grammar.specs.Proved.Reading
@@ -83,18 +88,23 @@ unfoldable pub added_right : Option (Slot × Level) → List Entry → List Head
 added_right None es hs = true
 added_right (Some p) es hs = list_any is_unopened hs && list_all (λ e. is_plain e.kind) es
 
--- whether a symbol with these entries and heads is right: each entry is, each head is known, the kinds are apart, and the end is told
+-- whether a symbol with these entries and heads is right: each entry is, each head is known, the kinds are apart, and
+-- the end is told
 unfoldable pub right_by : Option (Slot × Level) → Bool → List Entry → List Head → Bool
 right_by o b es hs =
-    (((list_all (entry_right hs) es && list_all (known o es) hs) && all_apart es) && beq (list_any is_end hs) b) && added_right o es hs
+    (((list_all (entry_right hs) es && list_all (known o es) hs) && all_apart es) && beq (list_any is_end hs) b)
+    && added_right o es hs
 
 -- whether a symbol of the table is right
 unfoldable pub right : Dialect → Sym → Bool
 right d s = right_by (slot_of s) (may_end_of s) (entries s) (heads d 60 (form_of s ∷ []))
 
--- a test that computes: every symbol of the table is right, whatever words are added. A wrong entry is named by the clause of its symbol
+-- a test that computes: every symbol of the table is right, whatever words are added. A wrong entry is named by the
+-- clause of its symbol
 pub all_right : (d : Dialect) (s : Sym) → IsTrue (right d s)
-unfolding right right_by added_right slot_of entry_right known is_added all_apart after entries form_of may_end_of Reading.heads Reading.opened Alternatives.parts_all Alternatives.parts Alternatives.name_parts Alternatives.product Alternatives.covers Alternatives.below_all Alternatives.below Alternatives.name_below
+unfolding right right_by added_right slot_of entry_right known is_added all_apart after entries form_of may_end_of
+    Reading.heads Reading.opened Alternatives.parts_all Alternatives.parts Alternatives.name_parts Alternatives.product
+    Alternatives.covers Alternatives.below_all Alternatives.below Alternatives.name_below
 all_right d (PressGroup L60) = refl
 all_right d (ArrangementGroup L60) = refl
 all_right d (FactGroup L60) = refl

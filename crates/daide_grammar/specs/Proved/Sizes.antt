@@ -1,5 +1,6 @@
 -- Lists of sizes: how much a shape may grow to, and what one adds to another.
-use Rattle.std.proofs.Common.{◌≡◌, ℕ, zero, suc, ◌+◌, ◌*◌, ◌≤◌, Bool, true, false, ◌&&◌, nat_le, List, [], ◌∷◌, ◌++◌, refl, sym, ◌∙◌, ap, subst, arith}
+use Rattle.std.proofs.Common.{◌≡◌, ℕ, zero, suc, ◌+◌, ◌*◌, ◌≤◌, Bool, true, false, ◌&&◌, nat_le, List, [], ◌∷◌, ◌++◌}
+use Rattle.std.proofs.Common.{refl, sym, ◌∙◌, ap, subst, arith}
 use Rattle.std.proofs.lemmas.Bool.{leb-true}
 use Rattle.daide_grammar.specs.declared.symbol.Sym.{Sym}
 use Rattle.daide_grammar.specs.Shapes.{shape, join, shapes}
@@ -37,7 +38,8 @@ Fits (a ∷ as') [] = ⊥
 pub Fits-test : (xs ys : List ℕ) → fits xs ys ≡ true → Fits xs ys
 unfolding fits
 Fits-test [] [] e = tt
-Fits-test (a ∷ as') (b ∷ bs) e = let p = both-pass (nat_le a b) (fits as' bs) e in (leb-true a b p.0, Fits-test as' bs p.1)
+Fits-test (a ∷ as') (b ∷ bs) e =
+    let p = both-pass (nat_le a b) (fits as' bs) e in (leb-true a b p.0, Fits-test as' bs p.1)
 Fits-test [] (b ∷ bs) e = cc
 Fits-test (a ∷ as') [] e = cc
 
@@ -94,7 +96,8 @@ join_assoc [] ys zs h k = refl
 join_assoc (a ∷ []) (b ∷ []) (c ∷ cs) h k = ap (λ n. n ∷ cs) (omega arith)
 join_assoc (a ∷ []) (b ∷ b' ∷ bs) zs h k = refl
 join_assoc (a ∷ a' ∷ as') ys zs h k =
-    join-behind a (join (a' ∷ as') ys) zs (join-cons (a' ∷ as') ys h) ∙ ap (λ w. a ∷ w) (join_assoc (a' ∷ as') ys zs h k)
+    join-behind a (join (a' ∷ as') ys) zs (join-cons (a' ∷ as') ys h) ∙ ap (λ w. a ∷ w) (join_assoc
+    (a' ∷ as') ys zs h k)
 join_assoc (a ∷ []) [] zs h k = absurd h
 join_assoc (a ∷ []) (b ∷ []) [] h k = absurd k
 
@@ -107,7 +110,8 @@ join-nothing [] h = absurd h
 pub shapes-append : (rest below : List Sym) → shapes (rest ++ below) ≡ join (shapes rest) (shapes below)
 shapes-append [] below = sym (join-nothing (shapes below) (shapes-cons below))
 shapes-append (s ∷ rest) below =
-    ap (join (shape s)) (shapes-append rest below) ∙ sym (join_assoc (shape s) (shapes rest) (shapes below) (shapes-cons rest) (shapes-cons below))
+    ap (join (shape s)) (shapes-append rest below) ∙ sym (join_assoc (shape s) (shapes rest) (shapes below)
+    (shapes-cons rest) (shapes-cons below))
 
 -- the sizes that n open brackets allow
 abbrev pub caps : ℕ → List ℕ
@@ -160,7 +164,8 @@ sizes-opened n (a ∷ as') ys zs cs y e h =
     (leb-true a n p.0, Fits_trans (join as' zs) (join ys zs) cs (join-mono as' ys zs zs f (Fits_refl zs)) h)
 
 -- KET takes the first size off
-pub sizes-closed : (n : ℕ) (xs ys zs cs : List ℕ) → IsCons xs → fits_tail xs ys ≡ true → Fits (join ys zs) (n ∷ cs) → Fits (join xs zs) cs
+pub sizes-closed : (n : ℕ) (xs ys zs cs : List ℕ) → IsCons xs → fits_tail xs ys ≡ true → Fits (join ys zs) (n ∷ cs) →
+    Fits (join xs zs) cs
 sizes-closed n xs [] zs cs x e h = cc
 sizes-closed n xs (a ∷ as') zs cs x e h =
     let f = Fits-test xs as' e in

@@ -1,22 +1,29 @@
 -- The stacks that can arise are short, and what may be empty stands right above a closing bracket or on the bottom.
-use Rattle.std.proofs.Common.{◌≡◌, ◌≢◌, ℕ, suc, Bool, true, false, not, ◌&&◌, ◌||◌, nat_eq, List, [], ◌∷◌, ◌++◌, Some, None, refl, sym, ◌∙◌, ap, subst, arith, append-nil}
+use Rattle.std.proofs.Common.{◌≡◌, ◌≢◌, ℕ, suc, Bool, true, false, not, ◌&&◌, ◌||◌, nat_eq, List, [], ◌∷◌, ◌++◌, Some}
+use Rattle.std.proofs.Common.{None, refl, sym, ◌∙◌, ap, subst, arith, append-nil}
 use Rattle.std.proofs.lemmas.Bool.{eqb-true}
 use Rattle.std.specs.List.{list_all}
 use Rattle.daide_token.specs.declared.class.Class.{Class}
 use Rattle.daide_token.specs.declared.class.Class.TheVariants.{Bra, Ket, Word}
 use Rattle.daide_grammar.specs.declared.level.Level.TheVariants.{L60}
 use Rattle.daide_grammar.specs.declared.symbol.Sym.{Sym}
-use Rattle.daide_grammar.specs.declared.symbol.Sym.TheVariants.{Closing, PressGroup, ArrangementGroup, FactGroup, OperandGroup, RequestGroup, SendGroup, Request, Client, SendTail, SendFirst, Send, MaybeSendGroup, Server, Press, Arrangement, Operand, Operands, Fact}
+use Rattle.daide_grammar.specs.declared.symbol.Sym.TheVariants.{Closing, PressGroup, ArrangementGroup, FactGroup}
+use Rattle.daide_grammar.specs.declared.symbol.Sym.TheVariants.{OperandGroup, RequestGroup, SendGroup, Request, Client}
+use Rattle.daide_grammar.specs.declared.symbol.Sym.TheVariants.{SendTail, SendFirst, Send, MaybeSendGroup, Server}
+use Rattle.daide_grammar.specs.declared.symbol.Sym.TheVariants.{Press, Arrangement, Operand, Operands, Fact}
 use Rattle.daide_grammar.specs.Classes.{class_number, same_class}
 use Rattle.daide_grammar.specs.Forms.{Kind, is, any_word, accepts}
-use Rattle.daide_grammar.specs.Symbols.{Entry, entries, may_end_of, entry_at, table_answer, answer_by, this_or, on, opening_of}
+use Rattle.daide_grammar.specs.Symbols.{Entry, entries, may_end_of, entry_at, table_answer, answer_by, this_or, on}
+use Rattle.daide_grammar.specs.Symbols.{opening_of}
 use Rattle.daide_grammar.specs.Answers.{Answer, Take, Skip, Stop}
 use Rattle.daide_grammar.specs.Shapes.{is_last, shape, join, shapes}
 use Rattle.daide_grammar.specs.declared.level.Level.{Level}
 use Rattle.daide_grammar.specs.declared.side.Side2.{Side2}
 use Rattle.daide_grammar.specs.declared.side.Side2.TheVariants.{Client as ClientSide, ServerEnd as ServerSide}
 use Rattle.daide_grammar.specs.LawfulStack.{IsLawful, opening, word, bra, ket, skip}
-use Rattle.daide_grammar.specs.Proved.Sizes.{fits, fits_below, fits_tail, is_single, begins_positive, Fits, Fits-test, Fits_trans, Fits_refl, join-mono, IsCons, shapes-cons, shapes-append, caps, sizes-opened, sizes-closed, sizes-skipped}
+use Rattle.daide_grammar.specs.Proved.Sizes.{fits, fits_below, fits_tail, is_single, begins_positive, Fits, Fits-test}
+use Rattle.daide_grammar.specs.Proved.Sizes.{Fits_trans, Fits_refl, join-mono, IsCons, shapes-cons, shapes-append, caps}
+use Rattle.daide_grammar.specs.Proved.Sizes.{sizes-opened, sizes-closed, sizes-skipped}
 use Rattle.daide_grammar.specs.Proved.Alternatives.{both-pass}
 use Rattle.daide_grammar.specs.Proved.MovesAgree.{find-passes, find-takes, take-entry, skip-entry}
 
@@ -104,7 +111,8 @@ unfolding ordered entry_ordered
 ordered-entry s c e f =
     let p = both-pass (list_all (entry_ordered s) (entries s) && begins_positive (shape s)) _ (all_ordered s) in
     let q = both-pass (list_all (entry_ordered s) (entries s)) (begins_positive (shape s)) p.0 in
-    let r = both-pass (tidy (is_last s) e.rest) (sized e.kind (shapes e.rest) (shape s)) (find-passes (entry_ordered s) c (entries s) e q.0 f) in
+    let r = both-pass (tidy (is_last s) e.rest) (sized e.kind (shapes e.rest) (shape s)) (find-passes
+    (entry_ordered s) c (entries s) e q.0 f) in
     record { tidied = r.0; sized_so = r.1 }
 
 -- a choice with true passes
@@ -138,7 +146,8 @@ last-handed true false q e h = cc
 last-handed false s q e h = refl
 
 -- a rest in the place of its symbol, above another
-tidy-above : (s q : Sym) (below rest : List Sym) → tidy (is_last s) rest ≡ true → (not (is_last s) || is_closing q) ≡ true →
+tidy-above : (s q : Sym) (below rest : List Sym) → tidy (is_last s) rest ≡ true →
+    (not (is_last s) || is_closing q) ≡ true →
     tidy true (q ∷ below) ≡ true → tidy true (rest ++ (q ∷ below)) ≡ true
 unfolding tidy
 tidy-above s q below [] e h k = k
@@ -152,7 +161,8 @@ tidy-above s q below (r ∷ r' ∷ rest) e h k =
 tidy-replaced : (s : Sym) (below rest : List Sym) → tidy (is_last s) rest ≡ true → tidy true (s ∷ below) ≡ true →
     tidy true (rest ++ below) ≡ true
 unfolding tidy
-tidy-replaced s [] rest e h = subst (λ (x : List Sym). tidy true x ≡ true) (sym (append-nil rest)) (tidy-bottom (is_last s) rest e)
+tidy-replaced s [] rest e h =
+    subst (λ (x : List Sym). tidy true x ≡ true) (sym (append-nil rest)) (tidy-bottom (is_last s) rest e)
 tidy-replaced s (q ∷ below) rest e h =
     let p = both-pass (not (is_last s) || is_closing q) (tidy true (q ∷ below)) h in tidy-above s q below rest e p.0 p.1
 
@@ -164,7 +174,8 @@ sized-Bra any_word xs ys h e = cc
 
 pub sized-Ket : (k : Kind) (xs ys : List ℕ) → accepts k Ket ≡ true → sized k xs ys ≡ true → fits_tail xs ys ≡ true
 unfolding sized
-sized-Ket (is c) xs ys h e = subst (λ (m : ℕ). sized_by (nat_eq m 0) (nat_eq m 1) xs ys ≡ true) (eqb-true (class_number c) 1 h) e
+sized-Ket (is c) xs ys h e =
+    subst (λ (m : ℕ). sized_by (nat_eq m 0) (nat_eq m 1) xs ys ≡ true) (eqb-true (class_number c) 1 h) e
 sized-Ket any_word xs ys h e = cc
 
 -- a test that doesn't pass
@@ -172,13 +183,17 @@ not-so : (b : Bool) → (b ≡ true → ⊥) → b ≡ false
 not-so true h = absurd (h refl)
 not-so false h = refl
 
-pub sized-word : (k : Kind) (c : Class) (xs ys : List ℕ) → c ≢ Bra → c ≢ Ket → accepts k c ≡ true → sized k xs ys ≡ true → fits xs ys ≡ true
+pub sized-word : (k : Kind) (c : Class) (xs ys : List ℕ) → c ≢ Bra → c ≢ Ket → accepts k c ≡ true →
+    sized k xs ys ≡ true → fits xs ys ≡ true
 unfolding sized
 sized-word (is d) c xs ys b n h e =
     let same = eqb-true (class_number d) (class_number c) h in
-    let p : same_class d Bra ≡ false = not-so (same_class d Bra) (λ t. b (number-Bra c (sym same ∙ eqb-true (class_number d) 0 t))) in
-    let q : same_class d Ket ≡ false = not-so (same_class d Ket) (λ t. n (number-Ket c (sym same ∙ eqb-true (class_number d) 1 t))) in
-    subst (λ (x : Bool). sized_by false x xs ys ≡ true) q (subst (λ (x : Bool). sized_by x (same_class d Ket) xs ys ≡ true) p e)
+    let p : same_class d Bra ≡ false = not-so (same_class d Bra) (λ t. b (number-Bra c (sym same ∙ eqb-true
+    (class_number d) 0 t))) in
+    let q : same_class d Ket ≡ false = not-so (same_class d Ket) (λ t. n (number-Ket c (sym same ∙ eqb-true
+    (class_number d) 1 t))) in
+    subst (λ (x : Bool). sized_by false x xs ys ≡ true) q (subst (λ (x : Bool). sized_by x
+    (same_class d Ket) xs ys ≡ true) p e)
 sized-word any_word c xs ys b n h e = e
 
 -- every symbol has a size
@@ -226,7 +241,13 @@ unfolding table_answer
 table-take s c rest a =
     let t = take-entry (entry_at c (entries s)) (may_end_of s) rest a in
     let o = ordered-entry s c t.0 t.1 in
-    subst (GoodTake s c) t.2 (record { kind = t.0.kind; takes = find-takes c (entries s) t.0 t.1; tidied = o.tidied; sized_so = o.sized_so })
+    subst (GoodTake s c) t.2 (record {
+      kind = t.0.kind;
+      takes = find-takes c
+          (entries s) t.0 t.1;
+      tidied = o.tidied;
+      sized_so = o.sized_so;
+    })
 
 -- the answer of one entry that does not take the class
 closed-by : (b : Bool) → b ≡ false → answer_by (this_or b (on Ket []) None) false ≡ Stop
@@ -236,19 +257,22 @@ closed-by false e = refl
 -- a closing bracket's symbol takes nothing else
 table-closes : (c : Class) → c ≢ Ket → table_answer Closing c ≡ Stop
 unfolding table_answer entries may_end_of
-table-closes c n = closed-by (same_class Ket c) (not-so (same_class Ket c) (λ t. n (number-Ket c (sym (eqb-true 1 (class_number c) t)))))
+table-closes c n = closed-by (same_class Ket c) (not-so (same_class Ket c) (λ t. n (number-Ket c (sym (eqb-true 1
+    (class_number c) t)))))
 
 pub table-moves : GoodMoves table_answer
 table-moves = record { take = table-take; skips = skip-ends; closes = table-closes }
 
 -- the stack after a rest took the symbol's place
 replaced-rest : (n m : ℕ) (s : Sym) (c : Class) (rest below : List Sym) → GoodTake s c rest → Ordered n (s ∷ below) →
-    ((k : Kind) (xs : List ℕ) → IsCons xs → accepts k c ≡ true → sized k xs (shape s) ≡ true → Fits (join (shape s) (shapes below)) (caps n) → Fits (join xs (shapes below)) (caps m)) →
+    ((k : Kind) (xs : List ℕ) → IsCons xs → accepts k c ≡ true → sized k xs (shape s) ≡ true → Fits (join (shape s)
+    (shapes below)) (caps n) → Fits (join xs (shapes below)) (caps m)) →
     Ordered m (rest ++ below)
 replaced-rest n m s c rest below t o go =
     record {
       sizes =
-          subst (λ (w : List ℕ). Fits w (caps m)) (sym (shapes-append rest below)) (go t.kind (shapes rest) (shapes-cons rest) t.takes t.sized_so o.sizes);
+          subst (λ (w : List ℕ). Fits w (caps m)) (sym (shapes-append rest below)) (go t.kind (shapes rest)
+          (shapes-cons rest) t.takes t.sized_so o.sizes);
       tidied = tidy-replaced s below rest t.tidied o.tidied;
     }
 
@@ -264,12 +288,15 @@ unfolding tidy
 tidy-alone s = or-true (not (is_last s))
 
 -- every stack that can arise is in order
-pub Lawful-ordered : {moves : Sym → Class → Answer} (g : GoodMoves moves) {n : ℕ} {ss : List Sym} → IsLawful moves ss n → Ordered n ss
-Lawful-ordered g (opening side level) = record { sizes = opening-sizes side level; tidied = tidy-alone (opening_of side level) }
+pub Lawful-ordered : {moves : Sym → Class → Answer} (g : GoodMoves moves) {n : ℕ} {ss : List Sym} →
+    IsLawful moves ss n → Ordered n ss
+Lawful-ordered g (opening side level) =
+    record { sizes = opening-sizes side level; tidied = tidy-alone (opening_of side level) }
 Lawful-ordered g (word {n = n} {s = s} {rest = rest} {below = below} c b k m l) =
     replaced-rest n n s c rest below (g.take s _ rest m) (Lawful-ordered g l) (λ kind xs x a z f.
     Fits_trans (join xs (shapes below)) (join (shape s) (shapes below)) (caps n)
-    (join-mono xs (shape s) (shapes below) (shapes below) (Fits-test xs (shape s) (sized-word kind c xs (shape s) b k a z)) (Fits_refl (shapes below))) f)
+    (join-mono xs (shape s) (shapes below) (shapes below) (Fits-test xs (shape s) (sized-word kind c xs
+    (shape s) b k a z)) (Fits_refl (shapes below))) f)
 Lawful-ordered g (bra {n = n} {s = s} {rest = rest} {below = below} m l) =
     replaced-rest n (suc n) s Bra rest below (g.take s _ rest m) (Lawful-ordered g l) (λ kind xs x a z f.
     sizes-opened 8 xs (shape s) (shapes below) (caps n) (shape-cons s) (sized-Bra kind xs (shape s) a z) f)
@@ -279,4 +306,8 @@ Lawful-ordered g (ket {n = n} {s = s} {rest = rest} {below = below} m l) =
 Lawful-ordered g (skip {n = n} {s = s} {below = below} c m l) =
     let o = Lawful-ordered g l in
     let e = empty-parts s (g.skips s c m) in
-    record { sizes = sizes-skipped (shape s) (shapes below) (caps n) e.single (shapes-cons below) o.sizes; tidied = tidy-under s below o.tidied }
+    record {
+      sizes = sizes-skipped (shape s) (shapes below) (caps n) e.single
+          (shapes-cons below) o.sizes;
+      tidied = tidy-under s below o.tidied;
+    }

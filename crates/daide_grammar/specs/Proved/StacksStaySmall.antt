@@ -1,5 +1,8 @@
--- What holds of every stack that can arise: it is short, and what may be empty stands right above a closing bracket or on the bottom.
-use Rattle.std.proofs.Common.{◌≡◌, ◌≢◌, ℕ, zero, suc, ◌+◌, ◌*◌, ◌≤◌, Bool, true, false, not, ◌&&◌, ◌||◌, List, [], ◌∷◌, ◌++◌, length, Option, None, Some, refl, sym, ◌∙◌, ap, subst, arith, add-one, if◌then◌else◌}
+-- What holds of every stack that can arise: it is short, and what may be empty stands right above a closing bracket or
+-- on the bottom.
+use Rattle.std.proofs.Common.{◌≡◌, ◌≢◌, ℕ, zero, suc, ◌+◌, ◌*◌, ◌≤◌, Bool, true, false, not, ◌&&◌, ◌||◌, List, [], ◌∷◌}
+use Rattle.std.proofs.Common.{◌++◌, length, Option, None, Some, refl, sym, ◌∙◌, ap, subst, arith, add-one}
+use Rattle.std.proofs.Common.{if◌then◌else◌}
 use Rattle.std.specs.List.{list_all}
 use Rattle.daide_token.specs.declared.class.Class.{Class}
 use Rattle.daide_token.specs.declared.class.Class.TheVariants.{Bra, Ket}
@@ -11,8 +14,10 @@ use Rattle.daide_grammar.specs.Stacks.{stack_after, skips_before, ends_asked}
 use Rattle.daide_grammar.specs.Shapes.{is_last, shape, shapes}
 use Rattle.daide_grammar.specs.LawfulStack.{IsLawful, bra, ket}
 use Rattle.daide_grammar.specs.Proved.Alternatives.{both-pass}
-use Rattle.daide_grammar.specs.Proved.Sizes.{begins_positive, shapes-cons, caps, total, total-mono, total-caps, total-join, positive-total, no-tail, no-room}
-use Rattle.daide_grammar.specs.Proved.StacksInOrder.{is_closing, tidy, entry_ordered, ordered, all_ordered, sized-Ket, GoodMoves, empty-parts, Lawful-ordered}
+use Rattle.daide_grammar.specs.Proved.Sizes.{begins_positive, shapes-cons, caps, total, total-mono, total-caps}
+use Rattle.daide_grammar.specs.Proved.Sizes.{total-join, positive-total, no-tail, no-room}
+use Rattle.daide_grammar.specs.Proved.StacksInOrder.{is_closing, tidy, entry_ordered, ordered, all_ordered, sized-Ket}
+use Rattle.daide_grammar.specs.Proved.StacksInOrder.{GoodMoves, empty-parts, Lawful-ordered}
 
 -- every symbol counts for at least one entry
 shape-positive : (s : Sym) → 1 ≤ total (shape s)
@@ -24,12 +29,14 @@ shape-positive s =
 -- there are at most as many symbols as their sizes allow
 length-total : (ss : List Sym) → length ss ≤ total (shapes ss)
 length-total [] = omega arith
-length-total (s ∷ ss) = omega (arith, total-join (shape s) (shapes ss) (shapes-cons ss), shape-positive s, length-total ss)
+length-total (s ∷ ss) =
+    omega (arith, total-join (shape s) (shapes ss) (shapes-cons ss), shape-positive s, length-total ss)
 
 -- at most eight entries for each open bracket, and sixteen
 pub Lawful-short : {moves : Sym → Class → Answer} (g : GoodMoves moves) (ss : List Sym) (n : ℕ) → IsLawful moves ss n →
     length ss ≤ 8 * n + 16
-Lawful-short g ss n l = omega (arith, length-total ss, total-mono (shapes ss) (caps n) (Lawful-ordered g l).sizes, total-caps n)
+Lawful-short g ss n l =
+    omega (arith, length-total ss, total-mono (shapes ss) (caps n) (Lawful-ordered g l).sizes, total-caps n)
 
 -- what is a closing bracket is that symbol
 closing-is : (r : Sym) → is_closing r ≡ true → r ≡ Closing
@@ -44,28 +51,34 @@ above-closing s r ss h e =
     closing-is r (subst (λ (b : Bool). (not b || is_closing r) ≡ true) e p.0)
 
 -- what may be empty stands on the bottom, or right above a closing bracket
-pub Lawful-last : {moves : Sym → Class → Answer} (g : GoodMoves moves) {n : ℕ} (s r : Sym) (ss : List Sym) → IsLawful moves (s ∷ r ∷ ss) n →
+pub Lawful-last : {moves : Sym → Class → Answer} (g : GoodMoves moves) {n : ℕ} (s r : Sym) (ss : List Sym) →
+    IsLawful moves (s ∷ r ∷ ss) n →
     may_end_of s ≡ true → r ≡ Closing
 Lawful-last g s r ss l h = above-closing s r ss (Lawful-ordered g l).tidied (empty-parts s h).last
 
 -- a symbol that may be empty takes no closing bracket
-pub empty-keeps-open : {moves : Sym → Class → Answer} (g : GoodMoves moves) (s : Sym) (rest : List Sym) → may_end_of s ≡ true →
+pub empty-keeps-open : {moves : Sym → Class → Answer} (g : GoodMoves moves) (s : Sym) (rest : List Sym) →
+    may_end_of s ≡ true →
     moves s Ket ≡ Take rest → ⊥
 empty-keeps-open g s rest h m =
     let t = g.take s Ket rest m in
-    no-tail (shapes rest) (shape s) (shapes-cons rest) (empty-parts s h).single (sized-Ket t.kind (shapes rest) (shape s) t.takes t.sized_so)
+    no-tail (shapes rest) (shape s) (shapes-cons rest) (empty-parts s h).single (sized-Ket t.kind (shapes rest)
+    (shape s) t.takes t.sized_so)
 
 -- where no bracket is open, no closing one is taken
-pub Lawful-closing : {moves : Sym → Class → Answer} (g : GoodMoves moves) (s : Sym) (below rest : List Sym) → IsLawful moves (s ∷ below) 0 →
+pub Lawful-closing : {moves : Sym → Class → Answer} (g : GoodMoves moves) (s : Sym) (below rest : List Sym) →
+    IsLawful moves (s ∷ below) 0 →
     moves s Ket ≡ Take rest → ⊥
 Lawful-closing g s below rest l m =
     let t = g.take s Ket rest m in
-    no-room (shapes rest) (shape s) (shapes below) (shapes-cons rest) (shapes-cons below) (sized-Ket t.kind (shapes rest) (shape s) t.takes t.sized_so) (Lawful-ordered g l).sizes
+    no-room (shapes rest) (shape s) (shapes below) (shapes-cons rest) (shapes-cons below) (sized-Ket t.kind
+    (shapes rest) (shape s) t.takes t.sized_so) (Lawful-ordered g l).sizes
 
 -- ---- the laws, as the trait states them
 
 -- a symbol that may be empty and what follows it do not begin with the same class
-pub Lawful-apart : {moves : Sym → Class → Answer} (g : GoodMoves moves) (s : Sym) (c : Class) (rest stack : List Sym) (k : ℕ) →
+pub Lawful-apart : {moves : Sym → Class → Answer} (g : GoodMoves moves) (s : Sym) (c : Class) (rest stack : List Sym)
+    (k : ℕ) →
     IsLawful moves (s ∷ stack) k → may_end_of s ≡ true → moves s c ≡ Take rest → stack_after moves c stack ≡ None
 Lawful-apart g s c rest [] k l h m = refl
 Lawful-apart {moves} g s c rest (r ∷ stack) k l h m =
@@ -74,19 +87,25 @@ Lawful-apart {moves} g s c rest (r ∷ stack) k l h m =
     stopped (moves r c) (ap (λ (x : Sym). moves x c) e ∙ g.closes c other)
   where
     stopped : (a : Answer) → a ≡ Stop →
-        ◌≡◌ {A = Option (List Sym)} (elim a [ Take x ↦ Some (x ++ stack) | Skip ↦ stack_after moves c stack | Stop ↦ None ]) None
+        ◌≡◌ {A = Option (List Sym)} (elim a [
+          | Take x ↦ Some (x ++ stack)
+          | Skip ↦ stack_after moves c stack
+          | Stop ↦ None
+        ]) None
     stopped Stop e = refl
     stopped Skip e = cc
     stopped (Take x) e = cc
 
 -- BRA leaves a lawful stack with one bracket more
-pub Lawful-open : {moves : Sym → Class → Answer} (s : Sym) (rest stack : List Sym) (k : ℕ) → IsLawful moves (s ∷ stack) k →
+pub Lawful-open : {moves : Sym → Class → Answer} (s : Sym) (rest stack : List Sym) (k : ℕ) →
+    IsLawful moves (s ∷ stack) k →
     moves s Bra ≡ Take rest → IsLawful moves (rest ++ stack) (k + 1)
 Lawful-open s rest stack k l m = rw add-one (bra {s = s} m l)
 
 -- KET leaves one with a bracket less, and there was one
 pub Lawful-close : {moves : Sym → Class → Answer} (g : GoodMoves moves) (s : Sym) (rest stack : List Sym) (k : ℕ) →
-    IsLawful moves (s ∷ stack) k → moves s Ket ≡ Take rest → (below : ℕ) × (k ≡ below + 1) × IsLawful moves (rest ++ stack) below
+    IsLawful moves (s ∷ stack) k → moves s Ket ≡ Take rest → (below : ℕ) × (k ≡ below + 1) × IsLawful moves
+    (rest ++ stack) below
 Lawful-close g s rest stack zero l m = absurd (Lawful-closing g s stack rest l m)
 Lawful-close g s rest stack (suc k) l m = (k, (omega arith), ket {s = s} m l)
 
@@ -120,11 +139,13 @@ skips-one moves c s ss n h = go (moves s c) h
     go Stop k = omega arith
 
 -- a token meets at most one symbol that is empty
-pub Lawful-skips : {moves : Sym → Class → Answer} (g : GoodMoves moves) (stack : List Sym) (k : ℕ) (c : Class) → IsLawful moves stack k →
+pub Lawful-skips : {moves : Sym → Class → Answer} (g : GoodMoves moves) (stack : List Sym) (k : ℕ) (c : Class) →
+    IsLawful moves stack k →
     skips_before moves c stack ≤ 1
 Lawful-skips g [] k c l = omega arith
 Lawful-skips {moves} g (s ∷ []) k c l = skips-one moves c s [] 0 (λ e. omega arith)
-Lawful-skips {moves} g (s ∷ r ∷ ss) k c l = skips-one moves c s (r ∷ ss) 0 (λ e. none (moves r c) (λ q. below-closes e q))
+Lawful-skips {moves} g (s ∷ r ∷ ss) k c l =
+    skips-one moves c s (r ∷ ss) 0 (λ e. none (moves r c) (λ q. below-closes e q))
   where
     below-closes : moves s c ≡ Skip → moves r c ≡ Skip → ⊥
     below-closes e q = closing-stays (ap may_end_of (sym (Lawful-last g s r ss l (g.skips s c e))) ∙ g.skips r c q)
@@ -135,7 +156,8 @@ Lawful-skips {moves} g (s ∷ r ∷ ss) k c l = skips-one moves c s (r ∷ ss) 0
     none Stop k = omega arith
 
 -- at most two answers decide whether all that is left may be empty
-pub Lawful-ends : {moves : Sym → Class → Answer} (g : GoodMoves moves) (stack : List Sym) (k : ℕ) → IsLawful moves stack k →
+pub Lawful-ends : {moves : Sym → Class → Answer} (g : GoodMoves moves) (stack : List Sym) (k : ℕ) →
+    IsLawful moves stack k →
     ends_asked may_end_of stack ≤ 2
 Lawful-ends g [] k l = omega arith
 Lawful-ends g (s ∷ []) k l = one-more (may_end_of s) 0 (λ h. omega arith)

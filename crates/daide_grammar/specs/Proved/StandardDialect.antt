@@ -21,7 +21,8 @@ token_of_class c h = (token_of c, class_of-token_of c (is_standard-below c h))
 
 -- added forms are none, and each class has a token
 pub standard-proper : Proper standard
-standard-proper = record { not_empty = λ s l m. elim m [ ]; by_word = λ s l t w m. elim m [ ]; token_of = token_of_class }
+standard-proper =
+    record { not_empty = λ s l m. elim m [ ]; by_word = λ s l t w m. elim m [ ]; token_of = token_of_class }
 
 -- no word is added anywhere
 pub standard-words : (o : Option (Slot × Level)) (t : ℕ) → NoWord standard o t

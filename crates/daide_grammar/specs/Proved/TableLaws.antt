@@ -1,4 +1,5 @@
--- What the trait asks of a table, shown of this one, whatever the dialect, for the tokens that no added word stands for.
+-- What the trait asks of a table, shown of this one, whatever the dialect, for the tokens that no added word stands
+-- for.
 use Rattle.std.proofs.Common.{◌≡◌, ℕ, List, [], ◌∷◌, ◌↔◌, sym, arith}
 use Rattle.daide_token.specs.declared.class.Class.TheVariants.{Bra, Ket}
 use Rattle.daide_grammar.specs.declared.symbol.Sym.{Sym}
@@ -11,7 +12,8 @@ use Rattle.daide_token.specs.Token.{bra, ket}
 use Rattle.daide_grammar.specs.SideMessages.{SymbolMatchesIn}
 use Rattle.daide_grammar.specs.Proved.MovesAgree.{Proper, NoWord, AllMatchIn, take-law, skip-law, stop-law, may_end-law}
 use Rattle.daide_grammar.specs.Proved.StacksInOrder.{table-moves}
-use Rattle.daide_grammar.specs.Proved.StacksStaySmall.{Lawful-short, Lawful-apart, Lawful-open, Lawful-close, Lawful-skips, Lawful-ends}
+use Rattle.daide_grammar.specs.Proved.StacksStaySmall.{Lawful-short, Lawful-apart, Lawful-open, Lawful-close}
+use Rattle.daide_grammar.specs.Proved.StacksStaySmall.{Lawful-skips, Lawful-ends}
 use Rattle.daide_grammar.specs.Proved.NoLanguageIsEmpty.{symbol-inhabited}
 
 -- the forms of the symbols, one after the other, are their languages one after the other
@@ -30,7 +32,11 @@ pub table_laws : (d : Dialect) (ok : Proper d) → ((s : Sym) (t : ℕ) → NoWo
 table_laws d ok none bras kets = record {
   only_bra = bras;
   only_ket = kets;
-  takes = λ s t rest a w. let k = take-law d ok s rest t w (none s t) a in (λ m. follows d rest w (k.0 m), λ m. k.1 (followed d rest w m));
+  takes = λ s t rest a w. let k = take-law d ok s rest t w (none s t) a in (
+    λ m. follows d rest w (k.0 m),
+    λ m. k.1
+        (followed d rest w m),
+  );
   skips_empty = λ s t a. (skip-law d ok s t (none s t) a).0;
   skips_none = λ s t a. (skip-law d ok s t (none s t) a).1;
   stops_empty = λ s t a. (stop-law d ok s t (none s t) a).0;

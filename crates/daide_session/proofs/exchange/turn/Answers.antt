@@ -4,7 +4,7 @@ use Rattle.daide_session.specs.Turn.{Then, AsksClock, Puts, Pulls, Turn}
 use Rattle.daide_session.specs.Headline.{Headline}
 use Rattle.daide_session.proofs.Stretches.{carries_then, carries_weaker}
 use Rattle.daide_session.proofs.TurnLemmas.{turn_relays}
-use Rattle.daide_session.proofs.Standing.{IsWithinBounds, headline_of}
+use Rattle.daide_session.proofs.Standing.{headline_of}
 use Rattle.daide_session.proofs.exchange.turn.Goals as goal
 
 pub returns-clause-in_order : goal.returns-clause-in_order
@@ -25,10 +25,4 @@ pub returns-clause-headline : goal.returns-clause-headline
 returns-clause-headline g c =
     let old = c.args.session.now in
     let new = c.pull-2.new.session in
-    let bounds : IsWithinBounds new = record {
-      directions = c.ask_bounds.ensures.directions;
-      further = c.ask_bounds.ensures.further;
-      weight = c.ask_bounds.ensures.weight;
-      steps = c.ask_bounds.ensures.steps;
-    } in
-    carries_weaker Relays Headline old _ new _ (λ xs. headline_of old xs new bounds) (returns-clause-delivered g c)
+    carries_weaker Relays Headline old _ new _ (λ xs. headline_of old xs new c.bounds.ensures) (returns-clause-delivered g c)

@@ -1,9 +1,11 @@
 use Rattle.std.proofs.Common.{List, ap, ◌∙◌}
-use Rattle.daide_machine.specs.Machine.{Sent}
+use Rattle.daide_machine.specs.Machine.{Sent, fm_to}
+use Rattle.daide_machine.specs.Wires.{frames_to}
 use Rattle.daide_machine.specs.Events.{other}
 use Rattle.daide_session.specs.Both.{Both, at}
-use Rattle.daide_session.specs.Traffic.{has_end}
+use Rattle.daide_session.specs.Traffic.{end_to, has_end}
 use Rattle.std.proofs.Common.{Some}
+use Rattle.daide_session.proofs.FrontsKept.{fronts_kept_on}
 use Rattle.daide_session.proofs.MovesLemmas.{other_post, failed}
 use Rattle.daide_session.proofs.stage.fail.Goals as goal
 
@@ -22,3 +24,9 @@ returns-clause-moves g c = failed c.args.traffic.now c.end.new.self c.close.new.
       sides = c.close.ensures.keeps.sides ∙ c.end.ensures.sides;
     })
     c.end.ensures.waiting c.close.ensures.stage c.close.ensures.sent
+
+pub returns-clause-fronts : goal.returns-clause-fronts
+returns-clause-fronts g c =
+    fronts_kept_on c.args.traffic.now c.end.new.self c.close.new.traffic (end_to c.args.side (Some c.args.code))
+    (λ wire. frames_to wire (fm_to c.args.stage.now.phase (other c.args.side)))
+    c.end.ensures.waiting c.close.ensures.sent c.end.ensures.fronts c.close.ensures.fronts

@@ -1,6 +1,6 @@
-use Rattle.daide_token.proofs.WholeText.{rest_of_text-start}
-use Rattle.daide_token.specs.Token.{tokens_of}
+use Rattle.daide_token.specs.Text.{text_of, text_with}
 use Rattle.daide_token.proofs.text.write_text.Goals as goal
 
-pub loop-rest-init : goal.loop-rest-init
-loop-rest-init g c final h = rw (← rest_of_text-start (tokens_of c.args.tokens.now)) h
+pub returns : goal.returns
+unfolding text_of text_with
+returns g c = c.write_text_with.ensures

@@ -29,6 +29,7 @@ returns g c =
         delivered = c.turn.ensures.delivered;
         asked = c.turn.ensures.asked;
         weight = c.turn.ensures.weight;
+        limits = c.turn.ensures.limits;
         headline = c.turn.ensures.headline;
       },
     )

@@ -3,7 +3,9 @@ use Rattle.daide_machine.specs.Events.{Pops}
 use Rattle.daide_machine.specs.Machine.{is_over}
 use Rattle.daide_machine.specs.Wires.{Gateway, Goes}
 use Rattle.daide_session.specs.Traffic.{has_end}
+use Rattle.daide_session.specs.Fronts.{KeepsFront}
 use Rattle.daide_session.specs.Session.{gateway_of}
+use Rattle.daide_session.proofs.FrontsKept.{fronts_seen}
 use Rattle.daide_session.proofs.MovesLemmas.{waiting_at}
 use Rattle.daide_session.proofs.SessionLemmas.{goes_popped, standing_on}
 use Rattle.daide_session.proofs.session.Session.im_timeout.Given.{Over}
@@ -28,3 +30,9 @@ pub returns-in-WaitIm-clause-goes : goal.returns-in-WaitIm-clause-goes
 returns-in-WaitIm-clause-goes g c =
     subst (λ (v : Gateway). Goes v (Pops ∷ []) c.fail.result (gateway_of c.fail.new.traffic c.fail.new.stage))
     c.self.view_is (went g c)
+
+pub returns-in-WaitIm-clause-fronts : goal.returns-in-WaitIm-clause-fronts
+returns-in-WaitIm-clause-fronts g c = λ side.
+    subst (λ (v : Gateway). KeepsFront v side (gateway_of c.fail.new.traffic c.fail.new.stage)) c.self.view_is
+    (fronts_seen c.self.inside.traffic c.fail.new.traffic c.self.inside.stage c.fail.new.stage c.fail.ensures.fronts
+    side)

@@ -1,9 +1,12 @@
-use Rattle.std.proofs.Common.{ap, ◌∙◌, subst}
+use Rattle.std.proofs.Common.{[], ap, ◌∙◌, subst}
 use Rattle.daide_frame.specs.declared.side.Side.TheVariants.{Bot, Server}
+use Rattle.daide_machine.specs.Events.{other}
 use Rattle.daide_machine.specs.Wires.{Gateway, Lost}
 use Rattle.daide_session.specs.Both.{Both}
 use Rattle.daide_session.specs.Traffic.{Arrival}
+use Rattle.daide_session.specs.Fronts.{KeepsFront}
 use Rattle.daide_session.specs.Session.{gateway_of}
+use Rattle.daide_session.proofs.FrontsKept.{other_front}
 use Rattle.daide_session.proofs.WrittenLemmas.{lost_of}
 use Rattle.daide_session.proofs.SessionLemmas.{standing_over}
 use Rattle.daide_session.proofs.session.Session.lost.Given.{Over}
@@ -21,6 +24,13 @@ invariant_of-self g c = standing_over _ (done g c).over
 pub returns-clause-lost : goal.returns-clause-lost
 returns-clause-lost g c =
     subst (λ (v : Gateway). Lost v c.args.side (gateway_of c.lose.new.self c.stop.new.stage)) c.self.view_is (done g c)
+
+pub returns-clause-other_front : goal.returns-clause-other_front
+returns-clause-other_front g c =
+    subst (λ (v : Gateway). KeepsFront v (other c.args.side) (gateway_of c.lose.new.self c.stop.new.stage))
+    c.self.view_is
+    (other_front c.self.inside.traffic c.stop.new.traffic c.lose.new.self c.self.inside.stage c.stop.new.stage
+    c.args.side [] c.stop.ensures.fronts c.lose.ensures.waiting c.lose.ensures.other_front)
 
 pub returns-clause-asks_nothing : goal.returns-clause-asks_nothing
 returns-clause-asks_nothing g c = (

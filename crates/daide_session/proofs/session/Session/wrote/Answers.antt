@@ -1,7 +1,11 @@
 use Rattle.std.proofs.Common.{ap, ◌∙◌, subst}
 use Rattle.daide_frame.specs.declared.side.Side.TheVariants.{Bot, Server}
-use Rattle.daide_machine.specs.Wires.{Gateway, Wrote}
+use Rattle.daide_machine.specs.Events.{other}
+use Rattle.daide_machine.specs.Wires.{Gateway, Wrote, without}
+use Rattle.daide_session.specs.Both.{at}
+use Rattle.daide_session.specs.Fronts.{KeepsFront}
 use Rattle.daide_session.specs.Session.{gateway_of}
+use Rattle.daide_session.proofs.FrontsKept.{fronts_stay, other_front}
 use Rattle.daide_session.proofs.WrittenLemmas.{wrote_of}
 use Rattle.daide_session.proofs.SessionLemmas.{standing_wrote}
 use Rattle.daide_session.proofs.session.Session.wrote.Given.{Over}
@@ -20,6 +24,14 @@ pub returns-clause-wrote : goal.returns-clause-wrote
 returns-clause-wrote g c =
     subst (λ (v : Gateway). Wrote v c.args.side c.args.n (gateway_of c.wrote.new.self c.self.inside.stage))
     c.self.view_is (done g c)
+
+pub returns-clause-other_front : goal.returns-clause-other_front
+returns-clause-other_front g c =
+    let t = c.self.inside.traffic in
+    let s = c.self.inside.stage in
+    subst (λ (v : Gateway). KeepsFront v (other c.args.side) (gateway_of c.wrote.new.self s)) c.self.view_is
+    (other_front t t c.wrote.new.self s s c.args.side (without c.args.n (at t.waiting c.args.side)) (fronts_stay t)
+    c.wrote.ensures.waiting c.wrote.ensures.other_front)
 
 pub returns-clause-asks_nothing : goal.returns-clause-asks_nothing
 returns-clause-asks_nothing g c = (

@@ -3,6 +3,7 @@ use Rattle.daide_session.specs.declared.wire.Waiting.{Waiting}
 use Rattle.daide_session.specs.Both.{at, both, put}
 use Rattle.daide_session.specs.Traffic.{fields}
 use Rattle.daide_session.specs.Wire.{pushed}
+use Rattle.daide_session.proofs.FrontsKept.{end_fronts}
 use Rattle.daide_session.proofs.WaitingLemmas.{end_room, end_sound, end_waiting}
 use Rattle.daide_session.proofs.traffic.Traffic.end.Goals as goal
 
@@ -26,4 +27,11 @@ returns-clause-waiting g c =
     let f = fields d.bot d.server d.to_bot d.to_server in
     end_waiting f c.args.self.now c.args.to c.args.code (both c.push.new.to_bot c.push.new.to_server) c.self.view_is
     c.self.invariant
+    (c.push.ensures ∙ ap (λ (x : Waiting). put f.wires c.args.to (pushed (at f.wires c.args.to) x)) c.ending.ensures)
+
+pub returns-clause-fronts : goal.returns-clause-fronts
+returns-clause-fronts g c =
+    let d = c.self.inside in
+    let f = fields d.bot d.server d.to_bot d.to_server in
+    end_fronts f c.args.self.now c.args.to c.args.code (both c.push.new.to_bot c.push.new.to_server) c.self.view_is
     (c.push.ensures ∙ ap (λ (x : Waiting). put f.wires c.args.to (pushed (at f.wires c.args.to) x)) c.ending.ensures)

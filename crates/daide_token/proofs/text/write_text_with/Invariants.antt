@@ -1,15 +1,15 @@
 use Rattle.std.proofs.Common.{length, List, ℕ, Option}
 use Rattle.std.specs.Io.KnownBytes.{Appends}
-use Rattle.daide_token.specs.Text.{text_of}
+use Rattle.daide_token.specs.Text.{text_with}
 use Rattle.daide_token.specs.Token.{tokens_of}
 use Rattle.daide_token.specs.TextSteps.{rest_of_text}
-use Rattle.daide_token.proofs.text.write_text.Given as goal
+use Rattle.daide_token.proofs.text.write_text_with.Given as goal
 
 -- what is left completes what was written to the whole text
 abbrev pub invariant-loop-rest : goal.invariant-loop-rest
 invariant-loop-rest g l =
-    (final : Option (List ℕ)) → Appends (g.W.Write.contents l.writer) final (rest_of_text l.place (tokens_of l.rest))
-    → Appends (g.W.Write.contents l.initial.writer) final (text_of (tokens_of l.tokens))
+    (final : Option (List ℕ)) → Appends (g.W.Write.contents l.writer) final (rest_of_text l.added l.place (tokens_of l.rest))
+    → Appends (g.W.Write.contents l.initial.writer) final (text_with l.added (tokens_of l.tokens))
 
 abbrev pub decreases-loop-rest : goal.decreases-loop-rest
 decreases-loop-rest g l = length l.rest

@@ -1,5 +1,0 @@
-use Rattle.daide_grammar.proofs.ClassNumbers.{told-apart}
-use Rattle.daide_grammar.proofs.laws.numbers_tell_classes_apart.Goals as goal
-
-pub returns : goal.returns
-returns c = told-apart

@@ -1,0 +1,98 @@
+//! A number for each class of tokens.
+//!
+//! The definitions compare two classes by these numbers, and so does the code.
+
+ghost use Rattle.std.specs.Prelude.{◌≡◌};
+ghost use Rattle.daide_token.specs.ClassNumbers.{class_number};
+
+use crate::class::Class;
+
+impl Class {
+    /// The class's place in the list of classes. The operator's words come last.
+    pub fn number(self) -> u16
+        ensures { result ≡ class_number self }
+    {
+        match self {
+            Class::Bra => 0,
+            Class::Ket => 1,
+            Class::Num => 2,
+            Class::Power => 3,
+            Class::Note => 4,
+            Class::Outcome => 5,
+            Class::Coast => 6,
+            Class::Season => 7,
+            Class::Text => 8,
+            Class::Province => 9,
+            Class::Amy => 10,
+            Class::Flt => 11,
+            Class::Cto => 12,
+            Class::Cvy => 13,
+            Class::Hld => 14,
+            Class::Mto => 15,
+            Class::Sup => 16,
+            Class::Via => 17,
+            Class::Dsb => 18,
+            Class::Rto => 19,
+            Class::Bld => 20,
+            Class::Rem => 21,
+            Class::Wve => 22,
+            Class::Ccd => 23,
+            Class::Drw => 24,
+            Class::Frm => 25,
+            Class::Gof => 26,
+            Class::Hlo => 27,
+            Class::Hst => 28,
+            Class::Huh => 29,
+            Class::Iam => 30,
+            Class::Lod => 31,
+            Class::Map => 32,
+            Class::Mdf => 33,
+            Class::Mis => 34,
+            Class::Nme => 35,
+            Class::Not => 36,
+            Class::Now => 37,
+            Class::Obs => 38,
+            Class::Off => 39,
+            Class::Ord => 40,
+            Class::Out => 41,
+            Class::Prn => 42,
+            Class::Rej => 43,
+            Class::Sco => 44,
+            Class::Slo => 45,
+            Class::Snd => 46,
+            Class::Sub => 47,
+            Class::Sve => 48,
+            Class::Thx => 49,
+            Class::Tme => 50,
+            Class::Yes => 51,
+            Class::Adm => 52,
+            Class::Smr => 53,
+            Class::Aly => 54,
+            Class::And => 55,
+            Class::Bwx => 56,
+            Class::Dmz => 57,
+            Class::Fct => 58,
+            Class::Idk => 59,
+            Class::Ins => 60,
+            Class::Occ => 61,
+            Class::Orr => 62,
+            Class::Pce => 63,
+            Class::Prp => 64,
+            Class::Qry => 65,
+            Class::Scd => 66,
+            Class::Sry => 67,
+            Class::Sug => 68,
+            Class::Thk => 69,
+            Class::Try => 70,
+            Class::Vss => 71,
+            Class::Xdo => 72,
+            Class::Lvl => 73,
+            Class::Mrt => 74,
+            Class::Uno => 75,
+            Class::Param => 76,
+            Class::Other => 77,
+            Class::Alien => 78,
+            Class::Word(place) => 79 + u16::from(place),
+        }
+    }
+}
