@@ -2,11 +2,12 @@
 
 use crate::relays::{NEVER, OPENS, QUIET, WIDEST, sent};
 use crate::script::bytes_of;
+use daide_frame::side::Side;
 use daide_frame::side::Side::{Bot, Server};
 use daide_session::config::{Config, ConfigError};
 use daide_session::hub::{AddFault, Hub, HubError};
 use daide_session::memory_ports::{Acceptance, Arrival, MemoryPorts, Script};
-use daide_session::ports::Ports;
+use daide_session::ports::{Ports, Pull, Put};
 use linked_list_allocator::LocalHeap;
 use std::process::Abort;
 use std::test::Fail;
@@ -78,13 +79,78 @@ const BY_BYTES: Script<'static> = Script {
     puts: &[],
 };
 
-/// The longest body: 32,763 times GOF, behind its header.
-fn longest_frame(rt: &(impl Abort + AllocGlobal)) -> Result<Vec<u8>, Fail> {
-    let mut frame = bytes_of(rt, "02 00 FF F6")?;
-    for _token in 0..32_763 {
-        frame.extend_from_slice(&[0x48, 0x03])?;
+/// A bot that sends the header of the longest body.
+const BEGINS_THE_LONGEST: Script<'static> = Script {
+    pulls: &[
+        Arrival::Bytes(&[0, 0, 0, 4, 0, 1, 0xDA, 0x10]),
+        Arrival::Idle,
+        Arrival::Idle,
+        Arrival::Idle,
+        Arrival::Idle,
+        Arrival::Idle,
+        Arrival::Idle,
+        Arrival::Bytes(&[2, 0, 0xFF, 0xF6]),
+    ],
+    puts: &[],
+};
+
+/// Ports in memory whose bot sends GOF over and over after some of its pulls, and then ends.
+#[derive(Drop)]
+struct Feeding {
+    ports: MemoryPorts<'static>,
+    gofs: Vec<u8>,
+    /// How many pulls of the bot come first, and how many bytes of GOF after them.
+    before: usize,
+    left: usize,
+}
+
+impl Ports for Feeding {
+    ghost use Rattle.std.specs.Prelude.{None};
+
+    ghost told = { λ _. None };
+
+    fn pull(&mut self, side: Side, buffer: &mut [u8]) -> Pull {
+        if side == Server || self.before > 0 {
+            if side == Bot {
+                self.before = self.before.saturating_sub(1);
+            }
+            return self.ports.pull(side, buffer);
+        }
+        if self.left == 0 {
+            return Pull::Ended;
+        }
+        let count = buffer.len().min(self.left).min(self.gofs.len());
+        buffer[..count].copy_from_slice(&self.gofs[..count]);
+        self.left = self.left.saturating_sub(count);
+        Pull::Got(count)
     }
-    Ok(frame)
+
+    fn put(&mut self, side: Side, bytes: &[u8]) -> Put {
+        self.ports.put(side, bytes)
+    }
+
+    fn clock_popped(&mut self) -> bool {
+        self.ports.clock_popped()
+    }
+}
+
+/// Ports whose bot goes by a script for so many pulls, and then sends GOF for so many bytes.
+fn ports_of(
+    rt: &(impl Abort + AllocGlobal),
+    bot: Script<'static>,
+    before: usize,
+    left: usize,
+) -> Result<Feeding, Fail> {
+    let mut gofs = Vec::new(rt.alloc());
+    for _token in 0..256 {
+        gofs.extend_from_slice(&[0x48, 0x03])?;
+    }
+    Ok(Feeding {
+        ports: MemoryPorts::new(rt.alloc(), bot, OPENS, NEVER),
+        gofs,
+        before,
+        left,
+    })
 }
 
 /// A full hub hands the very ports back; a session that is over gives its ports, and the one behind it moves
@@ -145,7 +211,7 @@ fn hub_places_move_down(rt: HostRuntime) -> Result<(), Fail> {
 /// Takes the first session out of a hub, and compares what its two wires took.
 fn was_sent(
     rt: &(impl Abort + AllocGlobal),
-    hub: &mut Hub<MemoryPorts<'_>>,
+    hub: &mut Hub<Feeding>,
     to_bot: &[u8],
     to_server: &[u8],
 ) -> Result<(), Fail> {
@@ -157,7 +223,7 @@ fn was_sent(
         assert!(rt; false, "it is over, and nothing waits");
         return Ok(());
     };
-    let calls = ports.calls().unwrap_or(&[]);
+    let calls = ports.ports.calls().unwrap_or(&[]);
     assert_eq!(rt; sent(rt, calls, Bot)?.as_slice(), to_bot);
     assert_eq!(rt; sent(rt, calls, Server)?.as_slice(), to_server);
     Ok(())
@@ -167,33 +233,11 @@ fn was_sent(
 /// ports of each, handed back, were sent exactly its own answers.
 #[test]
 fn sessions_hear_nothing_of_each_other(rt: HostRuntime) -> Result<(), Fail> {
-    let longest = longest_frame(&rt)?;
-    let pulls = [
-        Arrival::Bytes(&[0, 0, 0, 4, 0, 1, 0xDA, 0x10]),
-        Arrival::Idle,
-        Arrival::Idle,
-        Arrival::Idle,
-        Arrival::Idle,
-        Arrival::Idle,
-        Arrival::Idle,
-        Arrival::Bytes(longest.as_slice()),
-        Arrival::End,
-    ];
-    let feeding = Script {
-        pulls: &pulls,
-        puts: &[],
-    };
     let mut hub = Hub::new(rt.alloc(), WIDEST, 2)?;
-    assert_eq!(rt;
-        hub.add(MemoryPorts::new(rt.alloc(), BY_BYTES, OPENS, NEVER))
-            .ok(),
-        Some(0)
-    );
-    assert_eq!(rt;
-        hub.add(MemoryPorts::new(rt.alloc(), feeding, OPENS, NEVER))
-            .ok(),
-        Some(1)
-    );
+    let ports = ports_of(&rt, BY_BYTES, 1_000, 0)?;
+    assert_eq!(rt; hub.add(ports).ok(), Some(0));
+    let ports = ports_of(&rt, BEGINS_THE_LONGEST, 9, 65_526)?;
+    assert_eq!(rt; hub.add(ports).ok(), Some(1));
     for _turn in 0..400 {
         for i in 0..hub.count() {
             if i < hub.count() {
@@ -212,10 +256,7 @@ fn sessions_hear_nothing_of_each_other(rt: HostRuntime) -> Result<(), Fail> {
     was_sent(&rt, &mut hub, to_bot.as_slice(), to_server.as_slice())?;
 
     // the RM, and HUH ( GOF ERR GOF .. GOF )
-    let mut to_bot = bytes_of(
-        &rt,
-        "01 00 00 00  02 00 FF FE  48 06 40 00 48 03 49 02",
-    )?;
+    let mut to_bot = bytes_of(&rt, "01 00 00 00  02 00 FF FE  48 06 40 00 48 03 49 02")?;
     for _token in 0..32_762 {
         to_bot.extend_from_slice(&[0x48, 0x03])?;
     }

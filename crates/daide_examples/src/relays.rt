@@ -86,6 +86,57 @@ fn late_initial_message_is_told_to_the_bot_alone(rt: HostRuntime) -> Result<(), 
     Ok(())
 }
 
+/// A bot whose wire fails at its first put.
+const FAILS: Script<'static> = Script {
+    pulls: &[Arrival::Bytes(&[0, 0, 0, 4, 0, 1, 0xDA, 0x10])],
+    puts: &[Acceptance::Fails],
+};
+
+/// Relays until the session is closed, and compares each put: its wire, its bytes, and what became of it.
+fn assert_puts(
+    rt: &(impl Abort + AllocGlobal),
+    bot: Script<'static>,
+    quiet: u64,
+    want: &[(Side, &[u8], Put)],
+) -> Result<(), Fail> {
+    let mut session = Session::new(rt.alloc(), WIDEST)?;
+    let mut ports = MemoryPorts::new(rt.alloc(), bot, OPENS, quiet);
+    assert_eq!(rt; relay(&mut session, &mut ports, 9), RelayEnd::Closed);
+    let mut rest = want.iter();
+    for call in ports.calls().unwrap_or(&[]) {
+        if let Call::Offered(to, bytes, put) = call {
+            match rest.next() {
+                None => assert!(rt; false, "one put more"),
+                Some((side, front, answer)) => {
+                    assert_eq!(rt; *to, *side);
+                    assert_eq!(rt; bytes.as_slice(), *front);
+                    assert_eq!(rt; *put, *answer);
+                }
+            }
+        }
+    }
+    assert!(rt; rest.next().is_none(), "all puts were made");
+    Ok(())
+}
+
+/// A relayed frame is handed over by its parts; a frame that ends the session, whole and in the turn that let it
+/// wait: the EM of a popped timer, and the FM after a put that failed.
+#[test]
+fn each_put_is_of_the_whole_front(rt: HostRuntime) -> Result<(), Fail> {
+    assert_puts(&rt, QUIET, 2, &[(Bot, &[4, 0, 0, 2, 0, 1], Put::Took(6))])?;
+    assert_puts(
+        &rt,
+        FAILS,
+        NEVER,
+        &[
+            (Server, &[0, 0, 0, 4], Put::Took(4)),
+            (Server, &[0, 1, 0xDA, 0x10], Put::Took(4)),
+            (Bot, &[1, 0, 0, 0], Put::Failed),
+            (Server, &[3, 0, 0, 0], Put::Took(4)),
+        ],
+    )
+}
+
 /// A bot whose wire takes none of the first put of a HUH, then three bytes a put.
 const SLOW_BOT: Script<'static> = Script {
     pulls: &[

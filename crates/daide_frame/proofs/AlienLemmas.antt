@@ -1,5 +1,7 @@
 -- The first alien token of a body that grows.
-use Rattle.std.proofs.Common.{◌≡◌, ℕ, suc, ◌+◌, ◌%◌, ◌<◌, ◌≤◌, Bool, true, false, cond, List, [], ◌∷◌, ◌++◌, length, get_or, take, drop, Option, Some, None, refl, sym, ap, ◌∙◌, arith, length-drop, length-take, drop-cons}
+use Rattle.std.proofs.Common.{◌≡◌, ℕ, suc, ◌+◌, ◌%◌, ◌<◌, ◌≤◌, Bool, true, false, cond, List, [], ◌∷◌, ◌++◌, length}
+use Rattle.std.proofs.Common.{get_or, take, drop, Option, Some, None, refl, sym, ap, ◌∙◌, arith, length-drop}
+use Rattle.std.proofs.Common.{length-take, drop-cons}
 use Rattle.std.specs.Prelude.{not}
 use Rattle.std.proofs.lemmas.List.{take-append-drop}
 use Rattle.daide_token.specs.Token.{token_of_bytes}
@@ -32,7 +34,8 @@ pub record IsEndOf (v : List ℕ) (n : ℕ) : Type 0 where
   pub within : n ≤ length v
   pub told : first_alien (take n v) ≡ Some n
 
-later_end : (high low : ℕ) (rest : List ℕ) (n k : ℕ) → is_alien high low ≡ false → IsEndOf rest k → n ≡ suc (suc k) → IsEndOf (high ∷ low ∷ rest) n
+later_end : (high low : ℕ) (rest : List ℕ) (n k : ℕ) → is_alien high low ≡ false → IsEndOf rest k → n ≡ suc (suc k) →
+    IsEndOf (high ∷ low ∷ rest) n
 later_end high low rest n k b h e =
     rw e (record { within = omega (arith, h.within); told = rw b (ap (further 2) h.told ∙ ap Some (omega arith)) })
 
@@ -40,33 +43,43 @@ later_end high low rest n k b h e =
 pub first_alien-end : (v : List ℕ) (n : ℕ) → first_alien v ≡ Some n → IsEndOf v n
 first_alien-end [] n e = absurd (cc)
 first_alien-end (high ∷ []) n e = absurd (cc)
-first_alien-end (high ∷ low ∷ rest) n e = by_first (is_alien high low) refl (first_alien rest) refl (λ k. first_alien-end rest k)
+first_alien-end (high ∷ low ∷ rest) n e =
+    by_first (is_alien high low) refl (first_alien rest) refl (λ k. first_alien-end rest k)
   where
-    by_first : (b : Bool) → is_alien high low ≡ b → (o : Option ℕ) → first_alien rest ≡ o → ((k : ℕ) → first_alien rest ≡ Some k → IsEndOf rest k) → IsEndOf (high ∷ low ∷ rest) n
+    by_first : (b : Bool) → is_alien high low ≡ b → (o : Option ℕ) → first_alien rest ≡ o →
+        ((k : ℕ) → first_alien rest ≡ Some k → IsEndOf rest k) → IsEndOf (high ∷ low ∷ rest) n
     by_first true b o q later =
-        let two : ◌≡◌ {A = Option ℕ} (Some 2) (Some n) = sym (ap (λ (t : Bool). cond t (Some 2) (further 2 (first_alien rest))) b) ∙ e in
+        let two : ◌≡◌ {A = Option ℕ} (Some 2) (Some n) =
+        sym (ap (λ (t : Bool). cond t (Some 2) (further 2 (first_alien rest))) b) ∙ e in
         let same : 2 ≡ n = ap some_of two in
         rw (sym same) (record { within = omega arith; told = rw b refl })
     by_first false b None q later =
-        let none : ◌≡◌ {A = Option ℕ} None (Some n) = sym (ap (λ (t : Bool). cond t (Some 2) (further 2 (first_alien rest))) b ∙ ap (further 2) q) ∙ e in
+        let none : ◌≡◌ {A = Option ℕ} None (Some n) =
+        sym (ap (λ (t : Bool). cond t (Some 2) (further 2 (first_alien rest))) b ∙ ap (further 2) q) ∙ e in
         absurd (cc)
     by_first false b (Some k) q later =
-        let some : ◌≡◌ {A = Option ℕ} (Some (2 + k)) (Some n) = sym (ap (λ (t : Bool). cond t (Some 2) (further 2 (first_alien rest))) b ∙ ap (further 2) q) ∙ e in
+        let some : ◌≡◌ {A = Option ℕ} (Some (2 + k)) (Some n) =
+        sym (ap (λ (t : Bool). cond t (Some 2) (further 2 (first_alien rest))) b ∙ ap (further 2) q) ∙ e in
         later_end high low rest n k b (later k q) (let same : 2 + k ≡ n = ap some_of some in omega arith)
 
 -- more bytes leave the first alien token where it is
 pub first_alien-grown : (v more : List ℕ) (n : ℕ) → first_alien v ≡ Some n → first_alien (v ++ more) ≡ Some n
 first_alien-grown [] more n e = absurd (cc)
 first_alien-grown (high ∷ []) more n e = absurd (cc)
-first_alien-grown (high ∷ low ∷ rest) more n e = by_first (is_alien high low) refl (first_alien rest) refl (λ k. first_alien-grown rest more k)
+first_alien-grown (high ∷ low ∷ rest) more n e =
+    by_first (is_alien high low) refl (first_alien rest) refl (λ k. first_alien-grown rest more k)
   where
-    by_first : (b : Bool) → is_alien high low ≡ b → (o : Option ℕ) → first_alien rest ≡ o → ((k : ℕ) → first_alien rest ≡ Some k → first_alien (rest ++ more) ≡ Some k) → first_alien (high ∷ low ∷ (rest ++ more)) ≡ Some n
+    by_first : (b : Bool) → is_alien high low ≡ b → (o : Option ℕ) → first_alien rest ≡ o →
+        ((k : ℕ) → first_alien rest ≡ Some k → first_alien (rest ++ more) ≡ Some k) →
+        first_alien (high ∷ low ∷ (rest ++ more)) ≡ Some n
     by_first true b o q later = rw b (sym (ap (λ (t : Bool). cond t (Some 2) (further 2 (first_alien rest))) b) ∙ e)
     by_first false b None q later =
-        let none : ◌≡◌ {A = Option ℕ} None (Some n) = sym (ap (λ (t : Bool). cond t (Some 2) (further 2 (first_alien rest))) b ∙ ap (further 2) q) ∙ e in
+        let none : ◌≡◌ {A = Option ℕ} None (Some n) =
+        sym (ap (λ (t : Bool). cond t (Some 2) (further 2 (first_alien rest))) b ∙ ap (further 2) q) ∙ e in
         absurd (cc)
     by_first false b (Some k) q later =
-        let some : ◌≡◌ {A = Option ℕ} (Some (2 + k)) (Some n) = sym (ap (λ (t : Bool). cond t (Some 2) (further 2 (first_alien rest))) b ∙ ap (further 2) q) ∙ e in
+        let some : ◌≡◌ {A = Option ℕ} (Some (2 + k)) (Some n) =
+        sym (ap (λ (t : Bool). cond t (Some 2) (further 2 (first_alien rest))) b ∙ ap (further 2) q) ∙ e in
         rw b (ap (further 2) (later k q) ∙ some)
 
 pub further-zero : (o : Option ℕ) → o ≡ further 0 o
@@ -74,39 +87,53 @@ further-zero None = refl
 further-zero (Some n) = ap Some (omega arith)
 
 -- where the first tokens are not alien, only the others are looked at
-pub first_alien-past : (v more : List ℕ) → length v % 2 ≡ 0 → first_alien v ≡ None → first_alien (v ++ more) ≡ further (length v) (first_alien more)
+pub first_alien-past : (v more : List ℕ) → length v % 2 ≡ 0 → first_alien v ≡ None →
+    first_alien (v ++ more) ≡ further (length v) (first_alien more)
 first_alien-past [] more h e = further-zero (first_alien more)
 first_alien-past (x ∷ []) more h e = absurd (omega arith)
 first_alien-past (high ∷ low ∷ rest) more h e =
     let k = none_first (is_alien high low) (first_alien rest) e in
-    rw k.0 (ap (further 2) (first_alien-past rest more (omega arith) k.1) ∙ further-further 2 (length rest) (first_alien more) ∙ ap (λ (n : ℕ). further n (first_alien more)) (omega arith))
+    rw k.0 (ap (further 2) (first_alien-past rest more (omega arith) k.1)
+    ∙ further-further 2 (length rest) (first_alien more)
+    ∙ ap (λ (n : ℕ). further n (first_alien more)) (omega arith))
 
 -- the same of a list in two parts
-pub first_alien-known : (v : List ℕ) (n : ℕ) → n % 2 ≡ 0 → n ≤ length v → first_alien (take n v) ≡ None → first_alien v ≡ further n (first_alien (drop n v))
+pub first_alien-known : (v : List ℕ) (n : ℕ) → n % 2 ≡ 0 → n ≤ length v → first_alien (take n v) ≡ None →
+    first_alien v ≡ further n (first_alien (drop n v))
 first_alien-known v n h l e =
     let size : length (take n v) ≡ n = omega (arith, length-take n v) in
-    ap first_alien (sym (take-append-drop n v)) ∙ first_alien-past (take n v) (drop n v) (omega arith) e ∙ ap (λ (m : ℕ). further m (first_alien (drop n v))) size
+    ap first_alien (sym (take-append-drop n v)) ∙ first_alien-past (take n v) (drop n v) (omega arith) e
+    ∙ ap (λ (m : ℕ). further m (first_alien (drop n v))) size
 
 -- what the token at a place is to the first alien one from there on
-pub first_alien-drop : (v : List ℕ) (n : ℕ) → n + 1 < length v → first_alien (drop n v) ≡ cond (is_alien (get_or v n 0) (get_or v (n + 1) 0)) (Some 2) (further 2 (first_alien (drop (n + 2) v)))
+pub first_alien-drop : (v : List ℕ) (n : ℕ) → n + 1 < length v →
+    first_alien (drop n v)
+    ≡ cond (is_alien (get_or v n 0) (get_or v (n + 1) 0)) (Some 2) (further 2 (first_alien (drop (n + 2) v)))
 first_alien-drop v n h =
     let one : drop n v ≡ get_or v n 0 ∷ drop (suc n) v = drop-cons v n 0 (omega arith) in
     let two : drop (suc n) v ≡ get_or v (suc n) 0 ∷ drop (suc (suc n)) v = drop-cons v (suc n) 0 (omega arith) in
     let next : suc n ≡ n + 1 = omega arith in
     let after : suc (suc n) ≡ n + 2 = omega arith in
     ap first_alien (one ∙ ap (λ (t : List ℕ). get_or v n 0 ∷ t) two)
-    ∙ ap (λ (m : ℕ). cond (is_alien (get_or v n 0) (get_or v m 0)) (Some 2) (further 2 (first_alien (drop (suc (suc n)) v)))) next
-    ∙ ap (λ (m : ℕ). cond (is_alien (get_or v n 0) (get_or v (n + 1) 0)) (Some 2) (further 2 (first_alien (drop m v)))) after
+    ∙ ap (λ (m : ℕ). cond (is_alien (get_or v n 0) (get_or v m 0)) (Some 2)
+    (further 2 (first_alien (drop (suc (suc n)) v)))) next
+    ∙ ap (λ (m : ℕ). cond (is_alien (get_or v n 0) (get_or v (n + 1) 0)) (Some 2) (further 2 (first_alien (drop m v))))
+    after
 
 -- what a look at one token after the other finds: where all before a place are not alien
 
-pub first_alien-here : (v : List ℕ) (n : ℕ) → n + 1 < length v → is_alien (get_or v n 0) (get_or v (n + 1) 0) ≡ true → first_alien v ≡ further n (first_alien (drop n v)) → Some (n + 2) ≡ first_alien v
+pub first_alien-here : (v : List ℕ) (n : ℕ) → n + 1 < length v → is_alien (get_or v n 0) (get_or v (n + 1) 0) ≡ true →
+    first_alien v ≡ further n (first_alien (drop n v)) → Some (n + 2) ≡ first_alien v
 first_alien-here v n h a e =
-    sym (e ∙ ap (further n) (first_alien-drop v n h ∙ ap (λ (b : Bool). cond b (Some 2) (further 2 (first_alien (drop (n + 2) v)))) a))
+    sym (e ∙ ap (further n) (first_alien-drop v n h
+    ∙ ap (λ (b : Bool). cond b (Some 2) (further 2 (first_alien (drop (n + 2) v)))) a))
 
-pub first_alien-next : (v : List ℕ) (n m : ℕ) → m ≡ n + 2 → n + 1 < length v → is_alien (get_or v n 0) (get_or v (n + 1) 0) ≡ false → first_alien v ≡ further n (first_alien (drop n v)) → first_alien v ≡ further m (first_alien (drop m v))
+pub first_alien-next : (v : List ℕ) (n m : ℕ) → m ≡ n + 2 → n + 1 < length v →
+    is_alien (get_or v n 0) (get_or v (n + 1) 0) ≡ false → first_alien v ≡ further n (first_alien (drop n v)) →
+    first_alien v ≡ further m (first_alien (drop m v))
 first_alien-next v n m q h a e =
-    e ∙ ap (further n) (first_alien-drop v n h ∙ ap (λ (b : Bool). cond b (Some 2) (further 2 (first_alien (drop (n + 2) v)))) a)
+    e ∙ ap (further n) (first_alien-drop v n h
+    ∙ ap (λ (b : Bool). cond b (Some 2) (further 2 (first_alien (drop (n + 2) v)))) a)
     ∙ further-further n 2 (first_alien (drop (n + 2) v)) ∙ ap (λ (k : ℕ). further k (first_alien (drop k v))) (sym q)
 
 first_alien-short : (v : List ℕ) → length v ≤ 1 → first_alien v ≡ None
@@ -114,7 +141,8 @@ first_alien-short [] h = refl
 first_alien-short (high ∷ []) h = refl
 first_alien-short (high ∷ low ∷ rest) h = absurd (omega arith)
 
-pub first_alien-none : (v : List ℕ) (n : ℕ) → length v ≤ n + 1 → first_alien v ≡ further n (first_alien (drop n v)) → None ≡ first_alien v
+pub first_alien-none : (v : List ℕ) (n : ℕ) → length v ≤ n + 1 → first_alien v ≡ further n (first_alien (drop n v)) →
+    None ≡ first_alien v
 first_alien-none v n h e =
     sym (e ∙ ap (further n) (first_alien-short (drop n v) (omega (arith, length-drop n v))))
 
@@ -133,7 +161,8 @@ ends_alien (high ∷ []) = false
 ends_alien (high ∷ low ∷ []) = is_alien high low
 ends_alien (high ∷ low ∷ x ∷ rest) = ends_alien (x ∷ rest)
 
-ends_alien-past : (high low : ℕ) (rest : List ℕ) (x : ℕ) → ends_alien (high ∷ low ∷ (rest ++ x ∷ [])) ≡ ends_alien (rest ++ x ∷ [])
+ends_alien-past : (high low : ℕ) (rest : List ℕ) (x : ℕ) →
+    ends_alien (high ∷ low ∷ (rest ++ x ∷ [])) ≡ ends_alien (rest ++ x ∷ [])
 ends_alien-past high low [] x = refl
 ends_alien-past high low (y ∷ rest) x = refl
 
@@ -142,9 +171,11 @@ further-cond true n = ap Some (omega arith)
 further-cond false n = refl
 
 -- a byte can only end an alien token at the end
-pub alien-push : (w : List ℕ) (x : ℕ) → first_alien w ≡ None → first_alien (w ++ x ∷ []) ≡ cond (ends_alien (w ++ x ∷ [])) (Some (length w + 1)) None
+pub alien-push : (w : List ℕ) (x : ℕ) → first_alien w ≡ None →
+    first_alien (w ++ x ∷ []) ≡ cond (ends_alien (w ++ x ∷ [])) (Some (length w + 1)) None
 alien-push [] x e = refl
 alien-push (high ∷ []) x e = refl
 alien-push (high ∷ low ∷ rest) x e =
     let k = none_first (is_alien high low) (first_alien rest) e in
-    rw k.0 (rw (alien-push rest x k.1) (rw (ends_alien-past high low rest x) (further-cond (ends_alien (rest ++ x ∷ [])) (length rest))))
+    rw k.0 (rw (alien-push rest x k.1)
+    (rw (ends_alien-past high low rest x) (further-cond (ends_alien (rest ++ x ∷ [])) (length rest))))

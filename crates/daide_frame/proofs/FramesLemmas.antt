@@ -1,5 +1,7 @@
 -- What the definitions of the first frame come to, by how much of it there is.
-use Rattle.std.proofs.Common.{◌≡◌, ℕ, zero, suc, ◌+◌, ◌-◌, ◌<◌, ◌≤◌, true, false, cond, leb, eqb, List, [], ◌∷◌, ◌++◌, length, take, drop, Option, Some, None, Result, Ok, Err, refl, sym, ap, ◌∙◌, subst, arith, length-append}
+use Rattle.std.proofs.Common.{◌≡◌, ℕ, zero, suc, ◌+◌, ◌-◌, ◌<◌, ◌≤◌, true, false, cond, leb, eqb, List, [], ◌∷◌, ◌++◌}
+use Rattle.std.proofs.Common.{length, take, drop, Option, Some, None, Result, Ok, Err, refl, sym, ap, ◌∙◌, subst, arith}
+use Rattle.std.proofs.Common.{length-append}
 use Rattle.std.specs.Prelude.{is_some}
 use Rattle.std.proofs.lemmas.Bool.{lt-ltb}
 use Rattle.std.proofs.lemmas.Bool.Decides.{nat_tests}
@@ -12,7 +14,9 @@ use Rattle.daide_frame.specs.declared.code.Code.{Code}
 use Rattle.daide_frame.specs.declared.code.Code.TheVariants.{InvalidToken}
 use Rattle.daide_frame.specs.declared.cutter.Step.TheVariants.{More, Bodied}
 use Rattle.daide_frame.specs.Head.{kind_number, head_of}
-use Rattle.daide_frame.specs.Frames.{first_alien, alien_in, Item, Begun, Whole, Wrong, items_of_body, items_from_head, first_items, ending_at, last_items, is_nothing, fed, fed_items, told, answer_to, head_part, head_in, missing_of_body, missing}
+use Rattle.daide_frame.specs.Frames.{first_alien, alien_in, Item, Begun, Whole, Wrong, items_of_body, items_from_head}
+use Rattle.daide_frame.specs.Frames.{first_items, ending_at, last_items, is_nothing, fed, fed_items, told, answer_to}
+use Rattle.daide_frame.specs.Frames.{head_part, head_in, missing_of_body, missing}
 use Rattle.daide_frame.proofs.ListLemmas.{ltb_no, eqb_no, take_whole}
 
 -- before the header is whole nothing ends
@@ -38,13 +42,17 @@ take-nothing zero = refl
 take-nothing (suc n) = refl
 
 pub alien_in-nothing : (head : Head) → alien_in head [] ≡ None
-alien_in-nothing head = rw (take-nothing head.len) (elim (eqb (kind_number head.kind) 2) as (λ b. cond b (first_alien []) None ≡ None) [ true ↦ refl | false ↦ refl ])
+alien_in-nothing head =
+    rw (take-nothing head.len)
+    (elim (eqb (kind_number head.kind) 2) as (λ b. cond b (first_alien []) None
+    ≡ None) [ true ↦ refl | false ↦ refl ])
 
 ending_at-head : (r : Result Head Code) → ending_at 4 (items_from_head r []) ≡ at_head r
 ending_at-head (Err code) = refl
 ending_at-head (Ok head) = rw (alien_in-nothing head) (rw (take-nothing head.len) (grind (arith, nat_tests)))
 
-pub last_items-head4 : (limit p q r s : ℕ) → last_items limit (p ∷ q ∷ r ∷ s ∷ []) ≡ at_head (head_of (p ∷ q ∷ r ∷ s ∷ []) limit)
+pub last_items-head4 : (limit p q r s : ℕ) →
+    last_items limit (p ∷ q ∷ r ∷ s ∷ []) ≡ at_head (head_of (p ∷ q ∷ r ∷ s ∷ []) limit)
 unfolding last_items first_items
 last_items-head4 limit p q r s = ending_at-head (head_of (p ∷ q ∷ r ∷ s ∷ []) limit)
 
@@ -61,14 +69,19 @@ abbrev pub at_body : Head → List ℕ → Option ℕ → List Item
 at_body head v (Some n) = cond (eqb n (length v)) (Wrong InvalidToken ∷ []) []
 at_body head v None = cond (eqb head.len (length v)) (Whole head v ∷ []) []
 
-whole_if : (head : Head) (v : List ℕ) → ending_at (4 + length v) (cond (leb head.len (length v)) (record { item = Whole head (take head.len v); at = 4 + head.len } ∷ []) []) ≡ cond (eqb head.len (length v)) (Whole head v ∷ []) []
+whole_if : (head : Head) (v : List ℕ) →
+    ending_at (4 + length v)
+    (cond (leb head.len (length v)) (record { item = Whole head (take head.len v); at = 4 + head.len } ∷ []) [])
+    ≡ cond (eqb head.len (length v)) (Whole head v ∷ []) []
 whole_if head v = grind (arith, nat_tests, take_all)
 
-ending_at-body : (head : Head) (v : List ℕ) (o : Option ℕ) → ending_at (4 + length v) (items_of_body head v o) ≡ at_body head v o
+ending_at-body : (head : Head) (v : List ℕ) (o : Option ℕ) →
+    ending_at (4 + length v) (items_of_body head v o) ≡ at_body head v o
 ending_at-body head v (Some n) = grind (arith, nat_tests)
 ending_at-body head v None = whole_if head v
 
-pub head_of-append4 : (limit p q r s : ℕ) (v : List ℕ) → head_of (p ∷ q ∷ r ∷ s ∷ v) limit ≡ head_of (p ∷ q ∷ r ∷ s ∷ []) limit
+pub head_of-append4 : (limit p q r s : ℕ) (v : List ℕ) →
+    head_of (p ∷ q ∷ r ∷ s ∷ v) limit ≡ head_of (p ∷ q ∷ r ∷ s ∷ []) limit
 unfolding head_of
 head_of-append4 limit p q r s v = refl
 
@@ -82,18 +95,22 @@ head_of-append limit (p ∷ q ∷ r ∷ s ∷ []) v e = head_of-append4 limit p 
 head_of-append limit (p ∷ q ∷ r ∷ s ∷ t ∷ u) v e = absurd (omega arith)
 
 -- a body's byte ends nothing of the header
-items_past_head : (head : Head) (v : List ℕ) (o : Option ℕ) (n : ℕ) → n ≡ 4 + length v → 0 < length v → ending_at n (record { item = Begun head; at = 4 } ∷ items_of_body head v o) ≡ at_body head v o
+items_past_head : (head : Head) (v : List ℕ) (o : Option ℕ) (n : ℕ) → n ≡ 4 + length v → 0 < length v →
+    ending_at n (record { item = Begun head; at = 4 } ∷ items_of_body head v o) ≡ at_body head v o
 items_past_head head v o n e f =
-    rw (eqb_no 4 n (omega arith)) (subst (λ (k : ℕ). ending_at k (items_of_body head v o) ≡ at_body head v o) (sym e) (ending_at-body head v o))
+    rw (eqb_no 4 n (omega arith))
+    (subst (λ (k : ℕ). ending_at k (items_of_body head v o) ≡ at_body head v o) (sym e) (ending_at-body head v o))
 
-pub last_items-body4 : (limit p q r s : ℕ) (v : List ℕ) (head : Head) → head_of (p ∷ q ∷ r ∷ s ∷ []) limit ≡ Ok head → 0 < length v → last_items limit (p ∷ q ∷ r ∷ s ∷ v) ≡ at_body head v (alien_in head v)
+pub last_items-body4 : (limit p q r s : ℕ) (v : List ℕ) (head : Head) → head_of (p ∷ q ∷ r ∷ s ∷ []) limit ≡ Ok head →
+    0 < length v → last_items limit (p ∷ q ∷ r ∷ s ∷ v) ≡ at_body head v (alien_in head v)
 unfolding last_items first_items
 last_items-body4 limit p q r s v head h f =
     rw (ltb_no (length (p ∷ q ∷ r ∷ s ∷ v)) 4 (omega arith))
     (rw (head_of-append4 limit p q r s v)
     (rw h (items_past_head head v (alien_in head v) (length (p ∷ q ∷ r ∷ s ∷ v)) (omega arith) f)))
 
-pub last_items-body : (limit : ℕ) (a v : List ℕ) (head : Head) → length a ≡ 4 → head_of a limit ≡ Ok head → 0 < length v → last_items limit (a ++ v) ≡ at_body head v (alien_in head v)
+pub last_items-body : (limit : ℕ) (a v : List ℕ) (head : Head) → length a ≡ 4 → head_of a limit ≡ Ok head →
+    0 < length v → last_items limit (a ++ v) ≡ at_body head v (alien_in head v)
 last_items-body limit [] v head e h f = absurd (omega arith)
 last_items-body limit (p ∷ []) v head e h f = absurd (omega arith)
 last_items-body limit (p ∷ q ∷ []) v head e h f = absurd (omega arith)
@@ -102,7 +119,8 @@ last_items-body limit (p ∷ q ∷ r ∷ s ∷ []) v head e h f = last_items-bod
 last_items-body limit (p ∷ q ∷ r ∷ s ∷ t ∷ u) v head e h f = absurd (omega arith)
 
 -- where a byte of the body is wanted, no token was alien
-pub wanted : (head : Head) (w : List ℕ) → 0 < missing_of_body (Some head) w → (alien_in head w ≡ None) × (length w < head.len)
+pub wanted : (head : Head) (w : List ℕ) → 0 < missing_of_body (Some head) w →
+    (alien_in head w ≡ None) × (length w < head.len)
 wanted head w h = by_alien (alien_in head w) h
   where
     by_alien : (o : Option ℕ) → 0 < cond (is_some o) 0 (head.len - length w) → (o ≡ None) × (length w < head.len)
@@ -127,9 +145,13 @@ loud_items : (items : List Item) → (answer_to items ≡ More → ⊥) → is_n
 loud_items [] h = absurd (h refl)
 loud_items (item ∷ items) h = refl
 
-pub fed-loud : (limit : ℕ) (bytes : List ℕ) (x : ℕ) (piece : List ℕ) → (answer_to (last_items limit (bytes ++ x ∷ [])) ≡ More → ⊥) → (fed limit bytes (x ∷ piece) ≡ bytes ++ x ∷ []) × (fed_items limit bytes (x ∷ piece) ≡ last_items limit (bytes ++ x ∷ []))
+pub fed-loud : (limit : ℕ) (bytes : List ℕ) (x : ℕ) (piece : List ℕ) →
+    (answer_to (last_items limit (bytes ++ x ∷ [])) ≡ More → ⊥) →
+    (fed limit bytes (x ∷ piece) ≡ bytes ++ x ∷ [])
+    × (fed_items limit bytes (x ∷ piece) ≡ last_items limit (bytes ++ x ∷ []))
 fed-loud limit bytes x piece h =
-    let n : is_nothing (last_items limit (bytes ++ x ∷ [])) ≡ false = loud_items (last_items limit (bytes ++ x ∷ [])) h in
+    let n : is_nothing (last_items limit (bytes ++ x ∷ [])) ≡ false =
+    loud_items (last_items limit (bytes ++ x ∷ [])) h in
     (rw n refl, rw n refl)
 
 pub told_whole : (head : Head) (v : List ℕ) → 0 < length v → told Bodied (Some head) v ≡ Whole head v ∷ []
@@ -140,16 +162,20 @@ pub first_items-short : (limit : ℕ) (b : List ℕ) → length b < 4 → first_
 unfolding first_items
 first_items-short limit b h = rw (lt-ltb (length b) 4 h) refl
 
-pub missing-four : (limit : ℕ) (header body : List ℕ) → length header ≡ 4 → missing limit (header ++ body) ≡ missing_of_body (head_in limit (header ++ body)) body
+pub missing-four : (limit : ℕ) (header body : List ℕ) → length header ≡ 4 →
+    missing limit (header ++ body) ≡ missing_of_body (head_in limit (header ++ body)) body
 unfolding missing
 missing-four limit header body e =
     rw (ltb_no (length (header ++ body)) 4 (omega (arith, length-append header body)))
-    (ap (missing_of_body (head_in limit (header ++ body))) (subst (λ (n : ℕ). drop n (header ++ body) ≡ body) e (drop-append_seam header body)))
+    (ap (missing_of_body (head_in limit (header ++ body)))
+    (subst (λ (n : ℕ). drop n (header ++ body) ≡ body) e (drop-append_seam header body)))
 
-pub missing-of4 : (limit p q r s : ℕ) (w : List ℕ) → missing limit (p ∷ q ∷ r ∷ s ∷ w) ≡ missing_of_body (head_part (head_of (p ∷ q ∷ r ∷ s ∷ []) limit)) w
+pub missing-of4 : (limit p q r s : ℕ) (w : List ℕ) →
+    missing limit (p ∷ q ∷ r ∷ s ∷ w) ≡ missing_of_body (head_part (head_of (p ∷ q ∷ r ∷ s ∷ []) limit)) w
 missing-of4 limit p q r s w =
     missing-four limit (p ∷ q ∷ r ∷ s ∷ []) w refl
-    ∙ ap (λ (o : Option Head). missing_of_body o w) (head_in-whole limit (p ∷ q ∷ r ∷ s ∷ w) (omega arith) ∙ ap head_part (head_of-append4 limit p q r s w))
+    ∙ ap (λ (o : Option Head). missing_of_body o w) (head_in-whole limit (p ∷ q ∷ r ∷ s ∷ w) (omega arith)
+    ∙ ap head_part (head_of-append4 limit p q r s w))
 
 pub missing-short : (limit : ℕ) (b : List ℕ) → length b < 4 → missing limit b ≡ 4 - length b
 unfolding missing

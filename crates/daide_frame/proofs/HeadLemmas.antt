@@ -1,5 +1,6 @@
 -- What reading makes of a header: what is known of a good one, and of one that was written.
-use Rattle.std.proofs.Common.{◌≡◌, ℕ, ◌<◌, ◌≤◌, true, false, ltb, eqb, Option, Some, Ok, refl, ap, ◌∙◌, arith, suc, inl, inr, Bool, cond, List, [], ◌∷◌, None, Result, Err, sym, subst, ◌⊎◌}
+use Rattle.std.proofs.Common.{◌≡◌, ℕ, ◌<◌, ◌≤◌, true, false, ltb, eqb, Option, Some, Ok, refl, ap, ◌∙◌, arith, suc, inl}
+use Rattle.std.proofs.Common.{inr, Bool, cond, List, [], ◌∷◌, None, Result, Err, sym, subst, ◌⊎◌}
 use Rattle.std.specs.Prelude.{◌^◌, ◌&&◌, slice_index}
 use Rattle.std.specs.Int.{w16, from_be_bytes, to_be_bytes}
 use Rattle.std.proofs.lemmas.Bool.Decides.{nat_tests, leb_tells}
@@ -28,12 +29,16 @@ len_in : Result Head Code → ℕ
 len_in (Ok head) = head.len
 len_in (Err code) = 0
 
-judged-ok : (kind : Kind) (n : ℕ) (head : Head) (swapped right long : Bool) → cond {A = Result Head Code} swapped (Err WrongEndian) (cond right (cond long (Err UnknownMessage) (Ok (record { kind = kind; len = n }))) (Err WrongLength)) ≡ Ok head → IsJudged kind n right long head
+judged-ok : (kind : Kind) (n : ℕ) (head : Head) (swapped right long : Bool) →
+    cond {A = Result Head Code} swapped (Err WrongEndian)
+    (cond right (cond long (Err UnknownMessage) (Ok (record { kind = kind; len = n }))) (Err WrongLength)) ≡ Ok head
+    → IsJudged kind n right long head
 unfolding kind_in len_in
 judged-ok kind n head true right long e = absurd (cc)
 judged-ok kind n head false false long e = absurd (cc)
 judged-ok kind n head false true true e = absurd (cc)
-judged-ok kind n head false true false e = record { right_is = refl; short = refl; same_kind = ap (kind_in kind) e; same_len = ap len_in e }
+judged-ok kind n head false true false e =
+    record { right_is = refl; short = refl; same_kind = ap (kind_in kind) e; same_len = ap len_in e }
 
 not_above : (n limit : ℕ) → ltb limit n ≡ false → n ≤ limit
 not_above n limit e = by_order (leb_tells (suc limit) n)
@@ -52,13 +57,15 @@ judged-good None n limit head e = absurd (cc)
 judged-good (Some kind) n limit head e =
     let h = judged-ok kind n head (is_im kind && eqb n 1024) (has_right_length kind n) (ltb limit n) e in
     record {
-      right = ap (λ (k : Kind). has_right_length k head.len) (sym h.same_kind) ∙ ap (has_right_length kind) (sym h.same_len) ∙ h.right_is;
+      right = ap (λ (k : Kind). has_right_length k head.len) (sym h.same_kind)
+          ∙ ap (has_right_length kind) (sym h.same_len) ∙ h.right_is;
       within = subst (λ (m : ℕ). m ≤ limit) h.same_len (not_above n limit h.short);
     }
 
 pub head_of-good : (b : List ℕ) (limit : ℕ) (head : Head) → head_of b limit ≡ Ok head → IsGood limit head
 unfolding head_of
-head_of-good b limit head e = judged-good (kind_of (slice_index b 0)) (from_be_bytes w16 (slice_index b 2 ∷ slice_index b 3 ∷ [])) limit head e
+head_of-good b limit head e =
+    judged-good (kind_of (slice_index b 0)) (from_be_bytes w16 (slice_index b 2 ∷ slice_index b 3 ∷ [])) limit head e
 
 -- a header that was written
 
@@ -77,13 +84,16 @@ not_swapped Dm n h = refl
 not_swapped Fm n h = refl
 not_swapped Em n h = refl
 
-judged-right : (kind : Kind) (n cap : ℕ) → has_right_length kind n ≡ true → n ≤ cap → judged (Some kind) n cap ≡ Ok (record { kind = kind; len = n })
+judged-right : (kind : Kind) (n cap : ℕ) → has_right_length kind n ≡ true → n ≤ cap →
+    judged (Some kind) n cap ≡ Ok (record { kind = kind; len = n })
 judged-right kind n cap h l = rw (not_swapped kind n h) (rw h (rw (ltb_no cap n l) refl))
 
-pub head_of-head_bytes : (head : Head) (cap : ℕ) → head.len < 2 ^ 16 → has_right_length head.kind head.len ≡ true → head.len ≤ cap → head_of (head_bytes head) cap ≡ Ok head
+pub head_of-head_bytes : (head : Head) (cap : ℕ) → head.len < 2 ^ 16 → has_right_length head.kind head.len ≡ true →
+    head.len ≤ cap → head_of (head_bytes head) cap ≡ Ok head
 unfolding head_of head_bytes
 head_of-head_bytes head cap b h l =
     let n : from_be_bytes w16 (to_be_bytes w16 head.len) ≡ head.len = from_be_bytes-to_be_bytes_2 head.len b in
-    ap (λ (o : Option Kind). judged o (from_be_bytes w16 (to_be_bytes w16 head.len)) cap) (kind_of-kind_number head.kind)
+    ap (λ (o : Option Kind). judged o (from_be_bytes w16 (to_be_bytes w16 head.len)) cap)
+    (kind_of-kind_number head.kind)
     ∙ ap (λ (m : ℕ). judged (Some head.kind) m cap) n
     ∙ judged-right head.kind head.len cap h l

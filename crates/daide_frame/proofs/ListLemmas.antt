@@ -1,5 +1,6 @@
 -- Tests of numbers that are known, and lists that are cut where they end.
-use Rattle.std.proofs.Common.{◌≡◌, ℕ, ◌+◌, ◌<◌, ◌≤◌, true, false, ltb, leb, eqb, List, [], ◌∷◌, ◌++◌, length, get_or, take, drop, sym, ap, ◌∙◌, arith, length-drop, length-take, append_assoc}
+use Rattle.std.proofs.Common.{◌≡◌, ℕ, ◌+◌, ◌<◌, ◌≤◌, true, false, ltb, leb, eqb, List, [], ◌∷◌, ◌++◌, length, get_or}
+use Rattle.std.proofs.Common.{take, drop, sym, ap, ◌∙◌, arith, length-drop, length-take, append_assoc}
 use Rattle.std.proofs.lemmas.Bool.Decides.{nat_tests}
 use Rattle.std.proofs.lemmas.Grind.{common_steps}
 use Rattle.std.proofs.lemmas.List.{take_more}
@@ -40,6 +41,8 @@ within_part v n m h = omega (arith, length-take n v)
 pub short_rest : (piece : List ℕ) (i : ℕ) → i < length piece → length (drop i piece) ≤ 1 → take (i + 1) piece ≡ piece
 short_rest piece i l h = take_whole (i + 1) piece (omega (arith, length-drop i piece))
 
-pub all_taken : (first bytes : List ℕ) (piece : List ℕ) (i : ℕ) → i < length piece → length (drop i piece) ≤ 1 → bytes ≡ first ++ take i piece → bytes ++ get_or piece i 0 ∷ [] ≡ first ++ piece
+pub all_taken : (first bytes : List ℕ) (piece : List ℕ) (i : ℕ) → i < length piece → length (drop i piece) ≤ 1 →
+    bytes ≡ first ++ take i piece → bytes ++ get_or piece i 0 ∷ [] ≡ first ++ piece
 all_taken first bytes piece i l h e =
-    ap (λ (t : List ℕ). t ++ get_or piece i 0 ∷ []) e ∙ append_assoc first (take i piece) (get_or piece i 0 ∷ []) ∙ ap (λ (t : List ℕ). first ++ t) (sym (take_more piece i 0 l) ∙ short_rest piece i l h)
+    ap (λ (t : List ℕ). t ++ get_or piece i 0 ∷ []) e ∙ append_assoc first (take i piece) (get_or piece i 0 ∷ [])
+    ∙ ap (λ (t : List ℕ). first ++ t) (sym (take_more piece i 0 l) ∙ short_rest piece i l h)

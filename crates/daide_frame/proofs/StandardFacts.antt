@@ -1,11 +1,13 @@
 -- Worked examples, computed from the definitions: a wrong table does not check.
 use Rattle.std.proofs.Common.{◌≡◌, [], ◌∷◌, Ok, Err, refl}
-use Rattle.daide_frame.specs.declared.code.Code.TheVariants.{WrongEndian, WrongMagic, WrongVersion, UnknownMessage, WrongLength, InvalidToken}
+use Rattle.daide_frame.specs.declared.code.Code.TheVariants.{WrongEndian, WrongMagic, WrongVersion, UnknownMessage}
+use Rattle.daide_frame.specs.declared.code.Code.TheVariants.{WrongLength, InvalidToken}
 use Rattle.daide_frame.specs.declared.head.Kind.TheVariants.{Im, Rm, Dm, Fm, Em}
 use Rattle.daide_frame.specs.declared.cutter.Step.TheVariants.{Bodied}
 use Rattle.daide_frame.specs.Head.{head_bytes, head_of}
 use Rattle.daide_frame.specs.InitialMessage.{im_of}
-use Rattle.daide_frame.specs.Frames.{answer_to, is_alien, Begun, Whole, Wrong, cut, fed, first_items, head_in, last_items, missing}
+use Rattle.daide_frame.specs.Frames.{answer_to, is_alien, Begun, Whole, Wrong, cut, fed, first_items, head_in}
+use Rattle.daide_frame.specs.Frames.{last_items, missing}
 
 -- a frame's items end at its header and at its body's last byte, and the next frame follows
 dm_then_fm : cut 1024 (0x02 ∷ 0x00 ∷ 0x00 ∷ 0x02 ∷ 0x48 ∷ 0x0F ∷ 0x03 ∷ 0x00 ∷ 0x00 ∷ 0x00 ∷ []) ≡
@@ -17,7 +19,8 @@ unfolding cut first_items head_of is_alien
 dm_then_fm = refl
 
 -- an alien token is told at its second byte, and then nothing follows
-alien_in_second_frame : cut 1024 (0x03 ∷ 0x00 ∷ 0x00 ∷ 0x00 ∷ 0x02 ∷ 0x00 ∷ 0x00 ∷ 0x06 ∷ 0x48 ∷ 0x03 ∷ 0x58 ∷ 0x00 ∷ 0x48 ∷ []) ≡
+alien_in_second_frame : cut 1024
+    (0x03 ∷ 0x00 ∷ 0x00 ∷ 0x00 ∷ 0x02 ∷ 0x00 ∷ 0x00 ∷ 0x06 ∷ 0x48 ∷ 0x03 ∷ 0x58 ∷ 0x00 ∷ 0x48 ∷ []) ≡
     record { item = Begun (record { kind = Fm; len = 0 }); at = 4 }
     ∷ record { item = Whole (record { kind = Fm; len = 0 }) []; at = 4 }
     ∷ record { item = Begun (record { kind = Dm; len = 6 }); at = 8 }
@@ -41,7 +44,11 @@ half_an_alien = refl
 -- only a DM is made of tokens
 block_of_a_map : cut 1024 (0x01 ∷ 0x00 ∷ 0x00 ∷ 0x06 ∷ 0xFF ∷ 0xFF ∷ 0x42 ∷ 0x4F ∷ 0x48 ∷ 0x00 ∷ []) ≡
     record { item = Begun (record { kind = Rm; len = 6 }); at = 4 }
-    ∷ record { item = Whole (record { kind = Rm; len = 6 }) (0xFF ∷ 0xFF ∷ 0x42 ∷ 0x4F ∷ 0x48 ∷ 0x00 ∷ []); at = 10 } ∷ []
+    ∷ record {
+      item = Whole (record { kind = Rm; len = 6 }) (0xFF ∷ 0xFF ∷ 0x42 ∷ 0x4F ∷ 0x48 ∷ 0x00 ∷ []);
+      at =
+          10;
+    } ∷ []
 unfolding cut first_items head_of is_alien
 block_of_a_map = refl
 

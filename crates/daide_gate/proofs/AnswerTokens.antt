@@ -1,5 +1,6 @@
 -- The tokens of an answer, by those of the message that it answers.
-use Rattle.std.proofs.Common.{◌≡◌, ◌++◌, ◌∷◌, [], ◌*◌, ◌%◌, ◌≤◌, List, ℕ, false, length, take, drop, ap, sym, ◌∙◌, arith}
+use Rattle.std.proofs.Common.{◌≡◌, ◌++◌, ◌∷◌, [], ◌*◌, ◌%◌, ◌≤◌, List, ℕ, false, length, take, drop, ap, sym, ◌∙◌}
+use Rattle.std.proofs.Common.{arith}
 use Rattle.std.proofs.Common.{append_assoc, length-take, length-drop}
 use Rattle.daide_token.specs.Token.{prn, huh, bra, err, ket, tokens_of}
 use Rattle.daide_token.specs.Text.{text_of}

@@ -1,6 +1,7 @@
 -- What a reader gave, joined over its reads.
-use Rattle.std.proofs.Common.{◌≡◌, ℕ, zero, suc, ◌+◌, ◌<◌, ◌≤◌, take, List, [], ◌∷◌, ◌++◌, length, Option, Some, None, IfSome, append-nil, append_assoc, length-append, arith, ap, sym, ◌∙◌}
-use Rattle.std.specs.Io.KnownBytes.{Consumes, Keeps, IsAtEnd}
+use Rattle.std.proofs.Common.{◌≡◌, ℕ, zero, suc, ◌+◌, ◌<◌, ◌≤◌, take, List, [], ◌∷◌, ◌++◌, length, Option, Some, None}
+use Rattle.std.proofs.Common.{IfSome, append-nil, append_assoc, length-append, arith, ap, sym, ◌∙◌}
+use Rattle.std.specs.Io.KnownBytes.{Consumes, IsAtEnd}
 
 -- a front has no more than was asked for
 pub front_few : (n : ℕ) (l : List ℕ) → length (take n l) ≤ n
@@ -17,16 +18,9 @@ read_more (Some xs) (Some ys) None input piece given more = absurd more
 read_more (Some xs) (Some ys) (Some zs) input piece given more =
     given ∙ ap (λ (rest : List ℕ). input ++ rest) more ∙ sym (append_assoc input piece zs)
 
--- a read that failed took nothing
-pub read_none : (old now new : Option (List ℕ)) (input : List ℕ) → Consumes old now input → Keeps now new
-    → Consumes old new input
-read_none None now new input given kept = tt
-read_none (Some xs) None new input given kept = absurd given
-read_none (Some xs) (Some ys) None input given kept = absurd kept
-read_none (Some xs) (Some ys) (Some zs) input given kept = given ∙ ap (λ (rest : List ℕ). input ++ rest) (sym kept)
-
 -- at the end the input is all that there was
-pub whole_input : (old now new : Option (List ℕ)) (input : List ℕ) → Consumes old now input → Consumes now new [] → IsAtEnd new
+pub whole_input : (old now new : Option (List ℕ)) (input : List ℕ) → Consumes old now input → Consumes now new [] →
+    IsAtEnd new
     → IfSome old (λ all. input ≡ all)
 whole_input None now new input given last ended = tt
 whole_input (Some xs) None new input given last ended = absurd given
@@ -36,7 +30,8 @@ whole_input (Some xs) (Some ys) (Some zs) input given last ended =
     sym (given ∙ ap (λ (rest : List ℕ). input ++ rest) left ∙ append-nil input)
 
 -- a piece more than the limit makes the whole longer than it
-pub longer_input : (old now new : Option (List ℕ)) (input piece : List ℕ) (limit : ℕ) → Consumes old now input → Consumes now new piece
+pub longer_input : (old now new : Option (List ℕ)) (input piece : List ℕ) (limit : ℕ) → Consumes old now input →
+    Consumes now new piece
     → limit < length input + length piece → IfSome old (λ all. limit < length all)
 longer_input None now new input piece limit given more long = tt
 longer_input (Some xs) None new input piece limit given more long = absurd given

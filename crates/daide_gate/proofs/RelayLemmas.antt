@@ -1,12 +1,12 @@
 -- Turns in a row.
-use Rattle.std.proofs.Common.{◌≡◌, ℕ, ◌+◌, ◌≤◌, Bool, true, false, List, [], ◌∷◌, ◌++◌, Option}
-use Rattle.std.proofs.Common.{refl, sym, subst, suc, add-one}
+use Rattle.std.proofs.Common.{◌≡◌, ℕ, ◌+◌, ◌≤◌, false, List, Option}
+use Rattle.std.proofs.Common.{sym, subst, add-one}
 use Rattle.daide_machine.specs.Wires.{Gateway, is_closed}
 use Rattle.daide_session.specs.Record.{PortAnswer, Relays, Carries}
 use Rattle.daide_session.specs.Turn.{Then, Turn}
 use Rattle.daide_gate.specs.Relay.{Turns, MakesTurns}
-use Rattle.daide_gate.specs.declared.relaying.RelayEnd.TheVariants.{Closed, TurnsSpent}
-use Rattle.daide_session.proofs.Stretches.{relays_append, relays_nil, carries_then, carries_weaker, carries_none}
+use Rattle.daide_gate.specs.declared.relaying.RelayEnd.TheVariants.{Closed}
+use Rattle.daide_session.proofs.Stretches.{relays_append, carries_then, carries_weaker}
 use Rattle.daide_session.proofs.TurnLemmas.{turn_relays}
 
 -- n turns, by which the session relays
@@ -16,9 +16,6 @@ RelaysIn n old answers new = Turns n old answers new × Relays old answers new
 -- the same, of a session that isn't closed then
 abbrev pub StaysOpen : ℕ → Gateway → List PortAnswer → Gateway → Type 0
 StaysOpen n old answers new = RelaysIn n old answers new × (is_closed new ≡ false)
-
-pub no_turns : (a : Gateway) (s : Option (List PortAnswer)) → Carries (RelaysIn 0) a s a s
-no_turns a s = carries_none (RelaysIn 0) a s ((refl, refl), relays_nil a)
 
 one_more : (n : ℕ) (a : Gateway) (xs : List PortAnswer) (b : Gateway) → Then (StaysOpen n) Turn a xs b →
     RelaysIn (n + 1) a xs b
@@ -36,15 +33,7 @@ another_turn n a s b t c u h e k =
     (carries_then (StaysOpen n) Turn a s b t c u
     (carries_weaker (RelaysIn n) (StaysOpen n) a s b t (λ xs r. (r, e)) h) k)
 
-pub all_relay : (n : ℕ) (a : Gateway) (s : Option (List PortAnswer)) (b : Gateway) (t : Option (List PortAnswer)) →
-    Carries (RelaysIn n) a s b t → Carries Relays a s b t
-all_relay n a s b t h = carries_weaker (RelaysIn n) Relays a s b t (λ xs r. r.1) h
-
 pub closed_early : (n turns : ℕ) → n ≤ turns → (a : Gateway) (s : Option (List PortAnswer)) (b : Gateway)
     (t : Option (List PortAnswer)) → Carries (RelaysIn n) a s b t → Carries (MakesTurns Closed turns) a s b t
 closed_early n turns few a s b t h =
     carries_weaker (RelaysIn n) (MakesTurns Closed turns) a s b t (λ xs r. (n, few, r.0)) h
-
-pub all_made : (n : ℕ) (a : Gateway) (s : Option (List PortAnswer)) (b : Gateway) (t : Option (List PortAnswer)) →
-    Carries (RelaysIn n) a s b t → Carries (MakesTurns TurnsSpent n) a s b t
-all_made n a s b t h = carries_weaker (RelaysIn n) (MakesTurns TurnsSpent n) a s b t (λ xs r. r.0) h

@@ -1,4 +1,5 @@
--- Rows of the table of settings in docs/FORMATS.md, computed from the definitions: each range at both ends, each default,
+-- Rows of the table of settings in docs/FORMATS.md, computed from the definitions: each range at both ends, each
+-- default,
 -- and the order of the faults.
 use Rattle.std.proofs.Common.{◌≡◌, codes, true, false, Some, Ok, Err, refl}
 use Rattle.std.specs.Prelude.{pos, negsuc}

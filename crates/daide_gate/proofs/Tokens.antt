@@ -1,11 +1,13 @@
 -- The tokens of a body in parts.
-use Rattle.std.proofs.Common.{◌≡◌, ℕ, zero, suc, ◌+◌, ◌*◌, ◌%◌, ◌≤◌, List, [], ◌∷◌, ◌++◌, length, take, drop, refl, ap, arith}
+use Rattle.std.proofs.Common.{◌≡◌, ℕ, zero, suc, ◌+◌, ◌*◌, ◌%◌, ◌≤◌, List, [], ◌∷◌, ◌++◌, length, take, drop, refl, ap}
+use Rattle.std.proofs.Common.{arith}
 use Rattle.daide_token.specs.Token.{tokens_of}
 
 pub tokens_of-append : (xs ys : List ℕ) → length xs % 2 ≡ 0 → tokens_of (xs ++ ys) ≡ tokens_of xs ++ tokens_of ys
 tokens_of-append [] ys even = refl
 tokens_of-append (x ∷ []) ys even = absurd (omega arith)
-tokens_of-append (high ∷ low ∷ rest) ys even = ap (λ ts. (high * 256 + low) ∷ ts) (tokens_of-append rest ys (omega arith))
+tokens_of-append (high ∷ low ∷ rest) ys even =
+    ap (λ ts. (high * 256 + low) ∷ ts) (tokens_of-append rest ys (omega arith))
 
 -- the tokens of a front
 pub tokens_of-take : (n : ℕ) (b : List ℕ) → 2 * n ≤ length b → tokens_of (take (2 * n) b) ≡ take n (tokens_of b)

@@ -1,5 +1,5 @@
 -- What `relay` does: so many turns of a session, while it isn't closed.
-use Rattle.std.specs.Prelude.{◌≡◌, ℕ, zero, suc, ◌≤◌, Bool, true, false, List, [], ◌∷◌, ◌++◌}
+use Rattle.std.specs.Prelude.{◌≡◌, ℕ, zero, suc, ◌≤◌, Bool, true, false, List, [], ◌++◌}
 use Rattle.daide_machine.specs.Wires.{Gateway, is_closed}
 use Rattle.daide_session.specs.Record.{PortAnswer}
 use Rattle.daide_session.specs.Turn.{Turn}

@@ -147,7 +147,8 @@ IsShownAs words side level input outcome =
 -- what is shown of the input was written, and the answer is whether its frame would be relayed
 abbrev pub Shows : Words → Side → Level → List ℕ → Bool → Option (List ℕ) → Option (List ℕ) → Type 0
 Shows words side level input relayed old new =
-    (shown : Shown) × IsShownAs words side level input (Ok shown) × (relayed ≡ shown.relayed) × Appends old new shown.text
+    (shown : Shown) × IsShownAs words side level input (Ok shown) × (relayed ≡ shown.relayed)
+    × Appends old new shown.text
 
 -- what an input has to do with a fault: those of the input are its own, a failed write comes only where
 -- there is something to show, and the reader's and memory's say nothing of it

@@ -3,7 +3,8 @@ use Rattle.std.proofs.Common.{◌≡◌, ℕ, zero, suc, ◌+◌, ◌≤◌, Lis
 use Rattle.std.proofs.lemmas.List.{take-take}
 
 -- a front that reaches into the second of two lists
-take-past : {X : Type 0} (n top : ℕ) (old rest : List X) → top ≤ length old → take (top + n) (take top old ++ rest) ≡ take top old ++ take n rest
+take-past : {X : Type 0} (n top : ℕ) (old rest : List X) → top ≤ length old →
+    take (top + n) (take top old ++ rest) ≡ take top old ++ take n rest
 take-past n zero old rest h = rw zero-plus refl
   where
     zero-plus : 0 + n ≡ n
@@ -19,4 +20,5 @@ pub rest_put : {X : Type 0} (top n : ℕ) (new old rest turned : List X) → n �
     → take (top + n) new ≡ take top old ++ turned
 rest_put {X = X} top n new old rest turned few inside put is =
     let less : top + n ≤ top + 8 = omega arith in
-    sym (take-take (top + n) (top + 8) new less) ∙ ap (take (top + n)) put ∙ take-past n top old rest inside ∙ ap (λ (xs : List X). take top old ++ xs) is
+    sym (take-take (top + n) (top + 8) new less) ∙ ap (take (top + n)) put ∙ take-past n top old rest inside
+    ∙ ap (λ (xs : List X). take top old ++ xs) is

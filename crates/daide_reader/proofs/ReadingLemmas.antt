@@ -1,5 +1,7 @@
 -- A reader after one more token.
-use Rattle.std.proofs.Common.{◌≡◌, ◌≢◌, ℕ, zero, suc, ◌+◌, ◌-◌, ◌*◌, ◌%◌, ◌^◌, ◌≤◌, ◌<◌, ◌==◌, Bool, true, false, ◌||◌, List, [], ◌∷◌, ◌++◌, length, reverse, Option, None, Some, IfSome, IsSome, IsTrue, is_some, refl, sym, ◌∙◌, ap, subst, arith, if◌then◌else◌, ◌⊎◌, ◌↔◌, inl, inr}
+use Rattle.std.proofs.Common.{◌≡◌, ◌≢◌, ℕ, zero, suc, ◌+◌, ◌-◌, ◌*◌, ◌%◌, ◌^◌, ◌≤◌, ◌<◌, ◌==◌, Bool, true, false, ◌||◌}
+use Rattle.std.proofs.Common.{List, [], ◌∷◌, ◌++◌, length, reverse, Option, None, Some, IfSome, IsSome, IsTrue, is_some}
+use Rattle.std.proofs.Common.{refl, sym, ◌∙◌, ap, subst, arith, if◌then◌else◌, ◌⊎◌, ◌↔◌, inl, inr}
 use Rattle.std.proofs.lemmas.List.{length-append}
 use Rattle.std.proofs.lemmas.Bool.{eqb-true}
 use Rattle.daide_token.specs.declared.class.Class.{Class}
@@ -16,7 +18,8 @@ use Rattle.daide_grammar.specs.Brackets.{is_bra, is_ket, counted, count_one}
 use Rattle.daide_reader.specs.declared.outline.Outline.{Outline}
 use Rattle.daide_reader.specs.Stack.{IsRefused, steps_at}
 use Rattle.daide_reader.specs.Outline.{IsOutlineOf, with_token}
-use Rattle.daide_reader.specs.Reading.{Reading, IsRaised, StandsAfter, StackOrPlace, HasPlace, IsSteady, IsSettled, steps_since, brackets_open}
+use Rattle.daide_reader.specs.Reading.{Reading, IsRaised, StandsAfter, StackOrPlace, HasPlace, IsSteady, IsSettled}
+use Rattle.daide_reader.specs.Reading.{steps_since, brackets_open}
 use Rattle.daide_reader.proofs.StackLemmas.{lawful_more, four_steps}
 use Rattle.daide_grammar.proofs.Counting.{counted-snoc}
 use Rattle.daide_reader.proofs.OutlineLemmas.{outline-snoc}
@@ -35,24 +38,29 @@ count_open u true early n e = rw e refl
 count_open u false true n e = rw e refl
 count_open u false false n e = rw e refl
 
-pub brackets_open-after : {T : Type 0} (table : Ghosts T) (words : Words) (first : Sym) (max_depth : ℕ) (v : Reading T) (p : List ℕ)
+pub brackets_open-after : {T : Type 0} (table : Ghosts T) (words : Words) (first : Sym) (max_depth : ℕ) (v : Reading T)
+    (p : List ℕ)
     → StandsAfter table words first max_depth v p → brackets_open v ≡ open_brackets p
-brackets_open-after table words first max_depth v p h = count_open v.unclosed (begins_with_prn p) (closes_early p) (excess p) h.unclosed
+brackets_open-after table words first max_depth v p h =
+    count_open v.unclosed (begins_with_prn p) (closes_early p) (excess p) h.unclosed
 
 -- what holds of a reader's value holds of the value that it equals
-pub stands_along : {T : Type 0} (table : Ghosts T) (words : Words) (first : Sym) (max_depth : ℕ) (old new : Reading T) (p : List ℕ)
+pub stands_along : {T : Type 0} (table : Ghosts T) (words : Words) (first : Sym) (max_depth : ℕ) (old new : Reading T)
+    (p : List ℕ)
     → new ≡ old → StandsAfter table words first max_depth old p → StandsAfter table words first max_depth new p
 stands_along {T = T} table words first max_depth old new p same h =
     subst (λ (v : Reading T). StandsAfter {T = T} table words first max_depth v p) (sym same) h
 
 module _ {T : Type 0} (table : Ghosts T)
-    (laws : (w : Words) → PredictLaws (table.class_of w) (table.language w) (table.moves w) (table.ends w) (table.lawful w))
+    (laws : (w : Words) →
+    PredictLaws (table.class_of w) (table.language w) (table.moves w) (table.ends w) (table.lawful w))
     (words : Words) where
   -- the stack after a token has room
   pub room_more : (size t n max_depth : ℕ) (stack : List Sym) → table.lawful words stack n → n ≤ max_depth
       → 8 * max_depth + 16 ≤ size → (is_bra t ≡ true → n ≢ max_depth)
       → IfSome (stack_after (table.moves words) (table.class_of words t) stack) (λ after. length after ≤ size)
-  room_more size t n max_depth stack ok deep few fits = go (stack_after (table.moves words) (table.class_of words t) stack) refl
+  room_more size t n max_depth stack ok deep few fits =
+      go (stack_after (table.moves words) (table.class_of words t) stack) refl
     where
       go : (o : Option (List Sym)) → stack_after (table.moves words) (table.class_of words t) stack ≡ o
           → IfSome o (λ after. length after ≤ size)
@@ -64,7 +72,8 @@ module _ {T : Type 0} (table : Ghosts T)
           omega arith
 
   -- the answers for one token are four at most
-  pub few_steps : (c : Class) (stack : List Sym) (n asked : ℕ) → table.lawful words stack n → asked ≤ steps_at (table.moves words) c stack → asked ≤ 4
+  pub few_steps : (c : Class) (stack : List Sym) (n asked : ℕ) → table.lawful words stack n →
+      asked ≤ steps_at (table.moves words) c stack → asked ≤ 4
   few_steps c stack n asked ok few = omega (arith, few, four_steps _ _ _ _ _ (laws words) c stack n ok)
 
 -- nothing is open in a message that begins with PRN
@@ -92,14 +101,16 @@ below_word None m h le = tt
 below_word (Some n) m h le = omega arith
 
 -- a stack on which one symbol was put
-pub lone_symbol : (first opening : Sym) (empty items : List Sym) → empty ≡ [] → items ≡ empty ++ first ∷ [] → first ≡ opening
+pub lone_symbol : (first opening : Sym) (empty items : List Sym) → empty ≡ [] → items ≡ empty ++ first ∷ [] →
+    first ≡ opening
     → reverse items ≡ opening ∷ []
 lone_symbol first opening empty items none put is =
     ap reverse (put ∙ (ap (λ (s : List Sym). s ++ first ∷ []) none ∙ ap (λ (s : Sym). s ∷ []) is))
 
 -- a reader at the start of a message is steady
 pub steady_start : (lawful : List Sym → ℕ → Type 0) (size max_depth : ℕ) (first : Sym) (stack : List Sym) (o : Outline)
-    → size ≤ 4096 → 8 * max_depth + 16 ≤ size → stack ≡ first ∷ [] → o.tokens ≡ 0 → o.is_prn ≡ false → lawful (first ∷ []) 0
+    → size ≤ 4096 → 8 * max_depth + 16 ≤ size → stack ≡ first ∷ [] → o.tokens ≡ 0 → o.is_prn ≡ false →
+    lawful (first ∷ []) 0
     → IsSteady lawful size max_depth stack o (Some 0) None
 steady_start lawful size max_depth first stack o small deepest alone none plain ok = record {
   small = small;
@@ -113,23 +124,26 @@ steady_start lawful size max_depth first stack o small deepest alone none plain 
 }
 
 -- a reader stays steady with one more token, where its stack and its place are what the token makes of them
-pub steady_more : (old_lawful lawful : List Sym → ℕ → Type 0) (size max_depth : ℕ) (old_stack stack : List Sym) (old o : Outline)
+pub steady_more : (old_lawful lawful : List Sym → ℕ →
+    Type 0) (size max_depth : ℕ) (old_stack stack : List Sym) (old o : Outline)
     (old_unclosed old_place unclosed place : Option ℕ) (t : ℕ)
-    → IsSteady old_lawful size max_depth old_stack old old_unclosed old_place → old.tokens < 32767 → o ≡ with_token old t
+    → IsSteady old_lawful size max_depth old_stack old old_unclosed old_place → old.tokens < 32767 →
+    o ≡ with_token old t
     → IfSome unclosed (λ n. n ≤ old.tokens + 1)
     → (o.is_prn ≡ false → place ≡ None → (n : ℕ) × (unclosed ≡ Some n) × (n ≤ max_depth) × lawful stack n)
     → (IsSome place → stack ≡ []) → (o.is_prn ≡ true → stack ≡ [])
     → IsSteady lawful size max_depth stack o unclosed place
-steady_more old_lawful lawful size max_depth old_stack stack old o old_unclosed old_place unclosed place t steady room more counts ok placed report = record {
-  small = steady.small;
-  deepest = steady.deepest;
-  counts = rw more counts;
-  tokens = rw more (omega arith);
-  fresh = rw more (λ none. absurd (omega (arith, none)));
-  lawful_stack = ok;
-  none_left = placed;
-  none_in_prn = report;
-}
+steady_more old_lawful lawful size max_depth old_stack stack old o old_unclosed old_place unclosed place t steady room
+    more counts ok placed report = record {
+      small = steady.small;
+      deepest = steady.deepest;
+      counts = rw more counts;
+      tokens = rw more (omega arith);
+      fresh = rw more (λ none. absurd (omega (arith, none)));
+      lawful_stack = ok;
+      none_left = placed;
+      none_in_prn = report;
+    }
 
 pub none_from_test : (o : Option ℕ) → false ≡ is_some o → o ≡ None
 none_from_test None e = refl
@@ -146,10 +160,13 @@ below_deepest u n max_depth t deepest iff is fits opens same =
     cc
 
 -- why a token was refused, at the count
-pub refused_at : (class_of : ℕ → Class) (moves : Sym → Class → Answer) (u : Option ℕ) (n max_depth t : ℕ) (deepest : Bool) (stack : List Sym)
-    → (IsTrue deepest ↔ ((is_bra t ≡ true) × (u ≡ Some max_depth))) → u ≡ Some n → IsRefused class_of moves t deepest stack
+pub refused_at : (class_of : ℕ → Class) (moves : Sym → Class →
+    Answer) (u : Option ℕ) (n max_depth t : ℕ) (deepest : Bool) (stack : List Sym)
+    → (IsTrue deepest ↔ ((is_bra t ≡ true) × (u ≡ Some max_depth))) → u ≡ Some n →
+    IsRefused class_of moves t deepest stack
     → ((is_bra t ≡ true) × (n ≡ max_depth)) ⊎ (stack_after moves (class_of t) stack ≡ None)
-refused_at class_of moves u n max_depth t deepest stack iff is (inl (opens, deep)) = inl (opens, (let e = (iff.0 deep).1 in cc))
+refused_at class_of moves u n max_depth t deepest stack iff is (inl (opens, deep)) =
+    inl (opens, (let e = (iff.0 deep).1 in cc))
 refused_at class_of moves u n max_depth t deepest stack iff is (inr none) = inr none
 
 module _ {T : Type 0} (table : Ghosts T) (words : Words) (first : Sym) (max_depth : ℕ) where
@@ -174,7 +191,8 @@ module _ {T : Type 0} (table : Ghosts T) (words : Words) (first : Sym) (max_dept
 
   pub stands_more : (old new : Reading T) (t : ℕ) (p : List ℕ) → Moves old new t
       → StandsAfter table words first max_depth old p
-      → (begins_with_prn (p ++ t ∷ []) ≡ false → old.unclosed ≡ counted p → StackOrPlace (table.language words) first max_depth old.stack old.place p
+      → (begins_with_prn (p ++ t ∷ []) ≡ false → old.unclosed ≡ counted p →
+      StackOrPlace (table.language words) first max_depth old.stack old.place p
       → StackOrPlace (table.language words) first max_depth new.stack new.place (p ++ t ∷ []))
       → StandsAfter table words first max_depth new (p ++ t ∷ [])
   stands_more old new t p moves h place = record {
@@ -188,7 +206,8 @@ module _ {T : Type 0} (table : Ghosts T) (words : Words) (first : Sym) (max_dept
   }
     where
       outline : IsOutlineOf new.outline (p ++ t ∷ [])
-      outline = subst (λ (o : Outline). IsOutlineOf o (p ++ t ∷ [])) (sym moves.outline_more) (outline-snoc old.outline p t h.outline)
+      outline = subst (λ (o : Outline). IsOutlineOf o (p ++ t ∷ [])) (sym moves.outline_more)
+          (outline-snoc old.outline p t h.outline)
 
       not_prn : begins_with_prn (p ++ t ∷ []) ≡ false
       not_prn = sym outline.begins ∙ moves.not_prn
@@ -200,9 +219,11 @@ module _ {T : Type 0} (table : Ghosts T) (words : Words) (first : Sym) (max_dept
       steps =
           let n = moves.steps_more in
           let more : ℕ = if old.finished then 4 else 0 in
-          let before : (table.asked old.table + (2 ^ 64 - new.asked_before)) % 2 ^ 64 ≤ 4 * length p + more = rw moves.asked_same h.steps in
+          let before : (table.asked old.table + (2 ^ 64 - new.asked_before)) % 2 ^ 64 ≤ 4 * length p + more =
+          rw moves.asked_same h.steps in
           let all : steps_since table.asked new ≤ (4 * length p + more) + 4 =
-          steps_within (table.asked new.table) (table.asked old.table) n.0 (4 * length p + more) (2 ^ 64 - new.asked_before) n.2 n.1 before in
+          steps_within (table.asked new.table) (table.asked old.table) n.0 (4 * length p + more)
+          (2 ^ 64 - new.asked_before) n.2 n.1 before in
           rw (moves.finished_same, length-append) (omega arith)
 
   -- a message that begins with PRN
@@ -241,7 +262,8 @@ module _ {T : Type 0} (table : Ghosts T) (words : Words) (first : Sym) (max_dept
       go (Some i) e has = place_kept (table.language words first) max_depth p (t ∷ []) i has
 
 module _ {T : Type 0} (table : Ghosts T)
-    (laws : (w : Words) → PredictLaws (table.class_of w) (table.language w) (table.moves w) (table.ends w) (table.lawful w))
+    (laws : (w : Words) →
+    PredictLaws (table.class_of w) (table.language w) (table.moves w) (table.ends w) (table.lawful w))
     (words : Words) (first : Sym) (max_depth : ℕ) where
   -- the stack and the count of a reader with no place
   pub record Ready (old : Reading T) (n : ℕ) : Type 0 where
@@ -253,10 +275,12 @@ module _ {T : Type 0} (table : Ghosts T)
   -- a symbol took the token
   pub stands_taken : (old new : Reading T) (t n : ℕ) (p : List ℕ) → Moves table words first max_depth old new t
       → Ready old n → (is_bra t ≡ true → n ≢ old.max_depth)
-      → stack_after (table.moves (table.words old.table)) (table.class_of (table.words old.table) t) old.stack ≡ Some new.stack
+      → stack_after (table.moves (table.words old.table)) (table.class_of (table.words old.table) t) old.stack
+      ≡ Some new.stack
       → new.place ≡ old.place
       → StandsAfter table words first max_depth old p → StandsAfter table words first max_depth new (p ++ t ∷ [])
-  stands_taken old new t n p moves ready fits e same h = stands_more table words first max_depth old new t p moves h (λ not_prn is_count has.
+  stands_taken old new t n p moves ready fits e same h =
+      stands_more table words first max_depth old new t p moves h (λ not_prn is_count has.
       subst (λ (o : Option ℕ). StackOrPlace (table.language words) first max_depth new.stack o (p ++ t ∷ [])) (sym same)
       (go old.place ready.no_place not_prn (sym is_count ∙ ready.unclosed) has))
     where
@@ -269,7 +293,8 @@ module _ {T : Type 0} (table : Ghosts T)
           (λ opens. subst (λ (d : ℕ). n ≢ d) h.depth_kept (fits opens))
           (subst (λ (w : Words). table.lawful w old.stack n) h.words_kept ready.lawful_stack)
           has
-          (subst (λ (w : Words). stack_after (table.moves w) (table.class_of w t) old.stack ≡ Some new.stack) h.words_kept e)
+          (subst (λ (w : Words). stack_after (table.moves w) (table.class_of w t) old.stack
+          ≡ Some new.stack) h.words_kept e)
       go (Some i) e _ _ _ = let f : false ≡ true = e in absurd cc
 
   -- no symbol took it
@@ -279,7 +304,8 @@ module _ {T : Type 0} (table : Ghosts T)
       ⊎ (stack_after (table.moves (table.words old.table)) (table.class_of (table.words old.table) t) old.stack ≡ None)
       → new.place ≡ Some old.outline.tokens
       → StandsAfter table words first max_depth old p → StandsAfter table words first max_depth new (p ++ t ∷ [])
-  stands_refused old new t n p moves ready why place h = stands_more table words first max_depth old new t p moves h (λ not_prn is_count has.
+  stands_refused old new t n p moves ready why place h =
+      stands_more table words first max_depth old new t p moves h (λ not_prn is_count has.
       subst (λ (o : Option ℕ). StackOrPlace (table.language words) first max_depth new.stack o (p ++ t ∷ []))
       (sym (place ∙ ap (λ (k : ℕ). Some k) h.outline.tokens))
       (go old.place ready.no_place not_prn (sym is_count ∙ ready.unclosed) has))
@@ -291,15 +317,20 @@ module _ {T : Type 0} (table : Ghosts T)
           wrong_here _ _ _ _ _ (laws words) first max_depth p t n old.stack not_prn is_count has (moved why)
         where
           moved : ((is_bra t ≡ true) × (n ≡ old.max_depth))
-              ⊎ (stack_after (table.moves (table.words old.table)) (table.class_of (table.words old.table) t) old.stack ≡ None)
-              → ((is_bra t ≡ true) × (n ≡ max_depth)) ⊎ (stack_after (table.moves words) (table.class_of words t) old.stack ≡ None)
+              ⊎ (stack_after (table.moves (table.words old.table)) (table.class_of (table.words old.table) t) old.stack
+              ≡ None)
+              → ((is_bra t ≡ true) × (n ≡ max_depth)) ⊎
+              (stack_after (table.moves words) (table.class_of words t) old.stack ≡ None)
           moved (inl (opens, deepest)) = inl (opens, deepest ∙ h.depth_kept)
-          moved (inr none) = inr (subst (λ (w : Words). stack_after (table.moves w) (table.class_of w t) old.stack ≡ None) h.words_kept none)
+          moved (inr none) = inr
+              (subst (λ (w : Words). stack_after (table.moves w) (table.class_of w t) old.stack
+              ≡ None) h.words_kept none)
       go (Some i) e _ _ _ = let f : false ≡ true = e in absurd cc
 
   -- a reader at the start of a message stands after no tokens
   pub stands_start : (v : Reading T) → table.words v.table ≡ words → v.max_depth ≡ max_depth → IsOutlineOf v.outline []
-      → v.stack ≡ first ∷ [] → v.unclosed ≡ Some 0 → v.place ≡ None → v.asked_before ≡ table.asked v.table → v.asked_before < 2 ^ 64
+      → v.stack ≡ first ∷ [] → v.unclosed ≡ Some 0 → v.place ≡ None → v.asked_before ≡ table.asked v.table →
+      v.asked_before < 2 ^ 64
       → StandsAfter table words first max_depth v []
   stands_start v same depth outline alone even none base word = record {
     words_kept = same;
@@ -331,12 +362,14 @@ unsettled {T = T} v old same none not_prn settled = go (subst (λ (r : Reading T
     go (inr prn) = let f : true ≡ false = sym prn ∙ not_prn in cc
 
 -- the count of a reader with no place
-pub count_here : (lawful : List Sym → ℕ → Type 0) (size max_depth : ℕ) (stack : List Sym) (o new : Outline) (u place : Option ℕ) (t : ℕ)
+pub count_here : (lawful : List Sym → ℕ →
+    Type 0) (size max_depth : ℕ) (stack : List Sym) (o new : Outline) (u place : Option ℕ) (t : ℕ)
     → IsSteady lawful size max_depth stack o u place → new ≡ with_token o t → new.is_prn ≡ false
     → false ≡ is_some place
     → (n : ℕ) × (u ≡ Some n) × (n ≤ max_depth) × lawful stack n
 count_here lawful size max_depth stack o new u place t steady more now none =
-    steady.lawful_stack (old_not_prn o t steady.fresh (ap (λ (o : Outline). o.is_prn) (sym more) ∙ now)) (none_from_test place none)
+    steady.lawful_stack (old_not_prn o t steady.fresh (ap (λ (o : Outline). o.is_prn) (sym more) ∙ now))
+    (none_from_test place none)
 
 -- a reader stays steady with other answers counted, and the same words
 pub steady_along : {T : Type 0} (table : Ghosts T) (old new : T) (size max_depth : ℕ) (stack : List Sym) (o : Outline)
@@ -350,7 +383,8 @@ steady_along table old new size max_depth stack o u place same steady =
 pub four_ends : (may_end : Sym → Bool) (lawful : List Sym → ℕ → Type 0)
     → ((stack : List Sym) → lawful stack 0 → ends_asked may_end stack ≤ 4)
     → (size max_depth : ℕ) (stack : List Sym) (o : Outline) (u place : Option ℕ)
-    → IsSteady lawful size max_depth stack o u place → o.is_prn ≡ false → place ≡ None → u ≡ Some 0 → ends_asked may_end stack ≤ 4
+    → IsSteady lawful size max_depth stack o u place → o.is_prn ≡ false → place ≡ None → u ≡ Some 0 →
+    ends_asked may_end stack ≤ 4
 four_ends may_end lawful few size max_depth stack o u place steady not_prn none even =
     let here = steady.lawful_stack not_prn none in
     let nothing : here.0 ≡ 0 = (let f = sym here.1 ∙ even in cc) in
@@ -428,7 +462,8 @@ module _ {T : Type 0} (table : Ghosts T) (words : Words) (first : Sym) (max_dept
       steps =
           let n = same.steps_more in
           let few = h.steps in
-          let none : ◌≡◌ {A = ℕ} (if old.finished then 4 else 0) 0 = ap (λ (b : Bool). if b then 4 else 0) same.unfinished in
+          let none : ◌≡◌ {A = ℕ} (if old.finished then 4 else 0) 0 =
+          ap (λ (b : Bool). if b then 4 else 0) same.unfinished in
           let before : (table.asked old.table + (2 ^ 64 - old.asked_before)) % 2 ^ 64 ≤ 4 * length p = omega arith in
           rw (same.finished, same.asked_same) (steps_within table words first max_depth
           (table.asked new.table) (table.asked old.table) n.0 (4 * length p) (2 ^ 64 - old.asked_before) n.2 n.1 before)

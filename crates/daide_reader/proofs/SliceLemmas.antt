@@ -1,5 +1,7 @@
 -- A reader that is in locals, after one more token of a body.
-use Rattle.std.proofs.Common.{◌≡◌, ◌≢◌, ℕ, zero, suc, ◌+◌, ◌*◌, ◌/◌, ◌%◌, ◌^◌, ◌≤◌, ◌<◌, Bool, true, false, List, [], ◌∷◌, ◌++◌, length, get_or, take, Option, None, Some, IfSome, IsSome, drop, refl, sym, ◌∙◌, ap, subst, arith, ◌⊎◌, append_assoc, append-nil, add-zero}
+use Rattle.std.proofs.Common.{◌≡◌, ◌≢◌, ℕ, zero, suc, ◌+◌, ◌*◌, ◌/◌, ◌%◌, ◌^◌, ◌≤◌, ◌<◌, Bool, true, false, List, []}
+use Rattle.std.proofs.Common.{◌∷◌, ◌++◌, length, get_or, take, Option, None, Some, IfSome, IsSome, drop, refl, sym, ◌∙◌}
+use Rattle.std.proofs.Common.{ap, subst, arith, ◌⊎◌, append_assoc, append-nil, add-zero}
 use Rattle.std.proofs.lemmas.List.{length-append, length-drop}
 use Rattle.std.proofs.Math.Seq.{drop-length, take-length}
 use Rattle.daide_token.specs.Token.{tokens_of}
@@ -74,7 +76,8 @@ outline_of-snoc p t = same_outline (with_token (outline_of p) t) (p ++ t ∷ [])
     (outline-snoc (outline_of p) p t (record { tokens = refl; begins = refl; second = refl; last = refl }))
 
 module _ {T : Type 0} (table : Ghosts T)
-    (laws : (w : Words) → PredictLaws (table.class_of w) (table.language w) (table.moves w) (table.ends w) (table.lawful w))
+    (laws : (w : Words) →
+    PredictLaws (table.class_of w) (table.language w) (table.moves w) (table.ends w) (table.lawful w))
     (words : Words) (first : Sym) (depth base : ℕ) where
   pub run_taken : (old new : T) (max_depth : ℕ) (stack after : List Sym) (p : List ℕ) (t n k : ℕ)
       → begins_with_prn (p ++ t ∷ []) ≡ false → table.words new ≡ table.words old
@@ -83,7 +86,8 @@ module _ {T : Type 0} (table : Ghosts T)
       → count_one (is_bra t) (is_ket t) (Some n) ≡ Some k
       → (m : ℕ) × (m ≤ 4) × (table.asked new % 2 ^ 64 ≡ (table.asked old + m) % 2 ^ 64)
       → StandsAfter table words first depth (reading old max_depth stack (outline_of p) (Some n) None base) p
-      → StandsAfter table words first depth (reading new max_depth after (outline_of (p ++ t ∷ [])) (Some k) None base) (p ++ t ∷ [])
+      → StandsAfter table words first depth (reading new max_depth after (outline_of (p ++ t ∷ [])) (Some k) None base)
+      (p ++ t ∷ [])
   run_taken old new max_depth stack after p t n k not_prn same ok deep fits advances counts steps h =
       stands_taken table laws words first depth
       (reading old max_depth stack (outline_of p) (Some n) None base)
@@ -101,14 +105,17 @@ module _ {T : Type 0} (table : Ghosts T)
       (record { no_place = refl; unclosed = refl; deep = deep; lawful_stack = ok })
       fits advances refl h
 
-  pub run_refused : (old new : T) (max_depth : ℕ) (stack after : List Sym) (p : List ℕ) (t n i : ℕ) (unclosed : Option ℕ)
+  pub run_refused : (old new : T) (max_depth : ℕ) (stack after : List Sym) (p : List ℕ) (t n i : ℕ)
+      (unclosed : Option ℕ)
       → begins_with_prn (p ++ t ∷ []) ≡ false → table.words new ≡ table.words old
       → table.lawful (table.words old) stack n → n ≤ max_depth
-      → ((is_bra t ≡ true) × (n ≡ max_depth)) ⊎ (stack_after (table.moves (table.words old)) (table.class_of (table.words old) t) stack ≡ None)
+      → ((is_bra t ≡ true) × (n ≡ max_depth)) ⊎
+      (stack_after (table.moves (table.words old)) (table.class_of (table.words old) t) stack ≡ None)
       → unclosed ≡ count_one (is_bra t) (is_ket t) (Some n) → i ≡ length p
       → (m : ℕ) × (m ≤ 4) × (table.asked new % 2 ^ 64 ≡ (table.asked old + m) % 2 ^ 64)
       → StandsAfter table words first depth (reading old max_depth stack (outline_of p) (Some n) None base) p
-      → StandsAfter table words first depth (reading new max_depth after (outline_of (p ++ t ∷ [])) unclosed (Some i) base) (p ++ t ∷ [])
+      → StandsAfter table words first depth
+      (reading new max_depth after (outline_of (p ++ t ∷ [])) unclosed (Some i) base) (p ++ t ∷ [])
   run_refused old new max_depth stack after p t n i unclosed not_prn same ok deep why counts place steps h =
       stands_refused table laws words first depth
       (reading old max_depth stack (outline_of p) (Some n) None base)
@@ -143,17 +150,21 @@ count_all-counted p (t ∷ q) =
     ap (λ (u : Option ℕ). count_all u q) (sym (counted-snoc p t)) ∙ count_all-counted (p ++ t ∷ []) q
     ∙ ap counted (append_assoc p (t ∷ []) q)
 
-pub count_all-few : (u : Option ℕ) (n : ℕ) (q : List ℕ) → IfSome u (λ k. k ≤ n) → IfSome (count_all u q) (λ k. k ≤ n + length q)
+pub count_all-few : (u : Option ℕ) (n : ℕ) (q : List ℕ) → IfSome u (λ k. k ≤ n) →
+    IfSome (count_all u q) (λ k. k ≤ n + length q)
 count_all-few u n [] few = rw (add-zero) few
 count_all-few u n (t ∷ q) few =
-    let more = count_all-few (count_one (is_bra t) (is_ket t) u) (n + 1) q (counts_more u n (is_bra t) (is_ket t) few) in
+    let more = count_all-few (count_one (is_bra t) (is_ket t) u) (n + 1) q
+    (counts_more u n (is_bra t) (is_ket t) few) in
     let same : n + 1 + length q ≡ n + suc (length q) = omega arith in
     rw same at more
 
 -- a reader with no place, in locals
-pub as_reading : {T : Type 0} (table : Ghosts T) (words : Words) (first : Sym) (depth n : ℕ) (v : Reading T) (p : List ℕ)
+pub as_reading : {T : Type 0} (table : Ghosts T) (words : Words) (first : Sym) (depth n : ℕ) (v : Reading T)
+    (p : List ℕ)
     → v.place ≡ None → v.unclosed ≡ Some n → v.finished ≡ false → StandsAfter table words first depth v p
-    → StandsAfter table words first depth (reading v.table v.max_depth v.stack (outline_of p) (Some n) None v.asked_before) p
+    → StandsAfter table words first depth
+    (reading v.table v.max_depth v.stack (outline_of p) (Some n) None v.asked_before) p
 as_reading table words first depth n v p none here unfinished h = record {
   words_kept = h.words_kept;
   depth_kept = h.depth_kept;
@@ -182,17 +193,19 @@ module _ {T : Type 0} (table : Ghosts T) (words : Words) (first : Sym) (max_dept
   plain_front [] q h = refl
   plain_front (x ∷ p) q h = h
 
-  pub stands_on : (old new : Reading T) (p q m : List ℕ) → GoesOn old new p q m → StandsAfter table words first max_depth old p
+  pub stands_on : (old new : Reading T) (p q m : List ℕ) → GoesOn old new p q m →
+      StandsAfter table words first max_depth old p
       → StandsAfter table words first max_depth new m
-  stands_on old new p q m on h = subst (λ (r : List ℕ). StandsAfter table words first max_depth new r) on.whole (record {
-    words_kept = ap table.words on.table_same ∙ h.words_kept;
-    depth_kept = on.depth_same ∙ h.depth_kept;
-    outline = outline;
-    unclosed = subst (λ (b : Bool). new.unclosed ≡ (if b then Some 0 else counted (p ++ q))) (sym plain)
-        (on.unclosed_more ∙ ap (λ (u : Option ℕ). count_all u q) before ∙ count_all-counted p q);
-    place = λ _. rw (on.stack_same, on.place_same) (go old.place refl (h.place (plain_front p q plain)));
-    steps = rw (on.table_same, on.asked_same, on.finished_same, length-append) (let few = h.steps in omega arith);
-  })
+  stands_on old new p q m on h =
+      subst (λ (r : List ℕ). StandsAfter table words first max_depth new r) on.whole (record {
+        words_kept = ap table.words on.table_same ∙ h.words_kept;
+        depth_kept = on.depth_same ∙ h.depth_kept;
+        outline = outline;
+        unclosed = subst (λ (b : Bool). new.unclosed ≡ (if b then Some 0 else counted (p ++ q))) (sym plain)
+            (on.unclosed_more ∙ ap (λ (u : Option ℕ). count_all u q) before ∙ count_all-counted p q);
+        place = λ _. rw (on.stack_same, on.place_same) (go old.place refl (h.place (plain_front p q plain)));
+        steps = rw (on.table_same, on.asked_same, on.finished_same, length-append) (let few = h.steps in omega arith);
+      })
     where
       outline : IsOutlineOf new.outline (p ++ q)
       outline = subst (λ (r : List ℕ). IsOutlineOf new.outline r) (sym on.whole) (on.outline_more h.outline)
@@ -220,7 +233,8 @@ module _ {T : Type 0} (table : Ghosts T) (words : Words) (first : Sym) (max_dept
       (λ o. subst (λ (r : List ℕ). IsOutlineOf new.outline r) (sym whole) (more o)) is_report h)
 
 -- a reader stays steady with the outline of all tokens of a body
-pub steady_on : (old_lawful lawful : List Sym → ℕ → Type 0) (size max_depth : ℕ) (old_stack stack : List Sym) (old : Outline) (m : List ℕ)
+pub steady_on : (old_lawful lawful : List Sym → ℕ →
+    Type 0) (size max_depth : ℕ) (old_stack stack : List Sym) (old : Outline) (m : List ℕ)
     (old_unclosed old_place unclosed place : Option ℕ)
     → IsSteady old_lawful size max_depth old_stack old old_unclosed old_place → old.tokens < length m → length m ≤ 32767
     → IfSome unclosed (λ n. n ≤ length m)
@@ -228,7 +242,8 @@ pub steady_on : (old_lawful lawful : List Sym → ℕ → Type 0) (size max_dept
     → (n : ℕ) × (unclosed ≡ Some n) × (n ≤ max_depth) × lawful stack n)
     → (IsSome place → stack ≡ []) → ((outline_on old m).is_prn ≡ true → stack ≡ [])
     → IsSteady lawful size max_depth stack (outline_on old m) unclosed place
-steady_on old_lawful lawful size max_depth old_stack stack old m old_unclosed old_place unclosed place steady more short counts ok placed report =
+steady_on old_lawful lawful size max_depth old_stack stack old m old_unclosed old_place unclosed place steady more short
+    counts ok placed report =
     record {
       small = steady.small;
       deepest = steady.deepest;
@@ -248,15 +263,18 @@ open_told n k e = go (nat_eq n 65535) e
     go false e = cc
 
 -- the tokens of a body that a reader stands after, by its own count
-pub stands_before : {T : Type 0} (table : Ghosts T) (words : Words) (first : Sym) (max_depth : ℕ) (v old : Reading T) (b : List ℕ)
+pub stands_before : {T : Type 0} (table : Ghosts T) (words : Words) (first : Sym) (max_depth : ℕ) (v old : Reading T)
+    (b : List ℕ)
     → v ≡ old → StandsAfter table words first max_depth old (tokens_of (take (2 * tokens_read old) b))
     → StandsAfter table words first max_depth v (take v.outline.tokens (tokens_of b))
 stands_before {T = T} table words first max_depth v old b same h =
-    subst (λ (r : Reading T). StandsAfter table words first max_depth r (take r.outline.tokens (tokens_of b))) (sym same)
+    subst (λ (r : Reading T). StandsAfter table words first max_depth r (take r.outline.tokens (tokens_of b)))
+    (sym same)
     (subst (λ (p : List ℕ). StandsAfter table words first max_depth old p) (tokens_of-front (tokens_read old) b) h)
 
 -- no token came
-pub stands_still : {T : Type 0} (table : Ghosts T) (words : Words) (first : Sym) (max_depth : ℕ) (v old : Reading T) (b : List ℕ)
+pub stands_still : {T : Type 0} (table : Ghosts T) (words : Words) (first : Sym) (max_depth : ℕ) (v old : Reading T)
+    (b : List ℕ)
     → v ≡ old → v.outline.tokens ≡ length (tokens_of b)
     → StandsAfter table words first max_depth old (tokens_of (take (2 * tokens_read old) b))
     → StandsAfter table words first max_depth old (tokens_of b)
@@ -267,7 +285,8 @@ stands_still {T = T} table words first max_depth v old b same all h =
     (stands_before table words first max_depth v old b same h))
 
 -- there are more tokens than were read
-pub more_tokens : (read told bytes tokens : ℕ) → read ≡ told → 2 * told ≤ bytes → tokens ≡ bytes / 2 → read ≢ bytes / 2 → read < tokens
+pub more_tokens : (read told bytes tokens : ℕ) → read ≡ told → 2 * told ≤ bytes → tokens ≡ bytes / 2 →
+    read ≢ bytes / 2 → read < tokens
 more_tokens read told bytes tokens same few size unread = omega arith
 
 pub counts_up : (u : Option ℕ) (a b : ℕ) → a ≤ b → IfSome u (λ n. n ≤ a) → IfSome u (λ n. n ≤ b)
@@ -281,11 +300,13 @@ count_is u n count is e = rw is at e
 pub count_all-end : (u : Option ℕ) (n : ℕ) (m : List ℕ) → n ≡ length m → count_all u (drop n m) ≡ u
 count_all-end u n m e = rw (e, drop-length m) refl
 
-pub closed_early : (opens closes : Bool) (n : ℕ) → opens ≡ false → closes ≡ true → n ≡ 0 → count_one opens closes (Some n) ≡ None
+pub closed_early : (opens closes : Bool) (n : ℕ) → opens ≡ false → closes ≡ true → n ≡ 0 →
+    count_one opens closes (Some n) ≡ None
 closed_early opens closes n is_no is_ket none = rw (is_no, is_ket, none) refl
 
 -- the count over the tokens from one on
-pub counts_past : (n : ℕ) (m : List ℕ) → n ≤ length m → (u : Option ℕ) → IfSome u (λ k. k ≤ n) → IfSome (count_all u (drop n m)) (λ k. k ≤ length m)
+pub counts_past : (n : ℕ) (m : List ℕ) → n ≤ length m → (u : Option ℕ) → IfSome u (λ k. k ≤ n) →
+    IfSome (count_all u (drop n m)) (λ k. k ≤ length m)
 counts_past n m inside u few =
     let size : n + length (drop n m) ≡ length m = rw length-drop (omega arith) in
     subst (λ (k : ℕ). IfSome (count_all u (drop n m)) (λ j. j ≤ k)) size (count_all-few u n (drop n m) few)

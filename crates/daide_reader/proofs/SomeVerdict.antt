@@ -55,7 +55,8 @@ open_after true closes n = n + 1
 open_after false true n = n - 1
 open_after false false n = n
 
-open_counted : (opens closes : Bool) (n k : ℕ) → count_one opens closes (Some n) ≡ Some k → k ≡ open_after opens closes n
+open_counted : (opens closes : Bool) (n k : ℕ) → count_one opens closes (Some n) ≡ Some k →
+    k ≡ open_after opens closes n
 open_counted true closes n k e = cc
 open_counted false true zero k e = cc
 open_counted false true (suc n) k e = let same : n ≡ k = cc in omega (arith, same)
@@ -159,7 +160,8 @@ module _ (class_of : ℕ → Class) (language : Sym → List ℕ → Type 0) (mo
           let same = open_counted (is_bra t) (is_ket t) n next.0 next.1 in
           let whole = subst (IsWalked (walk class_of moves may_end max_depth m after now (length (p ++ t ∷ []))))
           (append_assoc p (t ∷ []) m)
-          (subst (λ (k : ℕ). IsWalked (walk class_of moves may_end max_depth m after k (length (p ++ t ∷ []))) ((p ++ t ∷ []) ++ m))
+          (subst (λ (k : ℕ). IsWalked (walk class_of moves may_end max_depth m after k (length (p ++ t ∷ [])))
+          ((p ++ t ∷ []) ++ m))
           same more) in
           rw (d, e) (subst (λ (k : ℕ). IsWalked (walk class_of moves may_end max_depth m after now k) (p ++ t ∷ m))
           (length-append p (t ∷ [])) whole)

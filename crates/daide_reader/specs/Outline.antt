@@ -1,5 +1,6 @@
 -- What is kept of a message's ends. (own)
-use Rattle.std.specs.Prelude.{Option, ◌≡◌, ℕ, ◌+◌, ◌==◌, ◌&&◌, nat_le, Bool, false, List, [], ◌∷◌, length, reverse, drop, if◌then◌else◌}
+use Rattle.std.specs.Prelude.{Option, ◌≡◌, ℕ, ◌+◌, ◌==◌, ◌&&◌, nat_le, Bool, false, List, [], ◌∷◌, length, reverse}
+use Rattle.std.specs.Prelude.{drop, if◌then◌else◌}
 use Rattle.daide_token.specs.Token.{prn}
 use Rattle.daide_grammar.specs.Paired.{begins_with_prn}
 use Rattle.daide_grammar.specs.Brackets.{is_bra, is_ket, count_one}

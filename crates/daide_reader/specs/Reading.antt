@@ -1,5 +1,6 @@
 -- What a contract sees of a reader, and what that says of the tokens since `start`. (own)
-use Rattle.std.specs.Prelude.{◌≡◌, ℕ, ◌+◌, ◌-◌, ◌*◌, ◌%◌, ◌^◌, ◌≤◌, ◌<◌, List, [], ◌++◌, take, length, Bool, false, true, Option, None, Some, MatchOption, IsSome, IfSome, ◌↔◌, ◌⊎◌, if◌then◌else◌}
+use Rattle.std.specs.Prelude.{◌≡◌, ℕ, ◌+◌, ◌-◌, ◌*◌, ◌%◌, ◌^◌, ◌≤◌, ◌<◌, List, [], ◌++◌, take, length, Bool, false}
+use Rattle.std.specs.Prelude.{true, Option, None, Some, MatchOption, IsSome, IfSome, ◌↔◌, ◌⊎◌, if◌then◌else◌}
 use Rattle.std.specs.Option.{unwrap_or}
 use Rattle.daide_grammar.specs.declared.symbol.Sym.{Sym}
 use Rattle.daide_grammar.specs.declared.predict.Predict.{Ghosts}

@@ -43,7 +43,8 @@ some_awaited f side i some = go (count_of (answer_mark side) f.wires.bot.items) 
         (or_true (has_answer side (frames_to f Bot)))
     go (suc n) e = rw (awaited side Bot (answer_at f.sides) f.wires.bot (omega (arith, e))) refl
 
-awaited_is : (f : Fields) (side : Side) → IsSound f → is_awaited (at (traffic_of f).waiting) side ≡ is_some (at f.sides side).verdict
+awaited_is : (f : Fields) (side : Side) → IsSound f →
+    is_awaited (at (traffic_of f).waiting) side ≡ is_some (at f.sides side).verdict
 awaited_is f side i = go (at f.sides side).verdict refl
   where
     go : (o : Option Verdict) → (at f.sides side).verdict ≡ o →

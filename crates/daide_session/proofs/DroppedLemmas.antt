@@ -101,7 +101,8 @@ after_drop w to items = put w to (record { written = 0; items = items })
 module _ (f n : Fields) (to : Side) (x : Waiting) (items : List Waiting) (i : IsSound f) (d : IsDropped f n to x items)
   where
     -- an answer waits once
-    dropped_presence : (one : Side) → presence (at n.sides one).verdict + answer_mark one x ≡ presence (at f.sides one).verdict
+    dropped_presence : (one : Side) →
+        presence (at n.sides one).verdict + answer_mark one x ≡ presence (at f.sides one).verdict
     dropped_presence one = go (is_answer one (answers_of x)) refl
       where
         more : count_of (answer_mark one) (at f.wires to).items ≡ answer_mark one x + count_of (answer_mark one) items
@@ -140,7 +141,8 @@ module _ (f n : Fields) (to : Side) (x : Waiting) (items : List Waiting) (i : Is
     kept_bytes Fm here = refl
     kept_bytes (Em code) here = refl
 
-    kept_frames : (one : Side) (some : List Waiting) → ((side : Side) → count_of (answer_mark side) some ≤ presence (at n.sides side).verdict) →
+    kept_frames : (one : Side) (some : List Waiting) →
+        ((side : Side) → count_of (answer_mark side) some ≤ presence (at n.sides side).verdict) →
         map (frame_of one (answer_at n.sides)) some ≡ map (frame_of one (answer_at f.sides)) some
     kept_frames one [] here = refl
     kept_frames one (y ∷ some) here =
@@ -156,7 +158,8 @@ module _ (f n : Fields) (to : Side) (x : Waiting) (items : List Waiting) (i : Is
     kept_begun k (y ∷ some) here h =
         rw (kept_bytes y (λ side. omega (arith, here side))) h
 
-    dropped_once : (one : Side) → count_of (answer_mark one) n.wires.bot.items + count_of (answer_mark one) n.wires.server.items
+    dropped_once : (one : Side) →
+        count_of (answer_mark one) n.wires.bot.items + count_of (answer_mark one) n.wires.server.items
         ≡ presence (at n.sides one).verdict
     dropped_once one = rw d.wires (go to d.was)
       where
@@ -195,7 +198,8 @@ module _ (f n : Fields) (to : Side) (x : Waiting) (items : List Waiting) (i : Is
       gone = λ one some none. ap (λ (a : Arrival). a.holding.held) (now one).arrival
           ∙ (side one).gone (sym ((was one).awaited) ∙ some) (sym ((now one).awaited) ∙ none);
       kept = λ one e. ap (λ (a : Arrival). a.holding) (now one).arrival
-          ∙ (side one).kept (sym ((now one).awaited) ∙ e ∙ (was one).awaited) ∙ sym (ap (λ (a : Arrival). a.holding) (was one).arrival);
+          ∙ (side one).kept (sym ((now one).awaited) ∙ e ∙ (was one).awaited)
+          ∙ sym (ap (λ (a : Arrival). a.holding) (was one).arrival);
     }
       where
         side : (one : Side) → IsSideAfter (at f.sides one) (at n.sides one)
@@ -221,11 +225,13 @@ module _ (f n : Fields) (to : Side) (x : Waiting) (items : List Waiting) (i : Is
         depth_of : (one : Side) → (at n.sides one).max_depth ≡ (at f.sides one).max_depth
         depth_of one = (dropped_side one).max_depth
 
-        once : (one : Side) → count_of (answer_mark one) n.wires.bot.items + count_of (answer_mark one) n.wires.server.items
+        once : (one : Side) →
+            count_of (answer_mark one) n.wires.bot.items + count_of (answer_mark one) n.wires.server.items
             ≡ presence (at n.sides one).verdict
         once one = dropped_once one
 
-        on_wire : (one wire : Side) → count_of (answer_mark one) (at n.wires wire).items ≤ presence (at n.sides one).verdict
+        on_wire : (one wire : Side) →
+            count_of (answer_mark one) (at n.wires wire).items ≤ presence (at n.sides one).verdict
         on_wire one Bot = omega (arith, once one)
         on_wire one Server = omega (arith, once one)
 

@@ -113,13 +113,15 @@ lets_more old mid new a b = record {
   kept = λ side e. kept_by side e (is_awaited (at mid.waiting) side) refl (is_awaited (at old.waiting) side) refl;
 }
   where
-    gone_by : (side : Side) → is_awaited (at old.waiting) side ≡ true → is_awaited (at new.waiting) side ≡ false → (k : Bool) →
+    gone_by : (side : Side) → is_awaited (at old.waiting) side ≡ true → is_awaited (at new.waiting) side ≡ false →
+        (k : Bool) →
         is_awaited (at mid.waiting) side ≡ k → (holding new side).held ≡ []
     gone_by side some none true e = b.gone side e none
     gone_by side some none false e =
         ap (λ (h : Holding). h.held) (b.kept side (none ∙ sym e)) ∙ a.gone side some e
 
-    kept_by : (side : Side) → is_awaited (at new.waiting) side ≡ is_awaited (at old.waiting) side → (k : Bool) → is_awaited (at mid.waiting) side ≡ k →
+    kept_by : (side : Side) → is_awaited (at new.waiting) side ≡ is_awaited (at old.waiting) side → (k : Bool) →
+        is_awaited (at mid.waiting) side ≡ k →
         (l : Bool) → is_awaited (at old.waiting) side ≡ l → holding new side ≡ holding old side
     kept_by side e true m true o = b.kept side (e ∙ o ∙ sym m) ∙ a.kept side (m ∙ sym o)
     kept_by side e false m true o = let bad = sym (b.fewer side m) ∙ e ∙ o in absurd (cc)

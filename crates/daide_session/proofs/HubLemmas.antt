@@ -1,5 +1,6 @@
 -- Places of a hub: one that changes, one that is taken out, and what all weigh.
-use Rattle.std.proofs.Common.{◌≡◌, ℕ, ◌+◌, ◌*◌, ◌<◌, ◌≤◌, Bool, true, false, cond, List, [], ◌∷◌, ◌++◌, length, take, drop}
+use Rattle.std.proofs.Common.{◌≡◌, ℕ, ◌+◌, ◌*◌, ◌<◌, ◌≤◌, Bool, true, false, cond, List, [], ◌∷◌, ◌++◌, length, take}
+use Rattle.std.proofs.Common.{drop}
 use Rattle.std.proofs.Common.{map, get_or, set, suc, Some, refl, sym, ap, ◌∙◌, subst, arith, length-append}
 use Rattle.std.specs.Prelude.{◌&&◌, ◌==◌, ◌%◌, nat_le, Ok, Err, Result, All, sum_by, slice_get, remove, option_map}
 use Rattle.std.proofs.lemmas.List.{map-set, map-append, take-map, drop-map, length-map, length-set, get_or_read}

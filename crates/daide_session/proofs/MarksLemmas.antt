@@ -169,7 +169,8 @@ some_answer side to a (x ∷ items) some = go (is_answer side (answers_of x)) re
     go true e more = rw e refl
     go false e more = let none : answer_mark side x ≡ 0 = rw e at (mark_is side x) in rw e (more (omega arith))
 
-pub answer_behind : (side : Side) (n : ℕ) (frames : List Sent) → has_answer side (behind n frames) ≡ has_answer side frames
+pub answer_behind : (side : Side) (n : ℕ) (frames : List Sent) →
+    has_answer side (behind n frames) ≡ has_answer side frames
 answer_behind side n [] = refl
 answer_behind side n (frame ∷ frames) = refl
 

@@ -1,6 +1,8 @@
 -- What one answer of the ports does to a session and its wires.
-use Rattle.std.proofs.Common.{◌≡◌, ℕ, ◌<◌, ◌≤◌, Bool, true, false, cond, ltb, eqb, List, [], ◌∷◌, ◌++◌, length, take, drop}
-use Rattle.std.proofs.Common.{refl, sym, ap, ◌∙◌, subst, arith, append_assoc, append-nil, length-append, zero, suc, inl, inr}
+use Rattle.std.proofs.Common.{◌≡◌, ℕ, ◌<◌, ◌≤◌, Bool, true, false, cond, ltb, eqb, List, [], ◌∷◌, ◌++◌, length, take}
+use Rattle.std.proofs.Common.{drop}
+use Rattle.std.proofs.Common.{refl, sym, ap, ◌∙◌, subst, arith, append_assoc, append-nil, zero, suc, inl}
+use Rattle.std.proofs.Common.{inr}
 use Rattle.std.proofs.Common.{◌⊎◌}
 use Rattle.std.proofs.lemmas.List.{take-append-le, take-append-drop, take_all}
 use Rattle.std.proofs.lemmas.Bool.Decides.{leb_tells, nat_tests}
@@ -9,7 +11,7 @@ use Rattle.daide_frame.specs.declared.side.Side.TheVariants.{Bot, Server}
 use Rattle.daide_machine.specs.declared.note.Note.{Note}
 use Rattle.daide_machine.specs.Events.{Event, Ends, Pops, bytes_come, other}
 use Rattle.daide_machine.specs.Machine.{Sent, Effect, Runs, is_over}
-use Rattle.daide_machine.specs.Wires.{Gateway, waiting, sent_to, bytes_of, without, first_len}
+use Rattle.daide_machine.specs.Wires.{Gateway, waiting, sent_to, bytes_of, without}
 use Rattle.daide_machine.specs.Wires.{Goes, Lost, Wrote, IsFrontOf}
 use Rattle.daide_machine.proofs.WireLemmas.{bytes_of-append}
 use Rattle.daide_session.specs.declared.ports.Pull.TheVariants.{Got, Idle, Ended}
@@ -88,11 +90,6 @@ without_bytes : (n : ℕ) (xs : List ℕ) (frames : List Sent) → IsFrontOf xs 
 without_bytes n xs [] f h = rw f (take_nothing n)
 without_bytes n xs (frame ∷ frames) f h =
     by_length n xs f.1.0 frame frames (ltb n (length frame.bytes)) refl f.1.1 h
-
--- a front lies within the first frame
-pub front_within : (xs : List ℕ) (frames : List Sent) → IsFrontOf xs frames → length xs ≤ first_len frames
-front_within xs [] f = rw f (omega arith)
-front_within xs (frame ∷ frames) f = omega (arith, ap length f.1.1, length-append xs f.1.0)
 
 -- ---- the puts
 

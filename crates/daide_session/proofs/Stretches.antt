@@ -10,7 +10,7 @@ use Rattle.daide_machine.proofs.OneRun.{one_run, runs_join}
 use Rattle.daide_machine.proofs.PieceRuns.{over_stays}
 use Rattle.daide_machine.proofs.WireLemmas.{sent_to-append, bytes_of-append}
 use Rattle.daide_session.specs.Record.{PortAnswer, event_of, events_of, took, taken, fails, has_failed, Moved, Relays}
-use Rattle.daide_session.specs.Record.{Carries, Tells}
+use Rattle.daide_session.specs.Record.{Carries}
 use Rattle.daide_session.specs.Turn.{Then}
 
 -- ---- lists along an append
@@ -135,14 +135,3 @@ pub carries_weaker : (K L : Gateway → List PortAnswer → Gateway → Type 0) 
     Carries K a s b t → Carries L a s b t
 carries_weaker K L a s b None f h = tt
 carries_weaker K L a s b (Some after) f h = (h.0, h.1, (h.2.0, h.2.1, f h.2.0 h.2.2))
-
-pub carries_none : (K : Gateway → List PortAnswer → Gateway → Type 0) (a : Gateway) (s : Option (List PortAnswer)) →
-    K a [] a → Carries K a s a s
-carries_none K a None k = tt
-carries_none K a (Some r) k = (r, refl, ([], sym (append-nil r), k))
-
-pub carries_one : (K : Gateway → List PortAnswer → Gateway → Type 0) (a : Gateway) (s : Option (List PortAnswer))
-    (answer : PortAnswer) (b : Gateway) (t : Option (List PortAnswer)) →
-    Tells s answer t → K a (answer ∷ []) b → Carries K a s b t
-carries_one K a s answer b None h r = tt
-carries_one K a s answer b (Some after) h r = (h.0, h.1, (answer ∷ [], h.2, r))

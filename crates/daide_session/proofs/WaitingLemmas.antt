@@ -96,7 +96,8 @@ pub record IsPosted (f : Fields) (t : Traffic) (side one to : Side) (head : Head
   pub wires : w ≡ put f.wires to (pushed (at f.wires to) (Answer side))
 
 pub post_sound : {f : Fields} {t : Traffic} {side one to : Side} {head : Head} {verdict : Verdict} {x : Inbound}
-    {w : Both Queue} → IsPosted f t side one to head verdict x w → IsSound (record { sides = put f.sides one x; wires = w })
+    {w : Both Queue} → IsPosted f t side one to head verdict x w →
+    IsSound (record { sides = put f.sides one x; wires = w })
 post_sound {f} {t} {side} {one} {to} {head} {verdict} {x} p =
     let a = p.answers in
     subst (λ (v : Both Queue). IsSound (record { sides = put f.sides one x; wires = v }))
@@ -120,7 +121,8 @@ post_waiting {f} {t} {side} {one} {to} {head} {verdict} {x} p =
     ap (λ (v : Both Queue). (traffic_of (record { sides = put f.sides one x; wires = v })).waiting)
     (p.wires ∙ ap (λ (s : Side). put f.wires to (pushed (at f.wires to) (Answer s))) its)
     ∙ replied_waiting f one to x p.seen.seen.sound p.seen.free
-    ∙ ap (λ (v : Traffic). posted v.waiting (record { to = to; answers = Some one; bytes = answer_of x })) p.seen.seen.is
+    ∙ ap (λ (v : Traffic). posted v.waiting (record { to = to; answers = Some one; bytes = answer_of x }))
+    p.seen.seen.is
     ∙ ap (λ (s : Side). posted t.waiting (record { to = to; answers = Some s; bytes = answer_of x })) (sym its)
     ∙ ap (λ (b : List ℕ). posted t.waiting (record { to = to; answers = Some side; bytes = b })) bytes
 

@@ -80,7 +80,8 @@ weight_few t s a b c d k l x y m n = omega (arith, x, y, m, n)
 -- what is held of a side that waits for no answer, as both its calls tell it
 pub tied_by : (t : Traffic) (s : Stage) →
     (is_awaited (at t.waiting) Bot ≡ false → t.sides.bot.holding.held ≡ pending t Bot) →
-    (is_awaited (at t.waiting) Server ≡ false → t.sides.server.holding.held ≡ pending t Server) → IsTied (gateway_of t s)
+    (is_awaited (at t.waiting) Server ≡ false → t.sides.server.holding.held ≡ pending t Server) →
+    IsTied (gateway_of t s)
 tied_by t s bot server Bot free = bot free
 tied_by t s bot server Server free = server free
 

@@ -33,7 +33,8 @@ put_there w Server frames = refl
 
 -- ---- an end lets nobody wait
 
-has_answer-append : (side : Side) (a b : List Sent) → has_answer side b ≡ false → has_answer side (a ++ b) ≡ has_answer side a
+has_answer-append : (side : Side) (a b : List Sent) → has_answer side b ≡ false →
+    has_answer side (a ++ b) ≡ has_answer side a
 has_answer-append side [] b e = e
 has_answer-append side (x ∷ a) b e = ap (λ (k : Bool). is_answer side x.answers || k) (has_answer-append side a b e)
 
@@ -63,7 +64,8 @@ stopped_awaited : (t u : Traffic) (s r : Stage) (side one : Side) →
     is_awaited (waiting (gateway_of u r)) one ≡ is_awaited (waiting (gateway_of t s)) one
 stopped_awaited t u s r side one m = both
     (ap (has_answer one) (m.sent Bot) ∙ has_answer-append one t.waiting.bot _ (end_quiet one Bot (state_of t s) side))
-    (ap (has_answer one) (m.sent Server) ∙ has_answer-append one t.waiting.server _ (end_quiet one Server (state_of t s) side))
+    (ap (has_answer one) (m.sent Server)
+    ∙ has_answer-append one t.waiting.server _ (end_quiet one Server (state_of t s) side))
   where
     both : {a b c d : Bool} → a ≡ b → c ≡ d → (a || c) ≡ (b || d)
     both e f = rw (e, f) refl
@@ -74,7 +76,8 @@ gone_state : (u v : Traffic) (s : Stage) → LetsTrafficGo u v → state_of v s 
 gone_state u v s l = rw (l.cap, l.max_depth, l.coming Bot, l.coming Server) refl
 
 lets_go : (t u v : Traffic) (s r : Stage) →
-    ((one : Side) → is_awaited (waiting (gateway_of u r)) one ≡ is_awaited (waiting (gateway_of t s)) one) → u.sides ≡ t.sides →
+    ((one : Side) → is_awaited (waiting (gateway_of u r)) one ≡ is_awaited (waiting (gateway_of t s)) one) →
+    u.sides ≡ t.sides →
     LetsTrafficGo u v → LetsGo (gateway_of t s) (gateway_of v r)
 lets_go t u v s r same sides l = record {
   gone = λ one waited free.

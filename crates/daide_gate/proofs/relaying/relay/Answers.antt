@@ -8,4 +8,5 @@ pub returns-clause-headline : goal.returns-clause-headline
 returns-clause-headline g c =
     let old = c.args.session.now in
     let new = c.make_turns-end.new.session in
-    carries_weaker Relays Headline old _ new _ (λ xs. headline_of old xs new c.bounds.ensures) c.make_turns-end.ensures.delivered
+    carries_weaker Relays Headline old _ new _
+    (λ xs. headline_of old xs new c.bounds.ensures) c.make_turns-end.ensures.delivered

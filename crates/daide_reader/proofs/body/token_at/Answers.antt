@@ -8,6 +8,8 @@ returns c =
     let m = tokens_of c.args.body.now in
     let is = sym c.from_be.ensures in
     record {
-      front = tokens_of-next c.args.place c.args.body.now (omega arith) ∙ ap (λ (t : ℕ). take c.args.place m ++ t ∷ []) is;
-      rest = tokens_of-rest c.args.place c.args.body.now (omega arith) ∙ ap (λ (t : ℕ). t ∷ drop (c.args.place + 1) m) is;
+      front = tokens_of-next c.args.place c.args.body.now (omega arith)
+          ∙ ap (λ (t : ℕ). take c.args.place m ++ t ∷ []) is;
+      rest = tokens_of-rest c.args.place c.args.body.now (omega arith)
+          ∙ ap (λ (t : ℕ). t ∷ drop (c.args.place + 1) m) is;
     }

@@ -9,7 +9,9 @@ returns-then-is_take-clause-taken g c =
     let top = c.loop-top.left - 1 in
     let rest = rest_of c.predict-answer.result in
     let inside : top ≤ length c.loop-top.cells = grind (arith, common_steps) in
-    let front : take c.len.result c.cells.result ≡ reverse rest = ap (λ (k : ℕ). take k c.cells.result) c.len.ensures.len ∙ c.cells.ensures in
+    let front : take c.len.result c.cells.result ≡ reverse rest =
+    ap (λ (k : ℕ). take k c.cells.result) c.len.ensures.len ∙ c.cells.ensures in
     let put : take (top + c.len.result) c.put_rest.new.cells ≡ take top c.loop-top.cells ++ reverse rest =
-    rest_put top c.len.result c.put_rest.new.cells c.loop-top.cells c.cells.result (reverse rest) c.len.ensures.few inside c.put_rest.ensures front in
+    rest_put top c.len.result c.put_rest.new.cells c.loop-top.cells c.cells.result
+    (reverse rest) c.len.ensures.few inside c.put_rest.ensures front in
     grind (arith, common_steps)

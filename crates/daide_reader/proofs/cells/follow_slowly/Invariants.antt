@@ -12,8 +12,10 @@ invariant-loop-left g l =
       words : words l.table ≡ words l.fn.table;
       count : l.left ≤ g.row.N;
       room : length l.cells ≡ g.row.N;
-      stack : stack_after moves l.class (reverse (take l.left l.cells)) ≡ stack_after moves l.class (reverse (take l.fn.count l.fn.cells));
-      steps : (asked l.table + steps_at moves l.class (reverse (take l.left l.cells))) % 2 ^ 64 ≡ (asked l.fn.table + steps_at moves l.class (reverse (take l.fn.count l.fn.cells))) % 2 ^ 64;
+      stack : stack_after moves l.class (reverse (take l.left l.cells))
+          ≡ stack_after moves l.class (reverse (take l.fn.count l.fn.cells));
+      steps : (asked l.table + steps_at moves l.class (reverse (take l.left l.cells))) % 2 ^ 64
+          ≡ (asked l.fn.table + steps_at moves l.class (reverse (take l.fn.count l.fn.cells))) % 2 ^ 64;
     }
 
 abbrev pub decreases-loop-left : goal.decreases-loop-left

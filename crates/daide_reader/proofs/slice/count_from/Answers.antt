@@ -18,7 +18,8 @@ returns-then-opened-eq0 c =
     let m = tokens_of c.args.body.now in
     let t = c.token_at-token.result in
     let here : count_one (is_bra t) (is_ket t) (Some c.loop-i.opened) ≡ None =
-    closed_early (is_bra t) (is_ket t) c.loop-i.opened (sym c.is_bra.ensures ∙ c.if-is_bra.false) (sym c.is_ket.ensures ∙ c.if-is_ket.true) c.if-opened-eq0.true in
+    closed_early (is_bra t) (is_ket t) c.loop-i.opened (sym c.is_bra.ensures ∙ c.if-is_bra.false) (sym c.is_ket.ensures
+    ∙ c.if-is_ket.true) c.if-opened-eq0.true in
     let q = drop (c.loop-i.i + 1) m in
     record {
       count = sym (sym inv.left ∙ ap (λ (q : List ℕ). count_all (Some c.loop-i.opened) q) c.token_at-token.ensures.rest
@@ -29,5 +30,6 @@ pub returns : goal.returns
 returns c =
     let inv = c.loop-i.invariant in
     let m = tokens_of c.args.body.now in
-    let all : c.loop-i.i ≡ length m = omega (arith, tokens_of-length c.args.body.now, c.requires.next, c.loop-i.auto.i-end) in
+    let all : c.loop-i.i ≡ length m =
+    omega (arith, tokens_of-length c.args.body.now, c.requires.next, c.loop-i.auto.i-end) in
     record { count = sym (count_all-end (Some c.loop-i.opened) c.loop-i.i m all) ∙ inv.left }

@@ -7,5 +7,6 @@ use Rattle.daide_reader.proofs.slice.count_from.Given as goal
 abbrev pub invariant-loop-i : goal.invariant-loop-i
 invariant-loop-i l = record {
   few : l.opened ≤ l.i;
-  left : count_all (Some l.opened) (drop l.i (tokens_of l.body)) ≡ count_all l.fn.unclosed (drop l.next (tokens_of l.body));
+  left : count_all (Some l.opened) (drop l.i (tokens_of l.body))
+      ≡ count_all l.fn.unclosed (drop l.next (tokens_of l.body));
 }

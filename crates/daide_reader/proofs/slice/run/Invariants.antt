@@ -19,9 +19,11 @@ invariant-loop-i g l = record {
   raised : IsRaised (4 * (l.i - l.read)) (g.T.Predict.asked l.fn.table) (g.T.Predict.asked l.table);
   stands_after : (words : Words) (first : Sym) (depth base : ℕ) → begins_with_prn (tokens_of l.body) ≡ false →
       StandsAfter g.T.Predict words first depth
-      (reading l.fn.table l.max_depth (reverse (take l.fn.count l.fn.cells)) (outline_of (take l.read (tokens_of l.body)))
+      (reading l.fn.table l.max_depth (reverse (take l.fn.count l.fn.cells))
+      (outline_of (take l.read (tokens_of l.body)))
       (Some l.unclosed) None base) (take l.read (tokens_of l.body)) →
       StandsAfter g.T.Predict words first depth
-      (reading l.table l.max_depth (reverse (take l.left l.cells)) (outline_of (take l.i (tokens_of l.body))) (Some l.opened) None base)
+      (reading l.table l.max_depth (reverse (take l.left l.cells)) (outline_of (take l.i (tokens_of l.body)))
+      (Some l.opened) None base)
       (take l.i (tokens_of l.body));
 }

@@ -25,4 +25,5 @@ pub returns-clause-headline : goal.returns-clause-headline
 returns-clause-headline g c =
     let old = c.args.session.now in
     let new = c.pull-2.new.session in
-    carries_weaker Relays Headline old _ new _ (λ xs. headline_of old xs new c.bounds.ensures) (returns-clause-delivered g c)
+    carries_weaker Relays Headline old _ new _ (λ xs. headline_of old xs new c.bounds.ensures)
+    (returns-clause-delivered g c)

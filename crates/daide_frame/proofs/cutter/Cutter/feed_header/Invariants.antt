@@ -10,5 +10,6 @@ invariant-loop-byte g l = record {
   room : length (drop l.byte-index l.piece) ≤ missing l.self.cap l.self.bytes;
   taken : l.self.bytes ≡ l.fn.self.bytes ++ take l.byte-index l.piece;
   bytes : fed l.fn.self.cap l.self.bytes (drop l.byte-index l.piece) ≡ fed l.fn.self.cap l.fn.self.bytes l.piece;
-  items : fed_items l.fn.self.cap l.self.bytes (drop l.byte-index l.piece) ≡ fed_items l.fn.self.cap l.fn.self.bytes l.piece;
+  items : fed_items l.fn.self.cap l.self.bytes (drop l.byte-index l.piece)
+      ≡ fed_items l.fn.self.cap l.fn.self.bytes l.piece;
 }

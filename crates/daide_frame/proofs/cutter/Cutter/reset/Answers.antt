@@ -5,4 +5,5 @@ use Rattle.daide_frame.proofs.cutter.Cutter.reset.Goals as goal
 pub invariant_of-self : goal.invariant_of-self
 invariant_of-self g c =
     let a = c.self.inside in
-    consistent_short a.cap 0 a.header None false _ _ (omega arith) c.self.told c.clear.ensures.items refl refl (omega (arith, c.clear.ensures.capacity, c.self.invariant.reserved))
+    consistent_short a.cap 0 a.header None false _ _ (omega arith) c.self.told c.clear.ensures.items refl refl
+    (omega (arith, c.clear.ensures.capacity, c.self.invariant.reserved))

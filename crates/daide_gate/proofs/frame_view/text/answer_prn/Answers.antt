@@ -3,5 +3,9 @@ use Rattle.daide_gate.proofs.frame_view.text.answer_prn.Goals as goal
 
 pub returns-clause-tokens : goal.returns-clause-tokens
 returns-clause-tokens g c =
-    rw (c.in_ok-extend_from_slice-2.ensures.items, c.in_ok-extend_from_slice.ensures.items, c.in_ok-answer.ensures.items)
+    rw (
+      c.in_ok-extend_from_slice-2.ensures.items,
+      c.in_ok-extend_from_slice.ensures.items,
+      c.in_ok-answer.ensures.items,
+    )
     (tokens_of-prn c.args.body.now c.requires)

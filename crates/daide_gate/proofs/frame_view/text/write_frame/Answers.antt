@@ -8,7 +8,8 @@ use Rattle.daide_gate.proofs.Outcomes.{if_ok-more}
 use Rattle.daide_gate.proofs.frame_view.text.write_frame.Goals as goal
 
 -- a frame of a kind that is not checked is relayed
-unchecked : (end : Side2) (level : Level) (kind : Kind) (len : ℕ) (body : List ℕ) → (kind ≡ Rm) ⊎ ((kind ≡ Fm) ⊎ (kind ≡ Em))
+unchecked : (end : Side2) (level : Level) (kind : Kind) (len : ℕ) (body : List ℕ) →
+    (kind ≡ Rm) ⊎ ((kind ≡ Fm) ⊎ (kind ≡ Em))
     → IsFrameShownAs [] end level kind len body (relayed_shown kind len)
 unchecked end level Rm len body is = refl
 unchecked end level Fm len body is = refl
@@ -23,4 +24,8 @@ unchecked end level Dm len body (inr (inr e)) = absurd cc
 pub returns-in-Rm : goal.returns-in-Rm
 returns-in-Rm g c =
     if_ok-more c.write_relayed.result _ _ c.write_relayed.ensures
-    (λ relayed wrote. (relayed_shown c.args.head.kind c.args.head.len, unchecked c.args.end c.args.level c.args.head.kind c.args.head.len c.args.body.now c.in-Rm.is, wrote))
+    (λ relayed wrote. (
+      relayed_shown c.args.head.kind c.args.head.len,
+      unchecked c.args.end c.args.level c.args.head.kind c.args.head.len c.args.body.now c.in-Rm.is,
+      wrote,
+    ))

@@ -7,9 +7,11 @@ use Rattle.daide_gate.proofs.Outcomes.{if_ok-more}
 use Rattle.daide_gate.proofs.frame_view.text.write_message.Goals as goal
 
 -- three texts written one after the other
-joined : (old a b c first second third : List ℕ) → first ≡ old ++ a → second ≡ first ++ b → third ≡ second ++ c → third ≡ old ++ ((a ++ b) ++ c)
+joined : (old a b c first second third : List ℕ) → first ≡ old ++ a → second ≡ first ++ b → third ≡ second ++ c →
+    third ≡ old ++ ((a ++ b) ++ c)
 joined old a b c first second third x y z =
-    z ∙ ap (λ (l : List ℕ). l ++ c) (y ∙ ap (λ (l : List ℕ). l ++ b) x ∙ append_assoc old a b) ∙ append_assoc old (a ++ b) c
+    z ∙ ap (λ (l : List ℕ). l ++ c) (y ∙ ap (λ (l : List ℕ). l ++ b) x ∙ append_assoc old a b)
+    ∙ append_assoc old (a ++ b) c
 
 pub returns : goal.returns
 returns g c =
@@ -22,7 +24,8 @@ returns g c =
       message_shown len m verdict,
       (verdict, c.verdict_of-verdict.ensures.verdict, refl),
       (
-        joined old (kind_line c.args.head.kind len) (line (text_of m)) lines _ _ _ c.in_ok-write_kind.ensures c.in_ok-write_tokens.ensures wrote.0
+        joined old (kind_line c.args.head.kind len)
+            (line (text_of m)) lines _ _ _ c.in_ok-write_kind.ensures c.in_ok-write_tokens.ensures wrote.0
             ∙ ap (λ (kind : Kind). old ++ ((kind_line kind len ++ line (text_of m)) ++ lines)) c.requires.dm,
         wrote.1,
       ),

@@ -1,4 +1,5 @@
-use Rattle.std.proofs.Common.{◌≡◌, ℕ, ◌≤◌, true, false, Some, is_some, length, take, drop, reverse, rules, refl, sym, ap, ◌∙◌, subst, arith}
+use Rattle.std.proofs.Common.{◌≡◌, ℕ, ◌≤◌, true, false, Some, is_some, length, take, drop, reverse, rules, refl, sym}
+use Rattle.std.proofs.Common.{ap, ◌∙◌, subst, arith}
 use Rattle.std.proofs.lemmas.List.{take-append-drop}
 use Rattle.std.proofs.Math.Seq.{drop-length}
 use Rattle.daide_token.specs.Token.{tokens_of}
@@ -8,7 +9,8 @@ use Rattle.daide_reader.specs.Reading.{Reading, tokens_read}
 use Rattle.daide_reader.proofs.BodyLemmas.{tokens_of-length}
 use Rattle.daide_reader.proofs.OutlineLemmas.{outline_on-is, plain_before}
 use Rattle.daide_reader.proofs.ReadingLemmas.{raised_none, none_from_test}
-use Rattle.daide_reader.proofs.SliceLemmas.{as_reading, count_all-end, count_is, counts_past, counts_up, more_tokens, stands_before, stands_on, stands_report_on, stands_still, steady_on}
+use Rattle.daide_reader.proofs.SliceLemmas.{as_reading, count_all-end, count_is, counts_past, counts_up, more_tokens}
+use Rattle.daide_reader.proofs.SliceLemmas.{stands_before, stands_on, stands_report_on, stands_still, steady_on}
 use Rattle.daide_reader.proofs.reader.Reader.read.Goals as goal
 
 -- no whole token came
@@ -29,14 +31,16 @@ invariant_of-self g c =
     rw c.on-self-inside.ensures
     (steady_on _ _ g.row.N _ _ _ _ m _ _ _ _ c.self.invariant more (omega (arith, size, room))
     (counts_up _ _ _ (omega (arith, more)) c.self.invariant.counts)
-    (λ plain. let f : true ≡ false = sym c.if-self.true ∙ ap (λ (o : Outline). o.is_prn) c.on-self-inside.ensures ∙ plain in absurd cc)
+    (λ plain. let f : true ≡ false =
+    sym c.if-self.true ∙ ap (λ (o : Outline). o.is_prn) c.on-self-inside.ensures ∙ plain in absurd cc)
     (λ _. ap reverse c.clear.ensures) (λ _. ap reverse c.clear.ensures))
 
 pub returns-then-self-clause-stands_after : goal.returns-then-self-clause-stands_after
 returns-then-self-clause-stands_after g c = λ words first max_depth h.
     let m = tokens_of c.args.body.now in
     let k = c.self.inside.outline.tokens in
-    stands_report_on g.T.Predict words first max_depth _ _ (take k m) (drop k m) m (take-append-drop k m) refl refl refl refl refl
+    stands_report_on g.T.Predict words first max_depth _ _ (take k m) (drop k m) m
+    (take-append-drop k m) refl refl refl refl refl
     (λ o. rw c.on-self-inside.ensures (outline_on-is _ m o)) c.if-self.true
     (stands_before g.T.Predict words first max_depth _ _ c.args.body.now c.self.view_is h)
 
@@ -45,7 +49,8 @@ returns-then-self-clause-tokens g c =
     ap (λ (o : Outline). o.tokens) c.on-self-inside.ensures ∙ tokens_of-length c.args.body.now
 
 pub returns-then-self-clause-raised : goal.returns-then-self-clause-raised
-returns-then-self-clause-raised g c = raised_none _ _ (ap (λ (v : Reading g.row.T.Denot). g.T.Predict.asked v.table) c.self.view_is)
+returns-then-self-clause-raised g c =
+    raised_none _ _ (ap (λ (v : Reading g.row.T.Denot). g.T.Predict.asked v.table) c.self.view_is)
 
 -- a place was found before
 pub invariant_of-self-then-is_some : goal.invariant_of-self-then-is_some
@@ -62,7 +67,8 @@ invariant_of-self-then-is_some g c =
     (steady_on _ _ g.row.N _ _ _ _ m _ _ _ _ c.self.invariant more (omega (arith, size, room)) counts
     (λ _ none. let f : true ≡ false = c.if-is_some.ensures ∙ ap is_some none in absurd cc)
     c.self.invariant.none_left
-    (λ report. let f : true ≡ false = sym report ∙ ap (λ (o : Outline). o.is_prn) (sym c.on-self-inside.ensures) ∙ c.if-self.false in absurd cc))
+    (λ report. let f : true ≡ false =
+    sym report ∙ ap (λ (o : Outline). o.is_prn) (sym c.on-self-inside.ensures) ∙ c.if-self.false in absurd cc))
 
 pub returns-then-is_some-clause-stands_after : goal.returns-then-is_some-clause-stands_after
 returns-then-is_some-clause-stands_after g c = λ words first max_depth h.
@@ -117,7 +123,8 @@ run-reached-requires g c =
                 subst (λ (n : ℕ). n ≤ c.self.inside.outline.tokens) count few,
                 (
                   subst (λ (n : ℕ). n ≤ c.self.inside.max_depth) count here.2,
-                  subst (λ (n : ℕ). Predict.lawful (Predict.words c.self.inside.table) (reverse c.self.inside.stack) n) count here.3,
+                  subst (λ (n : ℕ). Predict.lawful (Predict.words c.self.inside.table) (reverse c.self.inside.stack) n)
+                      count here.3,
                 ),
               ),
             ),
@@ -135,7 +142,8 @@ invariant_of-self-2 g c =
     let more = more_tokens _ _ _ (length m) same c.requires.read_before size c.if-read-body.false in
     let room = c.requires.room in
     let reached = c.run-reached.ensures in
-    let counts = counts_past c.run-reached.result.tokens m (let t = reached.tokens in omega (arith, size, t)) c.run-reached.result.unclosed reached.counts in
+    let counts = counts_past c.run-reached.result.tokens m (let t = reached.tokens in
+    omega (arith, size, t)) c.run-reached.result.unclosed reached.counts in
     rw (c.on-self-inside.ensures, c.count_from-self-inside-2.ensures.count)
     (steady_on _ _ g.row.N _ _ _ _ m _ _ _ _ c.self.invariant more (omega (arith, size, room)) counts
     (λ _ none.
@@ -143,7 +151,8 @@ invariant_of-self-2 g c =
     let all : c.run-reached.result.tokens ≡ length m = reached.all none ∙ sym size in
     (here.0, count_all-end c.run-reached.result.unclosed c.run-reached.result.tokens m all ∙ here.1, here.2, here.3))
     (λ placed. ap reverse (reached.none_left placed))
-    (λ report. let f : true ≡ false = sym report ∙ ap (λ (o : Outline). o.is_prn) (sym c.on-self-inside.ensures) ∙ c.if-self.false in absurd cc))
+    (λ report. let f : true ≡ false =
+    sym report ∙ ap (λ (o : Outline). o.is_prn) (sym c.on-self-inside.ensures) ∙ c.if-self.false in absurd cc))
 
 pub returns-clause-stands_after : goal.returns-clause-stands_after
 returns-clause-stands_after g c = λ words first max_depth h.
@@ -157,10 +166,12 @@ returns-clause-stands_after g c = λ words first max_depth h.
     let none = none_from_test _ c.if-is_some.ensures in
     let here = c.self.invariant.lawful_stack plain none in
     let count = count_is c.self.inside.unclosed here.0 c.unwrap_or-open.result here.1 c.unwrap_or-open.ensures in
-    let fin : c.self.inside.finished ≡ false = ap (λ (v : Reading g.row.T.Denot). v.finished) c.self.view_is ∙ c.requires.unfinished in
+    let fin : c.self.inside.finished ≡ false =
+    ap (λ (v : Reading g.row.T.Denot). v.finished) c.self.view_is ∙ c.requires.unfinished in
     let before = stands_before Predict words first max_depth _ _ b c.self.view_is h in
     let outline : IsOutlineOf (outline_on c.self.inside.outline m) m = outline_on-is _ m before.outline in
-    let not_prn = sym outline.begins ∙ ap (λ (o : Outline). o.is_prn) (sym c.on-self-inside.ensures) ∙ c.if-self.false in
+    let not_prn = sym outline.begins ∙ ap (λ (o : Outline). o.is_prn) (sym c.on-self-inside.ensures)
+    ∙ c.if-self.false in
     let now = as_reading Predict words first max_depth c.unwrap_or-open.result _ (take k m) none
     (here.1 ∙ ap (λ (i : ℕ). Some i) (sym count)) fin before in
     stands_on Predict words first max_depth _ _ (take n m) (drop n m) m
@@ -175,7 +186,8 @@ returns-clause-stands_after g c = λ words first max_depth h.
       outline_more = λ _. rw c.on-self-inside.ensures outline;
       not_prn = c.if-self.false;
       unclosed_more = c.count_from-self-inside-2.ensures.count;
-      all_read = λ no_place. ap (λ (i : ℕ). drop i m) (c.run-reached.ensures.all no_place ∙ sym (tokens_of-length b)) ∙ drop-length m;
+      all_read = λ no_place. ap (λ (i : ℕ). drop i m) (c.run-reached.ensures.all no_place ∙ sym (tokens_of-length b))
+          ∙ drop-length m;
     })
     (c.run-reached.ensures.stands_after words first max_depth c.self.inside.asked_before not_prn now)
 

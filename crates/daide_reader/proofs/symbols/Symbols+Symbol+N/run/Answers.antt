@@ -10,4 +10,5 @@ returns-clause-stands_after g c = λ words first depth base plain h.
     let p = take c.args.read (tokens_of c.args.body.now) in
     c.run-reached.ensures.stands_after words first depth base plain
     (subst (λ (s : List Sym). StandsAfter g.T.Predict words first depth
-    (reading c.args.table.now c.args.max_depth (reverse s) (outline_of p) (Some c.args.unclosed) None base) p) (sym c.self.view_is) h)
+    (reading c.args.table.now c.args.max_depth (reverse s) (outline_of p) (Some c.args.unclosed) None base) p)
+    (sym c.self.view_is) h)

@@ -33,7 +33,8 @@ invariant_of-self g c =
     (record { side = b.side; cap = b.cap; max_depth = b.max_depth }) b.unanswered
 
 pub returns-in-Bot-clause-waiting : goal.returns-in-Bot-clause-waiting
-returns-in-Bot-clause-waiting g c = waiting_side c.begin.new.self (bot g (goal.at.returns-in-Bot-clause-waiting g c).In-Bot)
+returns-in-Bot-clause-waiting g c =
+    waiting_side c.begin.new.self (bot g (goal.at.returns-in-Bot-clause-waiting g c).In-Bot)
 
 pub returns-in-Bot-clause-started : goal.returns-in-Bot-clause-started
 returns-in-Bot-clause-started g c =
@@ -47,7 +48,8 @@ server : (g : Over) (c : In-Server g) → IsSeenFree
 server g c =
     let d = c.self.inside in
     seen_free
-    (seen (fields d.bot d.server d.to_bot d.to_server) c.args.self.now c.args.side Server c.self.view_is c.self.invariant
+    (seen (fields d.bot d.server d.to_bot d.to_server)
+    c.args.self.now c.args.side Server c.self.view_is c.self.invariant
     c.in-Server.is)
     c.requires.free
 
@@ -56,7 +58,8 @@ begin-requires-in-Server-clause-free g c = (server g (goal.at.begin-requires-in-
 
 pub begin-requires-in-Server-clause-bodiless : goal.begin-requires-in-Server-clause-bodiless
 begin-requires-in-Server-clause-bodiless g c =
-    sym (ap (drop 4) (server g (goal.at.begin-requires-in-Server-clause-bodiless g c).In-Server).pending) ∙ c.requires.bodiless
+    sym (ap (drop 4) (server g (goal.at.begin-requires-in-Server-clause-bodiless g c).In-Server).pending)
+    ∙ c.requires.bodiless
 
 pub invariant_of-self-in-Server : goal.invariant_of-self-in-Server
 invariant_of-self-in-Server g c =
@@ -65,7 +68,8 @@ invariant_of-self-in-Server g c =
     (record { side = b.side; cap = b.cap; max_depth = b.max_depth }) b.unanswered
 
 pub returns-in-Server-clause-waiting : goal.returns-in-Server-clause-waiting
-returns-in-Server-clause-waiting g c = waiting_side c.begin-in-Server.new.self (server g (goal.at.returns-in-Server-clause-waiting g c).In-Server)
+returns-in-Server-clause-waiting g c =
+    waiting_side c.begin-in-Server.new.self (server g (goal.at.returns-in-Server-clause-waiting g c).In-Server)
 
 pub returns-in-Server-clause-started : goal.returns-in-Server-clause-started
 returns-in-Server-clause-started g c =

@@ -36,7 +36,8 @@ server : (g : Over) (c : In-Server g) → IsSeenFree
 server g c =
     let d = c.self.inside in
     seen_free
-    (seen (fields d.bot d.server d.to_bot d.to_server) c.args.self.now c.args.side Server c.self.view_is c.self.invariant
+    (seen (fields d.bot d.server d.to_bot d.to_server)
+    c.args.self.now c.args.side Server c.self.view_is c.self.invariant
     c.in-Server.is)
     c.requires.free
 

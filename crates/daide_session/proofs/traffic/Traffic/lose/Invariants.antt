@@ -7,4 +7,5 @@ use Rattle.daide_session.proofs.traffic.Traffic.lose.Given as goal
 -- as many first frames are gone as rounds were made, and the other wire is handed what it was
 abbrev pub invariant-loop : goal.invariant-loop
 invariant-loop g l =
-    IsLosing l.fn.self l.self l.fn.to l.counter × (at l.self.fronts (other l.fn.to) ≡ at l.fn.self.fronts (other l.fn.to))
+    IsLosing l.fn.self l.self l.fn.to l.counter
+    × (at l.self.fronts (other l.fn.to) ≡ at l.fn.self.fronts (other l.fn.to))

@@ -66,7 +66,8 @@ server : (g : Over) (c : In-Server g) → IsSeenFree
 server g c =
     let d = c.self.inside in
     seen_free
-    (seen (fields d.bot d.server d.to_bot d.to_server) c.args.self.now c.args.side Server c.self.view_is c.self.invariant
+    (seen (fields d.bot d.server d.to_bot d.to_server)
+    c.args.self.now c.args.side Server c.self.view_is c.self.invariant
     c.in-Server.is)
     c.requires.free
 
@@ -75,7 +76,8 @@ server_posted : (g : Over) (c : After-post-in-Server g) → IsSeenFree
     c.args.side Server →
     IsPosted
     (fields c.self.inside.bot c.self.inside.server c.self.inside.to_bot c.self.inside.to_server) c.args.self.now
-    c.args.side Server (destination c.args.side c.post-in-Server.result) c.args.head c.post-in-Server.result c.post-in-Server.new.own
+    c.args.side Server (destination c.args.side c.post-in-Server.result)
+    c.args.head c.post-in-Server.result c.post-in-Server.new.own
     (both c.post-in-Server.new.to_bot c.post-in-Server.new.to_server)
 server_posted g c h =
     record { seen = h; answers = c.post-in-Server.ensures.answers; wires = c.post-in-Server.ensures.wires }
@@ -91,15 +93,18 @@ post-requires-in-Server-clause-head g c =
     ∙ c.requires.head
 
 pub post-requires-in-Server-clause-room : goal.post-requires-in-Server-clause-room
-post-requires-in-Server-clause-room g c = reply_room (server g (goal.at.post-requires-in-Server-clause-room g c).In-Server)
+post-requires-in-Server-clause-room g c =
+    reply_room (server g (goal.at.post-requires-in-Server-clause-room g c).In-Server)
 
 pub invariant_of-self-in-Server : goal.invariant_of-self-in-Server
-invariant_of-self-in-Server g c = post_sound (server_posted g (goal.at.invariant_of-self-in-Server g c).After-post-in-Server
+invariant_of-self-in-Server g c =
+    post_sound (server_posted g (goal.at.invariant_of-self-in-Server g c).After-post-in-Server
     (server g (goal.at.invariant_of-self-in-Server g c).In-Server))
 
 pub returns-in-Server-clause-right : goal.returns-in-Server-clause-right
 returns-in-Server-clause-right g c =
-    post_right c.args.head c.post-in-Server.result (server g (goal.at.returns-in-Server-clause-right g c).In-Server) c.post-in-Server.ensures.right
+    post_right c.args.head c.post-in-Server.result
+    (server g (goal.at.returns-in-Server-clause-right g c).In-Server) c.post-in-Server.ensures.right
 
 pub returns-in-Server-clause-waiting : goal.returns-in-Server-clause-waiting
 returns-in-Server-clause-waiting g c =

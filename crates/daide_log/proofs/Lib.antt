@@ -1,0 +1,5 @@
+pub mod PartedLemmas
+pub mod OneMove
+pub mod PlayLemmas
+pub mod LineLemmas
+pub mod LogLemmas

@@ -1,0 +1,258 @@
+-- Of the bytes for which a session has room it makes one move at most.
+use Rattle.std.proofs.Common.{◌≡◌, ℕ, ◌+◌, ◌-◌, ◌<◌, ◌≤◌, Bool, true, false, cond, eqb, List, [], ◌∷◌, ◌++◌, length}
+use Rattle.std.proofs.Common.{Option, Some, None, Result, Ok, Err, refl, sym, ap, ◌∙◌, subst, arith, ◌⊎◌, inl, inr}
+use Rattle.std.proofs.Common.{length-append, append-nil}
+use Rattle.std.specs.Prelude.{◌&&◌}
+use Rattle.std.proofs.lemmas.Bool.Decides.{eqb_tells}
+use Rattle.daide_frame.specs.declared.side.Side.{Side}
+use Rattle.daide_frame.specs.declared.side.Side.TheVariants.{Bot, Server}
+use Rattle.daide_frame.specs.declared.head.Head.{Head}
+use Rattle.daide_frame.specs.declared.code.Code.{Code}
+use Rattle.daide_frame.specs.declared.code.Code.TheVariants.{InvalidToken}
+use Rattle.daide_frame.specs.Head.{head_of, is_im}
+use Rattle.daide_frame.specs.InitialMessage.{im_of}
+use Rattle.daide_frame.specs.Frames.{Item, Begun, Whole, Wrong, last_items, missing, missing_of_body, head_part, alien_in}
+use Rattle.daide_frame.proofs.AlienLemmas.{ends_alien}
+use Rattle.daide_frame.proofs.FramesLemmas.{at_head, at_body, last_items-short, last_items-head4, last_items-body4}
+use Rattle.daide_frame.proofs.FramesLemmas.{missing-short, missing-of4, wanted}
+use Rattle.daide_frame.proofs.ListLemmas.{eqb_same}
+use Rattle.daide_frame.proofs.FeedingLemmas.{is_dm, alien_in-push}
+use Rattle.daide_frame.proofs.OneByte.{byte_tells, ByteTells, GoesOn, IsOver}
+use Rattle.daide_reader.specs.declared.verdict.Verdict.{Verdict}
+use Rattle.daide_machine.specs.declared.note.Note.{Note}
+use Rattle.daide_machine.specs.declared.note.Note.TheVariants as Notes
+use Rattle.daide_machine.specs.declared.phase.Phase.{Phase}
+use Rattle.daide_machine.specs.declared.phase.Phase.TheVariants.{WaitIm, WaitRm, Open, Over}
+use Rattle.daide_machine.specs.Events.{Event, Comes, Ends, Pops, bytes_come}
+use Rattle.daide_machine.specs.Machine.{SessionState, Effect, Outcome, Step, Runs, coming, with_pending, with_noted}
+use Rattle.daide_machine.specs.Machine.{items_outcome, event_outcome, is_over, untimely, whole, answered, fault, begun}
+use Rattle.daide_machine.specs.Machine.{im_answered, popped}
+use Rattle.daide_machine.specs.Wires.{note_of}
+use Rattle.daide_machine.proofs.PieceRuns.{over_stays}
+use Rattle.daide_machine.proofs.OneRun.{one_run}
+use Rattle.daide_log.specs.Told.{IsOneMove}
+
+-- ---- the items that end with a byte
+
+data Ending (limit : ℕ) (b : List ℕ) : List Item → Type 0 where
+  quiet : Ending limit b []
+  refused : (code : Code) → Ending limit b (Wrong code ∷ [])
+  headed : (head : Head) → missing limit b ≡ 1 → Ending limit b (Begun head ∷ [])
+  empty : (head : Head) → missing limit b ≡ 1 → Ending limit b (Begun head ∷ Whole head [] ∷ [])
+  full : (head : Head) (body : List ℕ) → missing limit b ≡ 1 → Ending limit b (Whole head body ∷ [])
+
+abbrev EndingAt : ℕ → List ℕ → ℕ → Type 0
+EndingAt limit b x = Ending limit b (last_items limit (b ++ x ∷ []))
+
+short : (limit : ℕ) (b : List ℕ) (x : ℕ) → length b < 3 → EndingAt limit b x
+short limit b x h =
+    subst (Ending limit b) (sym (last_items-short limit (b ++ x ∷ []) (omega (arith, length-append b (x ∷ []))))) quiet
+
+fourth : (limit p q r x : ℕ) → EndingAt limit (p ∷ q ∷ r ∷ []) x
+fourth limit p q r x =
+    subst (Ending limit (p ∷ q ∷ r ∷ [])) (sym (last_items-head4 limit p q r x)) (go (head_of (p ∷ q ∷ r ∷ x ∷ []) limit))
+  where
+    one : missing limit (p ∷ q ∷ r ∷ []) ≡ 1
+    one = omega (arith, missing-short limit (p ∷ q ∷ r ∷ []) (omega arith))
+
+    by : (head : Head) (k : Bool) → Ending limit (p ∷ q ∷ r ∷ []) (Begun head ∷ cond k (Whole head [] ∷ []) [])
+    by head true = empty head one
+    by head false = headed head one
+
+    go : (o : Result Head Code) → Ending limit (p ∷ q ∷ r ∷ []) (at_head o)
+    go (Err code) = refused code
+    go (Ok head) = by head (eqb head.len 0)
+
+body_byte : (limit p q r s : ℕ) (w : List ℕ) (x : ℕ) (o : Result Head Code) → head_of (p ∷ q ∷ r ∷ s ∷ []) limit ≡ o →
+    0 < missing_of_body (head_part o) w → EndingAt limit (p ∷ q ∷ r ∷ s ∷ w) x
+body_byte limit p q r s w x (Err code) e h = absurd (omega arith)
+body_byte limit p q r s w x (Ok head) e h =
+    subst (Ending limit b)
+    (sym (last_items-body4 limit p q r s v head e (omega (arith, length-append w (x ∷ [])))))
+    (by_end (is_dm head && ends_alien v) (alien_in head v) (alien_in-push head w x n.0 n.1))
+  where
+    b : List ℕ
+    b = p ∷ q ∷ r ∷ s ∷ w
+
+    v : List ℕ
+    v = w ++ x ∷ []
+
+    n : (alien_in head w ≡ None) × (length w < head.len)
+    n = wanted head w h
+
+    left : missing limit b ≡ head.len - length w
+    left = missing-of4 limit p q r s w ∙ ap (λ (o : Result Head Code). missing_of_body (head_part o) w) e ∙ rw n.0 refl
+
+    by_length : ((eqb head.len (length v) ≡ true) × (head.len ≡ length v))
+        ⊎ ((eqb head.len (length v) ≡ false) × (head.len ≡ length v → ⊥)) →
+        Ending limit b (at_body head v None)
+    by_length (inl t) = rw t.0 (full head v (omega (arith, left, length-append w (x ∷ []), t.1)))
+    by_length (inr t) = rw t.0 quiet
+
+    by_end : (k : Bool) (o : Option ℕ) → o ≡ cond {A = Option ℕ} k (Some (length v)) None → Ending limit b (at_body head v o)
+    by_end true o q = rw q (rw (eqb_same (length v)) (refused InvalidToken))
+    by_end false o q = rw q (by_length (eqb_tells head.len (length v)))
+
+ending_at : (limit : ℕ) (b : List ℕ) (x : ℕ) → 0 < missing limit b → EndingAt limit b x
+ending_at limit [] x h = short limit [] x (omega arith)
+ending_at limit (p ∷ []) x h = short limit (p ∷ []) x (omega arith)
+ending_at limit (p ∷ q ∷ []) x h = short limit (p ∷ q ∷ []) x (omega arith)
+ending_at limit (p ∷ q ∷ r ∷ []) x h = fourth limit p q r x
+ending_at limit (p ∷ q ∷ r ∷ s ∷ w) x h =
+    body_byte limit p q r s w x (head_of (p ∷ q ∷ r ∷ s ∷ []) limit) refl
+    (subst (λ (n : ℕ). 0 < n) (missing-of4 limit p q r s w) h)
+
+-- a byte that ends nothing leaves one byte less to come
+less_missing : (limit : ℕ) (b : List ℕ) (x : ℕ) → 0 < missing limit b → last_items limit (b ++ x ∷ []) ≡ [] →
+    missing limit (b ++ x ∷ []) + 1 ≡ missing limit b
+less_missing limit b x h e = go (byte_tells limit b x h)
+  where
+    go : ByteTells limit b x → missing limit (b ++ x ∷ []) + 1 ≡ missing limit b
+    go (inl on) = on.less e
+    go (inr (inl over)) = absurd (over.loud e)
+    go (inr (inr over)) = absurd (over.loud e)
+
+-- ---- the moves of items
+
+-- at most one move, which tells something
+abbrev pub IsSingle : List Effect → Type 0
+IsSingle moves = IsOneMove moves (note_of moves)
+
+answered_single : (s : SessionState) (side : Side) (head : Head) (body : List ℕ) (v : Verdict) →
+    IsSingle (answered s side head body v).effects
+answered_single s side head body v = (refl, λ e. absurd (cc))
+
+whole_single : (s : SessionState) (side : Side) (head : Head) (body : List ℕ) (v : Verdict) →
+    IsSingle (whole s side head body v).effects
+whole_single s side head body v = by_kind (is_im head.kind)
+  where
+    by_check : (r : Result (Unit {0}) Code) → IsSingle (im_answered (answered s side head body v) s side r).effects
+    by_check (Ok good) = answered_single s side head body v
+    by_check (Err code) = (refl, λ e. absurd (cc))
+
+    by_kind : (k : Bool) →
+        IsSingle (cond k (im_answered (answered s side head body v) s side (im_of body)) (answered s side head body v)).effects
+    by_kind true = by_check (im_of body)
+    by_kind false = answered_single s side head body v
+
+-- what one item makes, by itself
+alone : (o : Outcome) → IsSingle o.effects → IsSingle (o.effects ++ [])
+alone o h = subst IsSingle (sym (append-nil o.effects)) h
+
+noted_live : (s : SessionState) (side : Side) → is_over s.phase ≡ false → is_over (with_noted s side s.level).phase ≡ false
+noted_live s Bot e = e
+noted_live s Server e = e
+
+items_single : (limit : ℕ) (b : List ℕ) (items : List Item) → Ending limit b items → (s : SessionState) (side : Side)
+    (v : Verdict) → is_over s.phase ≡ false → IsSingle (items_outcome s side items v).effects
+items_single limit b _ quiet s side v live = refl
+items_single limit b _ (refused code) s side v live = rw live (refl, λ e. absurd (cc))
+items_single limit b _ (headed head one) s side v live = rw live (go (untimely s.phase side head.kind))
+  where
+    go : (o : Option Code) → IsSingle ((begun s side o).effects ++ (items_outcome (begun s side o).state side [] v).effects)
+    go None = refl
+    go (Some code) = (refl, λ e. absurd (cc))
+items_single limit b _ (empty head one) s side v live = rw live (go (untimely s.phase side head.kind))
+  where
+    go : (o : Option Code) → IsSingle ((begun s side o).effects
+        ++ (items_outcome (begun s side o).state side (Whole head [] ∷ []) v).effects)
+    go None = rw (noted_live s side live)
+        (alone (whole (with_noted s side s.level) side head [] v) (whole_single (with_noted s side s.level) side head [] v))
+    go (Some code) = (refl, λ e. absurd (cc))
+items_single limit b _ (full head body one) s side v live =
+    rw live (alone (whole s side head body v) (whole_single s side head body v))
+
+-- ---- the moves of bytes
+
+over_moves : (s : SessionState) (events : List Event) (moves : List Effect) (new : SessionState) → is_over s.phase ≡ true →
+    Runs s events moves new → moves ≡ []
+over_moves s events moves new o run = (one_run events s moves [] new s run (over_stays s events o)).0
+
+pending_phase : (s : SessionState) (side : Side) (bytes : List ℕ) → (with_pending s side bytes).phase ≡ s.phase
+pending_phase s Bot bytes = refl
+pending_phase s Server bytes = refl
+
+pending_missing : (s : SessionState) (side : Side) (bytes : List ℕ) →
+    missing (with_pending s side bytes).limits.cap (coming (with_pending s side bytes) side).pending
+    ≡ missing s.limits.cap bytes
+pending_missing s Bot bytes = refl
+pending_missing s Server bytes = refl
+
+no_more : (s : SessionState) (side : Side) (piece : List ℕ) (moves : List Effect) (new : SessionState) → length piece ≡ 0 →
+    Runs s (bytes_come side piece) moves new → moves ≡ []
+no_more s side [] moves new e run = run.0
+no_more s side (x ∷ piece) moves new e run = absurd (omega arith)
+
+pub one_move_a_piece : (piece : List ℕ) (s : SessionState) (side : Side) (moves : List Effect) (new : SessionState) →
+    length piece ≤ missing s.limits.cap (coming s side).pending → Runs s (bytes_come side piece) moves new → IsSingle moves
+one_move_a_piece [] s side moves new room run = subst IsSingle (sym run.0) refl
+one_move_a_piece (x ∷ piece) s side moves new room run =
+    by_phase (is_over s.phase) refl (λ s' moves' new' room' run'. one_move_a_piece piece s' side moves' new' room' run')
+  where
+    b : List ℕ
+    b = (coming s side).pending
+
+    cap : ℕ
+    cap = s.limits.cap
+
+    next : SessionState
+    next = with_pending s side (b ++ x ∷ [])
+
+    Later : Type 0
+    Later = (s' : SessionState) (moves' : List Effect) (new' : SessionState) →
+        length piece ≤ missing s'.limits.cap (coming s' side).pending → Runs s' (bytes_come side piece) moves' new' →
+        IsSingle moves'
+
+    -- what the byte made
+    made : is_over s.phase ≡ false →
+        items_outcome next side (last_items cap (b ++ x ∷ [])) run.3.verdict ≡ record { state = run.0; effects = run.1 }
+    made live = (let h = rw live at run.3.outcome in h)
+
+    -- nothing comes after it
+    last_one : is_over s.phase ≡ false → run.2 ≡ [] → Ending cap b (last_items cap (b ++ x ∷ [])) → IsSingle moves
+    last_one live none ending =
+        subst IsSingle (sym (run.5 ∙ ap (λ (m : List Effect). run.1 ++ m) none ∙ append-nil run.1))
+        (subst IsSingle (ap (λ (o : Outcome). o.effects) (made live))
+        (items_single cap b _ ending next side run.3.verdict (ap is_over (pending_phase s side (b ++ x ∷ [])) ∙ live)))
+
+    by_ending : (items : List Item) → last_items cap (b ++ x ∷ []) ≡ items → Ending cap b items → is_over s.phase ≡ false →
+        Later → IsSingle moves
+    by_ending _ e quiet live later =
+        let done : Outcome = record { state = run.0; effects = run.1 } in
+        let same : ◌≡◌ {A = Outcome} (record { state = next; effects = [] }) done = sym (rw e refl) ∙ made live in
+        let less = less_missing cap b x (omega arith) e in
+        let rest = later run.0 run.2 new
+        (subst (λ (m : SessionState). length piece ≤ missing m.limits.cap (coming m side).pending)
+        (ap (λ (o : Outcome). o.state) same)
+        (omega (arith, less, pending_missing s side (b ++ x ∷ []), room)))
+        run.4 in
+        subst IsSingle (sym (run.5 ∙ ap (λ (m : List Effect). m ++ run.2) (sym (ap (λ (o : Outcome). o.effects) same)))) rest
+    by_ending _ e (refused code) live later =
+        let over : is_over run.0.phase ≡ true = sym (ap (λ (o : Outcome). is_over o.state.phase) (made live)) ∙ rw e (rw (ap is_over (pending_phase s side (b ++ x ∷ [])) ∙ live) refl) in
+        last_one live (over_moves run.0 (bytes_come side piece) run.2 new over run.4) (subst (Ending cap b) (sym e) (refused code))
+    by_ending _ e (headed head one) live later =
+        last_one live (no_more run.0 side piece run.2 new (omega (arith, one, room)) run.4) (subst (Ending cap b) (sym e) (headed head one))
+    by_ending _ e (empty head one) live later =
+        last_one live (no_more run.0 side piece run.2 new (omega (arith, one, room)) run.4) (subst (Ending cap b) (sym e) (empty head one))
+    by_ending _ e (full head body one) live later =
+        last_one live (no_more run.0 side piece run.2 new (omega (arith, one, room)) run.4) (subst (Ending cap b) (sym e) (full head body one))
+
+    by_phase : (o : Bool) → is_over s.phase ≡ o → Later → IsSingle moves
+    by_phase true over later =
+        subst IsSingle (sym (over_moves s (bytes_come side (x ∷ piece)) moves new over run)) refl
+    by_phase false live later =
+        by_ending (last_items cap (b ++ x ∷ [])) refl (ending_at cap b x (omega arith)) live later
+
+-- ---- the moves of the timer
+
+pub one_move_a_timer : (s : SessionState) (moves : List Effect) (new : SessionState) → Runs s (Pops ∷ []) moves new →
+    IsSingle moves
+one_move_a_timer s moves new run =
+    subst IsSingle (sym (run.5 ∙ ap (λ (m : List Effect). run.1 ++ m) run.4.0 ∙ append-nil run.1))
+    (subst IsSingle (ap (λ (o : Outcome). o.effects) run.3.outcome) (by_phase s.phase))
+  where
+    by_phase : (p : Phase) → IsSingle (popped p s).effects
+    by_phase WaitIm = (refl, λ e. absurd (cc))
+    by_phase WaitRm = refl
+    by_phase Open = refl
+    by_phase Over = refl

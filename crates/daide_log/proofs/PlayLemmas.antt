@@ -1,0 +1,256 @@
+-- How a session goes through the lines of a log.
+use Rattle.std.proofs.Common.{◌≡◌, ℕ, ◌+◌, ◌-◌, ◌<◌, ◌≤◌, Bool, true, false, List, [], ◌∷◌, ◌++◌, length, drop, Option}
+use Rattle.std.proofs.Common.{Some, None, refl, sym, ap, ◌∙◌, subst, arith, length-append, append-nil, append_assoc, min, take}
+use Rattle.std.proofs.Common.{◌⊎◌, inl, inr, cond}
+use Rattle.std.specs.Prelude.{◌||◌}
+use Rattle.std.specs.Io.KnownBytes.{Appends}
+use Rattle.daide_frame.specs.declared.side.Side.{Side}
+use Rattle.daide_frame.specs.declared.side.Side.TheVariants.{Bot, Server}
+use Rattle.daide_frame.specs.Frames.{missing}
+use Rattle.daide_machine.specs.declared.note.Note.{Note}
+use Rattle.daide_machine.specs.declared.note.Note.TheVariants as Notes
+use Rattle.daide_machine.specs.Events.{Event, Ends, Pops, bytes_come, other}
+use Rattle.daide_machine.specs.Machine.{SessionState, Effect, Outcome, Sent, Runs, coming, is_over, event_outcome}
+use Rattle.daide_machine.specs.Wires.{Gateway, Goes, waiting, bytes_of, IsFrontOf, first_len, room_of, is_answering, note_of}
+use Rattle.daide_machine.proofs.OneRun.{runs_join}
+use Rattle.daide_machine.proofs.PieceRuns.{over_stays}
+use Rattle.daide_machine.proofs.WireLemmas.{bytes_come-append}
+use Rattle.daide_log.specs.declared.report.Summary.{Summary}
+use Rattle.daide_log.specs.Report.{move_line, lines_of, counted, counted_all}
+use Rattle.daide_log.specs.Told.{HasRoom, IsMoreBy, IsIdle, IsOneMove, Moves, Tells, told_lines}
+use Rattle.daide_log.proofs.OneMove.{one_move_a_piece, one_move_a_timer}
+
+-- ---- the answers
+
+-- what waits for a wire is being taken: its front has so many bytes, and nothing else changed
+pub record IsTaking (old : Gateway) (side : Side) (new : Gateway) (count : ℕ) : Type 0 where
+  pub state : new.state ≡ old.state
+  pub other_wire : waiting new (other side) ≡ waiting old (other side)
+  pub front : List ℕ
+  pub is_front : IsFrontOf front (waiting new side)
+  pub counted : length front ≡ count
+
+front_len : (front : List ℕ) (frames : List Sent) → IsFrontOf front frames → length front ≤ first_len frames
+front_len front [] h = omega (arith, ap length h)
+front_len front (frame ∷ frames) h = omega (arith, ap length h.1.1, length-append front h.1.0)
+
+first_fits : (frames : List Sent) → first_len frames ≤ length (bytes_of frames)
+first_fits [] = omega arith
+first_fits (frame ∷ frames) = omega (arith, length-append frame.bytes (bytes_of frames))
+
+pub taking_fits : (old new : Gateway) (side : Side) (count : ℕ) → IsTaking old side new count →
+    count ≤ first_len (waiting new side)
+taking_fits old new side count t =
+    subst (λ (n : ℕ). n ≤ first_len (waiting new side)) t.counted (front_len t.front (waiting new side) t.is_front)
+
+pub taking_fits_all : (old new : Gateway) (side : Side) (count : ℕ) → IsTaking old side new count →
+    count ≤ length (bytes_of (waiting new side))
+taking_fits_all old new side count t =
+    let a = taking_fits old new side count t in
+    let b = first_fits (waiting new side) in
+    omega arith
+
+none_waits : (front : List ℕ) (frames : List Sent) → IsFrontOf front frames → length front ≡ 0 → frames ≡ []
+none_waits front [] h e = refl
+none_waits front (frame ∷ frames) h e = absurd (omega (arith, h.0, e))
+
+pub all_taken : (old new : Gateway) (side : Side) (count : ℕ) → IsTaking old side new count → count ≡ 0 →
+    waiting new side ≡ []
+all_taken old new side count t e = none_waits t.front (waiting new side) t.is_front (t.counted ∙ e)
+
+-- ---- one piece
+
+pub room_is_missing : (g : Gateway) (side : Side) (n : ℕ) → n ≤ room_of g side →
+    n ≤ missing g.state.limits.cap (coming g.state side).pending
+unfolding room_of
+room_is_missing g side n h = go (is_over g.state.phase) (is_answering g side) h
+  where
+    go : (a b : Bool) → n ≤ cond (a || b) 0 (missing g.state.limits.cap (coming g.state side).pending) →
+        n ≤ missing g.state.limits.cap (coming g.state side).pending
+    go true b h = omega arith
+    go false true h = omega arith
+    go false false h = h
+
+pub piece_moves : (old mid : Gateway) (new : SessionState) (side : Side) (piece : List ℕ) (told : Note) →
+    length piece ≤ room_of old side → Goes old (bytes_come side piece) told mid → new ≡ mid.state →
+    Moves old.state (bytes_come side piece) told new
+piece_moves old mid new side piece told room g e = (
+  g.effects,
+  subst (λ (s : SessionState). Runs old.state (bytes_come side piece) g.effects s) (sym e) g.run,
+  subst (IsOneMove g.effects) (sym g.note)
+      (one_move_a_piece piece old.state side g.effects mid.state (room_is_missing old side (length piece) room) g.run),
+)
+
+pub timer_moves : (old mid : Gateway) (new : SessionState) (told : Note) → Goes old (Pops ∷ []) told mid →
+    new ≡ mid.state → Moves old.state (Pops ∷ []) told new
+timer_moves old mid new told g e = (
+  g.effects,
+  subst (λ (s : SessionState). Runs old.state (Pops ∷ []) g.effects s) (sym e) g.run,
+  subst (IsOneMove g.effects) (sym g.note) (one_move_a_timer old.state g.effects mid.state g.run),
+)
+
+-- ---- what is told of it
+
+one_line : (number : ℕ) (side : Side) (told : Note) → (told ≡ Notes.Nothing → ⊥) →
+    told_lines number side told ≡ move_line number side told
+one_line number side Notes.Nothing h = absurd (h refl)
+one_line number side (Notes.Frame head deed) h = refl
+one_line number side (Notes.Fault code) h = refl
+
+-- the lines of what was told are those of the moves
+pub lines_told : (number : ℕ) (side : Side) (moves : List Effect) (told : Note) → IsOneMove moves told →
+    told_lines number side told ≡ lines_of number side moves
+lines_told number side [] told h = ap (told_lines number side) h
+lines_told number side (move ∷ []) told h =
+    one_line number side told h.1 ∙ ap (move_line number side) (sym h.0) ∙ sym (append-nil (move_line number side move.told))
+lines_told number side (move ∷ another ∷ moves) told h = absurd h
+
+pub counts_told : (moves : List Effect) (told : Note) (s : Summary) → IsOneMove moves told →
+    counted told s ≡ counted_all moves s
+counts_told [] told s h = ap (λ (n : Note). counted n s) h
+counts_told (move ∷ []) told s h = ap (λ (n : Note). counted n s) (sym h.0)
+counts_told (move ∷ another ∷ moves) told s h = absurd h
+
+pub tells_moves : (number : ℕ) (side : Side) (old : SessionState) (events : List Event) (new : SessionState) (told : Note)
+    (before after : Summary) (a b : Option (List ℕ)) → Moves old events told new → after ≡ counted told before →
+    Appends a b (told_lines number side told) → Tells number side old events new before after a b
+tells_moves number side old events new told before after a b m c w = (
+  m.0,
+  m.1,
+  c ∙ counts_told m.0 told before m.2,
+  subst (Appends a b) (lines_told number side m.0 told m.2) w,
+)
+
+-- ---- one after another
+
+pub lines_of-append : (number : ℕ) (side : Side) (a b : List Effect) →
+    lines_of number side (a ++ b) ≡ lines_of number side a ++ lines_of number side b
+lines_of-append number side [] b = refl
+lines_of-append number side (move ∷ a) b =
+    ap (λ (t : List ℕ). move_line number side move.told ++ t) (lines_of-append number side a b)
+    ∙ sym (append_assoc (move_line number side move.told) (lines_of number side a) (lines_of number side b))
+
+pub counted_all-append : (a b : List Effect) (s : Summary) → counted_all (a ++ b) s ≡ counted_all b (counted_all a s)
+counted_all-append [] b s = refl
+counted_all-append (move ∷ a) b s = counted_all-append a b (counted move.told s)
+
+pub appends_more : (a b c : Option (List ℕ)) (x y : List ℕ) → Appends a b x → Appends b c y → Appends a c (x ++ y)
+appends_more None b c x y h k = tt
+appends_more (Some p) None c x y h k = absurd h
+appends_more (Some p) (Some q) None x y h k = absurd k
+appends_more (Some p) (Some q) (Some r) x y h k = k ∙ ap (λ (t : List ℕ). t ++ y) h ∙ append_assoc p x y
+
+pub appends_none : (a : Option (List ℕ)) → Appends a a []
+appends_none None = tt
+appends_none (Some p) = sym (append-nil p)
+
+pub tells_more : (number : ℕ) (side : Side) (old mid new : SessionState) (events more : List Event) (r s t : Summary)
+    (a b c : Option (List ℕ)) → Tells number side old events mid r s a b → Tells number side mid more new s t b c →
+    Tells number side old (events ++ more) new r t a c
+tells_more number side old mid new events more r s t a b c h k = (
+  h.0 ++ k.0,
+  runs_join events more old mid new h.0 k.0 h.1 k.1,
+  k.2 ∙ ap (counted_all k.0) h.2 ∙ sym (counted_all-append h.0 k.0 r),
+  subst (Appends a c) (sym (lines_of-append number side h.0 k.0))
+      (appends_more a b c (lines_of number side h.0) (lines_of number side k.0) h.3 k.3),
+)
+
+pub idle_free : (g : Gateway) (side : Side) → IsIdle g → is_answering g side ≡ false
+idle_free g side idle = rw (idle.bot, idle.server) refl
+
+-- the bytes so far were fed, and told of
+pub record HasFed (number : ℕ) (side : Side) (bytes rest : List ℕ) (old : SessionState) (new : Gateway)
+    (before after : Summary) (a b : Option (List ℕ)) : Type 0 where
+  pub done : List ℕ
+  pub whole : done ++ rest ≡ bytes
+  pub idle : IsIdle new
+  pub room : HasRoom (length rest) after
+  pub few : IsMoreBy (length done) before after
+  pub told : Tells number side old (bytes_come side done) new.state before after a b
+
+pub nothing_fed : (number : ℕ) (side : Side) (bytes : List ℕ) (g : Gateway) (s : Summary) (a : Option (List ℕ)) →
+    IsIdle g → HasRoom (length bytes) s → HasFed number side bytes bytes g.state g s s a a
+nothing_fed number side bytes g s a idle room = record {
+  done = [];
+  whole = refl;
+  idle = idle;
+  room = room;
+  few = record { relayed = omega arith; prn = omega arith; huh = omega arith; faults = omega arith };
+  told = ([], (refl, refl), refl, appends_none a);
+}
+
+pub piece_fed : (number : ℕ) (side : Side) (bytes rest piece more : List ℕ) (old : SessionState) (mid new : Gateway)
+    (r s t : Summary) (a b c : Option (List ℕ)) (told : Note) → HasFed number side bytes rest old mid r s a b →
+    rest ≡ piece ++ more → 0 < length piece → Moves mid.state (bytes_come side piece) told new.state → IsIdle new →
+    t ≡ counted told s → IsMoreBy 1 s t → Appends b c (told_lines number side told) →
+    HasFed number side bytes more old new r t a c
+piece_fed number side bytes rest piece more old mid new r s t a b c told h split some moves idle counts one text =
+    let size = ap length split ∙ length-append piece more in
+    let room = h.room in
+    let few = h.few in
+    let longer = length-append h.done piece in
+    record {
+      done = h.done ++ piece;
+      whole = append_assoc h.done piece more ∙ ap (λ (l : List ℕ). h.done ++ l) (sym split) ∙ h.whole;
+      idle = idle;
+      room = record { relayed = omega arith; prn = omega arith; huh = omega arith; faults = omega arith };
+      few = record { relayed = omega arith; prn = omega arith; huh = omega arith; faults = omega arith };
+      told = subst (λ (es : List Event). Tells number side old es new.state r t a c)
+          (sym (bytes_come-append side h.done piece))
+          (tells_more number side old mid.state new.state (bytes_come side h.done) (bytes_come side piece) r s t a b c h.told
+          (tells_moves number side mid.state (bytes_come side piece) new.state told s t b c moves counts text));
+    }
+
+pub few_in_all : (number : ℕ) (side : Side) (bytes rest : List ℕ) (old : SessionState) (new : Gateway) (r s : Summary)
+    (a b : Option (List ℕ)) → HasFed number side bytes rest old new r s a b → IsMoreBy (length bytes) r s
+few_in_all number side bytes rest old new r s a b h =
+    let few = h.few in
+    let size = ap length (sym h.whole) ∙ length-append h.done rest in
+    record { relayed = omega arith; prn = omega arith; huh = omega arith; faults = omega arith }
+
+-- all was fed, or the session is over, and what is left changes nothing
+pub all_fed : (number : ℕ) (side : Side) (bytes rest : List ℕ) (old : SessionState) (new : Gateway) (r s : Summary)
+    (a b : Option (List ℕ)) → HasFed number side bytes rest old new r s a b →
+    (length rest ≡ 0) ⊎ (is_over new.state.phase ≡ true) → Tells number side old (bytes_come side bytes) new.state r s a b
+all_fed number side bytes rest old new r s a b h end =
+    subst (λ (es : List Event). Tells number side old es new.state r s a b)
+    (sym (bytes_come-append side h.done rest) ∙ ap (bytes_come side) h.whole)
+    (tells_more number side old new.state new.state (bytes_come side h.done) (bytes_come side rest) r s s a b b h.told
+    ([], left rest end, refl, appends_none b))
+  where
+    left : (l : List ℕ) → (length l ≡ 0) ⊎ (is_over new.state.phase ≡ true) → Runs new.state (bytes_come side l) [] new.state
+    left [] end = (refl, refl)
+    left (x ∷ l) (inl e) = absurd (omega arith)
+    left (x ∷ l) (inr e) = over_stays new.state (bytes_come side (x ∷ l)) e
+
+-- ---- an end
+
+-- a side's end, told where the session was not over
+pub end_tells : (number : ℕ) (side : Side) (old mid : Gateway) (new : SessionState) (s : Summary) (a b : Option (List ℕ)) →
+    Goes old (Ends side ∷ []) Notes.Nothing mid → new ≡ mid.state → is_over old.state.phase ≡ false →
+    Appends a b (move_line number side Notes.Nothing) → Tells number side old.state (Ends side ∷ []) new s s a b
+end_tells number side old mid new s a b g e live text = (
+  g.effects,
+  subst (λ (n : SessionState). Runs old.state (Ends side ∷ []) g.effects n) (sym e) g.run,
+  sym (ap (λ (m : List Effect). counted_all m s) made ∙ rw live refl),
+  subst (Appends a b) (sym (ap (lines_of number side) made ∙ rw live (append-nil (move_line number side Notes.Nothing)))) text,
+)
+  where
+    made : g.effects ≡ (event_outcome old.state (Ends side) g.run.3.verdict).effects
+    made = g.run.5 ∙ ap (λ (m : List Effect). g.run.1 ++ m) g.run.4.0 ∙ append-nil g.run.1
+        ∙ sym (ap (λ (o : Outcome). o.effects) g.run.3.outcome)
+
+pub end_silent : (number : ℕ) (side : Side) (old mid : Gateway) (new : SessionState) (s : Summary) (a : Option (List ℕ)) →
+    Goes old (Ends side ∷ []) Notes.Nothing mid → new ≡ mid.state → is_over old.state.phase ≡ true →
+    Tells number side old.state (Ends side ∷ []) new s s a a
+end_silent number side old mid new s a g e over = (
+  [],
+  subst (λ (m : List Effect). Runs old.state (Ends side ∷ []) m new) made
+      (subst (λ (n : SessionState). Runs old.state (Ends side ∷ []) g.effects n) (sym e) g.run),
+  refl,
+  appends_none a,
+)
+  where
+    made : g.effects ≡ []
+    made = g.run.5 ∙ ap (λ (m : List Effect). g.run.1 ++ m) g.run.4.0 ∙ append-nil g.run.1
+        ∙ sym (ap (λ (o : Outcome). o.effects) g.run.3.outcome) ∙ rw over refl

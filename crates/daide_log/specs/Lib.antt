@@ -1,0 +1,6 @@
+pub mod LogLine
+pub mod Report
+pub mod Told
+pub mod Log
+pub mod Lines
+pub mod Progress

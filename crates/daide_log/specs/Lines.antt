@@ -1,0 +1,68 @@
+-- What the parts of the code read of a log.
+use Rattle.std.specs.Prelude.{◌≡◌, ◌≢◌, ℕ, ◌+◌, ◌<◌, ◌≤◌, ◌⊎◌, Bool, true, false, List, [], ◌∷◌, ◌++◌, length, take, drop, Option, Some, None}
+use Rattle.std.specs.Prelude.{Result, Ok, Err}
+use Rattle.std.specs.Io.KnownBytes.{Consumes, Keeps, IsAtEnd}
+use Rattle.daide_log.specs.declared.lines.Found.{Found}
+use Rattle.daide_log.specs.declared.lines.Found.TheVariants.{Line, Last, End}
+use Rattle.daide_log.specs.declared.fault.LogFault.{LogFault}
+use Rattle.daide_log.specs.declared.fault.LogFault.TheVariants as Faults
+use Rattle.daide_log.specs.LogLine.{without_cr}
+use Rattle.daide_log.specs.Log.{most_lines, longest_line, IsUnbroken}
+
+-- one read: these bytes came, or the reader has none left, or it failed
+abbrev pub Reads : Option (List ℕ) → Option (List ℕ) → List ℕ → Result Bool (Unit {0}) → Type 0
+Reads old new bytes (Ok true) = Consumes old new bytes × (0 < length bytes)
+Reads old new bytes (Ok false) = Consumes old new [] × (bytes ≡ []) × IsAtEnd new
+Reads old new bytes (Err failed) = Keeps old new × (bytes ≡ [])
+
+-- Of the bytes that were held and those that the reader gave, these were looked at, and the rest is held.
+abbrev pub LooksAt : Option (List ℕ) → List ℕ → List ℕ → Option (List ℕ) → List ℕ → Type 0
+LooksAt old held bytes new rest =
+    (given : List ℕ) × Consumes old new given × (held ++ given ≡ bytes ++ rest)
+
+-- A line with its line feed, or the last one without, or none; and whether it may be the next in number.
+abbrev pub IsFound : Option (List ℕ) → List ℕ → ℕ → Result Found LogFault → List ℕ → Option (List ℕ) → List ℕ → Type 0
+IsFound old held count (Ok Line) text new rest =
+    (line : List ℕ) × LooksAt old held (line ++ 10 ∷ []) new rest × IsUnbroken line × (length line ≤ longest_line)
+    × (count < most_lines) × (text ≡ without_cr line)
+IsFound old held count (Ok Last) text new rest =
+    LooksAt old held text new rest × (rest ≡ []) × IsAtEnd new × IsUnbroken text × (length text ≤ longest_line)
+    × (0 < length text) × (count < most_lines)
+IsFound old held count (Ok End) text new rest = LooksAt old held [] new rest × (rest ≡ []) × IsAtEnd new
+IsFound old held count (Err (Faults.LineTooLong n)) text new rest =
+    (line : List ℕ) × LooksAt old held line new rest × IsUnbroken line × (longest_line < length line)
+    × (count < most_lines) × (n ≡ count + 1)
+IsFound old held count (Err Faults.TooManyLines) text new rest =
+    LooksAt old held [] new rest × (0 < length rest) × (count ≡ most_lines)
+IsFound old held count (Err Faults.Read) text new rest =
+    (line : List ℕ) × LooksAt old held line new rest × (rest ≡ []) × IsUnbroken line × (length line ≤ longest_line)
+IsFound old held count (Err (Faults.BadLine n)) text new rest = ⊥
+IsFound old held count (Err Faults.Write) text new rest = ⊥
+IsFound old held count (Err Faults.Memory) text new rest = ⊥
+
+-- the place of the first line feed, if there is one
+abbrev pub IsLineEnd : List ℕ → Option ℕ → Type 0
+IsLineEnd bytes None = IsUnbroken bytes
+IsLineEnd bytes (Some n) =
+    (n < length bytes) × IsUnbroken (take n bytes) × (bytes ≡ take n bytes ++ 10 ∷ drop (n + 1) bytes)
+
+-- What was held of a line went behind the text: all up to its line feed, or all that was held, or as much as makes the
+-- text too long.
+abbrev pub Scans : List ℕ → List ℕ → Bool → List ℕ → List ℕ → Type 0
+Scans held before true rest after =
+    (front : List ℕ) × (held ≡ front ++ 10 ∷ rest) × IsUnbroken front × (after ≡ before ++ front)
+    × (length after ≤ longest_line)
+Scans held before false rest after =
+    (front : List ℕ) × (held ≡ front ++ rest) × IsUnbroken front × (after ≡ before ++ front)
+    × ((rest ≡ []) ⊎ (longest_line < length after))
+
+-- whether a byte is left of what is held and what the reader has
+abbrev pub HasMore : Option (List ℕ) → List ℕ → Result Bool LogFault → Option (List ℕ) → List ℕ → Type 0
+HasMore old held (Ok true) new rest = LooksAt old held [] new rest × (0 < length rest)
+HasMore old held (Ok false) new rest = LooksAt old held [] new rest × (rest ≡ []) × IsAtEnd new
+HasMore old held (Err Faults.Read) new rest = LooksAt old held [] new rest × (rest ≡ [])
+HasMore old held (Err (Faults.BadLine n)) new rest = ⊥
+HasMore old held (Err (Faults.LineTooLong n)) new rest = ⊥
+HasMore old held (Err Faults.TooManyLines) new rest = ⊥
+HasMore old held (Err Faults.Write) new rest = ⊥
+HasMore old held (Err Faults.Memory) new rest = ⊥

@@ -1,0 +1,98 @@
+-- The lines of a report: what the moves of a session are called, by the line of the log that made them.
+-- docs/FORMATS.md, "The log". (own)
+use Rattle.std.specs.Prelude.{ℕ, ◌+◌, List, [], ◌∷◌, ◌++◌, codes}
+use Rattle.std.specs.Fmt.{decimal}
+use Rattle.hex.specs.Hex.{encode_upper}
+use Rattle.daide_frame.specs.declared.side.Side.{Side}
+use Rattle.daide_frame.specs.declared.side.Side.TheVariants.{Bot, Server}
+use Rattle.daide_frame.specs.declared.head.Kind.{Kind}
+use Rattle.daide_frame.specs.declared.head.Kind.TheVariants.{Im, Rm, Dm, Fm, Em}
+use Rattle.daide_frame.specs.Code.{code_number}
+use Rattle.daide_machine.specs.declared.note.Deed.{Deed}
+use Rattle.daide_machine.specs.declared.note.Deed.TheVariants.{Relayed, Dropped, Prn, Huh}
+use Rattle.daide_machine.specs.declared.note.Note.{Note}
+use Rattle.daide_machine.specs.declared.note.Note.TheVariants.{Nothing, Frame, Fault}
+use Rattle.daide_machine.specs.Events.{Event, Ends, Pops, bytes_come}
+use Rattle.daide_machine.specs.Machine.{Effect}
+use Rattle.daide_log.specs.declared.report.Summary.{Summary}
+use Rattle.daide_log.specs.LogLine.{LogEvent, Traffic, EndOf, TimeOver, Silence}
+
+-- ---- what a line of the log tells the session
+
+-- its events
+abbrev pub events_of : LogEvent → List Event
+events_of (Traffic side bytes) = bytes_come side bytes
+events_of (EndOf side) = Ends side ∷ []
+events_of TimeOver = Pops ∷ []
+events_of Silence = []
+
+-- whose they are; the timer is that of the bot's first message
+abbrev pub side_of : LogEvent → Side
+side_of (Traffic side bytes) = side
+side_of (EndOf side) = side
+side_of TimeOver = Bot
+side_of Silence = Bot
+
+-- ---- words
+
+abbrev pub name_of_side : Side → List ℕ
+name_of_side Bot = codes "bot"
+name_of_side Server = codes "server"
+
+-- a kind by the two letters of the protocol
+abbrev pub name_of_kind : Kind → List ℕ
+name_of_kind Im = codes "IM"
+name_of_kind Rm = codes "RM"
+name_of_kind Dm = codes "DM"
+name_of_kind Fm = codes "FM"
+name_of_kind Em = codes "EM"
+
+-- what became of a frame
+abbrev pub deed_text : Deed → List ℕ
+deed_text Relayed = codes "relay"
+deed_text Dropped = codes "drop"
+deed_text Prn = codes "prn"
+deed_text (Huh place) = codes "huh " ++ decimal place
+
+-- a move: a frame with its kind, its length and what became of it, a fault with its code, or else an end
+abbrev pub move_text : Note → List ℕ
+move_text Nothing = codes "end"
+move_text (Frame head deed) = name_of_kind head.kind ++ 32 ∷ decimal head.len ++ 32 ∷ deed_text deed
+move_text (Fault code) = codes "fault " ++ encode_upper (code_number code ∷ [])
+
+-- ---- the lines
+
+-- one move of a side, by the number of the log's line that made it
+unfoldable pub move_line : ℕ → Side → Note → List ℕ
+move_line number side told = decimal number ++ 32 ∷ name_of_side side ++ 32 ∷ move_text told ++ 10 ∷ []
+
+-- all of them, in their order
+abbrev pub lines_of : ℕ → Side → List Effect → List ℕ
+lines_of number side [] = []
+lines_of number side (effect ∷ effects) = move_line number side effect.told ++ lines_of number side effects
+
+-- ---- the last line
+
+-- the counts with one move more; frames that went nowhere and ends are counted nowhere
+abbrev pub counted : Note → Summary → Summary
+counted Nothing s = s
+counted (Frame head Relayed) s =
+    record { relayed = s.relayed + 1; prn = s.prn; huh = s.huh; faults = s.faults }
+counted (Frame head Dropped) s = s
+counted (Frame head Prn) s = record { relayed = s.relayed; prn = s.prn + 1; huh = s.huh; faults = s.faults }
+counted (Frame head (Huh place)) s =
+    record { relayed = s.relayed; prn = s.prn; huh = s.huh + 1; faults = s.faults }
+counted (Fault code) s = record { relayed = s.relayed; prn = s.prn; huh = s.huh; faults = s.faults + 1 }
+
+-- with all of these
+abbrev pub counted_all : List Effect → Summary → Summary
+counted_all [] s = s
+counted_all (effect ∷ effects) s = counted_all effects (counted effect.told s)
+
+abbrev pub nothing_counted : Summary
+nothing_counted = record { relayed = 0; prn = 0; huh = 0; faults = 0 }
+
+unfoldable pub summary_line : Summary → List ℕ
+summary_line s =
+    codes "relayed " ++ decimal s.relayed ++ codes " prn " ++ decimal s.prn ++ codes " huh " ++ decimal s.huh
+    ++ codes " faults " ++ decimal s.faults ++ 10 ∷ []

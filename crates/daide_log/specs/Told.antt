@@ -1,0 +1,80 @@
+-- What the code holds of a line's event: the bytes of traffic lie at the front of a buffer.
+use Rattle.std.specs.Prelude.{◌≡◌, ⊤, ◌≢◌, ℕ, ◌+◌, ◌<◌, ◌≤◌, ◌^◌, List, [], ◌∷◌, take, Option, Some}
+use Rattle.std.specs.Io.KnownBytes.{Appends}
+use Rattle.daide_log.specs.declared.event_line.Told.{Told}
+use Rattle.daide_log.specs.declared.event_line.Told.TheVariants as Variants
+use Rattle.daide_frame.specs.declared.side.Side.{Side}
+use Rattle.daide_frame.specs.declared.side.Side.TheVariants.{Bot, Server}
+use Rattle.daide_machine.specs.declared.note.Note.{Note}
+use Rattle.daide_machine.specs.declared.note.Note.TheVariants as Notes
+use Rattle.daide_machine.specs.Events.{Event}
+use Rattle.daide_machine.specs.Machine.{SessionState, Effect, Runs}
+use Rattle.daide_machine.specs.Wires.{Gateway}
+use Rattle.daide_log.specs.declared.report.Summary.{Summary}
+use Rattle.daide_log.specs.Report.{move_line, lines_of, counted_all, events_of, side_of}
+use Rattle.daide_log.specs.LogLine.{LogEvent, Traffic, EndOf, TimeOver, Silence, event_of_line}
+
+abbrev pub event_told : List ℕ → Told → LogEvent
+event_told bytes (Variants.Traffic side count) = Traffic side (take count bytes)
+event_told bytes (Variants.EndOf side) = EndOf side
+event_told bytes Variants.TimeOver = TimeOver
+event_told bytes Variants.Silence = Silence
+
+-- they lie within it
+abbrev pub IsWithin : Told → Type 0
+IsWithin (Variants.Traffic side count) = count ≤ 1024
+IsWithin (Variants.EndOf side) = ⊤
+IsWithin Variants.TimeOver = ⊤
+IsWithin Variants.Silence = ⊤
+
+-- ---- counts
+
+-- each count can grow by so many
+pub record HasRoom (n : ℕ) (s : Summary) : Type 0 where
+  pub relayed : s.relayed + n < 2 ^ 64
+  pub prn : s.prn + n < 2 ^ 64
+  pub huh : s.huh + n < 2 ^ 64
+  pub faults : s.faults + n < 2 ^ 64
+
+-- each count grew by so many at most
+pub record IsMoreBy (n : ℕ) (old new : Summary) : Type 0 where
+  pub relayed : new.relayed ≤ old.relayed + n
+  pub prn : new.prn ≤ old.prn + n
+  pub huh : new.huh ≤ old.huh + n
+  pub faults : new.faults ≤ old.faults + n
+
+-- ---- moves of a session
+
+-- nothing waits for a wire
+pub record IsIdle (g : Gateway) : Type 0 where
+  pub bot : g.to_bot ≡ []
+  pub server : g.to_server ≡ []
+
+-- at most one move was made, and it is told
+abbrev pub IsOneMove : List Effect → Note → Type 0
+IsOneMove [] told = told ≡ Notes.Nothing
+IsOneMove (move ∷ []) told = (move.told ≡ told) × (told ≢ Notes.Nothing)
+IsOneMove (move ∷ another ∷ moves) told = ⊥
+
+-- by these events a session goes on, with at most one move, which is told
+abbrev pub Moves : SessionState → List Event → Note → SessionState → Type 0
+Moves old events told new = (moves : List Effect) × Runs old events moves new × IsOneMove moves told
+
+-- the line of what was told, if anything was
+abbrev pub told_lines : ℕ → Side → Note → List ℕ
+told_lines number side Notes.Nothing = []
+told_lines number side (Notes.Frame head deed) = move_line number side (Notes.Frame head deed)
+told_lines number side (Notes.Fault code) = move_line number side (Notes.Fault code)
+
+-- By these events the session goes on; its moves are counted, and their lines written.
+abbrev pub Tells : ℕ → Side → SessionState → List Event → SessionState → Summary → Summary → Option (List ℕ) →
+    Option (List ℕ) → Type 0
+Tells number side old events new before after written_before written_after =
+    (moves : List Effect) × Runs old events moves new × (after ≡ counted_all moves before)
+    × Appends written_before written_after (lines_of number side moves)
+
+-- A line tells an event, by which the session goes on; its moves are counted, and their lines written.
+abbrev pub Judges : ℕ → SessionState → List ℕ → SessionState → Summary → Summary → Option (List ℕ) → Option (List ℕ) → Type 0
+Judges number old line new before after written_before written_after =
+    (event : LogEvent) × (event_of_line line ≡ Some event)
+    × Tells number (side_of event) old (events_of event) new before after written_before written_after

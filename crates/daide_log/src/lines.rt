@@ -1,0 +1,125 @@
+//! The lines of a log, one after the other.
+
+ghost use Rattle.std.specs.Prelude.{◌≡◌, ◌≤◌};
+ghost use Rattle.daide_log.specs.Log.{most_lines};
+ghost use Rattle.daide_log.specs.LogLine.{without_cr};
+ghost use Rattle.daide_log.specs.Lines.{IsFound, IsLineEnd, Scans, HasMore};
+
+use crate::block::Block;
+use crate::fault::LogFault;
+use arrayvec::ArrayVec;
+use std::io::Read;
+
+/// The most lines of a log.
+const MOST_LINES: u32 = 1_000_000;
+
+/// One byte more than the most bytes of a line.
+const TOO_LONG: usize = 2101;
+
+/// The bytes of a line.
+pub type Text = ArrayVec<u8, TOO_LONG>;
+
+/// What stands next in a log.
+#[derive(Clone, Copy, Debug, PartialEq, Eq)]
+pub enum Found {
+    /// A line, which a line feed ended.
+    Line,
+    /// The last line, which the end of the log ended.
+    Last,
+    /// The end of the log.
+    End,
+}
+
+/// Where the first line feed of some bytes stands.
+fn line_end(bytes: &[u8]) -> Option<usize>
+    ensures { IsLineEnd bytes.now result }
+{
+    for (i, b) in bytes.iter().enumerate() {
+        if *b == b'\n' {
+            return Some(i);
+        }
+    }
+    None
+}
+
+/// Takes what is held of a line: up to its line feed, or all, or as much as makes it too long. Answers whether its
+/// line feed came.
+fn scan(block: &mut Block, text: &mut Text) -> bool
+    ensures { Scans block.old text.old.items result block.new text.new.items }
+{
+    let room = TOO_LONG - text.len();
+    let held = block.as_slice();
+    let front = &held[..held.len().min(room)];
+    match line_end(front) {
+        Some(n) => {
+            text.try_extend_from_slice(&front[..n]).unwrap();
+            block.skip(n + 1);
+            true
+        }
+        None => {
+            let count = front.len();
+            text.try_extend_from_slice(front).unwrap();
+            block.skip(count);
+            false
+        }
+    }
+}
+
+/// Drops a carriage return from the end of a line.
+fn drop_cr(text: &mut Text)
+    ensures { text.new.items ≡ without_cr text.old.items }
+{
+    if text.as_slice().strip_suffix(b"\r").is_some() {
+        text.pop();
+    }
+}
+
+/// Whether any byte of a log is left, of which a first one is read if none is held.
+fn has_more<R: Read>(block: &mut Block, reader: &mut R) -> Result<bool, LogFault>
+    ensures { HasMore (R.remaining reader.old) block.old result (R.remaining reader.new) block.new }
+{
+    if !block.as_slice().is_empty() {
+        return Ok(true);
+    }
+    match block.refill(reader) {
+        Ok(more) => Ok(more),
+        Err(()) => Err(LogFault::Read),
+    }
+}
+
+/// Takes the next line of a log, behind so many lines. A line that is too long is told at the byte by which it is, and
+/// one line too many at its first byte, with nothing read further.
+pub fn next_line<R: Read>(
+    block: &mut Block,
+    text: &mut Text,
+    count: u32,
+    reader: &mut R,
+) -> Result<Found, LogFault>
+    requires { count ≤ most_lines }
+    ensures { IsFound (R.remaining reader.old) block.old count result text.new.items (R.remaining reader.new) block.new }
+{
+    text.clear();
+    if count == MOST_LINES {
+        return if has_more(block, reader)? {
+            Err(LogFault::TooManyLines)
+        } else {
+            Ok(Found::End)
+        };
+    }
+    for _turn in 0..=TOO_LONG {
+        if scan(block, text) {
+            drop_cr(text);
+            return Ok(Found::Line);
+        }
+        if text.len() == TOO_LONG {
+            return Err(LogFault::LineTooLong(count + 1));
+        }
+        match block.refill(reader) {
+            Ok(true) => {}
+            Ok(false) if text.is_empty() => return Ok(Found::End),
+            Ok(false) => return Ok(Found::Last),
+            Err(()) => return Err(LogFault::Read),
+        }
+    }
+    unreachable!()
+}

@@ -1,0 +1,138 @@
+//! The session of a log, by the lines from the third on.
+
+ghost use Rattle.std.specs.Prelude.{◌≡◌, ◌≤◌, ℕ, List, [], ◌∷◌, length, OnOk, IfErr};
+ghost use Rattle.std.specs.Io.KnownBytes.{Appends};
+ghost use Rattle.daide_frame.specs.declared.side.Side.{Side};
+ghost use Rattle.daide_machine.specs.Events.{Event, Ends, Pops, bytes_come, other as opposite};
+ghost use Rattle.daide_machine.specs.Machine.{Effect, Runs};
+ghost use Rattle.daide_machine.specs.Wires.{waiting, room_of};
+ghost use Rattle.daide_log.specs.Report.{counted, counted_all, lines_of};
+ghost use Rattle.daide_log.specs.Told.{HasRoom, IsMoreBy, IsIdle, Moves, Tells, told_lines};
+
+use crate::report::{Summary, write_move};
+use daide_frame::Side;
+use daide_machine::Note;
+use daide_session::Session;
+use std::alloc::Allocator;
+use std::io;
+use std::io::Write;
+
+/// Takes all that waits for a wire.
+fn take_waiting<A: Allocator>(session: &mut Session<A>, side: Side)
+    ensures state { session.new.state ≡ session.old.state }
+    ensures gone { waiting session.new side ≡ [] }
+    ensures other_wire { waiting session.new (opposite side) ≡ waiting session.old (opposite side) }
+{
+    let mut taken = session.front(side).len();
+    while taken > 0 {
+        session.wrote(side, taken);
+        taken = session.front(side).len();
+    }
+}
+
+/// Takes all that waits for both wires.
+fn take_answers<A: Allocator>(session: &mut Session<A>)
+    ensures state { session.new.state ≡ session.old.state }
+    ensures idle { IsIdle session.new }
+{
+    take_waiting(session, Side::Bot);
+    take_waiting(session, Side::Server);
+}
+
+/// Feeds a side's next bytes, for which there is room, and takes the answers.
+fn feed_piece<A: Allocator>(session: &mut Session<A>, side: Side, piece: &[u8]) -> Note
+    requires { length piece.now ≤ room_of session.old side }
+    ensures moves { Moves session.old.state (bytes_come side piece.now) result session.new.state }
+    ensures idle { IsIdle session.new }
+{
+    let told = session.feed(side, piece);
+    take_answers(session);
+    told
+}
+
+/// Counts what was told of a side, and writes its line, if it was anything.
+fn tell<W: Write>(
+    number: u32,
+    side: Side,
+    told: Note,
+    summary: &mut Summary,
+    writer: &mut W,
+) -> io::Result<()>
+    requires { HasRoom 1 summary.old }
+    ensures counted { summary.new ≡ counted told summary.old }
+    ensures few { IsMoreBy 1 summary.old summary.new }
+    ensures text { OnOk result (Appends (W.contents writer.old) (W.contents writer.new) (told_lines number side told)) }
+{
+    summary.count(told);
+    match told {
+        Note::Nothing => Ok(()),
+        Note::Frame(..) | Note::Fault(_) => write_move(number, side, told, writer),
+    }
+}
+
+/// Feeds a side's bytes in pieces for which there is room, and tells of each frame and fault.
+pub fn feed_all<A: Allocator, W: Write>(
+    session: &mut Session<A>,
+    side: Side,
+    bytes: &[u8],
+    number: u32,
+    summary: &mut Summary,
+    writer: &mut W,
+) -> io::Result<()>
+    requires idle { IsIdle session.old }
+    requires room { HasRoom (length bytes.now) summary.old }
+    ensures idle { IsIdle session.new }
+    ensures few { IsMoreBy (length bytes.now) summary.old summary.new }
+    ensures told { OnOk result (Tells number side session.old.state (bytes_come side bytes.now) session.new.state
+        summary.old summary.new (W.contents writer.old) (W.contents writer.new)) }
+{
+    let mut rest = bytes;
+    while !rest.is_empty() && !session.is_over() {
+        let (piece, more) = rest.split_at(rest.len().min(session.room(side)));
+        let told = feed_piece(session, side, piece);
+        tell(number, side, told, summary, writer)?;
+        rest = more;
+    }
+    Ok(())
+}
+
+/// A side's stream ends.
+pub fn end<A: Allocator, W: Write>(
+    session: &mut Session<A>,
+    side: Side,
+    number: u32,
+    summary: &mut Summary,
+    writer: &mut W,
+) -> io::Result<()>
+    requires room { HasRoom 1 summary.old }
+    ensures idle { IsIdle session.new }
+    ensures few { IsMoreBy 1 summary.old summary.new }
+    ensures told { OnOk result (Tells number side session.old.state (Ends side ∷ []) session.new.state
+        summary.old summary.new (W.contents writer.old) (W.contents writer.new)) }
+{
+    let ended = session.ended(side);
+    take_answers(session);
+    if ended {
+        summary.count(Note::Nothing);
+        return write_move(number, side, Note::Nothing, writer);
+    }
+    Ok(())
+}
+
+/// The time for the initial message is over.
+pub fn time_out<A: Allocator, W: Write>(
+    session: &mut Session<A>,
+    number: u32,
+    summary: &mut Summary,
+    writer: &mut W,
+) -> io::Result<()>
+    requires room { HasRoom 1 summary.old }
+    ensures idle { IsIdle session.new }
+    ensures few { IsMoreBy 1 summary.old summary.new }
+    ensures told { OnOk result (Tells number Side.Bot session.old.state (Pops ∷ []) session.new.state
+        summary.old summary.new (W.contents writer.old) (W.contents writer.new)) }
+{
+    let told = session.im_timeout();
+    take_answers(session);
+    tell(number, Side::Bot, told, summary, writer)
+}

@@ -1,0 +1,6 @@
+pub mod WordLists
+pub mod OperandRules
+pub mod WhereStopped
+pub mod AcceptedCodes
+mod WordFacts
+pub mod OverMessages

@@ -1,0 +1,81 @@
+-- The rules of the table that leave a word's operand.
+use Rattle.std.proofs.Common.{◌≡◌, ◌+◌, [], ◌∷◌, Option, Some, None, refl}
+use Rattle.daide_grammar.specs.declared.level.Level.{Level}
+use Rattle.daide_grammar.specs.declared.level.Level.TheVariants.{L0, L10, L20, L30, L40, L50, L60}
+use Rattle.daide_grammar.specs.declared.symbol.Sym.{Sym}
+use Rattle.daide_grammar.specs.declared.symbol.Sym.TheVariants.{PowerGroup, PowersGroup, ProvincesGroup, OrderGroup}
+use Rattle.daide_grammar.specs.declared.symbol.Sym.TheVariants.{ArrangementGroup, OperandGroup, PressGroup}
+use Rattle.daide_grammar.specs.declared.symbol.Sym.TheVariants.{Press, Arrangement, Fact, Operand}
+use Rattle.daide_grammar.specs.Answers.{Take}
+use Rattle.daide_grammar.specs.Numbers.{level_place}
+use Rattle.daide_grammar.specs.Rules.{deed, rest_at}
+use Rattle.daide_grammar.specs.Forms.{Slot}
+use Rattle.daide_grammar.specs.Symbols.{slot_of}
+use Rattle.daide_words.specs.Place.{grammar_place, operand_place}
+
+pub power_rule : deed 70 ≡ Take (PowerGroup ∷ [])
+unfolding deed rest_at
+power_rule = refl
+
+pub powers_rule : deed 74 ≡ Take (PowersGroup ∷ [])
+unfolding deed rest_at
+powers_rule = refl
+
+pub provinces_rule : deed 96 ≡ Take (ProvincesGroup ∷ [])
+unfolding deed rest_at
+provinces_rule = refl
+
+pub order_rule : deed 76 ≡ Take (OrderGroup ∷ [])
+unfolding deed rest_at
+order_rule = refl
+
+pub arrangement_rule : (l : Level) → deed (104 + level_place l) ≡ Take (ArrangementGroup l ∷ [])
+unfolding deed rest_at
+arrangement_rule L0 = refl
+arrangement_rule L10 = refl
+arrangement_rule L20 = refl
+arrangement_rule L30 = refl
+arrangement_rule L40 = refl
+arrangement_rule L50 = refl
+arrangement_rule L60 = refl
+
+pub flat_rule : (l : Level) → deed (146 + level_place l) ≡ Take (OperandGroup l ∷ [])
+unfolding deed rest_at
+flat_rule L0 = refl
+flat_rule L10 = refl
+flat_rule L20 = refl
+flat_rule L30 = refl
+flat_rule L40 = refl
+flat_rule L50 = refl
+flat_rule L60 = refl
+
+pub press_rule : (l : Level) → deed (160 + level_place l) ≡ Take (PressGroup l ∷ [])
+unfolding deed rest_at
+press_rule L0 = refl
+press_rule L10 = refl
+press_rule L20 = refl
+press_rule L30 = refl
+press_rule L40 = refl
+press_rule L50 = refl
+press_rule L60 = refl
+
+-- the slot of what AND and ORR join is that of its level
+pub operand_slot : (l : Level) → Some (grammar_place (operand_place l), l) ≡ slot_of (Operand l)
+unfolding slot_of
+operand_slot L0 = refl
+operand_slot L10 = refl
+operand_slot L20 = refl
+operand_slot L30 = refl
+operand_slot L40 = refl
+operand_slot L50 = refl
+operand_slot L60 = refl
+
+-- no other symbol has a slot
+pub no_slot : (s : Sym) → ((l : Level) → s ≡ Press l → ⊥) → ((l : Level) → s ≡ Arrangement l → ⊥) →
+    ((l : Level) → s ≡ Fact l → ⊥) → ((l : Level) → s ≡ Operand l → ⊥) → ◌≡◌ {A = Option (Slot × Level)} None (slot_of s)
+unfolding slot_of
+no_slot (Press l) p a f o = absurd (p l refl)
+no_slot (Arrangement l) p a f o = absurd (a l refl)
+no_slot (Fact l) p a f o = absurd (f l refl)
+no_slot (Operand l) p a f o = absurd (o l refl)
+no_slot _ p a f o = refl

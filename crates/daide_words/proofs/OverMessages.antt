@@ -1,0 +1,67 @@
+-- An opening symbol stands for its side's messages, with an operator's words as without.
+use Rattle.std.proofs.Common.{◌≡◌, ℕ, Bool, true, false, ◌==◌, List, [], ◌∷◌, inl, inr, ◌↔◌, refl, sym, ◌∙◌, ap, subst, arith}
+use Rattle.std.proofs.lemmas.Bool.{eqb-true}
+use Rattle.daide_token.specs.declared.class.Class.TheVariants.{Prn}
+use Rattle.daide_token.specs.Token.{prn}
+use Rattle.daide_token.specs.ClassLaws.{class_of-prn}
+use Rattle.daide_grammar.specs.declared.level.Level.{Level}
+use Rattle.daide_grammar.specs.declared.level.Level.TheVariants.{L60}
+use Rattle.daide_grammar.specs.declared.side.Side2.{Side2}
+use Rattle.daide_grammar.specs.declared.side.Side2.TheVariants.{Client, ServerEnd}
+use Rattle.daide_grammar.specs.Forms.{Form}
+use Rattle.daide_grammar.specs.Matches.{Matches}
+use Rattle.daide_grammar.specs.Paired.{begins_with_prn, IsPrnReport}
+use Rattle.daide_grammar.specs.Answers.{Stop}
+use Rattle.daide_grammar.specs.Symbols.{form_of, entries, may_end_of, table_answer, opening_of}
+use Rattle.daide_grammar.specs.SideMessages.{dialect_of, message_form, IsMessageOver, SymbolMatchesIn}
+use Rattle.daide_grammar.specs.Words.{Words}
+use Rattle.daide_words.specs.OverWords.{answer_over, are_free}
+use Rattle.daide_words.specs.Proved.WordDialect.{free-codes, keeps}
+use Rattle.daide_words.specs.Proved.WordLaws.{laws_over}
+
+-- an opening symbol's form is that of its side's messages
+opening-form : (side : Side2) (l : Level) → form_of (opening_of side l) ≡ message_form side l
+unfolding form_of
+opening-form Client l = refl
+opening-form ServerEnd l = refl
+
+-- PRN begins none of the forms: it is the reader's own case
+opening-stops : (words : Words) (side : Side2) (l : Level) → answer_over words (opening_of side l) Prn ≡ Stop
+unfolding answer_over table_answer entries may_end_of
+opening-stops words Client L60 = refl
+opening-stops words ServerEnd L60 = refl
+opening-stops words _ _ = refl
+
+-- a test that cannot pass fails
+begins-false : (b : Bool) → (b ≡ true → ⊥) → b ≡ false
+begins-false true f = absurd (f refl)
+begins-false false f = refl
+
+-- a report PRN begins with PRN
+report-begins : (m : List ℕ) → IsPrnReport m → begins_with_prn m ≡ false → ⊥
+report-begins m r e = let f : true ≡ false = sym (ap begins_with_prn r.1) ∙ e in cc
+
+module _ (words : Words) (free : are_free words ≡ true) where
+  -- the token PRN has the class PRN
+  class-prn : (t : ℕ) → (t == prn) ≡ true → (dialect_of words).class_of t ≡ Prn
+  class-prn t e =
+      ap (dialect_of words).class_of (eqb-true t prn e) ∙ keeps 0 words prn (free-codes words Prn free (omega arith)) ∙ class_of-prn
+
+  -- so no list of an opening symbol begins with PRN
+  form-not-prn : (side : Side2) (l : Level) (m : List ℕ) → SymbolMatchesIn (dialect_of words) (opening_of side l) m →
+      begins_with_prn m ≡ false
+  form-not-prn side l [] h = refl
+  form-not-prn side l (t ∷ m) h =
+      begins-false (t == prn) (λ e. (laws_over words free).stops_none (opening_of side l) t
+      (ap (answer_over words (opening_of side l)) (class-prn t e) ∙ opening-stops words side l) m h)
+
+  -- an opening symbol stands for the messages that don't begin with PRN
+  pub opening-language : (side : Side2) (l : Level) (m : List ℕ) →
+      SymbolMatchesIn (dialect_of words) (opening_of side l) m ↔ (IsMessageOver words side l m × (begins_with_prn m ≡ false))
+  opening-language side l m = (
+    λ h. (inr (subst (λ (f : Form). Matches (dialect_of words) f m) (opening-form side l) h), form-not-prn side l m h),
+    λ h. elim h.0 [
+      | inl r ↦ absurd (report-begins m r h.1)
+      | inr f ↦ subst (λ (f : Form). Matches (dialect_of words) f m) (sym (opening-form side l)) f
+    ],
+  )

@@ -1,0 +1,159 @@
+-- Words whose names and meanings are kept apart.
+use Rattle.std.proofs.Common.{◌≡◌, ℕ, zero, suc, ◌+◌, ◌≤◌, ◌<◌, Bool, true, false, ◌&&◌, List, [], ◌∷◌, ◌++◌, length, take, refl, sym, ap, ◌∙◌, arith, subst, append_assoc, append-nil, nat_le, leb-true, leb-false, if◌then◌else◌, Result, Err, slice_set, get_or, ◌==◌, Option, Some, None, IfSome}
+use Rattle.std.proofs.lemmas.List.{get_or-take}
+use Rattle.daide_words.specs.Words.{word_at}
+use Rattle.daide_words.specs.Places.{place_from}
+use Rattle.std.proofs.lemmas.List.{length-take-le, take_more_set}
+use Rattle.daide_words.specs.declared.word.WordError.{WordError}
+use Rattle.daide_words.specs.declared.word.WordError.TheVariants.{Full}
+use Rattle.std.specs.List.{list_all}
+use Rattle.std.specs.Str.{IsAscii}
+use Rattle.daide_words.specs.Accepted.{is_capital}
+use Rattle.std.specs.Prelude.{is_ok}
+use Rattle.daide_token.specs.Names.{Named}
+use Rattle.daide_words.specs.declared.word.Word.{Word}
+use Rattle.daide_words.specs.declared.word.Meaning.{Meaning}
+use Rattle.daide_words.specs.Word.{names_of, word_with, words_with}
+use Rattle.daide_words.specs.Accepted.{word_fault, are_accepted_after, are_accepted}
+
+-- the names of words that are put together are those they were put together from
+pub names_back : (names : List Named) (meanings : List Meaning) → length names ≤ length meanings →
+    names_of (words_with names meanings) ≡ names
+names_back [] meanings h = refl
+names_back (name ∷ names) [] h = absurd (omega (arith, h))
+names_back (name ∷ names) (meaning ∷ meanings) h =
+    ap (λ (ns : List Named). name ∷ ns) (names_back names meanings (omega (arith, h)))
+
+-- one more of each is one word more
+pub words_with-append : (names : List Named) (meanings : List Meaning) (name : Named) (meaning : Meaning) →
+    length names ≡ length meanings →
+    words_with (names ++ name ∷ []) (meanings ++ meaning ∷ []) ≡ words_with names meanings ++ word_with name meaning ∷ []
+words_with-append [] [] name meaning h = refl
+words_with-append [] (m ∷ meanings) name meaning h = cc
+words_with-append (n ∷ names) [] name meaning h = cc
+words_with-append (n ∷ names) (m ∷ meanings) name meaning h =
+    ap (λ (ws : List Word). word_with n m ∷ ws) (words_with-append names meanings name meaning (omega (arith, h)))
+
+-- both tests pass
+both : (a b : Bool) → (a && b) ≡ true → (a ≡ true) × (b ≡ true)
+both true b h = (refl, h)
+both false b h = cc
+
+joined : (a b : Bool) → a ≡ true → b ≡ true → (a && b) ≡ true
+joined true b e h = h
+joined false b e h = cc
+
+-- words of which the last is accepted after the others, which are accepted
+pub accepted-append : (taken : List Named) (words : List Word) (word : Word) →
+    are_accepted_after taken words ≡ true → is_ok (word_fault (taken ++ names_of words) word) ≡ true →
+    are_accepted_after taken (words ++ word ∷ []) ≡ true
+accepted-append taken [] word h ok =
+    joined (is_ok (word_fault taken word)) true (subst (λ (t : List Named). is_ok (word_fault t word) ≡ true) (append-nil taken) ok) refl
+accepted-append taken (w ∷ words) word h ok =
+    let p = both (is_ok (word_fault taken w)) (are_accepted_after (taken ++ (w.code, w.name) ∷ []) words) h in
+    joined (is_ok (word_fault taken w)) (are_accepted_after (taken ++ (w.code, w.name) ∷ []) (words ++ word ∷ [])) p.0
+    (accepted-append (taken ++ (w.code, w.name) ∷ []) words word p.1
+    (subst (λ (t : List Named). is_ok (word_fault t word) ≡ true) (sym (append_assoc taken ((w.code, w.name) ∷ []) (names_of words))) ok))
+
+-- capital letters are ASCII
+pub capitals_are_ascii : (name : List ℕ) → list_all is_capital name ≡ true → IsAscii name
+capitals_are_ascii [] h i = omega arith
+capitals_are_ascii (letter ∷ name) h zero =
+    let p = both (is_capital letter) (list_all is_capital name) h in
+    let q = both (nat_le 65 letter) (nat_le letter 90) p.0 in
+    omega (arith, leb-true letter 90 q.1)
+capitals_are_ascii (letter ∷ name) h (suc i) =
+    capitals_are_ascii name (both (is_capital letter) (list_all is_capital name) h).1 i
+
+-- whether a word is refused for want of room
+full-refused : (b : Bool) (other : Result (Unit {0}) WordError) → is_ok (if b then Err Full else other) ≡ true → b ≡ false
+full-refused true other h = cc
+full-refused false other h = refl
+
+-- the words in the first n places of the arrays
+abbrev pub first_words : List Named → List Meaning → ℕ → List Word
+first_words names meanings n = words_with (take n names) (take n meanings)
+
+first_names : (names : List Named) (meanings : List Meaning) (n : ℕ) → n ≤ length names → n ≤ length meanings →
+    names_of (first_words names meanings n) ≡ take n names
+first_names names meanings n few enough =
+    let many : length (take n names) ≡ n = length-take-le n names few in
+    let more : length (take n meanings) ≡ n = length-take-le n meanings enough in
+    names_back (take n names) (take n meanings) (omega (arith, many, more))
+
+-- an accepted word finds room
+pub has_room : (names : List Named) (meanings : List Meaning) (n : ℕ) (word : Word) → n ≤ length names → n ≤ length meanings →
+    is_ok (word_fault (names_of (first_words names meanings n)) word) ≡ true → n < 16
+has_room names meanings n word few enough ok =
+    let many : length (names_of (first_words names meanings n)) ≡ n =
+    ap length (first_names names meanings n few enough) ∙ length-take-le n names few in
+    omega (arith, many, leb-false 16 (length (names_of (first_words names meanings n))) (full-refused (nat_le 16 (length (names_of (first_words names meanings n)))) _ ok))
+
+-- one of each put in the place behind is one word more
+pub kept : (names : List Named) (meanings : List Meaning) (n : ℕ) (name : Named) (meaning : Meaning) →
+    n < length names → n < length meanings →
+    first_words (slice_set names n name) (slice_set meanings n meaning) (n + 1)
+    ≡ first_words names meanings n ++ word_with name meaning ∷ []
+kept names meanings n name meaning few enough =
+    let many : length (take n names) ≡ n = length-take-le n names (omega (arith, few)) in
+    let more : length (take n meanings) ≡ n = length-take-le n meanings (omega (arith, enough)) in
+    rw (take_more_set names n name few) (rw (take_more_set meanings n meaning enough)
+    (words_with-append (take n names) (take n meanings) name meaning (many ∙ sym more)))
+
+-- and they stay accepted
+pub kept-accepted : (names : List Named) (meanings : List Meaning) (n : ℕ) (name : Named) (meaning : Meaning) →
+    n < length names → n < length meanings → are_accepted (first_words names meanings n) ≡ true →
+    is_ok (word_fault (names_of (first_words names meanings n)) (word_with name meaning)) ≡ true →
+    are_accepted (first_words (slice_set names n name) (slice_set meanings n meaning) (n + 1)) ≡ true
+kept-accepted names meanings n name meaning few enough h ok =
+    rw (kept names meanings n name meaning few enough)
+    (accepted-append [] (first_words names meanings n) (word_with name meaning) h ok)
+
+-- a place behind the words has none
+pub behind : (words : List Word) (k : ℕ) → length words ≤ k → word_at k words ≡ None
+behind [] k h = refl
+behind (word ∷ words) zero h = absurd (omega (arith, h))
+behind (word ∷ words) (suc k) h = behind words k (omega (arith, h))
+
+pub names-length : (words : List Word) → length (names_of words) ≡ length words
+names-length [] = refl
+names-length (word ∷ words) = ap suc (names-length words)
+
+-- the word at a place is put together from what stands there
+word_at-words_with : (names : List Named) (meanings : List Meaning) (k : ℕ) (d : Named) (e : Meaning) →
+    k < length names → k < length meanings →
+    word_at k (words_with names meanings) ≡ Some (word_with (get_or names k d) (get_or meanings k e))
+word_at-words_with [] meanings k d e h i = absurd (omega (arith, h))
+word_at-words_with (n ∷ names) [] k d e h i = absurd (omega (arith, i))
+word_at-words_with (n ∷ names) (m ∷ meanings) zero d e h i = refl
+word_at-words_with (n ∷ names) (m ∷ meanings) (suc k) d e h i =
+    word_at-words_with names meanings k d e (omega (arith, h)) (omega (arith, i))
+
+pub first_words-at : (names : List Named) (meanings : List Meaning) (n k : ℕ) (d : Named) (e : Meaning) →
+    n ≤ length names → n ≤ length meanings → k < n →
+    word_at k (first_words names meanings n) ≡ Some (word_with (get_or names k d) (get_or meanings k e))
+first_words-at names meanings n k d e few enough low =
+    let many : length (take n names) ≡ n = length-take-le n names few in
+    let more : length (take n meanings) ≡ n = length-take-le n meanings enough in
+    word_at-words_with (take n names) (take n meanings) k d e (omega (arith, low, many)) (omega (arith, low, more))
+    ∙ ap (λ x. Some (word_with x (get_or (take n meanings) k e))) (get_or-take n names k d low)
+    ∙ ap (λ y. Some (word_with (get_or names k d) y)) (get_or-take n meanings k e low)
+
+-- a token has none of the places from one on where there are that few names
+pub place_few : (place : ℕ) (names : List Named) (t : ℕ) → IfSome (place_from place names t) (λ p. p < place + length names)
+place_few place [] t = tt
+place_few place (named ∷ names) t = by_test (t == named.0) (place_few (suc place) names t)
+  where
+    by_test : (b : Bool) → IfSome (place_from (suc place) names t) (λ p. p < suc place + length names) →
+        IfSome (if b then Some place else place_from (suc place) names t) (λ p. p < place + suc (length names))
+    by_test true h = omega arith
+    by_test false h = raise (place_from (suc place) names t) h
+      where
+        raise : (o : Option ℕ) → IfSome o (λ p. p < suc place + length names) → IfSome o (λ p. p < place + suc (length names))
+        raise None h = tt
+        raise (Some p) h = omega (arith, h)
+
+pub names-few : (names : List Named) (meanings : List Meaning) (n : ℕ) → n ≤ length names → n ≤ length meanings →
+    length (names_of (first_words names meanings n)) ≡ n
+names-few names meanings n few enough =
+    ap length (first_names names meanings n few enough) ∙ length-take-le n names few

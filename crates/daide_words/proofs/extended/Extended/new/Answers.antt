@@ -1,0 +1,16 @@
+use Rattle.std.proofs.Common.{refl}
+use Rattle.daide_words.specs.Extended.{spoken_words}
+use Rattle.daide_words.specs.Word.{grammar_words}
+use Rattle.daide_words.specs.Words.{words_of}
+use Rattle.daide_words.specs.Proved.WordLaws.{all-spoken}
+use Rattle.daide_words.proofs.AcceptedCodes.{accepted_free}
+use Rattle.daide_words.proofs.extended.Extended.new.Goals as goal
+
+pub returns-clause-words : goal.returns-clause-words
+unfolding spoken_words
+returns-clause-words c = refl
+
+pub returns-clause-all_spoken : goal.returns-clause-all_spoken
+unfolding words_of
+returns-clause-all_spoken c =
+    all-spoken (grammar_words (words_of c.args.words)) (accepted_free (words_of c.args.words) c.args.words.accepted)

@@ -1,0 +1,15 @@
+-- What a table with an operator's words holds. (own)
+use Rattle.std.specs.Prelude.{ℕ}
+use Rattle.daide_grammar.specs.AnswersGiven.{look_ups}
+use Rattle.daide_grammar.specs.Words.{Words}
+use Rattle.daide_words.specs.declared.extended.Extended.{Extended}
+use Rattle.daide_words.specs.Word.{grammar_words}
+use Rattle.daide_words.specs.Words.{words_of}
+
+-- its words, as the grammar knows them
+unfoldable pub spoken_words : Extended → Words
+spoken_words table = grammar_words (words_of table.words)
+
+-- the answers so far, modulo 2^64: each is one of the constant table's
+abbrev pub answers_given : Extended → ℕ
+answers_given table = look_ups table.table

@@ -1,0 +1,5 @@
+pub mod WordForms
+pub mod WordMoves
+pub mod WordStacks
+pub mod WordDialect
+pub mod WordLaws

@@ -1,0 +1,134 @@
+//! Predictions with the words of an operator.
+//!
+//! Where the protocol's table stops, an operator's word may stand; everywhere else its answer is the answer. So a token
+//! that is no word is looked up once, as without words.
+
+ghost use Rattle.std.specs.Prelude.{◌≡◌};
+ghost use Rattle.daide_grammar.specs.Answers.{Stop};
+ghost use Rattle.daide_grammar.specs.Symbols.{table_answer};
+ghost use Rattle.daide_token.specs.Class.{class_of};
+ghost use Rattle.daide_grammar.specs.SideMessages.{dialect_of};
+ghost use Rattle.daide_words.specs.Words.{words_of};
+ghost use Rattle.daide_words.specs.Word.{grammar_words};
+ghost use Rattle.daide_words.specs.OverWords.{answer_over, spoken};
+
+use crate::place::{move_in, slot_of};
+use crate::words::{Words, place_in};
+use daide_grammar::column::Column;
+use daide_grammar::dense::Dense;
+use daide_grammar::level::Level;
+use daide_grammar::predict::{Move, Predict};
+use daide_grammar::side::Side2;
+use daide_grammar::symbol::Symbol;
+use daide_token::token::Token;
+
+/// The number of the class of tokens without a meaning, as which the protocol's table knows an operator's word.
+const OTHER: u8 = 77;
+
+/// Predicts by the constant table and the words of an operator, and counts its answers.
+#[derive(Debug, Drop)]
+pub struct Extended {
+    words: Words,
+    table: Dense,
+}
+
+impl Extended {
+    ghost use Rattle.daide_words.specs.Extended.{answers_given, spoken_words};
+
+    /// A table with these words that was never asked.
+    pub fn new(words: Words) -> Extended
+        ensures words { spoken_words result ≡ grammar_words (words_of words) }
+        ensures all_spoken { spoken (grammar_words (words_of words)) ≡ grammar_words (words_of words) }
+        ensures asked { answers_given result ≡ 0 }
+    {
+        Extended {
+            words,
+            table: Dense::new(),
+        }
+    }
+}
+
+/// What a token of the class means to the symbol where the protocol's table stops it.
+fn where_stopped(words: &Words, sym: Symbol, class: Column) -> Move
+    requires { table_answer sym class ≡ Stop }
+    ensures { result ≡ answer_over (grammar_words (words_of words.now)) sym class }
+{
+    let Some(number) = class.word_number() else {
+        return Move::of(0);
+    };
+    let Some(word) = words.get(usize::from(number)) else {
+        return Move::of(0);
+    };
+    match slot_of(sym.sym()) {
+        Some((place, level)) => move_in(&word, place, level),
+        None => Move::of(0),
+    }
+}
+
+/// The class of a token that is a word, else the class that it has without words.
+fn class_with(words: &Words, token: Token, class: Column) -> Column
+    requires { class_of token ≡ class }
+    ensures { result ≡ (dialect_of (grammar_words (words_of words.now))).class_of token }
+{
+    if class.number() == OTHER {
+        if let Some(place) = place_in(words.names(), token) {
+            return Column::word(place);
+        }
+    }
+    class
+}
+
+impl Predict for Extended {
+    ghost use Rattle.daide_grammar.specs.LawfulStack.{IsLawful};
+    ghost use Rattle.daide_grammar.specs.SideMessages.{SymbolMatchesIn};
+    ghost use Rattle.daide_grammar.specs.Symbols.{may_end_of, opening_of};
+    ghost use Rattle.daide_words.specs.OverWords.{answer_over, spoken, spoken_dialect};
+    ghost use Rattle.daide_words.specs.Extended.{answers_given, spoken_words};
+    ghost use Rattle.daide_words.specs.Proved.WordLaws.{spoken_begins, spoken_laws};
+
+    ghost words = { spoken_words };
+
+    ghost class_of = { λ words. (spoken_dialect words).class_of };
+
+    ghost language = { λ words. SymbolMatchesIn (spoken_dialect words) };
+
+    ghost moves = { λ words. answer_over (spoken words) };
+
+    ghost ends = { λ _. may_end_of };
+
+    ghost opening = { opening_of };
+
+    ghost lawful = { λ words. IsLawful (answer_over (spoken words)) };
+
+    ghost asked = { answers_given };
+
+    #[inline(always)]
+    fn predict(&mut self, sym: Symbol, class: Column) -> Move {
+        let answer = self.table.predict(sym, class);
+        if answer.is_stop() {
+            return where_stopped(&self.words, sym, class);
+        }
+        answer
+    }
+
+    fn may_end(&mut self, sym: Symbol) -> bool {
+        self.table.may_end(sym)
+    }
+
+    #[inline(always)]
+    fn class_of(&self, token: Token) -> Column {
+        class_with(&self.words, token, self.table.class_of(token))
+    }
+
+    fn start(&self, side: Side2, level: Level) -> Symbol {
+        self.table.start(side, level)
+    }
+
+    fn asked(&self) -> u64 {
+        self.table.asked()
+    }
+
+    ghost laws = { spoken_laws };
+
+    ghost begins = { spoken_begins };
+}

@@ -1,0 +1,36 @@
+//! What holds of all words that an operator may add. Each law is a function whose contract says it; none has anything
+//! to do.
+
+ghost use Rattle.std.specs.Prelude.{◌≡◌, ◌↔◌, ℕ, true, false, List};
+ghost use Rattle.daide_grammar.specs.declared.level.Level.{Level};
+ghost use Rattle.daide_grammar.specs.declared.side.Side2.{Side2};
+ghost use Rattle.daide_grammar.specs.Paired.{begins_with_prn};
+ghost use Rattle.daide_grammar.specs.Laws.{PredictLaws};
+ghost use Rattle.daide_grammar.specs.LawfulStack.{IsLawful};
+ghost use Rattle.daide_grammar.specs.SideMessages.{IsMessageOver, SymbolMatchesIn, dialect_of};
+ghost use Rattle.daide_grammar.specs.Symbols.{may_end_of, opening_of};
+ghost use Rattle.daide_words.specs.declared.word.Word.{Word};
+ghost use Rattle.daide_words.specs.Word.{grammar_words};
+ghost use Rattle.daide_words.specs.Accepted.{are_accepted};
+ghost use Rattle.daide_words.specs.OverWords.{answer_over, spoken};
+
+/// Words that are accepted one after the other keep every law of prediction, whatever their list: the answers over
+/// them agree with the messages over them, and the stacks that can arise stay as small.
+pub fn added_words_keep_the_laws()
+    ensures { (words : List Word) → are_accepted words ≡ true →
+        PredictLaws (dialect_of (grammar_words words)).class_of (SymbolMatchesIn (dialect_of (grammar_words words)))
+        (answer_over (grammar_words words)) may_end_of (IsLawful (answer_over (grammar_words words))) }
+{}
+
+/// The symbol that a reader starts with stands for the messages over accepted words of its side and level, but for the
+/// report PRN, which is the reader's own case.
+pub fn opening_stands_for_messages()
+    ensures { (words : List Word) (side : Side2) (level : Level) (m : List ℕ) → are_accepted words ≡ true →
+        SymbolMatchesIn (dialect_of (grammar_words words)) (opening_of side level) m
+        ↔ (IsMessageOver (grammar_words words) side level m × (begins_with_prn m ≡ false)) }
+{}
+
+/// A table speaks all words that are accepted one after the other.
+pub fn accepted_words_are_spoken()
+    ensures { (words : List Word) → are_accepted words ≡ true → spoken (grammar_words words) ≡ grammar_words words }
+{}

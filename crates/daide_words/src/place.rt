@@ -1,0 +1,119 @@
+//! Where a word may stand, and what follows it there.
+
+ghost use Rattle.std.specs.Prelude.{◌≡◌, ◌∷◌, [], option_map, ◌≤◌, ◌<◌};
+ghost use Rattle.daide_grammar.specs.Answers.{Stop, Take};
+ghost use Rattle.daide_grammar.specs.Rules.{deed};
+ghost use Rattle.daide_grammar.specs.Symbols.{slot_of};
+ghost use Rattle.daide_grammar.specs.Words.{an_arrangement};
+ghost use Rattle.daide_words.specs.Word.{grammar_operand, grammar_slot, grammar_word};
+ghost use Rattle.daide_grammar.specs.Numbers.{level_place};
+ghost use Rattle.daide_words.specs.Place.{grammar_place, operand_place};
+ghost use Rattle.daide_words.specs.OverWords.{if_stands, makes, operand_symbol, stands};
+
+use crate::operand::Operand;
+use crate::slot::Slot;
+use crate::word::Word;
+use daide_grammar::level::Level;
+use daide_grammar::predict::Move;
+use daide_grammar::symbol::Sym;
+
+/// Where the grammar has a place for words.
+#[derive(Clone, Copy, Debug, PartialEq, Eq)]
+pub(crate) enum Place {
+    /// Among the presses.
+    Press,
+    /// Among the arrangements.
+    Arrangement,
+    /// Among the arrangements without AND and ORR.
+    Flat,
+}
+
+/// The place for words of a symbol, with its level.
+pub(crate) fn slot_of(sym: Sym) -> Option<(Place, Level)>
+    ensures { option_map (λ slot. (grammar_place slot.0, slot.1)) result ≡ slot_of sym }
+{
+    match sym {
+        Sym::Press(level) => Some((Place::Press, level)),
+        Sym::Arrangement(level) => Some((Place::Arrangement, level)),
+        Sym::Fact(level) => Some((Place::Arrangement, level)),
+        Sym::Operand(level) => Some((operand_place(level), level)),
+        _ => None,
+    }
+}
+
+/// What AND and ORR join: from level 50 on any arrangement.
+fn operand_place(level: Level) -> Place
+    ensures { result ≡ operand_place level }
+{
+    match level {
+        Level::L50 | Level::L60 => Place::Arrangement,
+        _ => Place::Flat,
+    }
+}
+
+/// What a word means at a place for words: its operand follows where it may stand there, else no message continues so.
+pub(crate) fn move_in(word: &Word, place: Place, level: Level) -> Move
+    ensures { result ≡ if_stands (stands (grammar_word word.now) (grammar_place place) level)
+        (operand_symbol (grammar_operand word.now.operand) (grammar_place place) level) Stop }
+{
+    if !may_make(word.slot, place) {
+        return Move::of(0);
+    }
+    if word.level.number() > level.number() {
+        return Move::of(0);
+    }
+    Move::of(operand_rule(word.operand, place, level))
+}
+
+/// Whether what a word makes may stand at the place.
+fn may_make(slot: Slot, place: Place) -> bool
+    ensures { result ≡ makes (grammar_slot slot) (grammar_place place) }
+{
+    match (slot, place) {
+        (Slot::Press, Place::Press) => true,
+        (Slot::Arrangement, Place::Arrangement | Place::Flat) => true,
+        _ => false,
+    }
+}
+
+/// The rule of the table that leaves a word's operand in its brackets.
+fn operand_rule(operand: Operand, place: Place, level: Level) -> u8
+    ensures { deed result ≡ Take (operand_symbol (grammar_operand operand) (grammar_place place) level ∷ []) }
+{
+    match operand {
+        Operand::Power => 70,
+        Operand::Powers => 74,
+        Operand::Provinces => 96,
+        Operand::Order => 76,
+        Operand::Arrangement => arrangement_rule(place, level),
+        Operand::Press => 160 + level_place(level),
+    }
+}
+
+/// The rule that leaves an arrangement in its brackets, a flat one at a place of flat ones.
+fn arrangement_rule(place: Place, level: Level) -> u8
+    ensures { deed result ≡ Take (operand_symbol an_arrangement (grammar_place place) level ∷ []) }
+{
+    let step = level_place(level);
+    match place {
+        Place::Press => 104 + step,
+        Place::Arrangement => 104 + step,
+        Place::Flat => 146 + step,
+    }
+}
+
+/// The level's place among the levels.
+fn level_place(level: Level) -> u8
+    ensures place { result ≡ level_place level }
+    ensures few { result ≤ 6 }
+{
+    match level {
+        Level::L0 => 0,
+        Level::L10 => 1,
+        Level::L20 => 2,
+        Level::L30 => 3,
+        Level::L40 => 4,
+        Level::L50 => 5,
+        Level::L60 => 6,
+    }
+}

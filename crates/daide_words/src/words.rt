@@ -1,0 +1,189 @@
+//! The words of an operator, in fixed memory.
+
+ghost use Rattle.std.specs.Prelude.{◌≡◌, ℕ, ◌≤◌, ◌<◌, true, false, not, ◌||◌, ◌==◌, List, [], ◌∷◌, ◌++◌, take, length};
+ghost use Rattle.std.specs.Prelude.{OnOk, OnErr, IfSome, is_some, get_or, slice_index_or, bytes_eq};
+ghost use Rattle.std.specs.List.{list_all, list_any};
+ghost use Rattle.daide_token.specs.Names.{token_named};
+ghost use Rattle.daide_words.specs.Word.{names_of, words_with};
+ghost use Rattle.daide_words.specs.Places.{place_from};
+ghost use Rattle.daide_words.specs.Accepted.{are_accepted, is_capital, is_free_code, is_free_name, word_fault};
+
+use crate::operand::Operand;
+use crate::slot::Slot;
+use crate::word::{Meaning, Word, WordError};
+use daide_grammar::level::Level;
+use daide_token::token::Token;
+use std::str;
+
+/// The most words that an operator may add.
+pub const MAX_WORDS: usize = 16;
+
+/// Words that an operator added, each accepted after the ones before it.
+#[derive(Clone, Copy, Debug)]
+pub struct Words {
+    names: [(Token, [u8; 3]); 16],
+    meanings: [Meaning; 16],
+    count: u8,
+    ghost few: { count ≤ 16 },
+    ghost accepted: { are_accepted (words_with (take count names) (take count meanings)) ≡ true },
+}
+
+impl Words {
+    ghost use Rattle.daide_words.specs.Words.{word_at, words_of};
+
+    /// No words.
+    pub fn new() -> Words
+        ensures { words_of result ≡ [] }
+    {
+        Words {
+            names: [(Token::from_code(0), [0; 3]); 16],
+            meanings: [Meaning {
+                slot: Slot::Press,
+                level: Level::L0,
+                operand: Operand::Power,
+            }; 16],
+            count: 0,
+        }
+    }
+
+    /// One word more, after the others. It is refused where sixteen are there, then for its name, its code, its level
+    /// and its operand, and then nothing changes.
+    pub fn add(&mut self, word: Word) -> Result<(), WordError>
+        ensures fault { result ≡ word_fault (names_of (words_of self.old)) word }
+        ensures added { OnOk result (words_of self.new ≡ words_of self.old ++ word ∷ []) }
+        ensures unchanged { OnErr result (self.new ≡ self.old) }
+    {
+        check(self.names(), &word)?;
+        let place = self.count as usize;
+        let name = word.name;
+        self.names[place] = (word.code, name);
+        self.meanings[place] = Meaning {
+            slot: word.slot,
+            level: word.level,
+            operand: word.operand,
+        };
+        self.count += 1;
+        Ok(())
+    }
+
+    /// The word at a place, the first one's being 0.
+    pub fn get(&self, place: usize) -> Option<Word>
+        ensures { result ≡ word_at place (words_of self.now) }
+    {
+        if place >= self.names().len() {
+            return None;
+        }
+        let named = self.names[place];
+        let code = named.0;
+        let name = named.1;
+        let meaning = self.meanings[place];
+        Some(Word {
+            name,
+            code,
+            slot: meaning.slot,
+            level: meaning.level,
+            operand: meaning.operand,
+        })
+    }
+
+    /// Each word's code and name, in the order in which the words were added.
+    pub fn names(&self) -> &[(Token, [u8; 3])]
+        ensures names { result.now ≡ names_of (words_of self.now) }
+        ensures few { length result.now ≤ 16 }
+    {
+        &self.names[..self.count as usize]
+    }
+}
+
+/// The place of the first entry of a token.
+pub(crate) fn place_in(names: &[(Token, [u8; 3])], token: Token) -> Option<u8>
+    requires { length names.now ≤ 16 }
+    ensures place { result ≡ place_from 0 names.now token }
+    ensures few { IfSome result (λ place. place < 16) }
+{
+    let code = token.code();
+    let mut place = 0;
+    let mut rest = names;
+    while let [entry, others @ ..] = rest {
+        if entry.0.code() == code {
+            return Some(place);
+        }
+        place += 1;
+        rest = others;
+    }
+    None
+}
+
+/// What is wrong of a word after words with these codes and names.
+fn check(taken: &[(Token, [u8; 3])], word: &Word) -> Result<(), WordError>
+    ensures { result ≡ word_fault taken.now word.now }
+{
+    if taken.len() >= MAX_WORDS {
+        return Err(WordError::Full);
+    }
+    let name = word.name;
+    if !is_free_name(taken, name) {
+        return Err(WordError::Name);
+    }
+    if !is_free_code(taken, word.code) {
+        return Err(WordError::Code);
+    }
+    if word.level == Level::L0 {
+        return Err(WordError::Level);
+    }
+    if word.slot == Slot::Arrangement && word.operand == Operand::Press {
+        return Err(WordError::Operand);
+    }
+    Ok(())
+}
+
+/// Whether a name is three capital letters, and neither a name of the protocol's nor taken.
+fn is_free_name(taken: &[(Token, [u8; 3])], name: [u8; 3]) -> bool
+    ensures { result ≡ is_free_name taken.now name }
+{
+    are_capitals(name) && !is_named(name) && !has_name(taken, name)
+}
+
+/// Whether all letters are from A to Z.
+fn are_capitals(name: [u8; 3]) -> bool
+    ensures { result ≡ list_all is_capital name }
+{
+    name.iter().all(|letter| letter.is_ascii_uppercase())
+}
+
+/// Whether a name is taken.
+fn has_name(taken: &[(Token, [u8; 3])], name: [u8; 3]) -> bool
+    ensures { result ≡ list_any (λ entry. bytes_eq entry.1 name) taken.now }
+{
+    taken.iter().any(|entry| entry.1 == name)
+}
+
+/// Whether a code is taken.
+fn has_code(taken: &[(Token, [u8; 3])], code: u16) -> bool
+    ensures { result ≡ list_any (λ entry. entry.0 == code) taken.now }
+{
+    taken.iter().any(|entry| entry.0.code() == code)
+}
+
+/// Whether the protocol has a token of this name.
+fn is_named(name: [u8; 3]) -> bool
+    requires { list_all is_capital name ≡ true }
+    ensures { result ≡ is_some (token_named name) }
+{
+    match str::from_utf8(&name) {
+        Ok(name) => Token::by_name(name).is_some(),
+        Err(_) => false,
+    }
+}
+
+/// Whether a code is one of press that is no token of the protocol's, not barred and not taken.
+fn is_free_code(taken: &[(Token, [u8; 3])], token: Token) -> bool
+    ensures { result ≡ is_free_code taken.now token }
+{
+    let code = token.code();
+    code >= 0x4A00
+        && code <= 0x4AFF
+        && token.name().is_none()
+        && !matches!(code, 0x4A0D | 0x4A12 | 0x4A1B)
+        && !has_code(taken, code)
+}
