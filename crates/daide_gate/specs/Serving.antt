@@ -1,16 +1,14 @@
 -- The loop of a run: what each step of a round asks of the system and does to the sessions, what a round is, and
 -- what a whole run is. A step is stated with what the system answered in it, told or not.
-use Rattle.std.specs.Prelude.{◌≡◌, ℕ, zero, suc, ◌+◌, ◌-◌, ◌<◌, ◌≤◌, nat_lt, Bool, true, false, not, ◌&&◌, ◌||◌, ◌==◌}
-use Rattle.std.specs.Prelude.{List, [], ◌∷◌, ◌++◌, length, filter, Option, Some, is_none, Ok}
+use Rattle.std.specs.Prelude.{◌≡◌, ℕ, zero, suc, ◌+◌, ◌-◌, ◌≤◌, nat_lt, Bool, true, false, not, ◌&&◌, ◌||◌, ◌==◌}
+use Rattle.std.specs.Prelude.{List, [], ◌∷◌, ◌++◌, length, filter, Option, Some, is_none}
 use Rattle.std.specs.List.{list_any}
 use Rattle.daide_machine.specs.Wires.{Gateway, is_closed}
-use Rattle.daide_session.specs.declared.config.Config.{Config}
 use Rattle.daide_session.specs.declared.hub.HubError.{HubError}
 use Rattle.daide_session.specs.declared.hub.HubError.TheVariants as HubErrors
 use Rattle.daide_session.specs.Session.{limits_of}
-use Rattle.daide_session.specs.Config.{config_fault}
 use Rattle.daide_session.specs.Record.{PortAnswer}
-use Rattle.daide_session.specs.Hub.{Hosting, with_places, Adds, IsHubSize, IsHubCause}
+use Rattle.daide_session.specs.Hub.{Hosting, with_places, Adds, IsHubCause}
 use Rattle.daide_session.specs.HubRuns.{HubCall, Turned, HubRuns}
 use Rattle.daide_gate.specs.declared.settings.Settings.{Settings}
 use Rattle.daide_gate.specs.declared.serving.ServeFault.{ServeFault}
@@ -176,6 +174,8 @@ pub record Round {P : Type 0} (told : P → Option (List PortAnswer)) (old : Ser
   pub meets : Meets old.hub came meeting met new.tally
   pub turns : TurnsAll told met turned
   pub removes : RemovesClosed turned removal new.hub
+  -- whatever came, no more are held than there may be at once, and no more came than there may be in all
+  pub within : IsWithin new.hub new.tally
   pub asked : answers ≡ admission ++ meeting ++ removal ++ wait_where
       (any_stirs admission || any_stirs meeting || any_moved turned.places || any_stirs removal)
       (accepts new.tally (length new.hub.places))

@@ -1,4 +1,4 @@
-use Rattle.std.proofs.Common.{ℕ, ◌++◌, ap, ◌∙◌, subst}
+use Rattle.std.proofs.Common.{ℕ, ◌++◌, ap, ◌∙◌, subst, arith}
 use Rattle.std.specs.Prelude.{◌||◌}
 use Rattle.daide_gate.specs.Serving.{Serving, Admits, Round, wait_where, accepts}
 use Rattle.daide_gate.proofs.ServingLemmas.{tells_then, waits_alike}
@@ -27,6 +27,15 @@ returns-clause-round g c =
       meets = meets.2;
       turns = c.turn_all.ensures.turns;
       removes = removes.2;
+      within = record {
+        same_max = c.remove_closed-removed.ensures.max ∙ c.turn_all.ensures.max ∙ c.meet.ensures.within.same_max;
+        held =
+            let held = c.meet.ensures.within.held in
+            let count = c.turn_all.ensures.count in
+            let fewer = c.remove_closed-removed.ensures.fewer in
+            omega (arith, held, count, fewer);
+        accepted = c.meet.ensures.within.accepted;
+      };
       asked = ap (λ w. admits.0 ++ meets.0 ++ removes.0 ++ w) asleep;
     } in (
       admits.0 ++ meets.0 ++ removes.0 ++ wait_where stirred c.accepts-more.result,
