@@ -1,4 +1,4 @@
-use Rattle.std.proofs.Common.{rules, arith}
+use Rattle.std.proofs.Common.{rules}
 use Rattle.daide_gate_cli.proofs.Reading.{whole_text}
 use Rattle.daide_gate_cli.proofs.running.read_text.Goals as goal
 
