@@ -13,6 +13,7 @@ pub mod settings;
 pub mod system;
 mod tally;
 
+pub use daide_log::{LogFault, Summary, check_log};
 pub use frame_view::{ShowFault, show};
 pub use relaying::{RelayEnd, relay};
 pub use serving::{ServeFault, Service, serve};

@@ -10,6 +10,8 @@ use std::alloc::{AllocError, Global};
 pub enum Order<'a> {
     /// Show one frame, judged as the side's at the level.
     Show(Side, Level),
+    /// Report a log.
+    Check,
     /// Serve with the settings of the file at this path.
     Run(&'a str),
     /// `--side` names no side.
@@ -25,15 +27,21 @@ Without a command it does what 'show' does with its defaults. The options of 'sh
       --level <N>    0, 10, 20, 30, 40, 50 or 60 [default: 0]
 
 Exit status:
-  0  the frame would be relayed; all bots were served; help and version
+  0  the frame would be relayed; the log has no PRN, HUH or fault; all bots were served; help and version
   1  a fault of the input, the output or memory, told in one line on standard error
   2  words that are not understood
-  3  the frame is shown, and would not be relayed";
+  3  the frame is shown, and would not be relayed; the log is reported, and has a PRN, HUH or fault";
 
 /// How the frame is read, and what the exit status says of it.
 const SHOW_NOTES: &str = "\
 The input has at most 200,000 bytes. Spaces, tabs and line ends are dropped wherever they stand.
 The exit status is 0 where the frame would be relayed and 3 where not; 'daide-gate --help' has all.";
+
+/// What a log is, and what the exit status says of it.
+const CHECK_NOTES: &str = "\
+A log's first line is 'daide-log 1', its second 'config LEVEL BODY DEPTH'; each further one is 'bot HEX',
+'server HEX', 'end bot', 'end server' or 'timer', or is empty, or begins with '#'. docs/FORMATS.md has the report.
+The exit status is 0 where no message got PRN or HUH and there was no fault, and else 3.";
 
 /// What a run says, and what its exit status says of it.
 const RUN_NOTES: &str = "\
@@ -58,6 +66,9 @@ pub fn command<'a>(alloc: Global) -> Result<Command<'a>, AllocError> {
         .after_help(SHOW_NOTES)
         .arg(side)?
         .arg(level)?;
+    let check = Command::new(alloc, "check")
+        .about("Reports what a gateway makes of each line of a log, read from standard input")
+        .after_help(CHECK_NOTES);
     let settings = Arg::new(alloc, "SETTINGS")
         .required(true)
         .action(ArgAction::Set)
@@ -73,6 +84,7 @@ pub fn command<'a>(alloc: Global) -> Result<Command<'a>, AllocError> {
         .about("A gateway between one bot and a DAIDE server")
         .after_help(NOTES)
         .subcommand(show)?
+        .subcommand(check)?
         .subcommand(run)
 }
 
@@ -102,6 +114,7 @@ fn level_of(word: &str) -> Option<Level> {
 pub fn order_of<'a>(matches: &ArgMatches<'a>) -> Order<'a> {
     let (side, level) = match matches.subcommand() {
         Some(("run", run)) => return Order::Run(run.get_str("SETTINGS").unwrap_or("")),
+        Some(("check", _)) => return Order::Check,
         Some((_, show)) => (show.get_str("side"), show.get_str("level")),
         None => (None, None),
     };

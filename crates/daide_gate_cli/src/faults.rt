@@ -13,7 +13,8 @@ pub const FAULT: u8 = 1;
 /// The status of a run whose words are not understood.
 pub const USAGE: u8 = 2;
 
-/// The status of a run that shows a message which would not be relayed, or a frame at fault.
+/// The status of a run that shows a message which would not be relayed, or a frame at fault, and of one that reports a
+/// log with either.
 pub const NOT_RELAYED: u8 = 3;
 
 /// Tells a fault, and gives the run's status.

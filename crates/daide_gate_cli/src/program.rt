@@ -5,6 +5,7 @@ use crate::faults::{CLEAN, FAULT, NOT_RELAYED, USAGE, tell};
 use crate::running::run;
 use clap::error::ErrorKind;
 use daide_frame::side::Side;
+use daide_gate::check_log;
 use daide_gate::frame_view::show;
 use daide_grammar::level::Level;
 use std::convert::AsStr;
@@ -24,6 +25,20 @@ fn run_show<R: AllocGlobal, I: Read, O: Write, E: Write>(
     match show(rt.alloc(), side, level, input, output) {
         Ok(true) => Ok(CLEAN),
         Ok(false) => Ok(NOT_RELAYED),
+        Err(fault) => tell(errors, fault, FAULT),
+    }
+}
+
+/// Reports the log of the input.
+fn run_check<R: AllocGlobal, I: Read, O: Write, E: Write>(
+    rt: &R,
+    input: &mut I,
+    output: &mut O,
+    errors: &mut E,
+) -> io::Result<u8> {
+    match check_log(rt.alloc(), input, output) {
+        Ok(counts) if counts.prn == 0 && counts.huh == 0 && counts.faults == 0 => Ok(CLEAN),
+        Ok(_) => Ok(NOT_RELAYED),
         Err(fault) => tell(errors, fault, FAULT),
     }
 }
@@ -58,6 +73,7 @@ pub fn answer<R: AllocGlobal + Files + Clock + Net, S: AsStr, I: Read, O: Write,
     };
     match order_of(&matches) {
         Order::Show(side, level) => run_show(rt, (side, level), input, output, errors),
+        Order::Check => run_check(rt, input, output, errors),
         Order::Run(path) => run(rt, path, output, errors),
         Order::BadSide => tell(errors, "bad side", USAGE),
         Order::BadLevel => tell(errors, "bad level", USAGE),

@@ -25,8 +25,7 @@ impl<'a, R: Eprint, I: Read + IsTerminal> Asking<'a, R, I> {
 impl<R: Eprint, I: Read + IsTerminal> Read for Asking<'_, R, I> {
     fn read(&mut self, buffer: &mut [u8]) -> io::Result<usize> {
         if !self.has_read && self.input.is_terminal() {
-            let text =
-                "daide-gate: type a frame in hexadecimal digits, and end it with Enter and Ctrl-D";
+            let text = "daide-gate: type the input, and end it with Enter and Ctrl-D";
             let _ = self.rt.eprintln(text);
         }
         self.has_read = true;

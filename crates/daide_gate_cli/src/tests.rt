@@ -146,25 +146,73 @@ fn shown_frames(rt: HostRuntime) -> Result<(), Fail> {
     Ok(())
 }
 
+/// Runs of `check`: the log, with `/` for the end of a line | what it prints, with `/` again | what it tells on
+/// standard error | the status.
+const LOGS: &str = "\
+daide-log 1/config 60 1024 16/bot 000000040001DA10/server 01000000/bot 020000024803/bot 0200000448034000/server 03000000/ | 3 bot IM 4 relay/4 server RM 0 relay/5 bot DM 2 relay/6 bot DM 4 prn/7 server FM 0 relay/relayed 4 prn 1 huh 0 faults 0/ | | 3
+daide-log 1/config 60 1024 16/bot 000000040001DA10/server 01000000/bot 020000024803/bot 0200000448034000/server 03000000/bot 02000 | 3 bot IM 4 relay/4 server RM 0 relay/5 bot DM 2 relay/6 bot DM 4 prn/7 server FM 0 relay/ | line 8 is not a log line | 1
+daide-log 1/config 60 1024 16/ | relayed 0 prn 0 huh 0 faults 0/ | | 0
+daide-log 1/config 60 1024 16/timer/ | 3 bot fault 01/relayed 0 prn 0 huh 0 faults 1/ | | 3
+daide-log 1/config 60 1024 16/bot 000000040001DA10/server 01000000/bot 02000000/ | 3 bot IM 4 relay/4 server RM 0 relay/5 bot DM 0 huh 0/relayed 2 prn 0 huh 1 faults 0/ | | 3
+daide-log 1/config 60 1024 16/bot 03000000/timer/ | 3 bot FM 0 drop/relayed 0 prn 0 huh 0 faults 0/ | | 0
+daide-log 1/config 060 1024 16/ | | line 2 is not a log line | 1
+ | | line 1 is not a log line | 1
+";
+
+/// Runs a row of that table, and looks at what it prints, tells and answers.
+fn check_report<R: AllocGlobal + Files + Clock + Net + Abort>(
+    rt: &R,
+    row: &str,
+) -> Result<(), Fail> {
+    let mut fields = row.split('|');
+    let log = fields
+        .next()
+        .unwrap_or("")
+        .trim()
+        .replace(rt.alloc(), "/", "\n")?;
+    let report = fields.next().unwrap_or("").trim();
+    let fault = fields.next().unwrap_or("").trim();
+    let status = fields.next().unwrap_or("").trim();
+    let (printed, told, ended) = run(rt, &["daide-gate", "check"], log.as_bytes())?;
+    let printed = printed.replace(rt.alloc(), "\n", "/")?;
+    let ended = ended.to_string(rt.alloc())?;
+    assert!(rt; printed.as_str() == report, "printed {printed} at {row}");
+    assert!(rt; is_told(told.as_str(), fault), "told {told} at {row}");
+    assert!(rt; ended.as_str() == status, "ended with {ended} at {row}");
+    Ok(())
+}
+
+#[test]
+fn checked_logs(rt: HostRuntime) -> Result<(), Fail> {
+    for row in LOGS.lines() {
+        check_report(&rt, row)?;
+    }
+    Ok(())
+}
+
 /// Runs that tell how the program is used: the words after its name | a part of what is printed, or
 /// told where the status is 2 | the status.
 const USAGES: &str = "\
 --help | Usage: daide-gate [COMMAND] | 0
---help | show  Shows one frame, read as hexadecimal digits from standard input | 0
---help | run   Serves bots, each with a connection of its own to the server, until all were served | 0
+--help | show   Shows one frame, read as hexadecimal digits from standard input | 0
+--help | run    Serves bots, each with a connection of its own to the server, until all were served | 0
 --help | Without a command it does what 'show' does with its defaults. | 0
 --help | --side <SIDE>  bot or server [default: bot] | 0
 --help | --level <N>    0, 10, 20, 30, 40, 50 or 60 [default: 0] | 0
---help | 0  the frame would be relayed; all bots were served; help and version | 0
+--help | check  Reports what a gateway makes of each line of a log, read from standard input | 0
+--help | 0  the frame would be relayed; the log has no PRN, HUH or fault; all bots were served; help and version | 0
 --help | 1  a fault of the input, the output or memory, told in one line on standard error | 0
 --help | 2  words that are not understood | 0
---help | 3  the frame is shown, and would not be relayed | 0
+--help | 3  the frame is shown, and would not be relayed; the log is reported, and has a PRN, HUH or fault | 0
 -h | Exit status: | 0
 help | Exit status: | 0
 show --help | Usage: daide-gate show [OPTIONS] | 0
 show -h | Whose frame it is, bot or server [default: bot] | 0
 help show | The level of press, 0, 10, 20, 30, 40, 50 or 60 [default: 0] | 0
 show --help | The exit status is 0 where the frame would be relayed and 3 where not | 0
+check --help | Usage: daide-gate check | 0
+help check | The exit status is 0 where no message got PRN or HUH and there was no fault, and else 3. | 0
+check log | error: unexpected argument 'log' found | 2
 run --help | Usage: daide-gate run <SETTINGS> | 0
 help run | The exit status is 0 once all bots were served, and 1 where no bot can be. | 0
 run | error: the following required arguments were not provided: | 2
