@@ -11,7 +11,7 @@ use Rattle.daide_machine.specs.declared.note.Note.{Note}
 use Rattle.daide_machine.specs.declared.note.Note.TheVariants as Notes
 use Rattle.daide_machine.specs.Events.{Event, Ends, Pops, bytes_come, other}
 use Rattle.daide_machine.specs.Machine.{SessionState, Effect, Outcome, Sent, Runs, coming, is_over, event_outcome}
-use Rattle.daide_machine.specs.Wires.{Gateway, Goes, waiting, bytes_of, IsFrontOf, first_len, room_of, is_answering, note_of}
+use Rattle.daide_machine.specs.Wires.{Gateway, Goes, waiting, bytes_of, IsFrontOf, first_len, room_of, is_awaited, note_of}
 use Rattle.daide_machine.proofs.OneRun.{runs_join}
 use Rattle.daide_machine.proofs.PieceRuns.{over_stays}
 use Rattle.daide_machine.proofs.WireLemmas.{bytes_come-append}
@@ -63,7 +63,7 @@ all_taken old new side count t e = none_waits t.front (waiting new side) t.is_fr
 pub room_is_missing : (g : Gateway) (side : Side) (n : ℕ) → n ≤ room_of g side →
     n ≤ missing g.state.limits.cap (coming g.state side).pending
 unfolding room_of
-room_is_missing g side n h = go (is_over g.state.phase) (is_answering g side) h
+room_is_missing g side n h = go (is_over g.state.phase) (is_awaited (waiting g) side) h
   where
     go : (a b : Bool) → n ≤ cond (a || b) 0 (missing g.state.limits.cap (coming g.state side).pending) →
         n ≤ missing g.state.limits.cap (coming g.state side).pending
@@ -155,7 +155,7 @@ tells_more number side old mid new events more r s t a b c h k = (
       (appends_more a b c (lines_of number side h.0) (lines_of number side k.0) h.3 k.3),
 )
 
-pub idle_free : (g : Gateway) (side : Side) → IsIdle g → is_answering g side ≡ false
+pub idle_free : (g : Gateway) (side : Side) → IsIdle g → is_awaited (waiting g) side ≡ false
 idle_free g side idle = rw (idle.bot, idle.server) refl
 
 -- the bytes so far were fed, and told of
