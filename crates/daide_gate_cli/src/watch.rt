@@ -36,6 +36,8 @@ pub struct Watch<R: Clock> {
     /// None where the clock can't be read: then no time passes.
     now: Cell<Option<Instant>>,
     round: Cell<u64>,
+    /// Whether something was told since the last wait, so that what was asked before may have missed it.
+    has_news: Cell<bool>,
     flags: Vec<Flags>,
 }
 
@@ -128,6 +130,7 @@ impl<R: Clock + Drop> Watch<R> {
             waiter: RefCell::new(Waiter { poll, events }),
             now: Cell::new(now),
             round: Cell::new(0),
+            has_news: Cell::new(false),
             flags,
         })
     }
@@ -179,6 +182,7 @@ impl<R: Clock> Watch<R> {
                 let Token(token) = event.token();
                 if let Some(flags) = self.flags.get(token) {
                     flags.note(event);
+                    self.has_news.set(true);
                 }
             }
         }
@@ -192,8 +196,15 @@ impl<R: Clock> Watch<R> {
         self.begin_round(Some(Duration::ZERO));
     }
 
-    /// Begins a round as soon as a socket is ready, or at the nearest moment that one waits for.
+    /// Begins a round as soon as a socket is ready, or at the nearest moment that one waits for; at once where a look
+    /// since the last wait was told of something, which comes but once.
     pub fn wait(&self) {
-        self.begin_round(self.patience());
+        let timeout = if self.has_news.get() {
+            Some(Duration::ZERO)
+        } else {
+            self.patience()
+        };
+        self.begin_round(timeout);
+        self.has_news.set(false);
     }
 }
