@@ -23,11 +23,11 @@ use Rattle.daide_machine.specs.Wires.{Gateway, Holding, waiting, holding, sent_t
 use Rattle.daide_machine.specs.Wires.{is_dm_head, asked_at_most, Goes, Takes}
 use Rattle.daide_machine.proofs.PieceRuns.{piece_runs, piece_outcome, IsTaken}
 use Rattle.daide_session.specs.declared.stage.Stage.{Stage}
-use Rattle.daide_session.specs.Both.{Both, at}
-use Rattle.daide_session.specs.Traffic.{Arrival, Traffic, Keeps, IsGrown, pending}
+use Rattle.daide_traffic.specs.Both.{Both, at}
+use Rattle.daide_traffic.specs.Traffic.{Arrival, Traffic, Keeps, IsGrown, pending}
 use Rattle.daide_session.specs.Session.{state_of, gateway_of}
 use Rattle.daide_session.specs.Reaction.{Asks, IsUnread, Reacts}
-use Rattle.daide_session.proofs.InboundLemmas.{fed_grows, no_dm_before}
+use Rattle.daide_traffic.proofs.InboundLemmas.{fed_grows, no_dm_before}
 use Rattle.daide_session.proofs.MovesLemmas.{waiting_at, coming_at}
 use Rattle.daide_session.proofs.ReactionLemmas.{holding_at, holding_same}
 

@@ -12,8 +12,8 @@ use Rattle.std.specs.Prelude.{◌==◌}
 use Rattle.daide_frame.specs.Frames.{missing}
 use Rattle.daide_machine.specs.Wires.{Gateway, waiting, same_side, frames_to, is_awaited, room_of}
 use Rattle.daide_session.specs.declared.stage.Stage.{Stage}
-use Rattle.daide_session.specs.Both.{Both, at}
-use Rattle.daide_session.specs.Traffic.{Traffic, posted, end_to, pending}
+use Rattle.daide_traffic.specs.Both.{Both, at}
+use Rattle.daide_traffic.specs.Traffic.{Traffic, posted, end_to, pending}
 use Rattle.daide_session.specs.Session.{state_of, gateway_of}
 use Rattle.daide_session.specs.Reaction.{Moves, KeepsSides}
 

@@ -18,7 +18,7 @@ use Rattle.daide_machine.specs.Machine.{answer_to, item_outcome, items_outcome, 
 use Rattle.daide_machine.specs.Wires.{same_side, sent_to}
 use Rattle.daide_machine.proofs.WireLemmas.{sent_to-append}
 use Rattle.daide_machine.proofs.FramesHeard.{not_both, over_for_good, ended, lost}
-use Rattle.daide_session.specs.Traffic.{is_end, has_end}
+use Rattle.daide_traffic.specs.Traffic.{is_end, has_end}
 
 -- for neither wire is an end among what moves send
 abbrev pub NoEnd : List Effect → Type 0

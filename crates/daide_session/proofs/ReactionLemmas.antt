@@ -22,8 +22,8 @@ use Rattle.daide_machine.specs.Machine.{question_of}
 use Rattle.daide_machine.specs.Wires.{Holding, waiting, holding, sent_to, note_of, held_after}
 use Rattle.daide_machine.specs.Wires.{is_dm_head}
 use Rattle.daide_session.specs.declared.stage.Stage.{Stage}
-use Rattle.daide_session.specs.Both.{Both, at}
-use Rattle.daide_session.specs.Traffic.{Traffic, Arrival, Keeps}
+use Rattle.daide_traffic.specs.Both.{Both, at}
+use Rattle.daide_traffic.specs.Traffic.{Traffic, Arrival, Keeps}
 use Rattle.daide_session.specs.Session.{state_of, gateway_of}
 use Rattle.daide_session.specs.Reaction.{IsUnread, Reacts, IsBegun, note_by}
 use Rattle.daide_session.proofs.MovesLemmas.{waiting_at, coming_at}

@@ -13,8 +13,8 @@ use Rattle.daide_reader.proofs.BodyLemmas.{tokens_of-length}
 use Rattle.daide_machine.specs.Wires.{Holding, waiting, is_awaited, is_dm_head}
 use Rattle.daide_machine.specs.Weight.{tokens_held, direction_bound, weight_of, weight_bound, steps_bound, IsTied}
 use Rattle.daide_session.specs.declared.stage.Stage.{Stage}
-use Rattle.daide_session.specs.Both.{at}
-use Rattle.daide_session.specs.Traffic.{Traffic, pending}
+use Rattle.daide_traffic.specs.Both.{at}
+use Rattle.daide_traffic.specs.Traffic.{Traffic, pending}
 use Rattle.daide_session.specs.Session.{gateway_of}
 use Rattle.daide_session.proofs.ReactionLemmas.{holding_at}
 

@@ -11,9 +11,9 @@ use Rattle.daide_machine.specs.Machine.{Sent, SessionState, Runs, is_over, fm_to
 use Rattle.daide_machine.specs.Wires.{Holding, holding, is_answer, has_answer, is_awaited, waiting, same_side}
 use Rattle.daide_machine.specs.Wires.{frames_to, sent_to, bytes_of, without, Goes, Lost, Wrote, LetsGo}
 use Rattle.daide_session.specs.declared.stage.Stage.{Stage}
-use Rattle.daide_session.specs.Both.{Both, at, put}
-use Rattle.daide_session.specs.Traffic.{Traffic, Arrival}
-use Rattle.daide_session.specs.Traffic.{LetsGo as LetsTrafficGo}
+use Rattle.daide_traffic.specs.Both.{Both, at, put}
+use Rattle.daide_traffic.specs.Traffic.{Traffic, Arrival}
+use Rattle.daide_traffic.specs.Traffic.{LetsGo as LetsTrafficGo}
 use Rattle.daide_session.specs.Session.{state_of, gateway_of}
 use Rattle.daide_session.specs.Reaction.{Moves, KeepsSides, stopped}
 use Rattle.daide_session.proofs.MovesLemmas.{waiting_at}

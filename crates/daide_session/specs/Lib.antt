@@ -1,9 +1,4 @@
 pub mod Config
-pub mod Both
-pub mod Inbound
-pub mod Wire
-pub mod Traffic
-pub mod Fronts
 pub mod Session
 pub mod Reaction
 pub mod Record

@@ -15,8 +15,8 @@ use Rattle.daide_machine.specs.Events.{other}
 use Rattle.daide_machine.specs.Machine.{SessionState, Outcome, IsRight, asked_by, items_outcome, is_over, nothing, end}
 use Rattle.daide_machine.specs.Wires.{Gateway, Holding, waiting, holding, sent_to, note_of, held_after, is_dm_head}
 use Rattle.daide_session.specs.declared.stage.Stage.{Stage}
-use Rattle.daide_session.specs.Both.{at}
-use Rattle.daide_session.specs.Traffic.{Traffic, Keeps, IsStarted}
+use Rattle.daide_traffic.specs.Both.{at}
+use Rattle.daide_traffic.specs.Traffic.{Traffic, Keeps, IsStarted}
 
 -- The moves of an outcome were made: its state, and its frames behind what waited.
 pub record Moves (old : Gateway) (o : Outcome) (new : Gateway) : Type 0 where

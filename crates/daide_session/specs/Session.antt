@@ -15,7 +15,7 @@ use Rattle.daide_session.specs.declared.session.SessionError.{SessionError}
 use Rattle.daide_session.specs.declared.session.SessionError.TheVariants as Errors
 use Rattle.daide_session.specs.declared.stage.Stage.{Stage}
 use Rattle.daide_session.specs.Config.{config_fault}
-use Rattle.daide_session.specs.Traffic.{Traffic, has_end}
+use Rattle.daide_traffic.specs.Traffic.{Traffic, has_end}
 
 -- ---- the value
 

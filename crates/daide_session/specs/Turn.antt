@@ -12,7 +12,7 @@ use Rattle.daide_session.specs.declared.ports.Pull.{Pull}
 use Rattle.daide_session.specs.declared.ports.Pull.TheVariants.{Got, Idle, Ended}
 use Rattle.daide_session.specs.declared.ports.Put.{Put}
 use Rattle.daide_session.specs.declared.ports.Put.TheVariants.{Took, Failed}
-use Rattle.daide_session.specs.Fronts.{KeepsFront}
+use Rattle.daide_traffic.specs.Fronts.{KeepsFront}
 use Rattle.daide_session.specs.Record.{PortAnswer, Clock, Pulled, Offered, pulled_len, IsPutWithin}
 
 -- one stretch of answers, and then another

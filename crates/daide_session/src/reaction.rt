@@ -8,13 +8,12 @@ ghost use Rattle.daide_frame.specs.declared.cutter.Step.TheVariants.{Headed, Bod
 ghost use Rattle.daide_frame.specs.Frames.{Begun, Whole, head_in, told, IsWholeBody};
 ghost use Rattle.daide_machine.specs.Machine.{untimely as untimely_code, is_over as is_over_phase};
 ghost use Rattle.daide_machine.specs.Wires.{is_awaited};
-ghost use Rattle.daide_session.specs.Both.{at};
-ghost use Rattle.daide_session.specs.Traffic.{pending, holding, has_end};
+ghost use Rattle.daide_traffic.specs.Both.{at};
+ghost use Rattle.daide_traffic.specs.Traffic.{pending, holding, has_end};
 ghost use Rattle.daide_session.specs.Session.{gateway_of};
 ghost use Rattle.daide_session.specs.Reaction.{Reacts, IsBegun, note_by, check_of};
 
 use crate::stage::{Stage, fail};
-use crate::traffic::Traffic;
 use daide_frame::code::Code;
 use daide_frame::cutter::Step;
 use daide_frame::head::{Head, Kind};
@@ -23,6 +22,7 @@ use daide_frame::side::Side;
 use daide_grammar::level::Level;
 use daide_machine::note::{Deed, Note};
 use daide_machine::rules::{deed_of, is_sent, level_after, other, phase_after, untimely};
+use daide_traffic::traffic::Traffic;
 use std::alloc::Allocator;
 
 /// Checks a whole frame by its body: an IM must have the protocol's magic number and version.

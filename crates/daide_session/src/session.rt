@@ -23,17 +23,17 @@ ghost use Rattle.daide_machine.specs.declared.note.Note.TheVariants.{Nothing};
 ghost use Rattle.daide_session.specs.Config.{config_fault};
 ghost use Rattle.daide_session.specs.Session.{level_in, limits_of, IsCause};
 ghost use Rattle.daide_session.specs.Bounds.{IsWithinBounds};
-ghost use Rattle.daide_session.specs.Fronts.{KeepsFront};
+ghost use Rattle.daide_traffic.specs.Fronts.{KeepsFront};
 
 use crate::config::{Config, ConfigError};
 use crate::reaction::react;
 use crate::stage::{Stage, fail, stop};
-use crate::traffic::Traffic;
 use daide_frame::code::Code;
 use daide_frame::side::Side;
 use daide_grammar::level::Level;
 pub use daide_machine::note::{Deed, Note};
 pub use daide_machine::phase::Phase;
+use daide_traffic::traffic::Traffic;
 use std::alloc::{Allocator, Global};
 use std::marker::Model;
 

@@ -10,19 +10,19 @@ ghost use Rattle.daide_machine.specs.declared.note.Note.TheVariants as Notes;
 ghost use Rattle.daide_machine.specs.Events.{other as other_side};
 ghost use Rattle.daide_machine.specs.Machine.{fault, fm_to, is_over as is_over_phase};
 ghost use Rattle.daide_machine.specs.Wires.{frames_to};
-ghost use Rattle.daide_session.specs.Both.{at};
-ghost use Rattle.daide_session.specs.Traffic.{has_end};
-ghost use Rattle.daide_session.specs.Fronts.{KeepsFronts};
+ghost use Rattle.daide_traffic.specs.Both.{at};
+ghost use Rattle.daide_traffic.specs.Traffic.{has_end};
+ghost use Rattle.daide_traffic.specs.Fronts.{KeepsFronts};
 ghost use Rattle.daide_session.specs.Session.{state_of, gateway_of, IsStanding};
 ghost use Rattle.daide_session.specs.Reaction.{Moves, KeepsSides, stopped};
 
-use crate::traffic::Traffic;
 use daide_frame::code::Code;
 use daide_frame::side::Side;
 use daide_grammar::level::Level;
 use daide_machine::note::Note;
 use daide_machine::phase::Phase;
 use daide_machine::rules::{may_reach, other};
+use daide_traffic::traffic::Traffic;
 use std::alloc::Allocator;
 
 /// The phase of a session, the level of press, and the highest level that an HLO may set.

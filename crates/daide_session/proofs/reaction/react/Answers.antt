@@ -5,8 +5,8 @@ use Rattle.daide_frame.specs.declared.cutter.Step.TheVariants.{Bodied}
 use Rattle.daide_frame.specs.Frames.{Item, Whole, head_in, told, IsWholeBody}
 use Rattle.daide_machine.specs.Machine.{Coming, Sent}
 use Rattle.daide_machine.specs.Wires.{is_awaited}
-use Rattle.daide_session.specs.Both.{Both, at}
-use Rattle.daide_session.specs.Traffic.{pending}
+use Rattle.daide_traffic.specs.Both.{Both, at}
+use Rattle.daide_traffic.specs.Traffic.{pending}
 use Rattle.daide_session.specs.Session.{gateway_of}
 use Rattle.daide_session.specs.Reaction.{Reacts}
 use Rattle.daide_session.proofs.ReactionLemmas.{begun_and_empty, told_empty, no_body, no_code}

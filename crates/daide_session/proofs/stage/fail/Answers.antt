@@ -2,10 +2,10 @@ use Rattle.std.proofs.Common.{List, ap, ◌∙◌}
 use Rattle.daide_machine.specs.Machine.{Sent, fm_to}
 use Rattle.daide_machine.specs.Wires.{frames_to}
 use Rattle.daide_machine.specs.Events.{other}
-use Rattle.daide_session.specs.Both.{Both, at}
-use Rattle.daide_session.specs.Traffic.{end_to, has_end}
+use Rattle.daide_traffic.specs.Both.{Both, at}
+use Rattle.daide_traffic.specs.Traffic.{end_to, has_end}
 use Rattle.std.proofs.Common.{Some}
-use Rattle.daide_session.proofs.FrontsKept.{fronts_kept_on}
+use Rattle.daide_session.proofs.GatewayFronts.{fronts_kept_on}
 use Rattle.daide_session.proofs.MovesLemmas.{other_post, failed}
 use Rattle.daide_session.proofs.stage.fail.Goals as goal
 

@@ -1,7 +1,7 @@
 use Rattle.std.proofs.Common.{sym, ap, ◌∙◌}
 use Rattle.daide_machine.specs.Events.{other}
-use Rattle.daide_session.specs.Traffic.{has_end}
-use Rattle.daide_session.proofs.FrontsKept.{fronts_stay}
+use Rattle.daide_traffic.specs.Traffic.{has_end}
+use Rattle.daide_traffic.proofs.FrontsKept.{fronts_stay}
 use Rattle.daide_session.proofs.MovesLemmas.{waiting_at}
 use Rattle.daide_session.proofs.stage.stop.Goals as goal
 

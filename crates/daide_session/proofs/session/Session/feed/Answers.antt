@@ -7,8 +7,8 @@ use Rattle.daide_frame.specs.Frames.{told, head_in}
 use Rattle.daide_machine.specs.Machine.{Sent, Coming}
 use Rattle.daide_machine.specs.Events.{bytes_come}
 use Rattle.daide_machine.specs.Wires.{Gateway, Goes, Takes, is_awaited}
-use Rattle.daide_session.specs.Both.{Both, at}
-use Rattle.daide_session.specs.Traffic.{pending, has_end}
+use Rattle.daide_traffic.specs.Both.{Both, at}
+use Rattle.daide_traffic.specs.Traffic.{pending, has_end}
 use Rattle.daide_session.specs.Session.{gateway_of}
 use Rattle.daide_session.proofs.HeaderAlone.{headed_alone}
 use Rattle.daide_session.proofs.MovesLemmas.{free_for, not_empty, waiting_at}

@@ -2,10 +2,10 @@ use Rattle.std.proofs.Common.{[], ◌∷◌, sym, ap, ◌∙◌, subst}
 use Rattle.daide_machine.specs.Events.{Pops}
 use Rattle.daide_machine.specs.Machine.{is_over}
 use Rattle.daide_machine.specs.Wires.{Gateway, Goes}
-use Rattle.daide_session.specs.Traffic.{has_end}
-use Rattle.daide_session.specs.Fronts.{KeepsFront}
+use Rattle.daide_traffic.specs.Traffic.{has_end}
+use Rattle.daide_traffic.specs.Fronts.{KeepsFront}
 use Rattle.daide_session.specs.Session.{gateway_of}
-use Rattle.daide_session.proofs.FrontsKept.{fronts_seen}
+use Rattle.daide_session.proofs.GatewayFronts.{fronts_seen}
 use Rattle.daide_session.proofs.MovesLemmas.{waiting_at}
 use Rattle.daide_session.proofs.SessionLemmas.{goes_popped, standing_on}
 use Rattle.daide_session.proofs.session.Session.im_timeout.Given.{Over}

@@ -2,11 +2,11 @@ use Rattle.std.proofs.Common.{[], ap, ◌∙◌, subst}
 use Rattle.daide_frame.specs.declared.side.Side.TheVariants.{Bot, Server}
 use Rattle.daide_machine.specs.Events.{other}
 use Rattle.daide_machine.specs.Wires.{Gateway, Lost}
-use Rattle.daide_session.specs.Both.{Both}
-use Rattle.daide_session.specs.Traffic.{Arrival}
-use Rattle.daide_session.specs.Fronts.{KeepsFront}
+use Rattle.daide_traffic.specs.Both.{Both}
+use Rattle.daide_traffic.specs.Traffic.{Arrival}
+use Rattle.daide_traffic.specs.Fronts.{KeepsFront}
 use Rattle.daide_session.specs.Session.{gateway_of}
-use Rattle.daide_session.proofs.FrontsKept.{other_front}
+use Rattle.daide_session.proofs.GatewayFronts.{other_front}
 use Rattle.daide_session.proofs.WrittenLemmas.{lost_of}
 use Rattle.daide_session.proofs.SessionLemmas.{standing_over}
 use Rattle.daide_session.proofs.session.Session.lost.Given.{Over}

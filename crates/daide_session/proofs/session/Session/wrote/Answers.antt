@@ -2,10 +2,11 @@ use Rattle.std.proofs.Common.{ap, ◌∙◌, subst}
 use Rattle.daide_frame.specs.declared.side.Side.TheVariants.{Bot, Server}
 use Rattle.daide_machine.specs.Events.{other}
 use Rattle.daide_machine.specs.Wires.{Gateway, Wrote, without}
-use Rattle.daide_session.specs.Both.{at}
-use Rattle.daide_session.specs.Fronts.{KeepsFront}
+use Rattle.daide_traffic.specs.Both.{at}
+use Rattle.daide_traffic.specs.Fronts.{KeepsFront}
 use Rattle.daide_session.specs.Session.{gateway_of}
-use Rattle.daide_session.proofs.FrontsKept.{fronts_stay, other_front}
+use Rattle.daide_traffic.proofs.FrontsKept.{fronts_stay}
+use Rattle.daide_session.proofs.GatewayFronts.{other_front}
 use Rattle.daide_session.proofs.WrittenLemmas.{wrote_of}
 use Rattle.daide_session.proofs.SessionLemmas.{standing_wrote}
 use Rattle.daide_session.proofs.session.Session.wrote.Given.{Over}

@@ -1,0 +1,139 @@
+-- A side's answer waits exactly where the side has one; and what a session sees of a side is what its fields say.
+use Rattle.std.proofs.Common.{◌≡◌, ℕ, zero, suc, ◌<◌, Bool, true, false, length, Option, Some, None}
+use Rattle.std.proofs.Common.{refl, sym, ap, ◌∙◌, arith}
+use Rattle.std.specs.Prelude.{is_some, ◌||◌}
+use Rattle.daide_frame.specs.declared.side.Side.{Side}
+use Rattle.daide_frame.specs.declared.side.Side.TheVariants.{Bot, Server}
+use Rattle.daide_reader.specs.declared.verdict.Verdict.{Verdict}
+use Rattle.daide_machine.specs.Wires.{has_answer, is_awaited}
+use Rattle.daide_traffic.specs.Both.{at}
+use Rattle.daide_traffic.specs.Traffic.{Arrival, Traffic, Fields, IsSound, answer_at, answer_mark, arrival_of, count_of}
+use Rattle.daide_traffic.specs.Traffic.{frames_to}
+use Rattle.daide_traffic.specs.Traffic.{holding, pending, pending_by, presence, traffic_of}
+use Rattle.daide_traffic.proofs.MarksLemmas.{awaited, unawaited, least, length_marks}
+
+-- no frame answers a side that has no answer
+pub silent : (f : Fields) (side to : Side) → IsSound f → (at f.sides side).verdict ≡ None →
+    count_of (answer_mark side) (at f.wires to).items ≡ 0
+silent f side Bot i free = omega (arith, i.once side ∙ ap presence free)
+silent f side Server i free = omega (arith, i.once side ∙ ap presence free)
+
+none_awaited : (f : Fields) (side : Side) → IsSound f → presence (at f.sides side).verdict ≡ 0 →
+    is_awaited (at (traffic_of f).waiting) side ≡ false
+none_awaited f side i none =
+    let once = i.once side in
+    rw (
+      unawaited side Bot (answer_at f.sides) f.wires.bot (omega arith),
+      unawaited side Server (answer_at f.sides) f.wires.server (omega arith),
+    ) refl
+
+or_true : (a : Bool) → (a || true) ≡ true
+or_true true = refl
+or_true false = refl
+
+some_awaited : (f : Fields) (side : Side) → IsSound f → presence (at f.sides side).verdict ≡ 1 →
+    is_awaited (at (traffic_of f).waiting) side ≡ true
+some_awaited f side i some = go (count_of (answer_mark side) f.wires.bot.items) refl
+  where
+    go : (n : ℕ) → count_of (answer_mark side) f.wires.bot.items ≡ n →
+        (has_answer side (frames_to f Bot) || has_answer side (frames_to f Server)) ≡ true
+    go zero e =
+        let once = i.once side in
+        rw (awaited side Server (answer_at f.sides) f.wires.server (omega arith))
+        (or_true (has_answer side (frames_to f Bot)))
+    go (suc n) e = rw (awaited side Bot (answer_at f.sides) f.wires.bot (omega (arith, e))) refl
+
+awaited_is : (f : Fields) (side : Side) → IsSound f →
+    is_awaited (at (traffic_of f).waiting) side ≡ is_some (at f.sides side).verdict
+awaited_is f side i = go (at f.sides side).verdict refl
+  where
+    go : (o : Option Verdict) → (at f.sides side).verdict ≡ o →
+        is_awaited (at (traffic_of f).waiting) side ≡ is_some (at f.sides side).verdict
+    go None e = none_awaited f side i (ap presence e) ∙ sym (ap is_some e)
+    go (Some verdict) e = some_awaited f side i (ap presence e) ∙ sym (ap is_some e)
+
+none_of : (o : Option Verdict) → is_some o ≡ false → o ≡ None
+none_of None e = refl
+none_of (Some verdict) e = absurd (cc)
+
+-- The fields stand for the value t, and a side is known: what t shows of that side, and of the limits.
+pub record IsSeen (f : Fields) (t : Traffic) (side one : Side) : Type 0 where
+  pub is : traffic_of f ≡ t
+  pub sound : IsSound f
+  pub its : side ≡ one
+  pub cap : t.cap ≡ (at f.sides one).cap
+  pub max_depth : t.max_depth ≡ (at f.sides one).max_depth
+  pub arrival : at t.sides side ≡ arrival_of (at f.sides one)
+  pub awaited : is_awaited (at t.waiting) side ≡ is_some (at f.sides one).verdict
+
+pub seen : (f : Fields) (t : Traffic) (side one : Side) → traffic_of f ≡ t → IsSound f → side ≡ one →
+    IsSeen f t side one
+seen f t side one is i s = record {
+  is = is;
+  sound = i;
+  its = s;
+  cap = sym (ap (λ (x : Traffic). x.cap) is) ∙ cap one;
+  max_depth = sym (ap (λ (x : Traffic). x.max_depth) is) ∙ depth one;
+  arrival = sym (ap (λ (x : Traffic). at x.sides side) is) ∙ ap (λ (x : Side). at (traffic_of f).sides x) s ∙ shown one;
+  awaited = sym (ap (λ (x : Traffic). is_awaited (at x.waiting) side) is) ∙ awaited_is f side i
+      ∙ ap (λ (x : Side). is_some (at f.sides x).verdict) s;
+}
+  where
+    cap : (x : Side) → f.sides.bot.cap ≡ (at f.sides x).cap
+    cap Bot = refl
+    cap Server = sym i.same_cap
+
+    depth : (x : Side) → f.sides.bot.max_depth ≡ (at f.sides x).max_depth
+    depth Bot = refl
+    depth Server = sym i.same_depth
+
+    shown : (x : Side) → at (traffic_of f).sides x ≡ arrival_of (at f.sides x)
+    shown Bot = refl
+    shown Server = refl
+
+-- The same where no answer to the side's frame waits: the bytes since its last whole frame are those that are held.
+pub record IsSeenFree (f : Fields) (t : Traffic) (side one : Side) : Type 0 where
+  pub seen : IsSeen f t side one
+  pub free : (at f.sides one).verdict ≡ None
+  pub pending : pending t side ≡ (at f.sides one).held
+
+pub seen_free : {f : Fields} {t : Traffic} {side one : Side} → IsSeen f t side one →
+    is_awaited (at t.waiting) side ≡ false → IsSeenFree f t side one
+seen_free {f} {t} {side} {one} h none =
+    let free = none_of (at f.sides one).verdict (sym h.awaited ∙ none) in
+    record {
+      seen = h;
+      free = free;
+      pending = ap (λ (a : Arrival). a.coming.pending) h.arrival
+          ∙ ap (λ (o : Option Verdict). pending_by o (at f.sides one).held) free;
+    }
+
+-- where no answer waits, the bytes that are held are those since the last whole frame
+pub tied : {f : Fields} {t : Traffic} {side one : Side} → IsSeen f t side one →
+    is_awaited (at t.waiting) side ≡ false → (holding t side).held ≡ pending t side
+tied h none = ap (λ (a : Arrival). a.holding.held) h.arrival ∙ sym (seen_free h none).pending
+
+-- a side without an answer leaves room for one frame more on each wire
+pub reply_room : {f : Fields} {t : Traffic} {side one : Side} → IsSeenFree f t side one → (to : Side) →
+    length (at f.wires to).items < 3
+reply_room {f} {t} {side} {one} h to = go one to (silent f one to i h.free)
+  where
+    i : IsSound f
+    i = h.seen.sound
+
+    go : (one wire : Side) → count_of (answer_mark one) (at f.wires wire).items ≡ 0 → length (at f.wires wire).items < 3
+    go Bot Bot e =
+        omega (arith, e, length_marks f.wires.bot.items, i.ends Bot, i.once Server, least f.sides.server.verdict)
+    go Bot Server e =
+        omega (arith, e, length_marks f.wires.server.items, i.ends Server, i.once Server, least f.sides.server.verdict)
+    go Server Bot e = omega (
+      arith,
+      e,
+      length_marks f.wires.bot.items,
+      i.ends Bot,
+      i.once Bot,
+      least
+          f.sides.bot.verdict,
+    )
+    go Server Server e =
+        omega (arith, e, length_marks f.wires.server.items, i.ends Server, i.once Bot, least f.sides.bot.verdict)

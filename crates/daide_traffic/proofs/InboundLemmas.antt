@@ -1,0 +1,227 @@
+-- What more bytes of a frame are to its reader.
+use Rattle.std.proofs.Common.{◌≡◌, ℕ, ◌+◌, ◌-◌, ◌*◌, ◌/◌, ◌<◌, ◌≤◌, Bool, true, false, List, [], ◌∷◌, ◌++◌, length}
+use Rattle.std.proofs.Common.{take, drop}
+use Rattle.std.proofs.Common.{Option, None, refl, sym, ap, ◌∙◌, subst, arith, length-append, length-drop, append_assoc}
+use Rattle.std.proofs.Common.{append-nil}
+use Rattle.std.specs.Prelude.{nat_lt, if◌then◌else◌}
+use Rattle.std.proofs.lemmas.Bool.Decides.{nat_tests}
+use Rattle.std.proofs.lemmas.List.{take-append-le, drop-append-le}
+use Rattle.daide_token.specs.Token.{tokens_of}
+use Rattle.daide_frame.specs.declared.side.Side.{Side}
+use Rattle.daide_frame.specs.declared.head.Head.{Head}
+use Rattle.daide_frame.specs.Frames.{Cut, fed, head_in, head_part, is_nothing, last_items}
+use Rattle.daide_frame.proofs.FramesLemmas.{head_in-short, head_in-whole, head_of-append4}
+use Rattle.daide_machine.specs.Weight.{tokens_held}
+use Rattle.daide_machine.specs.Wires.{is_dm_head}
+use Rattle.daide_machine.specs.Machine.{IsRight, question_of, is_dm, side2_of}
+use Rattle.daide_grammar.specs.declared.level.Level.{Level}
+use Rattle.daide_grammar.specs.declared.predict.Predict.{Ghosts}
+use Rattle.daide_grammar.specs.SideMessages.{IsMessage}
+use Rattle.daide_grammar.specs.Symbols.{opening_of}
+use Rattle.daide_reader.specs.Reading.{Reading, IsRaised, StandsAfter}
+use Rattle.daide_reader.specs.declared.verdict.Verdict.{Verdict}
+use Rattle.daide_reader.specs.declared.verdict.Verdict.TheVariants.{Relay}
+use Rattle.daide_reader.specs.Verdict.{IsPlaceIn}
+use Rattle.daide_reader.specs.Verdict.{HasVerdict}
+use Rattle.daide_traffic.specs.Inbound.{Inbound, IsReadOn, HasPlace, Reads, inbound_of}
+use Rattle.daide_reader.proofs.BodyLemmas.{tokens_of-length, tokens_of-all}
+
+-- a piece makes the bytes longer, by no more than itself
+pub record Grows (b piece after : List ℕ) : Type 0 where
+  pub more : List ℕ
+  pub longer : after ≡ b ++ more
+  pub few : length more ≤ length piece
+
+pub fed_grows : (limit : ℕ) (b piece : List ℕ) → Grows b piece (fed limit b piece)
+fed_grows limit b [] = record { more = []; longer = sym (append-nil b); few = omega arith }
+fed_grows limit b (x ∷ piece) = go (is_nothing (last_items limit (b ++ x ∷ []))) refl
+    (fed_grows limit (b ++ x ∷ []) piece)
+  where
+    go : (n : Bool) → is_nothing (last_items limit (b ++ x ∷ [])) ≡ n
+        → Grows (b ++ x ∷ []) piece (fed limit (b ++ x ∷ []) piece) → Grows b (x ∷ piece) (fed limit b (x ∷ piece))
+    go true e h =
+        let few = h.few in
+        rw e (record {
+          more = x ∷ h.more;
+          longer = h.longer ∙ append_assoc b (x ∷ []) h.more;
+          few = omega arith;
+        })
+    go false e h = rw e (record { more = x ∷ []; longer = refl; few = omega arith })
+
+-- a header stays the same when more bytes come
+pub head_in-more : (limit : ℕ) (b more : List ℕ) → 4 ≤ length b → head_in limit (b ++ more) ≡ head_in limit b
+head_in-more limit [] more l = absurd (omega arith)
+head_in-more limit (p ∷ []) more l = absurd (omega arith)
+head_in-more limit (p ∷ q ∷ []) more l = absurd (omega arith)
+head_in-more limit (p ∷ q ∷ r ∷ []) more l = absurd (omega arith)
+head_in-more limit (p ∷ q ∷ r ∷ s ∷ v) more l =
+    head_in-whole limit (p ∷ q ∷ r ∷ s ∷ (v ++ more)) (omega arith)
+    ∙ ap head_part (head_of-append4 limit p q r s (v ++ more) ∙ sym (head_of-append4 limit p q r s v))
+    ∙ sym (head_in-whole limit (p ∷ q ∷ r ∷ s ∷ v) l)
+
+below_four : (n : ℕ) → nat_lt n 4 ≡ true → n < 4
+below_four n e = grind (arith, nat_tests)
+
+not_below_four : (n : ℕ) → nat_lt n 4 ≡ false → 4 ≤ n
+not_below_four n e = grind (arith, nat_tests)
+
+-- of these bytes a reader has read the message that the first of them hold
+pub record IsReadFurther (limit : ℕ) (b more : List ℕ) : Type 0 where
+  pub within : 2 * length (tokens_held limit b) ≤ length (drop 4 (b ++ more))
+  pub front : tokens_of (take (2 * length (tokens_held limit b)) (drop 4 (b ++ more))) ≡ tokens_held limit b
+  pub few : length (drop 4 (b ++ more)) / 2 - length (tokens_held limit b) ≤ length more / 2 + 1
+
+-- the tokens of a front, where the rest may begin in the midst of a token
+tokens_front : (w more : List ℕ) → tokens_of (take (2 * (length w / 2)) (w ++ more)) ≡ tokens_of w
+tokens_front w more = rw (take-append-le (2 * (length w / 2)) w more (omega arith)) (tokens_of-all w)
+
+pub read_on : (limit : ℕ) (b more : List ℕ) → is_dm_head (head_in limit (b ++ more)) ≡ true → IsReadFurther limit b more
+read_on limit b more dm = by_test (nat_lt (length b) 4) refl
+  where
+    early : length b < 4 → IsReadFurther limit b more
+    early l =
+        let none : tokens_held limit b ≡ [] = ap (λ h. if is_dm_head h then tokens_of (drop 4 b) else [])
+        (head_in-short limit b l) in
+        record {
+          within = rw none (omega arith);
+          front = rw none refl;
+          few = rw none (omega (arith, length-drop 4 (b ++ more), length-append b more));
+        }
+
+    later : 4 ≤ length b → IsReadFurther limit b more
+    later l =
+        let same : is_dm_head (head_in limit b) ≡ true = ap is_dm_head (sym (head_in-more limit b more l)) ∙ dm in
+        let all : tokens_held limit b ≡ tokens_of (drop 4 b) = ap
+        (λ (k : Bool). if k then tokens_of (drop 4 b) else []) same in
+        let count = tokens_of-length (drop 4 b) in
+        record {
+          within = rw (all, drop-append-le 4 b more l, count) (omega (arith, length-append (drop 4 b) more));
+          front = rw (all, drop-append-le 4 b more l, count) (tokens_front (drop 4 b) more);
+          few = rw (all, drop-append-le 4 b more l, count) (omega (arith, length-append (drop 4 b) more));
+        }
+
+    by_test : (k : Bool) → nat_lt (length b) 4 ≡ k → IsReadFurther limit b more
+    by_test true e = early (below_four (length b) e)
+    by_test false e = later (not_below_four (length b) e)
+
+-- the bytes of a frame that is no message hold none
+pub none_held : (limit : ℕ) (b : List ℕ) → is_dm_head (head_in limit b) ≡ false → tokens_held limit b ≡ []
+none_held limit b e = ap (λ (k : Bool). if k then tokens_of (drop 4 b) else []) e
+
+pub all_held : (limit : ℕ) (b : List ℕ) → is_dm_head (head_in limit b) ≡ true → tokens_held limit b
+    ≡ tokens_of (drop 4 b)
+all_held limit b e = ap (λ (k : Bool). if k then tokens_of (drop 4 b) else []) e
+
+-- a frame that is no message was none before
+pub no_dm_before : (limit : ℕ) (b more : List ℕ) → is_dm_head (head_in limit (b ++ more)) ≡ false →
+    is_dm_head (head_in limit b) ≡ false
+no_dm_before limit b more e = by_test (nat_lt (length b) 4) refl
+  where
+    by_test : (k : Bool) → nat_lt (length b) 4 ≡ k → is_dm_head (head_in limit b) ≡ false
+    by_test true t = ap is_dm_head (head_in-short limit b (below_four (length b) t))
+    by_test false t = ap is_dm_head (sym (head_in-more limit b more (not_below_four (length b) t))) ∙ e
+
+-- a cutter took a piece of a message, of which a reader has read what it held before
+pub record IsFedOn (limit : ℕ) (b piece : List ℕ) (cut : Cut) : Type 0 where
+  pub within : 2 * length (tokens_held limit b) ≤ length (drop 4 cut.bytes)
+  pub front : tokens_of (take (2 * length (tokens_held limit b)) (drop 4 cut.bytes)) ≡ tokens_held limit b
+  pub few : length (drop 4 cut.bytes) / 2 - length (tokens_held limit b) ≤ length piece / 2 + 1
+  pub all : tokens_held cut.cap cut.bytes ≡ tokens_of (drop 4 cut.bytes)
+
+pub fed_on : (limit : ℕ) (b piece : List ℕ) (cut : Cut) → cut.cap ≡ limit → cut.bytes ≡ fed limit b piece
+    → is_dm_head (head_in cut.cap cut.bytes) ≡ true → IsFedOn limit b piece cut
+fed_on limit b piece cut same bytes dm =
+    let g = fed_grows limit b piece in
+    let is : cut.bytes ≡ b ++ g.more = bytes ∙ g.longer in
+    let dm2 : is_dm_head (head_in limit (b ++ g.more)) ≡ true =
+    sym (ap (λ (n : ℕ). is_dm_head (head_in n cut.bytes)) same ∙ ap (λ (x : List ℕ). is_dm_head (head_in limit x)) is)
+    ∙ dm in
+    let h = read_on limit b g.more dm2 in
+    let few = h.few in
+    let less = g.few in
+    record {
+      within = rw is h.within;
+      front = rw is h.front;
+      few = rw is (omega arith);
+      all = all_held cut.cap cut.bytes dm;
+    }
+
+-- it took a piece of no message
+pub fed_past : (limit : ℕ) (b piece : List ℕ) (cut : Cut) → cut.cap ≡ limit → cut.bytes ≡ fed limit b piece →
+    is_dm_head (head_in cut.cap cut.bytes) ≡ false → is_dm_head (head_in limit b) ≡ false
+fed_past limit b piece cut same bytes dm =
+    let g = fed_grows limit b piece in
+    let is : cut.bytes ≡ b ++ g.more = bytes ∙ g.longer in
+    no_dm_before limit b g.more
+    (sym (ap (λ (n : ℕ). is_dm_head (head_in n cut.bytes)) same
+    ∙ ap (λ (x : List ℕ). is_dm_head (head_in limit x)) is) ∙ dm)
+
+pub stands_deep : {T : Type 0} (table : Ghosts T) (side : Side) (level : Level) (v w : Reading T) (cut : Cut) →
+    w.max_depth ≡ v.max_depth →
+    StandsAfter table [] (opening_of (side2_of side) level) v.max_depth w (tokens_held cut.cap cut.bytes) →
+    StandsAfter table [] (opening_of (side2_of side) level) w.max_depth w (tokens_held cut.cap cut.bytes)
+stands_deep table side level v w cut depth stands =
+    subst (λ (n : ℕ). StandsAfter table [] (opening_of (side2_of side) level) n w (tokens_held cut.cap cut.bytes))
+    (sym depth) stands
+
+-- what is read stays read where the frame has other bytes and no answer
+pub read_along : {T : Type 0} (table : Ghosts T) (asked : T → ℕ) (side : Side) (level : Level) (old new : Cut)
+    (v w : Reading T) (header : List ℕ) (verdict : Option Verdict) →
+    IsReadOn table asked side level old v header verdict → verdict ≡ None → new.cap ≡ old.cap →
+    w.max_depth ≡ v.max_depth → w.finished ≡ false →
+    StandsAfter table [] (opening_of (side2_of side) level) v.max_depth w (tokens_held new.cap new.bytes) →
+    (is_dm_head (head_in new.cap new.bytes) ≡ false → w.asked_before ≡ asked w.table) →
+    IsReadOn table asked side level new w header verdict
+read_along table asked side level old new v w header verdict h none same depth goes_on stands uncounted = record {
+  four = h.four;
+  place = subst (λ (a : Option Verdict). HasPlace new.bytes a) (sym none) tt;
+  capped = rw same h.capped;
+  stands = stands_deep table side level v w new depth stands;
+  unfinished = λ free. goes_on;
+  uncounted = uncounted;
+}
+
+-- nothing changed of a side but its bytes, and how far its message is read
+pub reads_of : {T : Type 0} (table : Ghosts T) (asked : T → ℕ) (side : Side) (level : Level) (old new : Cut)
+    (v w : Reading T) (header : List ℕ) (verdict : Option Verdict) (bytes : List ℕ) →
+    IsReadOn table asked side level old v header verdict → verdict ≡ None → new.cap ≡ old.cap → new.bytes ≡ bytes →
+    w.max_depth ≡ v.max_depth → w.asked_before ≡ v.asked_before →
+    (is_dm_head (head_in new.cap new.bytes) ≡ false → asked w.table ≡ asked v.table) →
+    (drop 4 new.bytes ≡ [] → asked w.table ≡ asked v.table) →
+    Reads (inbound_of asked side level old v header verdict) bytes (inbound_of asked side level new w header verdict)
+reads_of table asked side level old new v w header verdict bytes h none same are depth base no_message bodiless =
+    record {
+      side = refl;
+      cap = same;
+      max_depth = depth;
+      level = refl;
+      held = are;
+      unanswered = none;
+      base = base;
+      no_message = λ e. no_message (ap (λ (n : ℕ). is_dm_head (head_in n new.bytes)) same
+          ∙ (ap (λ (x : List ℕ). is_dm_head (head_in old.cap x)) are ∙ e));
+      bodiless = λ e. bodiless (ap (drop 4) are ∙ e);
+      uncounted = h.uncounted;
+    }
+
+-- a message is judged by the grammar, and any other frame is relayed
+pub right_message : (max_depth : ℕ) (side : Side) (level : Level) (head : Head) (body : List ℕ) (v : Verdict) →
+    is_dm head.kind ≡ true → HasVerdict (IsMessage (side2_of side) level) max_depth (tokens_of body) v →
+    IsRight [] max_depth (question_of side level head body) v
+right_message max_depth side level head body v e h = rw e h
+
+pub right_other : (max_depth : ℕ) (side : Side) (level : Level) (head : Head) (body : List ℕ) (v : Verdict) →
+    is_dm head.kind ≡ false → v ≡ Relay → IsRight [] max_depth (question_of side level head body) v
+right_other max_depth side level head body v e h = rw e h
+
+pub raised_most : (a b old new : ℕ) → a ≤ b → IsRaised a old new → IsRaised b old new
+raised_most a b old new le h = record { by = h.by; few = (let few = h.few in omega arith); sum = h.sum }
+
+-- a frame was judged: how far its message is read then, and what becomes of the frame
+pub record IsJudged {T : Type 0} (table : Ghosts T) (asked : T → ℕ) (old : Inbound) (side : Side) (level : Level)
+    (cut : Cut) (v : Reading T) (head : Head) (verdict : Verdict) : Type 0 where
+  pub capped : cut.cap ≤ 65526
+  pub place : IsPlaceIn (drop 4 cut.bytes) verdict
+  pub stands : StandsAfter table [] (opening_of (side2_of side) level) v.max_depth v (tokens_held cut.cap cut.bytes)
+  pub uncounted : is_dm_head (head_in cut.cap cut.bytes) ≡ false → v.asked_before ≡ asked v.table
+  pub right : IsRight [] old.max_depth (question_of old.side old.level head (drop 4 old.held)) verdict

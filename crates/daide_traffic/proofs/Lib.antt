@@ -1,0 +1,12 @@
+pub mod AwaitedLemmas
+pub mod BothLemmas
+pub mod DroppedLemmas
+pub mod FrontLemmas
+pub mod FrontsKept
+pub mod GoneLemmas
+pub mod HeadLemmas
+pub mod InboundLemmas
+pub mod MarksLemmas
+pub mod PartsLemmas
+pub mod SidesLemmas
+pub mod WaitingLemmas

@@ -1,0 +1,214 @@
+-- The frames that wait, by what they answer: counted, put behind others, and seen with other answers.
+use Rattle.std.proofs.Common.{◌≡◌, ℕ, ◌+◌, ◌<◌, ◌≤◌, Bool, true, false, List, [], ◌∷◌, ◌++◌, length, map, Option, Some}
+use Rattle.std.proofs.Common.{None}
+use Rattle.std.proofs.Common.{refl, sym, ap, ◌∙◌, arith}
+use Rattle.std.specs.Prelude.{if◌then◌else◌, ◌||◌}
+use Rattle.std.proofs.lemmas.List.{map-append}
+use Rattle.daide_frame.specs.declared.side.Side.{Side}
+use Rattle.daide_frame.specs.declared.side.Side.TheVariants.{Bot, Server}
+use Rattle.daide_reader.specs.declared.verdict.Verdict.{Verdict}
+use Rattle.daide_machine.specs.Machine.{Sent}
+use Rattle.daide_machine.specs.Wires.{same_side, is_answer, has_answer}
+use Rattle.daide_traffic.specs.declared.wire.Waiting.{Waiting}
+use Rattle.daide_traffic.specs.declared.wire.Waiting.TheVariants.{Answer, Fm, Em}
+use Rattle.daide_traffic.specs.Both.{Both, at, put}
+use Rattle.daide_traffic.specs.Inbound.{Inbound}
+use Rattle.daide_traffic.specs.Wire.{Queue, pushed}
+use Rattle.daide_traffic.specs.Traffic.{answer_at, answers_of, bytes_in, frame_of, behind, frames_of, answer_mark}
+use Rattle.daide_traffic.specs.Traffic.{end_mark}
+use Rattle.daide_traffic.specs.Traffic.{count_of, presence, IsBegun, is_end, has_end, posted}
+use Rattle.daide_traffic.proofs.BothLemmas.{other_at, put_all}
+
+-- ---- counts
+
+pub mark_is : (one : Side) (item : Waiting) → answer_mark one item ≡ (if is_answer one (answers_of item) then 1 else 0)
+mark_is one (Answer side) = refl
+mark_is one Fm = refl
+mark_is one (Em code) = refl
+
+marks : (item : Waiting) → answer_mark Bot item + answer_mark Server item + end_mark item ≡ 1
+marks (Answer Bot) = refl
+marks (Answer Server) = refl
+marks Fm = refl
+marks (Em code) = refl
+
+-- each frame is an answer of one side, or no answer
+pub length_marks : (items : List Waiting) →
+    length items ≡ count_of (answer_mark Bot) items + count_of (answer_mark Server) items + count_of end_mark items
+length_marks [] = refl
+length_marks (x ∷ items) = omega (arith, length_marks items, marks x)
+
+pub least : (o : Option Verdict) → presence o ≤ 1
+least None = omega arith
+least (Some verdict) = omega arith
+
+count_push : (mark : Waiting → ℕ) (items : List Waiting) (item : Waiting) →
+    count_of mark (items ++ item ∷ []) ≡ count_of mark items + mark item
+count_push mark [] item = omega arith
+count_push mark (x ∷ items) item = omega (arith, count_push mark items item)
+
+pub count_pushed : (w : Both Queue) (to : Side) (mark : Waiting → ℕ) (item : Waiting) →
+    count_of mark (at (put w to (pushed (at w to) item)) Bot).items
+    + count_of mark (at (put w to (pushed (at w to) item)) Server).items
+    ≡ count_of mark w.bot.items + count_of mark w.server.items + mark item
+count_pushed w Bot mark item = omega (arith, count_push mark w.bot.items item)
+count_pushed w Server mark item = omega (arith, count_push mark w.server.items item)
+
+-- a mark that the frame has not is counted as before; one that none had, at most once
+pub unmarked_pushed : (w : Both Queue) (to one : Side) (mark : Waiting → ℕ) (item : Waiting) → mark item ≡ 0 →
+    count_of mark (at (put w to (pushed (at w to) item)) one).items ≡ count_of mark (at w one).items
+unmarked_pushed w to one mark item e =
+    put_all (λ (s : Side) (q : Queue). count_of mark q.items ≡ count_of mark (at w s).items) w to
+    (pushed (at w to) item) (omega (arith, e, count_push mark (at w to).items item)) (λ s. refl) one
+
+pub first_pushed : (w : Both Queue) (to one : Side) (mark : Waiting → ℕ) (item : Waiting) → mark item ≤ 1 →
+    count_of mark (at w to).items ≡ 0 → ((wire : Side) → count_of mark (at w wire).items ≤ 1) →
+    count_of mark (at (put w to (pushed (at w to) item)) one).items ≤ 1
+first_pushed w to one mark item l z few =
+    put_all (λ (s : Side) (q : Queue). count_of mark q.items ≤ 1) w to (pushed (at w to) item)
+    (omega (arith, l, z, count_push mark (at w to).items item)) few one
+
+-- ---- a frame behind the others
+
+begun_push : (a : Side → List ℕ) (n : ℕ) (items : List Waiting) (item : Waiting) → 0 < length (bytes_in a item) →
+    IsBegun a n items → IsBegun a n (items ++ item ∷ [])
+begun_push a n [] item some h = omega (arith, h)
+begun_push a n (x ∷ items) item some h = h
+
+pub begun_pushed : (a : Side → List ℕ) (w : Both Queue) (to one : Side) (item : Waiting) →
+    0 < length (bytes_in a item) →
+    ((wire : Side) → IsBegun a (at w wire).written (at w wire).items) →
+    IsBegun a (at (put w to (pushed (at w to) item)) one).written (at (put w to (pushed (at w to) item)) one).items
+begun_pushed a w to one item some h =
+    put_all (λ (s : Side) (q : Queue). IsBegun a q.written q.items) w to (pushed (at w to) item)
+    (begun_push a (at w to).written (at w to).items item some (h to)) h one
+
+frames_push : (to : Side) (a : Side → List ℕ) (n : ℕ) (items : List Waiting) (item : Waiting) → IsBegun a n items →
+    behind n (map (frame_of to a) (items ++ item ∷ []))
+    ≡ behind n (map (frame_of to a) items) ++ frame_of to a item ∷ []
+frames_push to a n [] item h = rw h refl
+frames_push to a n (x ∷ items) item h = ap (behind n) (map-append (frame_of to a) (x ∷ items) (item ∷ []))
+
+-- what waits for both wires
+abbrev pub both_frames : (Side → List ℕ) → Both Queue → Both (List Sent)
+both_frames a w = record { bot = frames_of Bot a w.bot; server = frames_of Server a w.server }
+
+pub frames_pushed : (a : Side → List ℕ) (w : Both Queue) (to : Side) (item : Waiting) →
+    ((wire : Side) → IsBegun a (at w wire).written (at w wire).items) →
+    both_frames a (put w to (pushed (at w to) item)) ≡ posted (both_frames a w) (frame_of to a item)
+frames_pushed a w Bot item h =
+    ap (λ (frames : List Sent). record { bot = frames; server = frames_of Server a w.server })
+    (frames_push Bot a w.bot.written w.bot.items item (h Bot))
+frames_pushed a w Server item h =
+    ap (λ (frames : List Sent). record { bot = frames_of Bot a w.bot; server = frames })
+    (frames_push Server a w.server.written w.server.items item (h Server))
+
+-- ---- other answers
+
+-- the answers agree but for one side's
+abbrev pub Agrees : Side → (Side → List ℕ) → (Side → List ℕ) → Type 0
+Agrees side a b = (one : Side) → same_side one side ≡ false → b one ≡ a one
+
+pub agrees_put : (sides : Both Inbound) (side : Side) (x : Inbound) →
+    Agrees side (answer_at sides) (answer_at (put sides side x))
+agrees_put sides side x one e = rw (other_at sides side one x e) refl
+
+-- a frame that is not the side's answer is the same
+unseen_bytes : (side : Side) (a b : Side → List ℕ) → Agrees side a b → (item : Waiting) →
+    answer_mark side item ≡ 0 → bytes_in b item ≡ bytes_in a item
+unseen_bytes side a b same (Answer one) none = go (same_side one side) refl
+  where
+    go : (k : Bool) → same_side one side ≡ k → b one ≡ a one
+    go true e = let bad = rw e at none in absurd (omega arith)
+    go false e = same one e
+unseen_bytes side a b same Fm none = refl
+unseen_bytes side a b same (Em code) none = refl
+
+frames_unseen : (side to : Side) (a b : Side → List ℕ) → Agrees side a b → (items : List Waiting) →
+    count_of (answer_mark side) items ≡ 0 → map (frame_of to b) items ≡ map (frame_of to a) items
+frames_unseen side to a b same [] none = refl
+frames_unseen side to a b same (x ∷ items) none =
+    rw (unseen_bytes side a b same x (omega arith), frames_unseen side to a b same items (omega arith)) refl
+
+pub begun_unseen : (side : Side) (a b : Side → List ℕ) → Agrees side a b → (n : ℕ) (items : List Waiting) →
+    count_of (answer_mark side) items ≡ 0 → IsBegun a n items → IsBegun b n items
+begun_unseen side a b same n [] none h = h
+begun_unseen side a b same n (x ∷ items) none h = rw (unseen_bytes side a b same x (omega arith)) h
+
+pub both_unseen : (side : Side) (a b : Side → List ℕ) (w : Both Queue) → Agrees side a b →
+    ((wire : Side) → count_of (answer_mark side) (at w wire).items ≡ 0) → both_frames b w ≡ both_frames a w
+both_unseen side a b w same none =
+    rw (
+      frames_unseen side Bot a b same w.bot.items (none Bot),
+      frames_unseen side Server a b same w.server.items
+          (none Server),
+    )
+    refl
+
+-- ---- whether an answer waits
+
+no_answer : (side to : Side) (a : Side → List ℕ) (items : List Waiting) → count_of (answer_mark side) items ≡ 0 →
+    has_answer side (map (frame_of to a) items) ≡ false
+no_answer side to a [] none = refl
+no_answer side to a (x ∷ items) none = go (is_answer side (answers_of x)) refl
+    (no_answer side to a items (omega arith))
+  where
+    go : (k : Bool) → is_answer side (answers_of x) ≡ k → has_answer side (map (frame_of to a) items) ≡ false →
+        (is_answer side (answers_of x) || has_answer side (map (frame_of to a) items)) ≡ false
+    go true e more = let one : answer_mark side x ≡ 1 = rw e at (mark_is side x) in absurd (omega arith)
+    go false e more = rw e more
+
+some_answer : (side to : Side) (a : Side → List ℕ) (items : List Waiting) → 0 < count_of (answer_mark side) items →
+    has_answer side (map (frame_of to a) items) ≡ true
+some_answer side to a [] some = absurd (omega arith)
+some_answer side to a (x ∷ items) some = go (is_answer side (answers_of x)) refl (some_answer side to a items)
+  where
+    go : (k : Bool) → is_answer side (answers_of x) ≡ k →
+        (0 < count_of (answer_mark side) items → has_answer side (map (frame_of to a) items) ≡ true) →
+        (is_answer side (answers_of x) || has_answer side (map (frame_of to a) items)) ≡ true
+    go true e more = rw e refl
+    go false e more = let none : answer_mark side x ≡ 0 = rw e at (mark_is side x) in rw e (more (omega arith))
+
+pub answer_behind : (side : Side) (n : ℕ) (frames : List Sent) →
+    has_answer side (behind n frames) ≡ has_answer side frames
+answer_behind side n [] = refl
+answer_behind side n (frame ∷ frames) = refl
+
+pub unawaited : (side to : Side) (a : Side → List ℕ) (q : Queue) → count_of (answer_mark side) q.items ≡ 0 →
+    has_answer side (frames_of to a q) ≡ false
+unawaited side to a q none = answer_behind side q.written (map (frame_of to a) q.items)
+    ∙ no_answer side to a q.items none
+
+pub awaited : (side to : Side) (a : Side → List ℕ) (q : Queue) → 0 < count_of (answer_mark side) q.items →
+    has_answer side (frames_of to a q) ≡ true
+awaited side to a q some = answer_behind side q.written (map (frame_of to a) q.items)
+    ∙ some_answer side to a q.items some
+
+-- ---- whether a frame ends the session
+
+end_is : (item : Waiting) → end_mark item ≡ (if is_end (answers_of item) then 1 else 0)
+end_is (Answer side) = refl
+end_is Fm = refl
+end_is (Em code) = refl
+
+ends_none : (to : Side) (a : Side → List ℕ) (items : List Waiting) → has_end (map (frame_of to a) items) ≡ false →
+    count_of end_mark items ≡ 0
+ends_none to a [] e = refl
+ends_none to a (x ∷ items) e = go (is_end (answers_of x)) refl (ends_none to a items)
+  where
+    go : (k : Bool) → is_end (answers_of x) ≡ k →
+        (has_end (map (frame_of to a) items) ≡ false → count_of end_mark items ≡ 0) →
+        end_mark x + count_of end_mark items ≡ 0
+    go true t more = let bad = rw t at e in absurd (cc)
+    go false t more =
+        let none : end_mark x ≡ 0 = rw t at (end_is x) in
+        let rest : has_end (map (frame_of to a) items) ≡ false = rw t at e in
+        omega (arith, more rest)
+
+has_behind : (n : ℕ) (frames : List Sent) → has_end (behind n frames) ≡ has_end frames
+has_behind n [] = refl
+has_behind n (frame ∷ frames) = refl
+
+pub unended : (to : Side) (a : Side → List ℕ) (q : Queue) → has_end (frames_of to a q) ≡ false →
+    count_of end_mark q.items ≡ 0
+unended to a q e = ends_none to a q.items (sym (has_behind q.written (map (frame_of to a) q.items)) ∙ e)

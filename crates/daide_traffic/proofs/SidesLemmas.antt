@@ -1,0 +1,143 @@
+-- A side's frame changes, and no answer to it waits before or after.
+use Rattle.std.proofs.Common.{◌≡◌, ℕ, ◌<◌, List, ◌++◌, length, drop, Option, None}
+use Rattle.std.proofs.Common.{refl, sym, ap, ◌∙◌, subst, arith, ◌⊎◌}
+use Rattle.daide_frame.specs.declared.side.Side.{Side}
+use Rattle.daide_frame.specs.declared.side.Side.TheVariants.{Bot, Server}
+use Rattle.daide_frame.specs.declared.cutter.Step.{Step}
+use Rattle.daide_frame.specs.Frames.{fed, fed_items, told, head_in, IsFault}
+use Rattle.daide_grammar.specs.declared.level.Level.{Level}
+use Rattle.daide_reader.specs.declared.verdict.Verdict.{Verdict}
+use Rattle.daide_traffic.specs.Both.{at, put}
+use Rattle.daide_traffic.specs.Inbound.{Inbound, Begins, Reads, answer_of}
+use Rattle.daide_traffic.specs.Traffic.{Arrival, Traffic, Fields, IsSound, IsGrown, IsStarted, answer_at, arrival_of}
+use Rattle.daide_traffic.specs.Traffic.{pending}
+use Rattle.daide_traffic.specs.Traffic.{pending_by, presence, traffic_of}
+use Rattle.daide_traffic.proofs.AwaitedLemmas.{IsSeenFree, silent}
+use Rattle.daide_traffic.proofs.BothLemmas.{put_all}
+use Rattle.daide_traffic.proofs.MarksLemmas.{agrees_put, begun_unseen, both_unseen}
+
+abbrev pub with_side : Fields → Side → Inbound → Fields
+with_side f side x = record { sides = put f.sides side x; wires = f.wires }
+
+-- the side is still the side that it was
+pub record IsSameSide (old new : Inbound) : Type 0 where
+  pub side : new.side ≡ old.side
+  pub cap : new.cap ≡ old.cap
+  pub max_depth : new.max_depth ≡ old.max_depth
+
+pub its_sides : (f : Fields) (side one : Side) (x : Inbound) → IsSound f → IsSameSide (at f.sides side) x →
+    (at (put f.sides side x) one).side ≡ one
+its_sides f side one x i e =
+    put_all (λ (s : Side) (y : Inbound). y.side ≡ s) f.sides side x (e.side ∙ i.its_side side) i.its_side one
+
+pub caps : (f : Fields) (side : Side) (x : Inbound) → IsSound f → IsSameSide (at f.sides side) x →
+    (put f.sides side x).server.cap ≡ (put f.sides side x).bot.cap
+caps f Bot x i e = i.same_cap ∙ sym e.cap
+caps f Server x i e = e.cap ∙ i.same_cap
+
+pub depths : (f : Fields) (side : Side) (x : Inbound) → IsSound f → IsSameSide (at f.sides side) x →
+    (put f.sides side x).server.max_depth ≡ (put f.sides side x).bot.max_depth
+depths f Bot x i e = i.same_depth ∙ sym e.max_depth
+depths f Server x i e = e.max_depth ∙ i.same_depth
+
+pub sound_side : {f : Fields} {t : Traffic} {given side : Side} (x : Inbound) → IsSeenFree f t given side →
+    IsSameSide (at f.sides side) x → x.verdict ≡ None → IsSound (with_side f side x)
+sound_side {f} {t} {given} {side} x h e none = record {
+  its_side = λ one. its_sides f side one x i e;
+  same_cap = caps f side x i e;
+  same_depth = depths f side x i e;
+  once = λ one. i.once one ∙ sym (ap presence (put_all (λ (s : Side) (y : Inbound). y.verdict ≡ (at f.sides s).verdict)
+      f.sides side x (none ∙ sym h.free) (λ s. refl) one));
+  ends = i.ends;
+  filled = put_all (λ (s : Side) (y : Inbound). presence y.verdict ≡ 1 → 0 < length (answer_of y)) f.sides side x
+      (none_there x.verdict none) i.filled;
+  begun = λ to. begun_unseen side (answer_at f.sides) (answer_at (put f.sides side x)) (agrees_put f.sides side x)
+      (at f.wires to).written (at f.wires to).items (silent f side to i h.free) (i.begun to);
+}
+  where
+    i : IsSound f
+    i = h.seen.sound
+
+    none_there : {A : Type 0} → (o : Option Verdict) → o ≡ None → presence o ≡ 1 → A
+    none_there o e h = let bad = rw e at h in absurd (omega arith)
+
+-- what waits is the same
+pub waiting_side : {f : Fields} {t : Traffic} {side one : Side} (x : Inbound) → IsSeenFree f t side one →
+    (traffic_of (with_side f one x)).waiting ≡ t.waiting
+waiting_side {f} {t} {side} {one} x h =
+    both_unseen one (answer_at f.sides) (answer_at (put f.sides one x)) f.wires (agrees_put f.sides one x)
+    (λ to. silent f one to h.seen.sound h.free)
+    ∙ ap (λ (v : Traffic). v.waiting) h.seen.is
+
+-- ---- a value t that the fields stand for, and a side that is known
+
+pub arrived : (f : Fields) (side one : Side) (x : Inbound) → side ≡ one →
+    at (traffic_of (with_side f one x)).sides side ≡ arrival_of x
+arrived f side one x s = ap (at (traffic_of (with_side f one x)).sides) s ∙ go one
+  where
+    go : (here : Side) → at (traffic_of (with_side f here x)).sides here ≡ arrival_of x
+    go Bot = refl
+    go Server = refl
+
+pub cap_kept : (f : Fields) (t : Traffic) (side : Side) (x : Inbound) → traffic_of f ≡ t → x.cap
+    ≡ (at f.sides side).cap →
+    (traffic_of (with_side f side x)).cap ≡ t.cap
+cap_kept f t Bot x is e = e ∙ ap (λ (v : Traffic). v.cap) is
+cap_kept f t Server x is e = ap (λ (v : Traffic). v.cap) is
+
+pending_arrived : (f : Fields) (side one : Side) (x : Inbound) → side ≡ one → x.verdict ≡ None →
+    pending (traffic_of (with_side f one x)) side ≡ x.held
+pending_arrived f side one x s none =
+    ap (λ (a : Arrival). a.coming.pending) (arrived f side one x s)
+    ∙ ap (λ (o : Option Verdict). pending_by o x.held) none
+
+-- the frame began anew
+pub started_of : (old new : Inbound) (level : Level) → old.verdict ≡ None → Begins old level old.held new →
+    IsStarted (arrival_of old) level (arrival_of new)
+started_of old new level free b = record {
+  coming = rw (b.unanswered, free, b.held, b.level_set) refl;
+  held = b.held;
+  total = b.total;
+  base = b.base;
+}
+
+pub started : {f : Fields} {t : Traffic} {side one : Side} {x : Inbound} {level : Level} → IsSeenFree f t side one →
+    Begins (at f.sides one) level (at f.sides one).held x →
+    IsStarted (at t.sides side) level (at (traffic_of (with_side f one x)).sides side)
+started {f} {t} {side} {one} {x} {level} h b =
+    rw (h.seen.arrival, arrived f side one x h.seen.its) (started_of (at f.sides one) x level h.free b)
+
+-- the frame has more bytes
+grown_of : (old new : Inbound) (bytes : List ℕ) → old.verdict ≡ None → Reads old bytes new →
+    IsGrown old.cap (arrival_of old) bytes (arrival_of new)
+grown_of old new bytes free r = record {
+  coming = rw (r.unanswered, r.held, r.level) refl;
+  held = r.held;
+  held_before = sym (ap (λ (o : Option Verdict). pending_by o old.held) free);
+  base = r.base;
+  no_message = r.no_message;
+  bodiless = r.bodiless;
+  uncounted = rw free r.uncounted;
+}
+
+pub grown : {f : Fields} {t : Traffic} {side one : Side} (x : Inbound) (piece : List ℕ) → IsSeenFree f t side one →
+    Reads (at f.sides one) (fed (at f.sides one).cap (at f.sides one).held piece) x →
+    IsGrown t.cap (at t.sides side) (fed t.cap (pending t side) piece) (at (traffic_of (with_side f one x)).sides side)
+grown {f} {t} {side} {one} x piece h r =
+    rw (h.pending, h.seen.arrival, arrived f side one x h.seen.its, h.seen.cap)
+    (grown_of (at f.sides one) x (fed (at f.sides one).cap (at f.sides one).held piece) h.free r)
+
+-- what was told of the piece
+pub record IsToldOf (cap : ℕ) (bytes piece : List ℕ) (step : Step) (new_cap : ℕ) (new_bytes : List ℕ) : Type 0 where
+  pub items : fed_items cap bytes piece ≡ told step (head_in new_cap new_bytes) (drop 4 new_bytes)
+  pub whole : IsFault step ⊎ (new_bytes ≡ bytes ++ piece)
+
+pub told_of : {f : Fields} {t : Traffic} {side one : Side} (x : Inbound) (piece : List ℕ) (step : Step) →
+    IsSeenFree f t side one → x.verdict ≡ None → x.cap ≡ (at f.sides one).cap →
+    IsToldOf (at f.sides one).cap (at f.sides one).held piece step x.cap x.held →
+    IsToldOf t.cap (pending t side) piece step (traffic_of (with_side f one x)).cap
+    (pending (traffic_of (with_side f one x)) side)
+told_of {f} {t} {side} {one} x piece step h none same told =
+    subst (λ (n : ℕ). IsToldOf t.cap (pending t side) piece step n (pending (traffic_of (with_side f one x)) side))
+    (same ∙ sym h.seen.cap ∙ sym (cap_kept f t one x h.seen.is same))
+    (rw (pending_arrived f side one x h.seen.its none, h.pending, h.seen.cap) told)

@@ -1,0 +1,216 @@
+-- A frame comes to wait for a wire: an answer, an FM or an EM.
+use Rattle.std.proofs.Common.{◌≡◌, ℕ, ◌+◌, ◌<◌, ◌≤◌, false, List, [], length, drop, Option, Some, None}
+use Rattle.std.proofs.Common.{refl, sym, ap, ◌∙◌, subst, arith}
+use Rattle.daide_frame.specs.declared.side.Side.{Side}
+use Rattle.daide_frame.specs.declared.side.Side.TheVariants.{Bot, Server}
+use Rattle.daide_frame.specs.declared.head.Head.{Head}
+use Rattle.daide_frame.specs.declared.code.Code.{Code}
+use Rattle.daide_frame.specs.Head.{head_bytes}
+use Rattle.daide_reader.specs.declared.verdict.Verdict.{Verdict}
+use Rattle.daide_machine.specs.Answers.{answer_bytes}
+use Rattle.daide_machine.specs.Machine.{IsRight, Sent, question_of}
+use Rattle.daide_traffic.specs.declared.wire.Waiting.TheVariants.{Answer}
+use Rattle.daide_traffic.specs.Both.{Both, at, put}
+use Rattle.daide_traffic.specs.Inbound.{Answers, Inbound, answer_of}
+use Rattle.daide_traffic.specs.Wire.{Queue, pushed}
+use Rattle.daide_traffic.specs.Traffic.{Arrival, Fields, IsSound, Traffic, answer_at, answer_mark, bytes_in, count_of}
+use Rattle.daide_traffic.specs.Traffic.{end_mark, end_to, ending_of, frame_of, has_end, noted, pending, posted}
+use Rattle.daide_traffic.specs.Traffic.{presence, traffic_of}
+use Rattle.daide_traffic.proofs.AwaitedLemmas.{IsSeenFree, silent}
+use Rattle.daide_traffic.proofs.BothLemmas.{at_put, put_all}
+use Rattle.daide_traffic.proofs.FrontLemmas.{waits_at}
+use Rattle.daide_traffic.proofs.MarksLemmas.{agrees_put, begun_pushed, begun_unseen, both_unseen, count_pushed}
+use Rattle.daide_traffic.proofs.MarksLemmas.{first_pushed}
+use Rattle.daide_traffic.proofs.MarksLemmas.{frames_pushed, least, length_marks, unended, unmarked_pushed}
+use Rattle.daide_traffic.proofs.SidesLemmas.{IsSameSide, caps, depths, its_sides}
+
+-- ---- an answer
+
+-- what an answered side sends
+answer_is : (i x : Inbound) (head : Head) (verdict : Verdict) → Answers i head verdict x →
+    answer_of x ≡ answer_bytes head (drop 4 i.held) verdict
+unfolding answer_bytes
+answer_is i x head verdict a = rw (a.verdict_set, a.header, a.held) refl
+
+answer_some : (i x : Inbound) (head : Head) (verdict : Verdict) → Answers i head verdict x → 0 < length (answer_of x)
+unfolding answer_bytes head_bytes
+answer_some i x head verdict a = rw (answer_is i x head verdict a) (omega arith)
+
+presence_put : (sides : Both Inbound) (side one : Side) (x : Inbound) → (at sides side).verdict ≡ None →
+    presence x.verdict ≡ 1 →
+    presence (at (put sides side x) one).verdict ≡ presence (at sides one).verdict + answer_mark one (Answer side)
+presence_put sides Bot Bot x e h = rw (e, h) refl
+presence_put sides Bot Server x e h = omega arith
+presence_put sides Server Bot x e h = omega arith
+presence_put sides Server Server x e h = rw (e, h) refl
+
+replied_sound : (f : Fields) (side to : Side) (x : Inbound) → IsSound f → (at f.sides side).verdict ≡ None →
+    IsSameSide (at f.sides side) x → presence x.verdict ≡ 1 → 0 < length (answer_of x) →
+    IsSound (record { sides = put f.sides side x; wires = put f.wires to (pushed (at f.wires to) (Answer side)) })
+replied_sound f side to x i free same one_more some = record {
+  its_side = λ one. its_sides f side one x i same;
+  same_cap = caps f side x i same;
+  same_depth = depths f side x i same;
+  once = λ one. count_pushed f.wires to (answer_mark one) (Answer side)
+      ∙ ap (λ (n : ℕ). n + answer_mark one (Answer side)) (i.once one)
+      ∙ sym (presence_put f.sides side one x free one_more);
+  ends = λ one. rw (unmarked_pushed f.wires to one end_mark (Answer side) refl) (i.ends one);
+  filled = put_all (λ (s : Side) (y : Inbound). presence y.verdict ≡ 1 → 0 < length (answer_of y)) f.sides side x
+      (λ _. some) i.filled;
+  begun = λ one. begun_pushed after f.wires to one (Answer side) more
+      (λ wire. begun_unseen side (answer_at f.sides) after
+      (agrees_put f.sides side x) (at f.wires wire).written (at f.wires wire).items (silent f side wire i free)
+      (i.begun wire));
+}
+  where
+    after : Side → List ℕ
+    after = answer_at (put f.sides side x)
+
+    more : 0 < length (after side)
+    more = rw (at_put f.sides side x) some
+
+replied_waiting : (f : Fields) (side to : Side) (x : Inbound) → IsSound f → (at f.sides side).verdict ≡ None →
+    (traffic_of (record {
+      sides = put f.sides side x;
+      wires = put f.wires to
+          (pushed (at f.wires to) (Answer side));
+    })).waiting
+    ≡ posted (traffic_of f).waiting (record { to = to; answers = Some side; bytes = answer_of x })
+replied_waiting f side to x i free =
+    frames_pushed after f.wires to (Answer side) (λ wire. begun_unseen side (answer_at f.sides) after
+    (agrees_put f.sides side x) (at f.wires wire).written (at f.wires wire).items (silent f side wire i free)
+    (i.begun wire))
+    ∙ ap (λ (w : Both (List Sent)). posted w (frame_of to after (Answer side)))
+    (both_unseen side (answer_at f.sides) after f.wires (agrees_put f.sides side x) (λ wire. silent f side wire i free))
+    ∙ ap (λ (y : Inbound). posted (traffic_of f).waiting (record { to = to; answers = Some side; bytes = answer_of y }))
+    (at_put f.sides side x)
+  where
+    after : Side → List ℕ
+    after = answer_at (put f.sides side x)
+
+-- the side's frame is answered, and the wires are as they were but for the answer
+pub record IsPosted (f : Fields) (t : Traffic) (side one to : Side) (head : Head) (verdict : Verdict) (x : Inbound)
+    (w : Both Queue) : Type 0 where
+  pub seen : IsSeenFree f t side one
+  pub answers : Answers (at f.sides one) head verdict x
+  pub wires : w ≡ put f.wires to (pushed (at f.wires to) (Answer side))
+
+pub post_sound : {f : Fields} {t : Traffic} {side one to : Side} {head : Head} {verdict : Verdict} {x : Inbound}
+    {w : Both Queue} → IsPosted f t side one to head verdict x w →
+    IsSound (record { sides = put f.sides one x; wires = w })
+post_sound {f} {t} {side} {one} {to} {head} {verdict} {x} p =
+    let a = p.answers in
+    subst (λ (v : Both Queue). IsSound (record { sides = put f.sides one x; wires = v }))
+    (sym (p.wires ∙ ap (λ (s : Side). put f.wires to (pushed (at f.wires to) (Answer s))) p.seen.seen.its))
+    (replied_sound f one to x p.seen.seen.sound p.seen.free
+    (record { side = a.side; cap = a.cap; max_depth = a.max_depth })
+    (ap presence a.verdict_set) (answer_some (at f.sides one) x head verdict a))
+
+pub post_waiting : {f : Fields} {t : Traffic} {side one to : Side} {head : Head} {verdict : Verdict} {x : Inbound}
+    {w : Both Queue} → IsPosted f t side one to head verdict x w →
+    (traffic_of (record { sides = put f.sides one x; wires = w })).waiting ≡ posted t.waiting (record {
+      to = to;
+      answers = Some side;
+      bytes = answer_bytes head (drop 4 (pending t side)) verdict;
+    })
+post_waiting {f} {t} {side} {one} {to} {head} {verdict} {x} p =
+    let its = p.seen.seen.its in
+    let bytes : answer_of x ≡ answer_bytes head (drop 4 (pending t side)) verdict =
+    answer_is (at f.sides one) x head verdict p.answers
+    ∙ ap (λ (b : List ℕ). answer_bytes head (drop 4 b) verdict) (sym p.seen.pending) in
+    ap (λ (v : Both Queue). (traffic_of (record { sides = put f.sides one x; wires = v })).waiting)
+    (p.wires ∙ ap (λ (s : Side). put f.wires to (pushed (at f.wires to) (Answer s))) its)
+    ∙ replied_waiting f one to x p.seen.seen.sound p.seen.free
+    ∙ ap (λ (v : Traffic). posted v.waiting (record { to = to; answers = Some one; bytes = answer_of x }))
+    p.seen.seen.is
+    ∙ ap (λ (s : Side). posted t.waiting (record { to = to; answers = Some s; bytes = answer_of x })) (sym its)
+    ∙ ap (λ (b : List ℕ). posted t.waiting (record { to = to; answers = Some side; bytes = b })) bytes
+
+-- the verdict is the grammar's of what the value t shows
+pub post_right : {f : Fields} {t : Traffic} {side one : Side} (head : Head) (verdict : Verdict) →
+    IsSeenFree f t side one → IsRight [] (at f.sides one).max_depth
+    (question_of (at f.sides one).side (at f.sides one).level head (drop 4 (at f.sides one).held)) verdict →
+    IsRight [] t.max_depth (question_of side (noted t side) head (drop 4 (pending t side))) verdict
+post_right {f} {t} {side} {one} head verdict h right =
+    let level : noted t side ≡ (at f.sides one).level = ap (λ (a : Arrival). a.coming.noted) h.seen.arrival in
+    rw (h.seen.max_depth, level, h.pending, h.seen.its ∙ sym (h.seen.sound.its_side one)) right
+
+-- ---- an end
+
+-- no end waits for the wire
+unended_field : (f : Fields) (t : Traffic) (to : Side) → traffic_of f ≡ t → has_end (at t.waiting to) ≡ false →
+    count_of end_mark (at f.wires to).items ≡ 0
+unended_field f t to is none =
+    unended to (answer_at f.sides) (at f.wires to)
+    (ap has_end (sym (waits_at f to) ∙ ap (λ (v : Traffic). at v.waiting to) is) ∙ none)
+
+pub end_room : (f : Fields) (t : Traffic) (to : Side) → traffic_of f ≡ t → IsSound f → has_end (at t.waiting to)
+    ≡ false →
+    length (at f.wires to).items < 3
+end_room f t to is i none = go to (unended_field f t to is none)
+  where
+    go : (wire : Side) → count_of end_mark (at f.wires wire).items ≡ 0 → length (at f.wires wire).items < 3
+    go Bot e =
+        omega (
+          arith,
+          e,
+          length_marks f.wires.bot.items,
+          i.once Bot,
+          i.once Server,
+          least f.sides.bot.verdict,
+          least f.sides.server.verdict,
+        )
+    go Server e =
+        omega (
+          arith,
+          e,
+          length_marks f.wires.server.items,
+          i.once Bot,
+          i.once Server,
+          least f.sides.bot.verdict,
+          least f.sides.server.verdict,
+        )
+
+ending_some : (a : Side → List ℕ) (code : Option Code) → 0 < length (bytes_in a (ending_of code))
+ending_some a None = omega arith
+ending_some a (Some code) = omega arith
+
+ending_mark : (one : Side) (code : Option Code) → answer_mark one (ending_of code) ≡ 0
+ending_mark one None = refl
+ending_mark one (Some code) = refl
+
+ending_once : (code : Option Code) → end_mark (ending_of code) ≤ 1
+ending_once None = omega arith
+ending_once (Some code) = omega arith
+
+ending_frame : (to : Side) (a : Side → List ℕ) (code : Option Code) → frame_of to a (ending_of code) ≡ end_to to code
+ending_frame to a None = refl
+ending_frame to a (Some code) = refl
+
+pub end_sound : (f : Fields) (t : Traffic) (to : Side) (code : Option Code) (w : Both Queue) → traffic_of f ≡ t →
+    IsSound f →
+    has_end (at t.waiting to) ≡ false → w ≡ put f.wires to (pushed (at f.wires to) (ending_of code)) →
+    IsSound (record { sides = f.sides; wires = w })
+end_sound f t to code w is i none wires =
+    subst (λ (v : Both Queue). IsSound (record { sides = f.sides; wires = v })) (sym wires) (record {
+      its_side = i.its_side;
+      same_cap = i.same_cap;
+      same_depth = i.same_depth;
+      once = λ one. (let unmarked = ending_mark one code in let once = i.once one in
+          let count = count_pushed f.wires to (answer_mark one) (ending_of code) in omega arith);
+      ends = λ one. first_pushed f.wires to one end_mark (ending_of code) (ending_once code)
+          (unended_field f t to is none) i.ends;
+      filled = i.filled;
+      begun = λ one. begun_pushed (answer_at f.sides) f.wires to one (ending_of code)
+          (ending_some (answer_at f.sides) code)
+          i.begun;
+    })
+
+pub end_waiting : (f : Fields) (t : Traffic) (to : Side) (code : Option Code) (w : Both Queue) → traffic_of f ≡ t →
+    IsSound f → w ≡ put f.wires to (pushed (at f.wires to) (ending_of code)) →
+    (traffic_of (record { sides = f.sides; wires = w })).waiting ≡ posted t.waiting (end_to to code)
+end_waiting f t to code w is i wires =
+    ap (λ (v : Both Queue). (traffic_of (record { sides = f.sides; wires = v })).waiting) wires
+    ∙ frames_pushed (answer_at f.sides) f.wires to (ending_of code) i.begun
+    ∙ ap (posted (traffic_of f).waiting) (ending_frame to (answer_at f.sides) code)
+    ∙ ap (λ (v : Traffic). posted v.waiting (end_to to code)) is

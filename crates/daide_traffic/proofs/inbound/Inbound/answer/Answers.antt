@@ -1,0 +1,97 @@
+use Rattle.std.proofs.Common.{◌≡◌, ℕ, List, [], true, false, drop, sym, ap, ◌∙◌, subst, refl, arith, length}
+use Rattle.daide_token.specs.Token.{tokens_of}
+use Rattle.daide_frame.specs.Frames.{head_in}
+use Rattle.daide_frame.specs.Head.{head_bytes}
+use Rattle.daide_grammar.specs.SideMessages.{IsMessage}
+use Rattle.daide_grammar.specs.Symbols.{opening_of}
+use Rattle.daide_grammar.specs.declared.dense.Dense.{Dense}
+use Rattle.daide_grammar.specs.contracts.dense.DensePredict.TheImpl.{ghosts}
+use Rattle.daide_machine.specs.Machine.{IsRight, question_of, is_dm, side2_of}
+use Rattle.daide_machine.specs.Weight.{tokens_held}
+use Rattle.daide_machine.specs.Wires.{is_dm_head}
+use Rattle.daide_reader.specs.Verdict.{HasVerdict}
+use Rattle.daide_reader.specs.declared.verdict.Verdict.TheVariants.{Relay}
+use Rattle.daide_reader.proofs.BodyLemmas.{place_in}
+use Rattle.daide_reader.proofs.PlainVerdicts.{plain_verdicts}
+use Rattle.daide_traffic.specs.Inbound.{Inbound}
+use Rattle.daide_traffic.proofs.HeadLemmas.{head_capped}
+use Rattle.daide_traffic.proofs.InboundLemmas.{IsJudged, all_held, right_message, right_other, stands_deep}
+use Rattle.daide_traffic.proofs.inbound.Inbound.answer.Given as given
+use Rattle.daide_traffic.proofs.inbound.Inbound.answer.Goals as goal
+use Rattle.daide_traffic.proofs.inbound.Inbound.answer.Goals.{then-is_message, else-is_message}
+
+-- the header's length is at most the longest body's
+pub answer_head-requires : goal.answer_head-requires
+answer_head-requires g c =
+    let i = c.self.inside in
+    let limit = c.self.invariant.capped in
+    let capped = head_capped i.cutter.cap i.cutter.bytes c.args.head
+    (ap (λ (v : Inbound). head_in v.cap v.held) c.self.view_is ∙ c.requires.head) in
+    omega arith
+
+-- what the verdict is, and what was read
+judged : (g : given.Over) (c : goal.After-self-2-1 g) →
+    IsJudged ghosts (λ (t : Dense). t.asked) c.args.self.now c.if-is_message.self-inside.side
+    c.if-is_message.self-inside.level c.if-is_message.self-inside.cutter c.if-is_message.self-inside.reader c.args.head
+    c.if-is_message.verdict
+judged g c = elim c.if-is_message.branch [
+  | then-is_message w ↦ rw (w.self-inside-is, w.verdict-is) (
+      let i = c.self.inside in
+      let dm : is_dm c.args.head.kind ≡ true = sym c.is_message.ensures ∙ w.if-is_message.true in
+      let tokens = tokens_held i.cutter.cap i.cutter.bytes in
+      let held : is_dm_head (head_in i.cutter.cap i.cutter.bytes) ≡ true =
+      ap is_dm_head (ap (λ (v : Inbound). head_in v.cap v.held) c.self.view_is ∙ c.requires.head) ∙ dm in
+      let told = w.finish-verdict.ensures.verdict [] (opening_of (side2_of i.side) i.level) i.reader.max_depth tokens
+      c.self.invariant.stands in
+      let right : HasVerdict (IsMessage (side2_of i.side) i.level) i.reader.max_depth
+      (tokens_of (drop 4 i.cutter.bytes))
+      w.finish-verdict.result =
+      subst (λ (p : List ℕ). HasVerdict (IsMessage (side2_of i.side) i.level) i.reader.max_depth p
+      w.finish-verdict.result)
+      (all_held i.cutter.cap i.cutter.bytes held)
+      ((plain_verdicts (side2_of i.side) i.level i.reader.max_depth tokens w.finish-verdict.result).0 told) in
+      record {
+        capped = c.self.invariant.capped;
+        place = place_in (IsMessage (side2_of i.side) i.level) i.reader.max_depth (drop 4 i.cutter.bytes)
+            w.finish-verdict.result right;
+        stands = stands_deep ghosts i.side i.level i.reader w.finish-verdict.new.self i.cutter
+            w.finish-verdict.ensures.depth
+            (w.finish-verdict.ensures.stands_after [] (opening_of (side2_of i.side) i.level) i.reader.max_depth tokens
+            c.self.invariant.stands);
+        uncounted = λ no. absurd (cc);
+        right = subst (λ (v : Inbound). IsRight [] v.max_depth (question_of v.side v.level c.args.head (drop 4 v.held))
+            w.finish-verdict.result) c.self.view_is
+            (right_message i.reader.max_depth i.side i.level c.args.head
+            (drop 4 i.cutter.bytes) w.finish-verdict.result dm
+            right);
+      })
+  | else-is_message w ↦ rw (w.self-inside-is, w.verdict-is) (
+      let i = c.self.inside in
+      let dm : is_dm c.args.head.kind ≡ false = sym c.is_message.ensures ∙ w.if-is_message.false in
+      record {
+        capped = c.self.invariant.capped;
+        place = tt;
+        stands = c.self.invariant.stands;
+        uncounted = c.self.invariant.uncounted;
+        right = subst (λ (v : Inbound). IsRight [] v.max_depth
+            (question_of v.side v.level c.args.head (drop 4 v.held)) Relay)
+            c.self.view_is
+            (right_other i.reader.max_depth i.side i.level c.args.head (drop 4 i.cutter.bytes) Relay dm refl);
+      })
+]
+
+pub invariant_of-self : goal.invariant_of-self
+unfolding head_bytes
+invariant_of-self g c =
+    let j = judged g c in
+    record {
+      four = ap length c.write_head-self-inside.ensures;
+      place = j.place;
+      capped = j.capped;
+      stands = j.stands;
+      unfinished = λ none. absurd (cc);
+      uncounted = j.uncounted;
+    }
+
+pub returns-clause-right : goal.returns-clause-right
+returns-clause-right g c = (judged g c).right

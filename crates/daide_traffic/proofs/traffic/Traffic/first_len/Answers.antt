@@ -1,0 +1,31 @@
+use Rattle.std.proofs.Common.{◌≡◌, ◌-◌, ℕ, sym, ap, ◌∙◌, arith}
+use Rattle.daide_machine.specs.Wires.{first_len}
+use Rattle.daide_traffic.specs.Both.{at}
+use Rattle.daide_traffic.specs.Traffic.{fields, Traffic, answer_at, size_of_first}
+use Rattle.daide_traffic.specs.Wire.{Queue}
+use Rattle.daide_traffic.proofs.FrontLemmas.{begun_within, first_len_is, waits_at}
+use Rattle.daide_traffic.proofs.traffic.Traffic.first_len.Goals as goal
+
+pub overflow_sub-result : goal.overflow_sub-result
+overflow_sub-result g c =
+    let d = c.self.inside in
+    let f = fields d.bot d.server d.to_bot d.to_server in
+    let within = begun_within f c.args.to c.self.invariant in
+    let size : c.first_frame_len.result ≡ size_of_first (answer_at f.sides) (at f.wires c.args.to).items =
+    c.first_frame_len.ensures ∙ ap (λ (q : Queue). size_of_first (answer_at f.sides) q.items) c.toward-wire.ensures in
+    let written : c.written.result ≡ (at f.wires c.args.to).written =
+    c.written.ensures ∙ ap (λ (q : Queue). q.written) c.toward-wire.ensures in
+    omega arith
+
+pub returns : goal.returns
+returns g c =
+    let d = c.self.inside in
+    let f = fields d.bot d.server d.to_bot d.to_server in
+    let size : c.first_frame_len.result ≡ size_of_first (answer_at f.sides) (at f.wires c.args.to).items =
+    c.first_frame_len.ensures ∙ ap (λ (q : Queue). size_of_first (answer_at f.sides) q.items) c.toward-wire.ensures in
+    let written : c.written.result ≡ (at f.wires c.args.to).written =
+    c.written.ensures ∙ ap (λ (q : Queue). q.written) c.toward-wire.ensures in
+    ap (λ (n : ℕ). n - c.written.result) size
+    ∙ ap (λ (n : ℕ). size_of_first (answer_at f.sides) (at f.wires c.args.to).items - n) written
+    ∙ first_len_is f c.args.to
+    ∙ ap first_len (sym (waits_at f c.args.to) ∙ ap (λ (v : Traffic). at v.waiting c.args.to) c.self.view_is)

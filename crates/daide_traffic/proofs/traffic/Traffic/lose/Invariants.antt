@@ -1,0 +1,11 @@
+use Rattle.std.proofs.Common.{◌≡◌}
+use Rattle.daide_machine.specs.Events.{other}
+use Rattle.daide_traffic.specs.Both.{at}
+use Rattle.daide_traffic.proofs.GoneLemmas.{IsLosing}
+use Rattle.daide_traffic.proofs.traffic.Traffic.lose.Given as goal
+
+-- as many first frames are gone as rounds were made, and the other wire is handed what it was
+abbrev pub invariant-loop : goal.invariant-loop
+invariant-loop g l =
+    IsLosing l.fn.self l.self l.fn.to l.counter
+    × (at l.self.fronts (other l.fn.to) ≡ at l.fn.self.fronts (other l.fn.to))

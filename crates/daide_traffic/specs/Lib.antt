@@ -1,0 +1,5 @@
+pub mod Both
+pub mod Inbound
+pub mod Wire
+pub mod Traffic
+pub mod Fronts

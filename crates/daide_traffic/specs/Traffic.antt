@@ -1,0 +1,253 @@
+-- Both sides' frames, and the frames that wait for the two wires.
+use Rattle.std.specs.Prelude.{◌≡◌, ℕ, ◌+◌, ◌<◌, ◌≤◌, Bool, true, false, ◌||◌, List, [], ◌∷◌, ◌++◌, length, drop, map}
+use Rattle.std.specs.Prelude.{Option, Some, None, if◌then◌else◌}
+use Rattle.daide_frame.specs.declared.side.Side.{Side}
+use Rattle.daide_frame.specs.declared.side.Side.TheVariants.{Bot, Server}
+use Rattle.daide_frame.specs.declared.code.Code.{Code}
+use Rattle.daide_frame.specs.Frames.{head_in}
+use Rattle.daide_grammar.specs.declared.level.Level.{Level}
+use Rattle.daide_grammar.specs.declared.level.Level.TheVariants.{L0}
+use Rattle.daide_reader.specs.declared.verdict.Verdict.{Verdict}
+use Rattle.daide_machine.specs.Events.{other}
+use Rattle.daide_machine.specs.Machine.{Coming, Sent, fm_bytes, em_bytes}
+use Rattle.daide_machine.specs.Wires.{Holding, same_side, is_answer, is_awaited, is_dm_head}
+use Rattle.daide_traffic.specs.declared.wire.Waiting.{Waiting}
+use Rattle.daide_traffic.specs.declared.wire.Waiting.TheVariants.{Answer, Fm, Em}
+use Rattle.daide_traffic.specs.Both.{Both, at, put}
+use Rattle.daide_traffic.specs.Inbound.{Inbound, Begins, answer_of, front_after}
+use Rattle.daide_traffic.specs.Wire.{Queue}
+
+-- what came of a side: the bytes since its last whole frame with the level noted at its last header, and what is
+-- held, also while the answer to its last frame waits
+pub record Arrival : Type 0 where
+  pub coming : Coming
+  pub holding : Holding
+
+pub record Traffic : Type 0 where
+  pub cap : ℕ
+  pub max_depth : ℕ
+  pub sides : Both Arrival
+  -- the frames that wait for each wire, the first perhaps in part
+  pub waiting : Both (List Sent)
+  -- what is handed to each wire next
+  pub fronts : Both (List ℕ)
+
+abbrev pub pending : Traffic → Side → List ℕ
+pending t side = (at t.sides side).coming.pending
+
+abbrev pub noted : Traffic → Side → Level
+noted t side = (at t.sides side).coming.noted
+
+abbrev pub holding : Traffic → Side → Holding
+holding t side = (at t.sides side).holding
+
+-- ---- what the calls do
+
+-- nothing came, and nothing waits
+pub record IsQuiet (cap max_depth : ℕ) (t : Traffic) : Type 0 where
+  pub cap_set : t.cap ≡ cap
+  pub depth_set : t.max_depth ≡ max_depth
+  pub coming : (side : Side) → (at t.sides side).coming ≡ record { pending = []; noted = L0 }
+  pub held : (side : Side) → (holding t side).held ≡ []
+  pub unasked : (side : Side) → (holding t side).total ≡ 0
+  pub waiting : (to : Side) → at t.waiting to ≡ []
+
+-- the limits stay, and what came of the other side
+pub record Keeps (side : Side) (old new : Traffic) : Type 0 where
+  pub cap : new.cap ≡ old.cap
+  pub max_depth : new.max_depth ≡ old.max_depth
+  pub other_side : at new.sides (other side) ≡ at old.sides (other side)
+
+-- a side's frame has these bytes now, and its message was read on. A table is asked for the tokens of a message alone.
+pub record IsGrown (cap : ℕ) (old : Arrival) (bytes : List ℕ) (new : Arrival) : Type 0 where
+  pub coming : new.coming ≡ record { pending = bytes; noted = old.coming.noted }
+  pub held : new.holding.held ≡ bytes
+  pub held_before : old.holding.held ≡ old.coming.pending
+  pub base : new.holding.total_before ≡ old.holding.total_before
+  pub no_message : is_dm_head (head_in cap bytes) ≡ false → new.holding.total ≡ old.holding.total
+  pub bodiless : drop 4 bytes ≡ [] → new.holding.total ≡ old.holding.total
+  pub uncounted : is_dm_head (head_in cap old.coming.pending) ≡ false → old.holding.total_before ≡ old.holding.total
+
+-- a side's message begins at a level
+pub record IsStarted (old : Arrival) (level : Level) (new : Arrival) : Type 0 where
+  pub coming : new.coming ≡ record { pending = old.coming.pending; noted = level }
+  pub held : new.holding.held ≡ old.holding.held
+  pub total : new.holding.total ≡ old.holding.total
+  pub base : new.holding.total_before ≡ old.holding.total
+
+-- a side's frame was answered
+pub record IsAnswered (old new : Arrival) : Type 0 where
+  pub coming : new.coming ≡ record { pending = []; noted = old.coming.noted }
+  pub held : new.holding.held ≡ old.holding.held
+  pub base : new.holding.total_before ≡ old.holding.total_before
+
+-- a side's frame was dropped
+pub record IsCleared (old new : Arrival) : Type 0 where
+  pub coming : new.coming ≡ record { pending = []; noted = old.coming.noted }
+  pub held : new.holding.held ≡ []
+  pub total : new.holding.total ≡ old.holding.total
+  pub base : new.holding.total_before ≡ old.holding.total
+
+-- Frames that waited are gone: nothing is held of a side whose answer was among them, and of any other what was held.
+-- No table was asked.
+pub record LetsGo (old new : Traffic) : Type 0 where
+  pub cap : new.cap ≡ old.cap
+  pub max_depth : new.max_depth ≡ old.max_depth
+  pub coming : (side : Side) → (at new.sides side).coming ≡ (at old.sides side).coming
+  pub total : (side : Side) → (holding new side).total ≡ (holding old side).total
+  pub fewer : (side : Side) → is_awaited (at old.waiting) side ≡ false → is_awaited (at new.waiting) side ≡ false
+  pub gone : (side : Side) → is_awaited (at old.waiting) side ≡ true → is_awaited (at new.waiting) side ≡ false →
+      (holding new side).held ≡ []
+  pub kept : (side : Side) → is_awaited (at new.waiting) side ≡ is_awaited (at old.waiting) side →
+      holding new side ≡ holding old side
+
+-- a frame waits behind the others for its wire
+abbrev pub posted : Both (List Sent) → Sent → Both (List Sent)
+posted waiting frame = put waiting frame.to (at waiting frame.to ++ frame ∷ [])
+
+abbrev pub is_end : Option Side → Bool
+is_end None = true
+is_end (Some one) = false
+
+-- whether one of them ends the session
+abbrev pub has_end : List Sent → Bool
+has_end [] = false
+has_end (frame ∷ frames) = is_end frame.answers || has_end frames
+
+abbrev pub ending_bytes : Option Code → List ℕ
+ending_bytes None = fm_bytes
+ending_bytes (Some code) = em_bytes code
+
+-- an FM, or an EM with a code
+abbrev pub end_to : Side → Option Code → Sent
+end_to to code = record { to = to; answers = None; bytes = ending_bytes code }
+
+-- ---- what the fields stand for
+
+pub record Fields : Type 0 where
+  pub sides : Both Inbound
+  pub wires : Both Queue
+
+abbrev pub fields : Inbound → Inbound → Queue → Queue → Fields
+fields bot server to_bot to_server = record {
+  sides = record { bot = bot; server = server };
+  wires = record { bot = to_bot; server = to_server };
+}
+
+-- the bytes of a side's answer
+abbrev pub answer_at : Both Inbound → Side → List ℕ
+answer_at sides side = answer_of (at sides side)
+
+abbrev pub answers_of : Waiting → Option Side
+answers_of (Answer side) = Some side
+answers_of Fm = None
+answers_of (Em code) = None
+
+abbrev pub bytes_in : (Side → List ℕ) → Waiting → List ℕ
+bytes_in answers (Answer side) = answers side
+bytes_in answers Fm = fm_bytes
+bytes_in answers (Em code) = em_bytes code
+
+abbrev pub frame_of : Side → (Side → List ℕ) → Waiting → Sent
+frame_of to answers item = record { to = to; answers = answers_of item; bytes = bytes_in answers item }
+
+-- the first frame without its first n bytes
+abbrev pub behind : ℕ → List Sent → List Sent
+behind n [] = []
+behind n (frame ∷ frames) = record { to = frame.to; answers = frame.answers; bytes = drop n frame.bytes } ∷ frames
+
+abbrev pub frames_of : Side → (Side → List ℕ) → Queue → List Sent
+frames_of to answers queue = behind queue.written (map (frame_of to answers) queue.items)
+
+abbrev pub frames_to : Fields → Side → List Sent
+frames_to f to = frames_of to (answer_at f.sides) (at f.wires to)
+
+-- what is left of the first frame, or of the part of an answer that is sent now
+abbrev pub front_of : Both Inbound → ℕ → List Waiting → List ℕ
+front_of sides gone [] = []
+front_of sides gone (Answer side ∷ items) = front_after (at sides side) gone
+front_of sides gone (Fm ∷ items) = drop gone fm_bytes
+front_of sides gone (Em code ∷ items) = drop gone (em_bytes code)
+
+abbrev pub front_to : Fields → Side → List ℕ
+front_to f to = front_of f.sides (at f.wires to).written (at f.wires to).items
+
+-- while an answer waits, no byte of the next frame came
+abbrev pub pending_by : Option Verdict → List ℕ → List ℕ
+pending_by None bytes = bytes
+pending_by (Some verdict) bytes = []
+
+abbrev pub arrival_of : Inbound → Arrival
+arrival_of i = record {
+  coming = record { pending = pending_by i.verdict i.held; noted = i.level };
+  holding = record { held = i.held; entries = i.entries; total = i.total; total_before = i.total_before };
+}
+
+abbrev pub traffic_of : Fields → Traffic
+traffic_of f = record {
+  cap = f.sides.bot.cap;
+  max_depth = f.sides.bot.max_depth;
+  sides = record { bot = arrival_of f.sides.bot; server = arrival_of f.sides.server };
+  waiting = record { bot = frames_to f Bot; server = frames_to f Server };
+  fronts = record { bot = front_to f Bot; server = front_to f Server };
+}
+
+-- how often a side's answer waits, and how many frames that are no answers
+abbrev pub answer_mark : Side → Waiting → ℕ
+answer_mark side (Answer one) = if same_side one side then 1 else 0
+answer_mark side Fm = 0
+answer_mark side (Em code) = 0
+
+abbrev pub end_mark : Waiting → ℕ
+end_mark (Answer side) = 0
+end_mark Fm = 1
+end_mark (Em code) = 1
+
+abbrev pub count_of : (Waiting → ℕ) → List Waiting → ℕ
+count_of mark [] = 0
+count_of mark (item ∷ items) = mark item + count_of mark items
+
+abbrev pub presence : Option Verdict → ℕ
+presence None = 0
+presence (Some verdict) = 1
+
+-- less than the whole first frame is gone
+abbrev pub IsBegun : (Side → List ℕ) → ℕ → List Waiting → Type 0
+IsBegun answers n [] = n ≡ 0
+IsBegun answers n (item ∷ items) = n < length (bytes_in answers item)
+
+-- A side's answer waits once, where the side has one, and nowhere else; at most one frame ends the session on each
+-- wire; so at most three wait for a wire.
+pub record IsSound (f : Fields) : Type 0 where
+  pub its_side : (side : Side) → (at f.sides side).side ≡ side
+  pub same_cap : f.sides.server.cap ≡ f.sides.bot.cap
+  pub same_depth : f.sides.server.max_depth ≡ f.sides.bot.max_depth
+  pub once : (side : Side) → count_of (answer_mark side) (at f.wires Bot).items
+      + count_of (answer_mark side) (at f.wires Server).items ≡ presence (at f.sides side).verdict
+  pub ends : (to : Side) → count_of end_mark (at f.wires to).items ≤ 1
+  pub filled : (side : Side) → presence (at f.sides side).verdict ≡ 1 → 0 < length (answer_at f.sides side)
+  pub begun : (to : Side) → IsBegun (answer_at f.sides) (at f.wires to).written (at f.wires to).items
+
+-- how many bytes the first frame has in all
+abbrev pub size_of_first : (Side → List ℕ) → List Waiting → ℕ
+size_of_first answers [] = 0
+size_of_first answers (item ∷ items) = length (bytes_in answers item)
+
+abbrev pub others : List Sent → List Sent
+others [] = []
+others (frame ∷ frames) = frames
+
+-- whose frame is held no longer, where this one is gone
+abbrev pub answered_by : Option Waiting → Option Side
+answered_by None = None
+answered_by (Some item) = answers_of item
+
+-- the side whose answer is gone begins its next frame, and the other is the same
+pub record IsReleased (gone : Option Side) (one : Side) (old new : Inbound) : Type 0 where
+  pub its : is_answer one gone ≡ true → Begins old old.level [] new
+  pub kept : is_answer one gone ≡ false → new ≡ old
+
+-- how an FM waits, or an EM with a code
+abbrev pub ending_of : Option Code → Waiting
+ending_of None = Fm
+ending_of (Some code) = Em code

@@ -1,0 +1,290 @@
+//! One side of a session: the frame that is coming, the reader of its message, and the answer to the last
+//! frame, in place.
+//!
+//! A message is read as its bytes come: each piece is cut, and then the reader takes the tokens that the
+//! piece ends. An answer is sent from the frame that it answers: only its header is written anew, `PRN (`,
+//! `HUH (`, `ERR` and `)` are fixed words, and the body stays where it came. So a side holds one body, and
+//! a frame takes no more memory when it is answered.
+
+ghost use Rattle.std.specs.Prelude.{◌≡◌, ℕ, ◌+◌, ◌-◌, ◌*◌, ◌/◌, ◌<◌, ◌≤◌, List, [], ◌∷◌, ◌++◌, length, drop, ◌⊎◌};
+ghost use Rattle.std.specs.Prelude.{true, false, is_some, Some, None, IfOk, if◌then◌else◌};
+ghost use Rattle.daide_frame.specs.Frames.{fed, fed_items, told, IsFault, IsWholeBody, head_in, missing};
+ghost use Rattle.daide_frame.specs.Frames.{announced};
+ghost use Rattle.daide_frame.specs.declared.cutter.Step.TheVariants.{Bodied};
+ghost use Rattle.daide_grammar.specs.Depth.{open_brackets};
+ghost use Rattle.daide_grammar.specs.declared.level.Level.{Level};
+ghost use Rattle.daide_machine.specs.Machine.{IsRight, question_of, is_dm};
+ghost use Rattle.daide_machine.specs.Weight.{tokens_held};
+ghost use Rattle.daide_machine.specs.Wires.{is_dm_head};
+ghost use Rattle.daide_reader.specs.Reading.{IsRaised};
+ghost use Rattle.daide_traffic.specs.Inbound.{Begins, Reads, Answers, answer_of, front_after, front_in, steps_in};
+
+use daide_frame::cutter::{Cutter, Step};
+use daide_frame::head::{Head, Kind, write_head};
+use daide_frame::side::Side;
+use daide_grammar::dense::Dense;
+use daide_grammar::level::Level;
+use daide_grammar::predict::Predict;
+use daide_machine::answers::{CLOSE_WORD, ERR_WORD, HUH_OPEN, PRN_OPEN, answer_head};
+use daide_machine::rules::side2_of;
+use daide_reader::reader::Reader;
+use daide_reader::verdict::Verdict;
+use std::alloc::{AllocError, Allocator, Global};
+use std::marker::Model;
+
+/// One side's frame, its reader, and the answer that the frame becomes.
+#[derive(Drop)]
+pub struct Inbound<A: Allocator = Global> {
+    cutter: Cutter<A>,
+    reader: Reader<Dense, 512>,
+    side: Side,
+    level: Level,
+    header: [u8; 4],
+    verdict: Option<Verdict>,
+}
+
+impl<A: Allocator> Model for Inbound<A> {
+    ghost use Rattle.daide_traffic.specs.Inbound.{Inbound, inbound_of, IsReadOn};
+
+    ghost Value = { Inbound };
+
+    ghost view = { λ i. inbound_of ⟦<Dense as Predict>⟧.asked i.side i.level i.cutter i.reader i.header i.verdict };
+
+    ghost invariant = { λ i. IsReadOn ⟦<Dense as Predict>⟧ ⟦<Dense as Predict>⟧.asked i.side i.level i.cutter i.reader
+        i.header i.verdict };
+}
+
+/// Whether a header is whole, good and a message's.
+fn is_message(head: Option<Head>) -> bool
+    ensures { result ≡ is_dm_head head }
+{
+    match head {
+        Some(head) => head.kind == Kind::Dm,
+        None => false,
+    }
+}
+
+/// What is left of that one of six parts in a row in which a place falls.
+fn front_of_parts<'a>(
+    a: &'a [u8],
+    b: &'a [u8],
+    c: &'a [u8],
+    d: &'a [u8],
+    e: &'a [u8],
+    f: &'a [u8],
+    place: usize,
+) -> &'a [u8]
+    ensures { result.now ≡ front_in (a.now ∷ b.now ∷ c.now ∷ d.now ∷ e.now ∷ f.now ∷ []) place }
+{
+    if place < a.len() {
+        return &a[place..];
+    }
+    let place = place - a.len();
+    if place < b.len() {
+        return &b[place..];
+    }
+    let place = place - b.len();
+    if place < c.len() {
+        return &c[place..];
+    }
+    let place = place - c.len();
+    if place < d.len() {
+        return &d[place..];
+    }
+    let place = place - d.len();
+    if place < e.len() {
+        return &e[place..];
+    }
+    let place = place - e.len();
+    if place < f.len() {
+        return &f[place..];
+    }
+    &[]
+}
+
+impl<A: Allocator> Inbound<A> {
+    /// A side that nothing came of, at level 0. The room of the longest body is taken here, once.
+    pub fn new(alloc: A, side: Side, cap: u16, max_depth: u16) -> Result<Inbound<A>, AllocError>
+        requires cap { cap ≤ 65526 }
+        requires low { 4 ≤ max_depth }
+        requires high { max_depth ≤ 62 }
+        ensures side { IfOk result (λ i. i.side ≡ side) }
+        ensures limits { IfOk result (λ i. (i.cap ≡ cap) × (i.max_depth ≡ max_depth) × (i.level ≡ Level.L0)) }
+        ensures empty { IfOk result (λ i. (i.held ≡ []) × (i.verdict ≡ None)) }
+        ensures unasked { IfOk result (λ i. i.total ≡ 0) }
+    {
+        let cutter = Cutter::new(alloc, cap)?;
+        let mut reader = Reader::new(Dense::new(), max_depth);
+        reader.start(side2_of(side), Level::L0);
+        Ok(Inbound {
+            cutter,
+            reader,
+            side,
+            level: Level::L0,
+            header: [0; 4],
+            verdict: None,
+        })
+    }
+
+    /// Whether an answer to the last frame waits.
+    pub fn is_awaited(&self) -> bool
+        ensures { result ≡ is_some self.now.verdict }
+    {
+        self.verdict.is_some()
+    }
+
+    /// How many bytes are missing of the header or, once that is whole, of the body.
+    pub fn room(&self) -> usize
+        ensures { result ≡ missing self.now.cap self.now.held }
+    {
+        self.cutter.room()
+    }
+
+    /// The header, once it is whole and good.
+    pub fn head(&self) -> Option<Head>
+        ensures { result ≡ head_in self.now.cap self.now.held }
+    {
+        self.cutter.head()
+    }
+
+    /// The bytes that are held of the body, also while its answer waits.
+    pub fn body(&self) -> &[u8]
+        ensures value { result.now ≡ drop 4 self.now.held }
+        ensures within { length result.now ≤ announced self.now.cap self.now.held }
+        ensures capped { announced self.now.cap self.now.held ≤ self.now.cap }
+        ensures short { length result.now ≤ 65526 }
+    {
+        self.cutter.body()
+    }
+
+    /// At a header, of whose body nothing came: its message is read at this level.
+    pub fn begin(&mut self, level: Level)
+        requires free { self.old.verdict ≡ None }
+        requires bodiless { drop 4 self.old.held ≡ [] }
+        ensures { Begins self.old level self.old.held self.new }
+    {
+        self.level = level;
+        self.reader.start(side2_of(self.side), level);
+    }
+
+    /// Takes the next bytes, at most as many as there is room for, and reads the tokens that they end.
+    pub fn feed(&mut self, piece: &[u8]) -> Step
+        requires free { self.old.verdict ≡ None }
+        requires room { length piece.now ≤ missing self.old.cap self.old.held }
+        ensures reads { Reads self.old (fed self.old.cap self.old.held piece.now) self.new }
+        ensures raised { IsRaised (4 * (length piece.now / 2 + 1)) self.old.total self.new.total }
+        ensures items { fed_items self.old.cap self.old.held piece.now
+            ≡ told result (head_in self.new.cap self.new.held) (drop 4 self.new.held) }
+        ensures whole { IsFault result ⊎ (self.new.held ≡ self.old.held ++ piece.now) }
+        ensures full { result ≡ Bodied → IsWholeBody (head_in self.new.cap self.new.held) (drop 4 self.new.held) }
+    {
+        let step = self.cutter.feed(piece);
+        if is_message(self.cutter.head()) {
+            self.reader.read(self.cutter.body());
+        }
+        step
+    }
+
+    /// Judges the frame that is held, a message by the grammar and any other frame as one to be relayed, and
+    /// makes it into its answer: the frame itself, `PRN ( message )`, or `HUH ( message )` with ERR before
+    /// the token of that place. `head` is the frame's header.
+    pub fn answer(&mut self, head: Head) -> Verdict
+        requires free { self.old.verdict ≡ None }
+        requires head { head_in self.old.cap self.old.held ≡ Some head }
+        ensures right { IsRight [] self.old.max_depth (question_of self.old.side self.old.level head
+            (drop 4 self.old.held))
+            result }
+        ensures answers { Answers self.old head result self.new }
+        ensures raised { IsRaised 4 self.old.total self.new.total }
+        ensures no_message { is_dm head.kind ≡ false → self.new.total ≡ self.old.total }
+    {
+        let verdict = if is_message(Some(head)) {
+            self.reader.finish()
+        } else {
+            Verdict::Relay
+        };
+        self.header = write_head(answer_head(head, verdict));
+        self.verdict = Some(verdict);
+        verdict
+    }
+
+    /// How many bytes the answer has; 0 where there is none.
+    pub fn answer_len(&self) -> usize
+        ensures { result ≡ length (answer_of self.now) }
+    {
+        let body = self.cutter.body();
+        match self.verdict {
+            None => 0,
+            Some(Verdict::Relay) => 4 + body.len(),
+            Some(Verdict::Prn) => 10 + body.len(),
+            Some(Verdict::Huh(_)) => 12 + body.len(),
+        }
+    }
+
+    /// What is sent next of the answer after its first `gone` bytes: the rest of its header, of the body
+    /// that came, or of a fixed word.
+    pub fn part(&self, gone: usize) -> &[u8]
+        ensures { result.now ≡ front_after self.now gone }
+    {
+        let body = self.cutter.body();
+        match self.verdict {
+            None => &[],
+            Some(Verdict::Relay) => { front_of_parts(&self.header, body, &[], &[], &[], &[], gone) }
+            Some(Verdict::Prn) => front_of_parts(
+                &self.header,
+                &PRN_OPEN,
+                body,
+                &CLOSE_WORD,
+                &[],
+                &[],
+                gone,
+            ),
+            Some(Verdict::Huh(place)) => {
+                let (before, after) = body.split_at(2 * place as usize);
+                front_of_parts(
+                    &self.header,
+                    &HUH_OPEN,
+                    before,
+                    &ERR_WORD,
+                    after,
+                    &CLOSE_WORD,
+                    gone,
+                )
+            }
+        }
+    }
+
+    /// Forgets the frame, its answer and what was read of it, so that the next frame can come.
+    pub fn clear(&mut self)
+        ensures { Begins self.old self.old.level [] self.new }
+    {
+        self.cutter.reset();
+        self.verdict = None;
+        self.reader.start(side2_of(self.side), self.level);
+    }
+
+    /// How many entries the reader's stack has.
+    pub fn entries(&self) -> usize
+        ensures value { result ≡ self.now.entries }
+        ensures few { result ≤ 8 * open_brackets (tokens_held self.now.cap self.now.held) + 16 }
+        ensures at_most { result ≤ 8 * self.now.max_depth + 16 }
+    {
+        self.reader.entries()
+    }
+
+    /// The table's answers so far, modulo 2^64.
+    pub fn total(&self) -> u64
+        ensures { result ≡ self.now.total }
+    {
+        self.reader.total()
+    }
+
+    /// The table's answers for the present message, modulo 2^64: four for each token, and four at its end.
+    pub fn steps(&self) -> u64
+        ensures value { result ≡ steps_in self.now }
+        ensures few { result ≤ 4 * length (tokens_held self.now.cap self.now.held)
+            + (if is_some self.now.verdict then 4 else 0) }
+    {
+        self.reader.steps()
+    }
+}
