@@ -1,6 +1,8 @@
 -- The codes of accepted words are free, and tokens are told from them.
-use Rattle.std.proofs.Common.{◌≡◌, ℕ, zero, suc, ◌+◌, ◌<◌, ◌≤◌, Bool, true, false, not, ◌&&◌, ◌||◌, ◌==◌, nat_eq, nat_le, List}
-use Rattle.std.proofs.Common.{[], ◌∷◌, ◌++◌, length, Option, Some, None, if◌then◌else◌, refl, sym, ap, ◌∙◌, subst, arith, leb-true}
+use Rattle.std.proofs.Common.{◌≡◌, ℕ, zero, suc, ◌+◌, ◌<◌, ◌≤◌, Bool, true, false, not, ◌&&◌, ◌||◌, ◌==◌, nat_eq}
+use Rattle.std.proofs.Common.{nat_le, List}
+use Rattle.std.proofs.Common.{[], ◌∷◌, ◌++◌, length, Option, Some, None, if◌then◌else◌, refl, sym, ap, ◌∙◌, subst}
+use Rattle.std.proofs.Common.{arith, leb-true}
 use Rattle.std.specs.Prelude.{is_ok, is_none, Result, Ok, Err}
 use Rattle.std.specs.List.{list_any}
 use Rattle.std.proofs.lemmas.Bool.{eqb-true}
@@ -16,7 +18,8 @@ use Rattle.daide_words.specs.declared.word.Word as code
 use Rattle.daide_words.specs.declared.word.WordError.{WordError}
 use Rattle.daide_words.specs.declared.word.WordError.TheVariants as faults
 use Rattle.daide_words.specs.Word.{grammar_words, names_of}
-use Rattle.daide_words.specs.Accepted.{is_free_name, is_free_code, is_barred, has_press, may_hold, word_fault, are_accepted_after}
+use Rattle.daide_words.specs.Accepted.{is_free_name, is_free_code, is_barred, has_press, may_hold, word_fault}
+use Rattle.daide_words.specs.Accepted.{are_accepted_after}
 use Rattle.daide_words.specs.Places.{place_from}
 use Rattle.daide_words.specs.OverWords.{are_free}
 use Rattle.daide_words.specs.Proved.WordDialect.{keeps, other-class}
@@ -66,9 +69,11 @@ passed false true false level operand h = cc
 passed false true true level operand h = refl
 
 -- an accepted word has a free code
-code_free : (taken : List Named) (word : code.Word) → is_ok (word_fault taken word) ≡ true → is_free_code taken word.code ≡ true
+code_free : (taken : List Named) (word : code.Word) → is_ok (word_fault taken word) ≡ true →
+    is_free_code taken word.code ≡ true
 code_free taken word h =
-    passed (nat_le 16 (length taken)) (is_free_name taken word.name) (is_free_code taken word.code) (has_press word.level)
+    passed (nat_le 16 (length taken)) (is_free_name taken word.name) (is_free_code taken word.code)
+        (has_press word.level)
     (may_hold word.slot word.operand) h
 
 -- which means nothing in the protocol
@@ -96,11 +101,13 @@ free_after : (taken : List Named) (words : List code.Word) → are_accepted_afte
 unfolding means_nothing
 free_after taken [] h = refl
 free_after taken (word ∷ words) h =
-    let p = both-pass (is_ok (word_fault taken word)) (are_accepted_after (taken ++ (word.code, word.name) ∷ []) words) h in
+    let p =
+        both-pass (is_ok (word_fault taken word)) (are_accepted_after (taken ++ (word.code, word.name) ∷ []) words) h in
     joined _ (are_free (grammar_words words)) (free_means_nothing taken word.code (code_free taken word p.0))
     (free_after (taken ++ (word.code, word.name) ∷ []) words p.1)
 
-pub accepted_free : (words : List code.Word) → are_accepted_after [] words ≡ true → are_free (grammar_words words) ≡ true
+pub accepted_free : (words : List code.Word) → are_accepted_after [] words ≡ true →
+    are_free (grammar_words words) ≡ true
 accepted_free words h = free_after [] words h
 
 -- ---- classes
@@ -117,7 +124,8 @@ class_from j [] t = refl
 class_from j (word ∷ words) t = by_test (t == word.code) (class_from (suc j) words t)
   where
     by_test : (b : Bool) →
-        (dialect_from (suc j) (grammar_words words)).class_of t ≡ class_or (place_from (suc j) (names_of words) t) (class_of t) →
+        (dialect_from (suc j) (grammar_words words)).class_of t
+            ≡ class_or (place_from (suc j) (names_of words) t) (class_of t) →
         (if b then Word j else (dialect_from (suc j) (grammar_words words)).class_of t)
         ≡ class_or (if b then Some j else place_from (suc j) (names_of words) t) (class_of t)
     by_test true h = refl
@@ -129,6 +137,7 @@ pub class_told : (words : List code.Word) (t : ℕ) (o : Option ℕ) → o ≡ p
 class_told words t o e = class_from 0 words t ∙ ap (λ p. class_or p (class_of t)) (sym e)
 
 -- and that of a token with a meaning in the protocol
-pub class_kept : (words : List code.Word) (t : ℕ) → are_accepted_after [] words ≡ true → (class_number (class_of t) ≡ 77 → ⊥) →
+pub class_kept : (words : List code.Word) (t : ℕ) → are_accepted_after [] words ≡ true →
+    (class_number (class_of t) ≡ 77 → ⊥) →
     (dialect_of (grammar_words words)).class_of t ≡ class_of t
 class_kept words t a h = keeps 0 (grammar_words words) t (other-class (grammar_words words) t (accepted_free words a) h)

@@ -1,5 +1,6 @@
 -- An opening symbol stands for its side's messages, with an operator's words as without.
-use Rattle.std.proofs.Common.{◌≡◌, ℕ, Bool, true, false, ◌==◌, List, [], ◌∷◌, inl, inr, ◌↔◌, refl, sym, ◌∙◌, ap, subst, arith}
+use Rattle.std.proofs.Common.{◌≡◌, ℕ, Bool, true, false, ◌==◌, List, [], ◌∷◌, inl, inr, ◌↔◌, refl, sym, ◌∙◌, ap, subst}
+use Rattle.std.proofs.Common.{arith}
 use Rattle.std.proofs.lemmas.Bool.{eqb-true}
 use Rattle.daide_token.specs.declared.class.Class.TheVariants.{Prn}
 use Rattle.daide_token.specs.Token.{prn}
@@ -45,7 +46,8 @@ module _ (words : Words) (free : are_free words ≡ true) where
   -- the token PRN has the class PRN
   class-prn : (t : ℕ) → (t == prn) ≡ true → (dialect_of words).class_of t ≡ Prn
   class-prn t e =
-      ap (dialect_of words).class_of (eqb-true t prn e) ∙ keeps 0 words prn (free-codes words Prn free (omega arith)) ∙ class_of-prn
+      ap (dialect_of words).class_of (eqb-true t prn e) ∙ keeps 0 words prn (free-codes words Prn free (omega arith))
+          ∙ class_of-prn
 
   -- so no list of an opening symbol begins with PRN
   form-not-prn : (side : Side2) (l : Level) (m : List ℕ) → SymbolMatchesIn (dialect_of words) (opening_of side l) m →
@@ -57,7 +59,8 @@ module _ (words : Words) (free : are_free words ≡ true) where
 
   -- an opening symbol stands for the messages that don't begin with PRN
   pub opening-language : (side : Side2) (l : Level) (m : List ℕ) →
-      SymbolMatchesIn (dialect_of words) (opening_of side l) m ↔ (IsMessageOver words side l m × (begins_with_prn m ≡ false))
+      SymbolMatchesIn (dialect_of words) (opening_of side l) m
+      ↔ (IsMessageOver words side l m × (begins_with_prn m ≡ false))
   opening-language side l m = (
     λ h. (inr (subst (λ (f : Form). Matches (dialect_of words) f m) (opening-form side l) h), form-not-prn side l m h),
     λ h. elim h.0 [

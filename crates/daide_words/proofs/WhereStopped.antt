@@ -1,5 +1,6 @@
 -- An operator's word changes no answer but a Stop.
-use Rattle.std.proofs.Common.{◌≡◌, ℕ, zero, suc, ◌+◌, Bool, true, false, not, ◌&&◌, nat_eq, List, [], ◌∷◌, Option, Some, None}
+use Rattle.std.proofs.Common.{◌≡◌, ℕ, zero, suc, ◌+◌, Bool, true, false, not, ◌&&◌, nat_eq, List, [], ◌∷◌, Option, Some}
+use Rattle.std.proofs.Common.{None}
 use Rattle.std.proofs.Common.{option_map, refl, sym, ap, ◌∙◌, subst, arith}
 use Rattle.std.specs.List.{list_all, list_any}
 use Rattle.std.proofs.lemmas.Bool.Decides.{nat_tests}
@@ -12,7 +13,8 @@ use Rattle.daide_grammar.specs.Answers.{Answer, Take, Skip, Stop}
 use Rattle.daide_grammar.specs.Numbers.{word_number}
 use Rattle.daide_grammar.specs.Rules.{is_stop}
 use Rattle.daide_grammar.specs.Forms.{Slot, accepts}
-use Rattle.daide_grammar.specs.Symbols.{Entry, entries, entry_at, this_or, form_of, slot_of, may_end_of, answer_by, table_answer}
+use Rattle.daide_grammar.specs.Symbols.{Entry, entries, entry_at, this_or, form_of, slot_of, may_end_of, answer_by}
+use Rattle.daide_grammar.specs.Symbols.{table_answer}
 use Rattle.daide_grammar.specs.Words.{AddedWord, Words}
 use Rattle.daide_grammar.specs.Proved.Alternatives.{both-pass}
 use Rattle.daide_grammar.specs.Proved.RightEntries.{is_plain, is_unopened, added_right}
@@ -67,9 +69,11 @@ pub slot_stops : (s : Sym) (p : Slot × Level) (k : ℕ) → slot_of s ≡ Some 
 unfolding table_answer added_right
 slot_stops s p k o =
     let hs = heads standard 60 (form_of s ∷ []) in
-    let a = subst (λ (x : Option (Slot × Level)). added_right x (entries s) hs ≡ true) o (right_parts standard s).added in
+    let a =
+        subst (λ (x : Option (Slot × Level)). added_right x (entries s) hs ≡ true) o (right_parts standard s).added in
     let plain = both-pass (list_any is_unopened hs) (list_all (λ y. is_plain y.kind) (entries s)) a in
-    let ends = not_true (may_end_of s) (subst (λ (x : Option (Slot × Level)). stays x (may_end_of s) ≡ true) o (all_stay s)) in
+    let ends =
+        not_true (may_end_of s) (subst (λ (x : Option (Slot × Level)). stays x (may_end_of s) ≡ true) o (all_stay s)) in
     ap (λ e. answer_by e (may_end_of s)) (none_found k (entries s) plain.1) ∙ ap (λ b. answer_by None b) ends
 
 module _ (words : Words) (s : Sym) (k : ℕ) where
@@ -109,10 +113,12 @@ found_from n j (suc k) (word ∷ words) e =
 
 -- a word's answer where the table stops it
 pub word_told : (words : List code.Word) (s : Sym) (k : ℕ) → table_answer s (Word k) ≡ Stop →
-    answer_over (grammar_words words) s (Word k) ≡ word_answer (slot_of s) (option_map grammar_word (word_at k words)) Stop
+    answer_over (grammar_words words) s (Word k)
+        ≡ word_answer (slot_of s) (option_map grammar_word (word_at k words)) Stop
 unfolding answer_over
 word_told words s k e =
-    ap (λ (o : Option AddedWord). word_answer (slot_of s) o (table_answer s (Word k))) (found_from k 0 k words (omega arith))
+    ap (λ (o : Option AddedWord). word_answer (slot_of s) o (table_answer s (Word k)))
+        (found_from k 0 k words (omega arith))
     ∙ ap (word_answer (slot_of s) (option_map grammar_word (word_at k words))) e
 
 -- without a word or without a slot it stays
@@ -121,7 +127,8 @@ no_word_there None a = refl
 no_word_there (Some p) a = refl
 
 -- the answer for a class of a word's number
-pub stopped_word : (words : List code.Word) (s : Sym) (c : Class) (k : ℕ) (o : Option code.Word) → word_number c ≡ Some k →
+pub stopped_word : (words : List code.Word) (s : Sym) (c : Class) (k : ℕ) (o : Option code.Word) →
+    word_number c ≡ Some k →
     table_answer s c ≡ Stop → word_at k words ≡ o →
     answer_over (grammar_words words) s c ≡ word_answer (slot_of s) (option_map grammar_word o) Stop
 stopped_word words s c k o e stop there =

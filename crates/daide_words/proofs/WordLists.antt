@@ -1,5 +1,8 @@
 -- Words whose names and meanings are kept apart.
-use Rattle.std.proofs.Common.{◌≡◌, ℕ, zero, suc, ◌+◌, ◌≤◌, ◌<◌, Bool, true, false, ◌&&◌, List, [], ◌∷◌, ◌++◌, length, take, refl, sym, ap, ◌∙◌, arith, subst, append_assoc, append-nil, nat_le, leb-true, leb-false, if◌then◌else◌, Result, Err, slice_set, get_or, ◌==◌, Option, Some, None, IfSome}
+use Rattle.std.proofs.Common.{◌≡◌, ℕ, zero, suc, ◌+◌, ◌≤◌, ◌<◌, Bool, true, false, ◌&&◌, List, [], ◌∷◌, ◌++◌, length}
+use Rattle.std.proofs.Common.{take, refl, sym, ap, ◌∙◌, arith, subst, append_assoc, append-nil, nat_le, leb-true}
+use Rattle.std.proofs.Common.{leb-false, if◌then◌else◌, Result, Err, slice_set, get_or, ◌==◌, Option, Some, None}
+use Rattle.std.proofs.Common.{IfSome}
 use Rattle.std.proofs.lemmas.List.{get_or-take}
 use Rattle.daide_words.specs.Words.{word_at}
 use Rattle.daide_words.specs.Places.{place_from}
@@ -27,7 +30,8 @@ names_back (name ∷ names) (meaning ∷ meanings) h =
 -- one more of each is one word more
 pub words_with-append : (names : List Named) (meanings : List Meaning) (name : Named) (meaning : Meaning) →
     length names ≡ length meanings →
-    words_with (names ++ name ∷ []) (meanings ++ meaning ∷ []) ≡ words_with names meanings ++ word_with name meaning ∷ []
+    words_with (names ++ name ∷ []) (meanings ++ meaning ∷ [])
+        ≡ words_with names meanings ++ word_with name meaning ∷ []
 words_with-append [] [] name meaning h = refl
 words_with-append [] (m ∷ meanings) name meaning h = cc
 words_with-append (n ∷ names) [] name meaning h = cc
@@ -48,12 +52,14 @@ pub accepted-append : (taken : List Named) (words : List Word) (word : Word) →
     are_accepted_after taken words ≡ true → is_ok (word_fault (taken ++ names_of words) word) ≡ true →
     are_accepted_after taken (words ++ word ∷ []) ≡ true
 accepted-append taken [] word h ok =
-    joined (is_ok (word_fault taken word)) true (subst (λ (t : List Named). is_ok (word_fault t word) ≡ true) (append-nil taken) ok) refl
+    joined (is_ok (word_fault taken word)) true
+        (subst (λ (t : List Named). is_ok (word_fault t word) ≡ true) (append-nil taken) ok) refl
 accepted-append taken (w ∷ words) word h ok =
     let p = both (is_ok (word_fault taken w)) (are_accepted_after (taken ++ (w.code, w.name) ∷ []) words) h in
     joined (is_ok (word_fault taken w)) (are_accepted_after (taken ++ (w.code, w.name) ∷ []) (words ++ word ∷ [])) p.0
     (accepted-append (taken ++ (w.code, w.name) ∷ []) words word p.1
-    (subst (λ (t : List Named). is_ok (word_fault t word) ≡ true) (sym (append_assoc taken ((w.code, w.name) ∷ []) (names_of words))) ok))
+    (subst (λ (t : List Named). is_ok (word_fault t word) ≡ true)
+        (sym (append_assoc taken ((w.code, w.name) ∷ []) (names_of words))) ok))
 
 -- capital letters are ASCII
 pub capitals_are_ascii : (name : List ℕ) → list_all is_capital name ≡ true → IsAscii name
@@ -66,7 +72,8 @@ capitals_are_ascii (letter ∷ name) h (suc i) =
     capitals_are_ascii name (both (is_capital letter) (list_all is_capital name) h).1 i
 
 -- whether a word is refused for want of room
-full-refused : (b : Bool) (other : Result (Unit {0}) WordError) → is_ok (if b then Err Full else other) ≡ true → b ≡ false
+full-refused : (b : Bool) (other : Result (Unit {0}) WordError) → is_ok (if b then Err Full else other) ≡ true →
+    b ≡ false
 full-refused true other h = cc
 full-refused false other h = refl
 
@@ -82,12 +89,14 @@ first_names names meanings n few enough =
     names_back (take n names) (take n meanings) (omega (arith, many, more))
 
 -- an accepted word finds room
-pub has_room : (names : List Named) (meanings : List Meaning) (n : ℕ) (word : Word) → n ≤ length names → n ≤ length meanings →
+pub has_room : (names : List Named) (meanings : List Meaning) (n : ℕ) (word : Word) → n ≤ length names →
+    n ≤ length meanings →
     is_ok (word_fault (names_of (first_words names meanings n)) word) ≡ true → n < 16
 has_room names meanings n word few enough ok =
     let many : length (names_of (first_words names meanings n)) ≡ n =
     ap length (first_names names meanings n few enough) ∙ length-take-le n names few in
-    omega (arith, many, leb-false 16 (length (names_of (first_words names meanings n))) (full-refused (nat_le 16 (length (names_of (first_words names meanings n)))) _ ok))
+    omega (arith, many, leb-false 16 (length (names_of (first_words names meanings n)))
+        (full-refused (nat_le 16 (length (names_of (first_words names meanings n)))) _ ok))
 
 -- one of each put in the place behind is one word more
 pub kept : (names : List Named) (meanings : List Meaning) (n : ℕ) (name : Named) (meaning : Meaning) →
@@ -140,7 +149,8 @@ first_words-at names meanings n k d e few enough low =
     ∙ ap (λ y. Some (word_with (get_or names k d) y)) (get_or-take n meanings k e low)
 
 -- a token has none of the places from one on where there are that few names
-pub place_few : (place : ℕ) (names : List Named) (t : ℕ) → IfSome (place_from place names t) (λ p. p < place + length names)
+pub place_few : (place : ℕ) (names : List Named) (t : ℕ) →
+    IfSome (place_from place names t) (λ p. p < place + length names)
 place_few place [] t = tt
 place_few place (named ∷ names) t = by_test (t == named.0) (place_few (suc place) names t)
   where
@@ -149,7 +159,8 @@ place_few place (named ∷ names) t = by_test (t == named.0) (place_few (suc pla
     by_test true h = omega arith
     by_test false h = raise (place_from (suc place) names t) h
       where
-        raise : (o : Option ℕ) → IfSome o (λ p. p < suc place + length names) → IfSome o (λ p. p < place + suc (length names))
+        raise : (o : Option ℕ) → IfSome o (λ p. p < suc place + length names) →
+            IfSome o (λ p. p < place + suc (length names))
         raise None h = tt
         raise (Some p) h = omega (arith, h)
 

@@ -26,8 +26,12 @@ grammar_operand operands.Press = a_press
 
 -- what a word is to the grammar, which knows no name
 abbrev pub grammar_word : Word → AddedWord
-grammar_word word =
-    record { code = word.code; slot = grammar_slot word.slot; level = word.level; operand = grammar_operand word.operand }
+grammar_word word = record {
+  code = word.code;
+  slot = grammar_slot word.slot;
+  level = word.level;
+  operand = grammar_operand word.operand;
+}
 
 -- what the words of an operator are to the grammar
 abbrev pub grammar_words : List Word → Words

@@ -43,7 +43,8 @@ module _ (s : Slot) (l : Level) where
   no-empty d j (x ∷ words) (first m) =
       let form = tok (Word j) · group (operand_in x.operand s l) in
       let h = stands-passes d x.slot s (nat_le (level_number x.level) (level_number l)) form [] m in
-      no-token d (is (Word j)) (group (operand_in x.operand s l)) (Reads_from_MatchAll d (form ∷ []) [] (alone d form [] h.1))
+      no-token d (is (Word j)) (group (operand_in x.operand s l))
+          (Reads_from_MatchAll d (form ∷ []) [] (alone d form [] h.1))
   no-empty d j (x ∷ words) (second m) = no-empty d (suc j) words m
 
   -- and each begins with a word
@@ -77,7 +78,8 @@ keeps j (x ∷ words) t h =
 free-code : (x : AddedWord) (c : Class) → is_free x ≡ true → class_number c < 79 → token_of c ≡ x.code → ⊥
 free-code x c f h e =
     let p = both-pass (same_class (class_of x.code) Other) (not (x.code == token_of Other)) f in
-    let other : class_of x.code ≡ Other = class-Other (class_of x.code) (eqb-true (class_number (class_of x.code)) 77 p.0) in
+    let other : class_of x.code ≡ Other =
+        class-Other (class_of x.code) (eqb-true (class_number (class_of x.code)) 77 p.0) in
     let same : c ≡ Other = sym (class_of-token_of c (standard-below c h)) ∙ ap class_of e ∙ other in
     not-both (x.code == token_of Other) (eq-eqb x.code (token_of Other) (sym e ∙ ap token_of same)) p.1
 
@@ -88,12 +90,14 @@ free-codes (x ∷ words) c f h =
     (λ e. free-code x c p.0 h (eqb-true (token_of c) x.code e), free-codes words c p.1 h)
 
 -- a token of another class than that of tokens without a meaning has no word's code
-pub other-class : (words : Words) (t : ℕ) → are_free words ≡ true → (class_number (class_of t) ≡ 77 → ⊥) → NoCode words t
+pub other-class : (words : Words) (t : ℕ) → are_free words ≡ true → (class_number (class_of t) ≡ 77 → ⊥) →
+    NoCode words t
 other-class [] t f h = tt
 other-class (x ∷ words) t f h =
     let p = both-pass (is_free x) (are_free words) f in
     let q = both-pass (same_class (class_of x.code) Other) (not (x.code == token_of Other)) p.0 in (
-      λ e. h (ap (λ n. class_number (class_of n)) (eqb-true t x.code e) ∙ eqb-true (class_number (class_of x.code)) 77 q.0),
+      λ e. h (ap (λ n. class_number (class_of n)) (eqb-true t x.code e)
+          ∙ eqb-true (class_number (class_of x.code)) 77 q.0),
       other-class words t p.1 h,
     )
 
@@ -109,12 +113,15 @@ words-proper words f = record {
 }
 
 -- the class of a token is a word's or its own
-either-class : (j : ℕ) (words : Words) (t : ℕ) → ((k : ℕ) × ((dialect_from j words).class_of t ≡ Word k)) ⊎ ((dialect_from j words).class_of t ≡ class_of t)
+either-class : (j : ℕ) (words : Words) (t : ℕ) →
+    ((k : ℕ) × ((dialect_from j words).class_of t ≡ Word k)) ⊎ ((dialect_from j words).class_of t ≡ class_of t)
 either-class j [] t = inr refl
 either-class j (x ∷ words) t = go (t == x.code) (either-class (suc j) words t)
   where
-    go : (b : Bool) → ((k : ℕ) × ((dialect_from (suc j) words).class_of t ≡ Word k)) ⊎ ((dialect_from (suc j) words).class_of t ≡ class_of t) →
-        ((k : ℕ) × ((if b then Word j else (dialect_from (suc j) words).class_of t) ≡ Word k)) ⊎ ((if b then Word j else (dialect_from (suc j) words).class_of t) ≡ class_of t)
+    go : (b : Bool) → ((k : ℕ) × ((dialect_from (suc j) words).class_of t ≡ Word k))
+        ⊎ ((dialect_from (suc j) words).class_of t ≡ class_of t) →
+        ((k : ℕ) × ((if b then Word j else (dialect_from (suc j) words).class_of t) ≡ Word k))
+            ⊎ ((if b then Word j else (dialect_from (suc j) words).class_of t) ≡ class_of t)
     go true h = inl (j, refl)
     go false h = h
 

@@ -1,5 +1,6 @@
 -- The forms of added words: what begins with a word goes on with its operand.
-use Rattle.std.proofs.Common.{◌≡◌, ℕ, suc, ◌+◌, ◌≤◌, Bool, true, false, ◌&&◌, nat_eq, nat_le, List, [], ◌∷◌, Option, Some}
+use Rattle.std.proofs.Common.{◌≡◌, ℕ, suc, ◌+◌, ◌≤◌, Bool, true, false, ◌&&◌, nat_eq, nat_le, List, [], ◌∷◌, Option}
+use Rattle.std.proofs.Common.{Some}
 use Rattle.std.proofs.Common.{◌⊎◌, inl, inr, ◌↔◌, IsTrue, refl, sym, ◌∙◌, ap, subst, arith, ltb-true}
 use Rattle.std.specs.List.{list_any, list_all}
 use Rattle.std.proofs.lemmas.Bool.{eqb-true, eq-eqb}
@@ -10,13 +11,16 @@ use Rattle.daide_grammar.specs.declared.level.Level.{Level}
 use Rattle.daide_grammar.specs.declared.symbol.Sym.{Sym}
 use Rattle.daide_grammar.specs.Level.{level_number}
 use Rattle.daide_grammar.specs.Classes.{class_number}
-use Rattle.daide_grammar.specs.Forms.{Kind, is, any_word, accepts, Slot, Press_slot, Arrangement_slot, Flat_slot, Added, Form}
+use Rattle.daide_grammar.specs.Forms.{Kind, is, any_word, accepts, Slot, Press_slot, Arrangement_slot, Flat_slot, Added}
+use Rattle.daide_grammar.specs.Forms.{Form}
 use Rattle.daide_grammar.specs.Forms.{one, never, ◌·◌, tok, group, named, Dialect}
 use Rattle.daide_grammar.specs.Matches.{Matches, token, both, first, second, by_name}
 use Rattle.daide_grammar.specs.Symbols.{form_of, Entry, entries, slot_of}
 use Rattle.daide_grammar.specs.SideMessages.{dialect_from, SymbolMatchesIn}
-use Rattle.daide_grammar.specs.Words.{AddedWord, Words, WordSlot, press_word, arrangement_word, operand_in, stands_in, word_form}
-use Rattle.daide_grammar.specs.Proved.Reading.{Reads, take, open', Head, starts, ends, unopened, HeadReads, heads, Some-of}
+use Rattle.daide_grammar.specs.Words.{AddedWord, Words, WordSlot, press_word, arrangement_word, operand_in, stands_in}
+use Rattle.daide_grammar.specs.Words.{word_form}
+use Rattle.daide_grammar.specs.Proved.Reading.{Reads, take, open', Head, starts, ends, unopened, HeadReads, heads}
+use Rattle.daide_grammar.specs.Proved.Reading.{Some-of}
 use Rattle.daide_grammar.specs.Proved.Reading.{MatchAll_from_Reads, Reads_from_MatchAll}
 use Rattle.daide_grammar.specs.Proved.Alternatives.{same_level, same_level-means, same_kind, same_kind-sound, both-pass}
 use Rattle.daide_grammar.specs.Proved.Alternatives.{either-passes, alone, unalone}
@@ -48,7 +52,8 @@ word-matches : (d : Dialect) (j k : ℕ) (f : Form) (t : ℕ) (w : List ℕ) →
     Matches d f w → Matches d (tok (Word j) · f) (t ∷ w)
 word-matches d j k f t w e q m =
     both {u = t ∷ []} {v = w}
-    (token (subst (λ (c : Class). accepts (is (Word j)) c ≡ true) (sym e) (eq-eqb (79 + j) (79 + k) (ap (λ n. 79 + n) q)))) m
+    (token (subst (λ (c : Class). accepts (is (Word j)) c ≡ true) (sym e)
+        (eq-eqb (79 + j) (79 + k) (ap (λ n. 79 + n) q)))) m
 
 -- a form that stands from a level on
 from-passes : (d : Dialect) (b : Bool) (f : Form) (w : List ℕ) → Matches d (elim b [ true ↦ f | false ↦ never ]) w →
@@ -71,7 +76,8 @@ stands-passes d arrangement_word Press_slot b f w m = elim m [ ]
 stands-passes d arrangement_word Arrangement_slot b f w m = from-passes d b f w m
 stands-passes d arrangement_word Flat_slot b f w m = from-passes d b f w m
 
-stands-true : (d : Dialect) (made : WordSlot) (s : Slot) (b : Bool) (f : Form) (w : List ℕ) → (makes made s && b) ≡ true →
+stands-true : (d : Dialect) (made : WordSlot) (s : Slot) (b : Bool) (f : Form) (w : List ℕ) →
+    (makes made s && b) ≡ true →
     Matches d f w → Matches d (stands_in made s (elim b [ true ↦ f | false ↦ never ])) w
 stands-true d press_word Press_slot b f w e m = from-true d b f w e m
 stands-true d press_word Arrangement_slot b f w e m = cc
@@ -140,7 +146,8 @@ words-from d k j [] s l t w x e f h m = cc
 words-from d k j (y ∷ words) s l t w x e f h m =
     elim (this_word-either (nat_eq j k) y x (word_from k (suc j) words) f) [
       | inl a ↦ first (subst (λ (z : AddedWord). Matches d (word_form j z s l) (t ∷ w)) (sym a.1)
-          (stands-true d x.slot s (nat_le (level_number x.level) (level_number l)) (tok (Word j) · group (operand_in x.operand s l)) (t ∷ w) h
+          (stands-true d x.slot s (nat_le (level_number x.level) (level_number l))
+              (tok (Word j) · group (operand_in x.operand s l)) (t ∷ w) h
           (word-matches d j k (group (operand_in x.operand s l)) t w e (eqb-true j k a.0) m)))
       | inr b ↦ second (words-from d k (suc j) words s l t w x e b h m)
     ]
@@ -169,9 +176,11 @@ slot-to : (d : Dialect) (p : Slot × Level) (es : List Entry) (t i : ℕ) (w : L
 unfolding known
 slot-to d p es t i w e a [] k h = absurd h
 slot-to d p es t i w e a (starts m fs ∷ hs) k (inl r) =
-    absurd (plain-entries m (d.class_of t) i es a (both-pass (list_any (λ g. same_kind m g.kind) es) (list_all (known (Some p) es) hs) k).0 e r.0)
+    absurd (plain-entries m (d.class_of t) i es a
+        (both-pass (list_any (λ g. same_kind m g.kind) es) (list_all (known (Some p) es) hs) k).0 e r.0)
 slot-to d p es t i w e a (starts m fs ∷ hs) k (inr r) =
-    slot-to d p es t i w e a hs (both-pass (list_any (λ g. same_kind m g.kind) es) (list_all (known (Some p) es) hs) k).1 r
+    slot-to d p es t i w e a hs
+        (both-pass (list_any (λ g. same_kind m g.kind) es) (list_all (known (Some p) es) hs) k).1 r
 slot-to d p es t i w e a (ends ∷ hs) k (inl r) = cc
 slot-to d p es t i w e a (ends ∷ hs) k (inr r) = slot-to d p es t i w e a hs k r
 slot-to d p es t i w e a (unopened gs ∷ hs) k (inl r) =
@@ -189,13 +198,15 @@ added-back d p (named (Added s l) ∷ []) w e m =
     (subst (λ (x : Level). Matches d (d.added p.0 x) w) (sym (same_level-means l p.1 q.1)) m))))
 added-back d p _ w e m = cc
 
-slot-from : (d : Dialect) (p : Slot × Level) (es : List Entry) (t : ℕ) (w : List ℕ) → Matches d (d.added p.0 p.1) (t ∷ w) →
+slot-from : (d : Dialect) (p : Slot × Level) (es : List Entry) (t : ℕ) (w : List ℕ) →
+    Matches d (d.added p.0 p.1) (t ∷ w) →
     (hs : List Head) → list_all (known (Some p) es) hs ≡ true → list_any is_unopened hs ≡ true →
     Some-of (HeadReads d (t ∷ w)) hs
 unfolding known
 slot-from d p es t w m [] k u = cc
 slot-from d p es t w m (starts c fs ∷ hs) k u =
-    inr (slot-from d p es t w m hs (both-pass (list_any (λ g. same_kind c g.kind) es) (list_all (known (Some p) es) hs) k).1 u)
+    inr (slot-from d p es t w m hs
+        (both-pass (list_any (λ g. same_kind c g.kind) es) (list_all (known (Some p) es) hs) k).1 u)
 slot-from d p es t w m (ends ∷ hs) k u = inr (slot-from d p es t w m hs k u)
 slot-from d p es t w m (unopened gs ∷ hs) k u =
     inl (added-back d p gs (t ∷ w) (both-pass (is_added (Some p) gs) (list_all (known (Some p) es) hs) k).0 m)

@@ -8,7 +8,8 @@ use Rattle.daide_grammar.specs.LawfulStack.{IsLawful, opening, word, skip}
 use Rattle.daide_grammar.specs.Laws.{PredictLaws}
 use Rattle.daide_grammar.specs.Words.{Words}
 use Rattle.daide_grammar.specs.Proved.MovesAgree.{may_end-law}
-use Rattle.daide_grammar.specs.Proved.StacksStaySmall.{Lawful-short, Lawful-apart, Lawful-open, Lawful-close, Lawful-skips, Lawful-ends}
+use Rattle.daide_grammar.specs.Proved.StacksStaySmall.{Lawful-short, Lawful-apart, Lawful-open, Lawful-close}
+use Rattle.daide_grammar.specs.Proved.StacksStaySmall.{Lawful-skips, Lawful-ends}
 use Rattle.daide_grammar.specs.Proved.NoLanguageIsEmpty.{symbol-inhabited}
 use Rattle.daide_grammar.specs.Proved.TableLaws.{follows, followed}
 use Rattle.daide_words.specs.OverWords.{answer_over, are_free, spoken, spoken_dialect}
@@ -18,7 +19,8 @@ use Rattle.daide_words.specs.Proved.WordDialect.{words-proper, only_bra, only_ke
 
 -- added words keep the laws of prediction, whatever their list
 pub laws_over : (words : Words) → are_free words ≡ true →
-    PredictLaws (dialect_of words).class_of (SymbolMatchesIn (dialect_of words)) (answer_over words) may_end_of (IsLawful (answer_over words))
+    PredictLaws (dialect_of words).class_of (SymbolMatchesIn (dialect_of words)) (answer_over words) may_end_of
+        (IsLawful (answer_over words))
 laws_over words f =
     let d = dialect_of words in
     let ok = words-proper words f in
@@ -26,7 +28,8 @@ laws_over words f =
     record {
       only_bra = only_bra words f;
       only_ket = only_ket words f;
-      takes = λ s t rest a w. let k = takes-over words ok s t rest w a in (λ m. follows d rest w (k.0 m), λ m. k.1 (followed d rest w m));
+      takes = λ s t rest a w. let k = takes-over words ok s t rest w a in
+          (λ m. follows d rest w (k.0 m), λ m. k.1 (followed d rest w m));
       skips_empty = λ s t a. (skips-over words ok s t a).0;
       skips_none = λ s t a. (skips-over words ok s t a).1;
       stops_empty = λ s t a. (stops-over words ok s t a).0;
@@ -59,10 +62,11 @@ all-spoken words f = ap (λ b. if b then words else []) f
 
 -- so a table's words keep the laws
 pub spoken_laws : (words : Words) →
-    PredictLaws (spoken_dialect words).class_of (SymbolMatchesIn (spoken_dialect words)) (answer_over (spoken words)) may_end_of
-    (IsLawful (answer_over (spoken words)))
+    PredictLaws (spoken_dialect words).class_of (SymbolMatchesIn (spoken_dialect words)) (answer_over (spoken words))
+    may_end_of (IsLawful (answer_over (spoken words)))
 spoken_laws words = laws_over (spoken words) (spoken-free words)
 
 -- a message's symbol alone is a stack that can arise
-pub spoken_begins : (words : Words) (side : Side2) (level : Level) → IsLawful (answer_over (spoken words)) (opening_of side level ∷ []) 0
+pub spoken_begins : (words : Words) (side : Side2) (level : Level) →
+    IsLawful (answer_over (spoken words)) (opening_of side level ∷ []) 0
 spoken_begins words side level = opening side level

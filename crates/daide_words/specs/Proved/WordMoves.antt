@@ -15,7 +15,8 @@ use Rattle.daide_grammar.specs.SideMessages.{dialect_of, SymbolMatchesIn}
 use Rattle.daide_grammar.specs.Words.{AddedWord, Words, WordOperand, one_power, some_powers, some_provinces, an_order}
 use Rattle.daide_grammar.specs.Words.{an_arrangement, a_press, operand_in}
 use Rattle.daide_grammar.specs.Proved.Alternatives.{alone, unalone}
-use Rattle.daide_grammar.specs.Proved.MovesAgree.{Proper, NoWord, IsStandard, standard-no-word, AllMatchIn, take-law, skip-law}
+use Rattle.daide_grammar.specs.Proved.MovesAgree.{Proper, NoWord, IsStandard, standard-no-word, AllMatchIn, take-law}
+use Rattle.daide_grammar.specs.Proved.MovesAgree.{skip-law}
 use Rattle.daide_grammar.specs.Proved.MovesAgree.{stop-law, no-yes}
 use Rattle.daide_words.specs.OverWords.{operand_symbol, stands, word_from, if_stands, word_answer, answer_over}
 use Rattle.daide_words.specs.Proved.WordForms.{words-to, words-from, slot-law}
@@ -25,7 +26,8 @@ abbrev pub HasOperands : Option (Slot × Level) → Type 0
 HasOperands None = Unit {0}
 HasOperands (Some p) = (o : WordOperand) → form_of (operand_symbol o p.0 p.1) ≡ group (operand_in o p.0 p.1)
 
-plain-operands : (s : Slot) (l : Level) → form_of (operand_symbol an_arrangement s l) ≡ group (operand_in an_arrangement s l) →
+plain-operands : (s : Slot) (l : Level) →
+    form_of (operand_symbol an_arrangement s l) ≡ group (operand_in an_arrangement s l) →
     HasOperands (Some (s, l))
 unfolding form_of
 plain-operands s l e one_power = refl
@@ -71,7 +73,8 @@ module _ (words : Words) (t i : ℕ) (e : (dialect_of words).class_of t ≡ Word
       NoWord d (Some p) t
   none-stands p x f b w m =
       let h = words-to d i 0 words p.0 p.1 t w e m in
-      no-yes (stands x p.0 p.1) (subst (λ (y : AddedWord). stands y p.0 p.1 ≡ true) (same-some h.word x (sym h.found ∙ f)) h.stands_so) b
+      no-yes (stands x p.0 p.1)
+          (subst (λ (y : AddedWord). stands y p.0 p.1 ≡ true) (same-some h.word x (sym h.found ∙ f)) h.stands_so) b
 
   -- where the word stands, its operand follows
   word-follows : (s : Sym) (p : Slot × Level) (x : AddedWord) (w : List ℕ) → slot_of s ≡ Some p →
@@ -84,15 +87,18 @@ module _ (words : Words) (t i : ℕ) (e : (dialect_of words).class_of t ≡ Word
         λ m.
             let h = words-to d i 0 words p.0 p.1 t w e (q.0 m) in
             alone d (form_of g) w (subst (λ (f : Form). Matches d f w) (sym form)
-            (subst (λ (y : AddedWord). Matches d (group (operand_in y.operand p.0 p.1)) w) (same-some h.word x (sym h.found ∙ f)) h.operand)),
-        λ m. q.1 (words-from d i 0 words p.0 p.1 t w x e f b (subst (λ (f : Form). Matches d f w) form (unalone d (form_of g) w m))),
+            (subst (λ (y : AddedWord). Matches d (group (operand_in y.operand p.0 p.1)) w)
+                (same-some h.word x (sym h.found ∙ f)) h.operand)),
+        λ m. q.1 (words-from d i 0 words p.0 p.1 t w x e f b
+            (subst (λ (f : Form). Matches d f w) form (unalone d (form_of g) w m))),
       )
 
   -- which of the cases it is: no word stands there, or one does
   Case : Sym → Type 0
   Case s =
       (NoWord d (slot_of s) t × ((a : Answer) → word_answer (slot_of s) (word_from i 0 words) a ≡ a))
-      ⊎ ((p : Slot × Level) × (x : AddedWord) × (slot_of s ≡ Some p) × (word_from i 0 words ≡ Some x) × (stands x p.0 p.1 ≡ true))
+      ⊎ ((p : Slot × Level) × (x : AddedWord) × (slot_of s ≡ Some p) × (word_from i 0 words ≡ Some x)
+          × (stands x p.0 p.1 ≡ true))
 
   which-stands : (s : Sym) (p : Slot × Level) (x : AddedWord) (b : Bool) → slot_of s ≡ Some p →
       word_from i 0 words ≡ Some x → stands x p.0 p.1 ≡ b → Case s
@@ -105,7 +111,8 @@ module _ (words : Words) (t i : ℕ) (e : (dialect_of words).class_of t ≡ Word
             ∙ ap (λ z. if_stands z (operand_symbol x.operand p.0 p.1) a) q,
       )
 
-  which-word : (s : Sym) (p : Slot × Level) (y : Option AddedWord) → slot_of s ≡ Some p → word_from i 0 words ≡ y → Case s
+  which-word : (s : Sym) (p : Slot × Level) (y : Option AddedWord) → slot_of s ≡ Some p → word_from i 0 words ≡ y →
+      Case s
   unfolding Case
   which-word s p (Some x) o f = which-stands s p x (stands x p.0 p.1) o f refl
   which-word s p None o f =

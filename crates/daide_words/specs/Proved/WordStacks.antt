@@ -1,5 +1,6 @@
 -- The stacks that can arise with added words are in the same order.
-use Rattle.std.proofs.Common.{◌≡◌, ◌≢◌, ℕ, Bool, true, false, List, [], ◌∷◌, Option, Some, None, refl, sym, subst, arith}
+use Rattle.std.proofs.Common.{◌≡◌, ◌≢◌, ℕ, Bool, true, false, List, [], ◌∷◌, Option, Some, None, refl, sym, subst}
+use Rattle.std.proofs.Common.{arith}
 use Rattle.std.proofs.lemmas.Bool.{eq-eqb}
 use Rattle.std.proofs.lemmas.Bool.Decides.{nat_tests}
 use Rattle.daide_token.specs.declared.class.Class.{Class}
@@ -15,7 +16,8 @@ use Rattle.daide_grammar.specs.Shapes.{is_last, shape, shapes}
 use Rattle.daide_grammar.specs.Words.{AddedWord, Words, WordOperand, one_power, some_powers, some_provinces, an_order}
 use Rattle.daide_grammar.specs.Words.{an_arrangement, a_press}
 use Rattle.daide_grammar.specs.Proved.Sizes.{fits}
-use Rattle.daide_grammar.specs.Proved.StacksInOrder.{tidy, sized, sized_by, GoodTake, GoodMoves, table-take, skip-ends, table-moves}
+use Rattle.daide_grammar.specs.Proved.StacksInOrder.{tidy, sized, sized_by, GoodTake, GoodMoves, table-take, skip-ends}
+use Rattle.daide_grammar.specs.Proved.StacksInOrder.{table-moves}
 use Rattle.daide_words.specs.OverWords.{operand_symbol, stands, word_from, if_stands, word_answer, answer_over}
 
 -- an operand's symbol is one entry, and needn't stand last
@@ -87,12 +89,14 @@ slot-take s i (Some p) (Some x) rest e h = stands-take s i p x.operand (stands x
 slot-take s i (Some p) None rest e h = table-take s (Word i) rest h
 slot-take s i None x rest e h = table-take s (Word i) rest h
 
-word-take : (words : Words) (s : Sym) (c : Class) (rest : List Sym) → answer_over words s c ≡ Take rest → GoodTake s c rest
+word-take : (words : Words) (s : Sym) (c : Class) (rest : List Sym) → answer_over words s c ≡ Take rest →
+    GoodTake s c rest
 unfolding answer_over
 word-take words s (Word i) rest h = slot-take s i (slot_of s) (word_from i 0 words) rest refl h
 word-take words s c rest h = table-take s c rest h
 
-stands-skip : (s : Sym) (i : ℕ) (g : Sym) (b : Bool) → if_stands b g (table_answer s (Word i)) ≡ Skip → may_end_of s ≡ true
+stands-skip : (s : Sym) (i : ℕ) (g : Sym) (b : Bool) → if_stands b g (table_answer s (Word i)) ≡ Skip →
+    may_end_of s ≡ true
 stands-skip s i g true h = cc
 stands-skip s i g false h = skip-ends s (Word i) h
 

@@ -16,7 +16,8 @@ returns-in-Press c =
 pub returns-in-Arrangement : goal.returns-in-Arrangement
 returns-in-Arrangement c =
     ap (λ n. deed (104 + n)) c.level_place-step.ensures.place ∙ arrangement_rule c.args.level
-    ∙ ap (λ (p : Place). Take (operand_symbol an_arrangement (grammar_place p) c.args.level ∷ [])) (sym c.in-Arrangement.is)
+    ∙ ap (λ (p : Place). Take (operand_symbol an_arrangement (grammar_place p) c.args.level ∷ []))
+        (sym c.in-Arrangement.is)
 
 pub returns-in-Flat : goal.returns-in-Flat
 returns-in-Flat c =

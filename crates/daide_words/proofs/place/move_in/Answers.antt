@@ -13,7 +13,8 @@ unfolding deed
 returns-then-not-may_make c =
     let word = c.args.word.now in
     c.of.ensures ∙ not_standing _ _
-    (first_fails (makes (grammar_slot word.slot) (grammar_place c.args.place)) (nat_le (level_number word.level) (level_number c.args.level))
+    (first_fails (makes (grammar_slot word.slot) (grammar_place c.args.place))
+        (nat_le (level_number word.level) (level_number c.args.level))
     (sym c.may_make.ensures ∙ c.if-not-may_make.true))
 
 pub returns-then-number : goal.returns-then-number
@@ -23,7 +24,8 @@ returns-then-number c =
     let low : nat_le (level_number word.level) (level_number c.args.level) ≡ false =
     grind (arith, nat_tests, c.if-number.true, c.number.ensures, c.number-2.ensures) in
     c.of-then-number.ensures ∙ not_standing _ _
-    (second_fails (makes (grammar_slot word.slot) (grammar_place c.args.place)) (nat_le (level_number word.level) (level_number c.args.level)) low)
+    (second_fails (makes (grammar_slot word.slot) (grammar_place c.args.place))
+        (nat_le (level_number word.level) (level_number c.args.level)) low)
 
 pub returns : goal.returns
 returns c =
@@ -31,5 +33,6 @@ returns c =
     let reached : nat_le (level_number word.level) (level_number c.args.level) ≡ true =
     grind (arith, nat_tests, c.if-number.false, c.number.ensures, c.number-2.ensures) in
     c.of-2.ensures ∙ c.operand_rule.ensures ∙ standing _ _
-    (both_hold (makes (grammar_slot word.slot) (grammar_place c.args.place)) (nat_le (level_number word.level) (level_number c.args.level))
+    (both_hold (makes (grammar_slot word.slot) (grammar_place c.args.place))
+        (nat_le (level_number word.level) (level_number c.args.level))
     (sym c.may_make.ensures ∙ c.if-not-may_make.false) reached)

@@ -3,4 +3,5 @@ use Rattle.daide_words.proofs.WordLists.{capitals_are_ascii}
 use Rattle.daide_words.proofs.words.is_named.Goals as goal
 
 pub returns-in-Err : goal.returns-in-Err
-returns-in-Err c = absurd (c.in-Err.ensures.cases.0 (IsUtf8-from_ascii c.args.name (capitals_are_ascii c.args.name c.requires)))
+returns-in-Err c =
+    absurd (c.in-Err.ensures.cases.0 (IsUtf8-from_ascii c.args.name (capitals_are_ascii c.args.name c.requires)))

@@ -9,14 +9,16 @@ use Rattle.daide_words.proofs.WhereStopped.{not_stopped, the_stop}
 use Rattle.daide_words.proofs.extended.ExtendedPredict.predict.Goals as goal
 
 pub where_stopped-requires : goal.where_stopped-requires
-where_stopped-requires c = sym c.predict-answer.ensures.answer ∙ the_stop c.predict-answer.result (sym c.is_stop.ensures ∙ c.if-is_stop.true)
+where_stopped-requires c = sym c.predict-answer.ensures.answer
+    ∙ the_stop c.predict-answer.result (sym c.is_stop.ensures ∙ c.if-is_stop.true)
 
 pub returns-then-is_stop-clause-answer : goal.returns-then-is_stop-clause-answer
 unfolding spoken_words words_of
 returns-then-is_stop-clause-answer c =
     let words = c.args.self.now.words in
     c.where_stopped.ensures
-    ∙ ap (λ ws. answer_over ws c.args.sym c.args.class) (sym (all-spoken (spoken_words c.args.self.now) (accepted_free (words_of words) words.accepted)))
+    ∙ ap (λ ws. answer_over ws c.args.sym c.args.class)
+        (sym (all-spoken (spoken_words c.args.self.now) (accepted_free (words_of words) words.accepted)))
 
 pub returns-then-is_stop-clause-words_stay : goal.returns-then-is_stop-clause-words_stay
 unfolding spoken_words
@@ -29,7 +31,8 @@ returns-clause-answer c =
     c.predict-answer.ensures.answer
     ∙ sym (not_stopped (spoken_words c.args.self.now) c.args.sym c.args.class
     (ap is_stop (sym c.predict-answer.ensures.answer) ∙ sym c.is_stop.ensures ∙ c.if-is_stop.false))
-    ∙ ap (λ ws. answer_over ws c.args.sym c.args.class) (sym (all-spoken (spoken_words c.args.self.now) (accepted_free (words_of words) words.accepted)))
+    ∙ ap (λ ws. answer_over ws c.args.sym c.args.class)
+        (sym (all-spoken (spoken_words c.args.self.now) (accepted_free (words_of words) words.accepted)))
 
 pub returns-clause-words_stay : goal.returns-clause-words_stay
 unfolding spoken_words

@@ -17,6 +17,7 @@ returns c =
     let more : length words.meanings ≡ 16 = search rules in
     let many : length c.names.result.now ≡ words.count =
     ap length c.names.ensures.names
-    ∙ names-few words.names words.meanings words.count (omega (arith, full, words.few)) (omega (arith, more, words.few)) in
+    ∙ names-few words.names words.meanings words.count (omega (arith, full, words.few))
+        (omega (arith, more, words.few)) in
     sym (first_words-at words.names words.meanings words.count c.args.place _ _ (omega (arith, full, words.few))
     (omega (arith, more, words.few)) (omega (arith, many, c.if-place-names.false)))
