@@ -206,10 +206,10 @@ module _ (f n : Fields) (to : Side) (x : Waiting) (items : List Waiting) (i : Is
         side one = dropped_side one
 
         was : (one : Side) → IsSeen f (traffic_of f) one one
-        was one = seen f (traffic_of f) one one refl i refl
+        was one = seen i refl refl
 
         now : (one : Side) → IsSeen n (traffic_of n) one one
-        now one = seen n (traffic_of n) one one refl j refl
+        now one = seen j refl refl
 
     left_one : IsLeft (traffic_of f) n to
     left_one = record {
