@@ -14,7 +14,7 @@ use Rattle.daide_traffic.specs.Traffic.{pending}
 use Rattle.daide_traffic.specs.Traffic.{pending_by, presence, traffic_of}
 use Rattle.daide_traffic.proofs.AwaitedLemmas.{IsSeenFree, silent}
 use Rattle.daide_traffic.proofs.BothLemmas.{put_all}
-use Rattle.daide_traffic.proofs.MarksLemmas.{agrees_put, begun_unseen, both_unseen}
+use Rattle.daide_traffic.proofs.MarksLemmas.{agree_put, same_begun, same_both}
 
 abbrev pub with_side : Fields → Side → Inbound → Fields
 with_side f side x = record { sides = put f.sides side x; wires = f.wires }
@@ -51,8 +51,8 @@ sound_side {f} {t} {given} {side} x h e none = record {
   ends = i.ends;
   filled = put_all (λ (s : Side) (y : Inbound). presence y.verdict ≡ 1 → 0 < length (answer_of y)) f.sides side x
       (none_there x.verdict none) i.filled;
-  begun = λ to. begun_unseen side (answer_at f.sides) (answer_at (put f.sides side x)) (agrees_put f.sides side x)
-      (at f.wires to).written (at f.wires to).items (silent f side to i h.free) (i.begun to);
+  begun = λ to. same_begun (answer_at f.sides) (answer_at (put f.sides side x)) (at f.wires to).written
+      (at f.wires to).items (agree_put f.sides side x (at f.wires to).items (silent f side to i h.free)) (i.begun to);
 }
   where
     i : IsSound f
@@ -81,8 +81,8 @@ fits_side {f} {t} {side} {one} n h l = rw (h.seen.cap, h.pending) at l
 pub waiting_side : {f : Fields} {t : Traffic} {side one : Side} (x : Inbound) → IsSeenFree f t side one →
     (traffic_of (with_side f one x)).waiting ≡ t.waiting
 waiting_side {f} {t} {side} {one} x h =
-    both_unseen one (answer_at f.sides) (answer_at (put f.sides one x)) f.wires (agrees_put f.sides one x)
-    (λ to. silent f one to h.seen.sound h.free)
+    same_both (answer_at f.sides) (answer_at (put f.sides one x)) f.wires
+    (λ to. agree_put f.sides one x (at f.wires to).items (silent f one to h.seen.sound h.free))
     ∙ ap (λ (v : Traffic). v.waiting) h.seen.is
 
 -- ---- a value t that the fields stand for, and a side that is known

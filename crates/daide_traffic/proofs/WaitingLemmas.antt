@@ -13,13 +13,13 @@ use Rattle.daide_traffic.specs.declared.wire.Waiting.TheVariants.{Answer}
 use Rattle.daide_traffic.specs.Both.{Both, at, put}
 use Rattle.daide_traffic.specs.Inbound.{Answers, Inbound, answer_of}
 use Rattle.daide_traffic.specs.Wire.{Queue, pushed}
-use Rattle.daide_traffic.specs.Traffic.{Arrival, Fields, IsSound, Traffic, answer_at, answer_mark, bytes_in, count_of}
+use Rattle.daide_traffic.specs.Traffic.{Arrival, Fields, IsBegun, IsSound, Traffic, answer_at, answer_mark, bytes_in, count_of}
 use Rattle.daide_traffic.specs.Traffic.{end_mark, end_to, ending_of, frame_of, has_end, noted, pending, posted}
 use Rattle.daide_traffic.specs.Traffic.{presence, traffic_of}
 use Rattle.daide_traffic.proofs.AwaitedLemmas.{IsSeenFree, silent}
 use Rattle.daide_traffic.proofs.BothLemmas.{at_put, put_all}
 use Rattle.daide_traffic.proofs.FrontLemmas.{waits_at}
-use Rattle.daide_traffic.proofs.MarksLemmas.{agrees_put, begun_pushed, begun_unseen, both_unseen, count_pushed}
+use Rattle.daide_traffic.proofs.MarksLemmas.{agree_put, begun_pushed, count_pushed, same_begun, same_both}
 use Rattle.daide_traffic.proofs.MarksLemmas.{first_pushed}
 use Rattle.daide_traffic.proofs.MarksLemmas.{frames_pushed, least, length_marks, unended, unmarked_pushed}
 use Rattle.daide_traffic.proofs.SidesLemmas.{IsSameSide, caps, depths, its_sides}
@@ -44,6 +44,13 @@ presence_put sides Bot Server x e h = omega arith
 presence_put sides Server Bot x e h = omega arith
 presence_put sides Server Server x e h = rw (e, h) refl
 
+-- what waits is begun as it was
+replied_begun : (f : Fields) (side : Side) (x : Inbound) → IsSound f → (at f.sides side).verdict ≡ None →
+    (wire : Side) → IsBegun (answer_at (put f.sides side x)) (at f.wires wire).written (at f.wires wire).items
+replied_begun f side x i free wire =
+    same_begun (answer_at f.sides) (answer_at (put f.sides side x)) (at f.wires wire).written (at f.wires wire).items
+    (agree_put f.sides side x (at f.wires wire).items (silent f side wire i free)) (i.begun wire)
+
 replied_sound : (f : Fields) (side to : Side) (x : Inbound) → IsSound f → (at f.sides side).verdict ≡ None →
     IsSameSide (at f.sides side) x → presence x.verdict ≡ 1 → 0 < length (answer_of x) →
     IsSound (record { sides = put f.sides side x; wires = put f.wires to (pushed (at f.wires to) (Answer side)) })
@@ -57,17 +64,9 @@ replied_sound f side to x i free same one_more some = record {
   ends = λ one. rw (unmarked_pushed f.wires to one end_mark (Answer side) refl) (i.ends one);
   filled = put_all (λ (s : Side) (y : Inbound). presence y.verdict ≡ 1 → 0 < length (answer_of y)) f.sides side x
       (λ _. some) i.filled;
-  begun = λ one. begun_pushed after f.wires to one (Answer side) more
-      (λ wire. begun_unseen side (answer_at f.sides) after
-      (agrees_put f.sides side x) (at f.wires wire).written (at f.wires wire).items (silent f side wire i free)
-      (i.begun wire));
+  begun = λ one. begun_pushed (answer_at (put f.sides side x)) f.wires to one (Answer side)
+      (rw (at_put f.sides side x) some) (replied_begun f side x i free);
 }
-  where
-    after : Side → List ℕ
-    after = answer_at (put f.sides side x)
-
-    more : 0 < length (after side)
-    more = rw (at_put f.sides side x) some
 
 replied_waiting : (f : Fields) (side to : Side) (x : Inbound) → IsSound f → (at f.sides side).verdict ≡ None →
     (traffic_of (record {
@@ -77,11 +76,10 @@ replied_waiting : (f : Fields) (side to : Side) (x : Inbound) → IsSound f → 
     })).waiting
     ≡ posted (traffic_of f).waiting (record { to = to; answers = Some side; bytes = answer_of x })
 replied_waiting f side to x i free =
-    frames_pushed after f.wires to (Answer side) (λ wire. begun_unseen side (answer_at f.sides) after
-    (agrees_put f.sides side x) (at f.wires wire).written (at f.wires wire).items (silent f side wire i free)
-    (i.begun wire))
+    frames_pushed after f.wires to (Answer side) (replied_begun f side x i free)
     ∙ ap (λ (w : Both (List Sent)). posted w (frame_of to after (Answer side)))
-    (both_unseen side (answer_at f.sides) after f.wires (agrees_put f.sides side x) (λ wire. silent f side wire i free))
+    (same_both (answer_at f.sides) after f.wires
+    (λ wire. agree_put f.sides side x (at f.wires wire).items (silent f side wire i free)))
     ∙ ap (λ (y : Inbound). posted (traffic_of f).waiting (record { to = to; answers = Some side; bytes = answer_of y }))
     (at_put f.sides side x)
   where
