@@ -1,17 +1,17 @@
 -- A side's answer waits exactly where the side has one; and what a session sees of a side is what its fields say.
-use Rattle.std.proofs.Common.{◌≡◌, ℕ, zero, suc, ◌<◌, ◌≤◌, Bool, true, false, length, Option, Some, None}
+use Rattle.std.proofs.Common.{◌≡◌, ℕ, zero, suc, ◌+◌, ◌<◌, ◌≤◌, false, length, Option, Some, None}
 use Rattle.std.proofs.Common.{refl, sym, ap, ◌∙◌, arith}
-use Rattle.std.specs.Prelude.{is_some, ◌||◌}
+use Rattle.std.specs.Prelude.{is_some, ◌||◌, nat_lt}
 use Rattle.daide_frame.specs.declared.side.Side.{Side}
 use Rattle.daide_frame.specs.declared.side.Side.TheVariants.{Bot, Server}
 use Rattle.daide_reader.specs.declared.verdict.Verdict.{Verdict}
 use Rattle.daide_machine.specs.Events.{other}
-use Rattle.daide_machine.specs.Wires.{has_answer, is_awaited}
+use Rattle.daide_machine.specs.Wires.{is_awaited}
 use Rattle.daide_traffic.specs.Both.{at}
 use Rattle.daide_traffic.specs.Traffic.{Arrival, Traffic, Fields, IsSound, answer_at, answer_mark, arrival_of, count_of}
-use Rattle.daide_traffic.specs.Traffic.{frames_to}
 use Rattle.daide_traffic.specs.Traffic.{holding, pending, pending_by, presence, traffic_of}
-use Rattle.daide_traffic.proofs.MarksLemmas.{awaited, unawaited, least, length_marks}
+use Rattle.daide_traffic.proofs.MarksLemmas.{answers_wait, least, length_marks}
+use Rattle.daide_traffic.proofs.PartsLemmas.{below, not_below}
 
 -- no frame answers a side that has no answer
 pub silent : (f : Fields) (side to : Side) → IsSound f → (at f.sides side).verdict ≡ None →
@@ -19,39 +19,18 @@ pub silent : (f : Fields) (side to : Side) → IsSound f → (at f.sides side).v
 silent f side Bot i free = omega (arith, i.once side ∙ ap presence free)
 silent f side Server i free = omega (arith, i.once side ∙ ap presence free)
 
-none_awaited : (f : Fields) (side : Side) → IsSound f → presence (at f.sides side).verdict ≡ 0 →
-    is_awaited (at (traffic_of f).waiting) side ≡ false
-none_awaited f side i none =
-    let once = i.once side in
-    rw (
-      unawaited side Bot (answer_at f.sides) f.wires.bot (omega arith),
-      unawaited side Server (answer_at f.sides) f.wires.server (omega arith),
-    ) refl
-
-or_true : (a : Bool) → (a || true) ≡ true
-or_true true = refl
-or_true false = refl
-
-some_awaited : (f : Fields) (side : Side) → IsSound f → presence (at f.sides side).verdict ≡ 1 →
-    is_awaited (at (traffic_of f).waiting) side ≡ true
-some_awaited f side i some = go (count_of (answer_mark side) f.wires.bot.items) refl
-  where
-    go : (n : ℕ) → count_of (answer_mark side) f.wires.bot.items ≡ n →
-        (has_answer side (frames_to f Bot) || has_answer side (frames_to f Server)) ≡ true
-    go zero e =
-        let once = i.once side in
-        rw (awaited side Server (answer_at f.sides) f.wires.server (omega arith))
-        (or_true (has_answer side (frames_to f Bot)))
-    go (suc n) e = rw (awaited side Bot (answer_at f.sides) f.wires.bot (omega (arith, e))) refl
+some_of : (m n : ℕ) (o : Option Verdict) → m + n ≡ presence o → (nat_lt 0 m || nat_lt 0 n) ≡ is_some o
+some_of m n None e = rw (not_below 0 m (omega arith), not_below 0 n (omega arith)) refl
+some_of zero n (Some verdict) e = rw (below 0 n (omega arith)) refl
+some_of (suc m) n (Some verdict) e = rw (below 0 (suc m) (omega arith)) refl
 
 awaited_is : (f : Fields) (side : Side) → IsSound f →
     is_awaited (at (traffic_of f).waiting) side ≡ is_some (at f.sides side).verdict
-awaited_is f side i = go (at f.sides side).verdict refl
-  where
-    go : (o : Option Verdict) → (at f.sides side).verdict ≡ o →
-        is_awaited (at (traffic_of f).waiting) side ≡ is_some (at f.sides side).verdict
-    go None e = none_awaited f side i (ap presence e) ∙ sym (ap is_some e)
-    go (Some verdict) e = some_awaited f side i (ap presence e) ∙ sym (ap is_some e)
+awaited_is f side i =
+    rw (
+      answers_wait side Bot (answer_at f.sides) f.wires.bot,
+      answers_wait side Server (answer_at f.sides) f.wires.server,
+    ) (some_of _ _ (at f.sides side).verdict (i.once side))
 
 none_of : (o : Option Verdict) → is_some o ≡ false → o ≡ None
 none_of None e = refl

@@ -2,7 +2,7 @@
 use Rattle.std.proofs.Common.{◌≡◌, ℕ, ◌+◌, ◌<◌, ◌≤◌, Bool, true, false, List, [], ◌∷◌, ◌++◌, length, map, Option, Some}
 use Rattle.std.proofs.Common.{None}
 use Rattle.std.proofs.Common.{refl, sym, ap, ◌∙◌, arith}
-use Rattle.std.specs.Prelude.{if◌then◌else◌, ◌||◌}
+use Rattle.std.specs.Prelude.{if◌then◌else◌, ◌||◌, nat_lt}
 use Rattle.std.proofs.lemmas.List.{map-append}
 use Rattle.daide_frame.specs.declared.side.Side.{Side}
 use Rattle.daide_frame.specs.declared.side.Side.TheVariants.{Bot, Server}
@@ -18,6 +18,7 @@ use Rattle.daide_traffic.specs.Traffic.{answer_at, answers_of, bytes_in, frame_o
 use Rattle.daide_traffic.specs.Traffic.{end_mark}
 use Rattle.daide_traffic.specs.Traffic.{count_of, presence, IsBegun, is_end, has_end, posted}
 use Rattle.daide_traffic.proofs.BothLemmas.{put_all}
+use Rattle.daide_traffic.proofs.PartsLemmas.{below}
 
 -- ---- counts
 
@@ -145,42 +146,29 @@ same_both a b w h =
 
 -- ---- whether an answer waits
 
-no_answer : (side to : Side) (a : Side → List ℕ) (items : List Waiting) → count_of (answer_mark side) items ≡ 0 →
-    has_answer side (map (frame_of to a) items) ≡ false
-no_answer side to a [] none = refl
-no_answer side to a (x ∷ items) none = go (is_answer side (answers_of x)) refl
-    (no_answer side to a items (omega arith))
-  where
-    go : (k : Bool) → is_answer side (answers_of x) ≡ k → has_answer side (map (frame_of to a) items) ≡ false →
-        (is_answer side (answers_of x) || has_answer side (map (frame_of to a) items)) ≡ false
-    go true e more = let one : answer_mark side x ≡ 1 = rw e at (mark_is side x) in absurd (omega arith)
-    go false e more = rw e more
-
-some_answer : (side to : Side) (a : Side → List ℕ) (items : List Waiting) → 0 < count_of (answer_mark side) items →
-    has_answer side (map (frame_of to a) items) ≡ true
-some_answer side to a [] some = absurd (omega arith)
-some_answer side to a (x ∷ items) some = go (is_answer side (answers_of x)) refl (some_answer side to a items)
+-- whether one is above 0, as a test
+has_answers : (side to : Side) (a : Side → List ℕ) (items : List Waiting) →
+    has_answer side (map (frame_of to a) items) ≡ nat_lt 0 (count_of (answer_mark side) items)
+has_answers side to a [] = refl
+has_answers side to a (x ∷ items) = go (is_answer side (answers_of x)) refl (has_answers side to a items)
   where
     go : (k : Bool) → is_answer side (answers_of x) ≡ k →
-        (0 < count_of (answer_mark side) items → has_answer side (map (frame_of to a) items) ≡ true) →
-        (is_answer side (answers_of x) || has_answer side (map (frame_of to a) items)) ≡ true
-    go true e more = rw e refl
-    go false e more = let none : answer_mark side x ≡ 0 = rw e at (mark_is side x) in rw e (more (omega arith))
+        has_answer side (map (frame_of to a) items) ≡ nat_lt 0 (count_of (answer_mark side) items) →
+        (is_answer side (answers_of x) || has_answer side (map (frame_of to a) items))
+        ≡ nat_lt 0 (answer_mark side x + count_of (answer_mark side) items)
+    go true e more = rw e (sym (below 0 _ (let one : answer_mark side x ≡ 1 = rw e at (mark_is side x) in omega arith)))
+    go false e more =
+        let none : answer_mark side x ≡ 0 = rw e at (mark_is side x) in
+        rw e (more ∙ ap (nat_lt 0) (omega arith))
 
 pub answer_behind : (side : Side) (n : ℕ) (frames : List Sent) →
     has_answer side (behind n frames) ≡ has_answer side frames
 answer_behind side n [] = refl
 answer_behind side n (frame ∷ frames) = refl
 
-pub unawaited : (side to : Side) (a : Side → List ℕ) (q : Queue) → count_of (answer_mark side) q.items ≡ 0 →
-    has_answer side (frames_of to a q) ≡ false
-unawaited side to a q none = answer_behind side q.written (map (frame_of to a) q.items)
-    ∙ no_answer side to a q.items none
-
-pub awaited : (side to : Side) (a : Side → List ℕ) (q : Queue) → 0 < count_of (answer_mark side) q.items →
-    has_answer side (frames_of to a q) ≡ true
-awaited side to a q some = answer_behind side q.written (map (frame_of to a) q.items)
-    ∙ some_answer side to a q.items some
+pub answers_wait : (side to : Side) (a : Side → List ℕ) (q : Queue) →
+    has_answer side (frames_of to a q) ≡ nat_lt 0 (count_of (answer_mark side) q.items)
+answers_wait side to a q = answer_behind side q.written (map (frame_of to a) q.items) ∙ has_answers side to a q.items
 
 -- ---- whether a frame ends the session
 
