@@ -1,16 +1,17 @@
 -- A side's answer waits exactly where the side has one; and what a session sees of a side is what its fields say.
-use Rattle.std.proofs.Common.{◌≡◌, ℕ, zero, suc, ◌<◌, Bool, true, false, length, Option, Some, None}
+use Rattle.std.proofs.Common.{◌≡◌, ℕ, zero, suc, ◌+◌, ◌<◌, ◌≤◌, false, length, Option, Some, None}
 use Rattle.std.proofs.Common.{refl, sym, ap, ◌∙◌, arith}
-use Rattle.std.specs.Prelude.{is_some, ◌||◌}
+use Rattle.std.specs.Prelude.{is_some, ◌||◌, nat_lt}
 use Rattle.daide_frame.specs.declared.side.Side.{Side}
 use Rattle.daide_frame.specs.declared.side.Side.TheVariants.{Bot, Server}
 use Rattle.daide_reader.specs.declared.verdict.Verdict.{Verdict}
-use Rattle.daide_machine.specs.Wires.{has_answer, is_awaited}
+use Rattle.daide_machine.specs.Events.{other}
+use Rattle.daide_machine.specs.Wires.{is_awaited}
 use Rattle.daide_traffic.specs.Both.{at}
 use Rattle.daide_traffic.specs.Traffic.{Arrival, Traffic, Fields, IsSound, answer_at, answer_mark, arrival_of, count_of}
-use Rattle.daide_traffic.specs.Traffic.{frames_to}
 use Rattle.daide_traffic.specs.Traffic.{holding, pending, pending_by, presence, traffic_of}
-use Rattle.daide_traffic.proofs.MarksLemmas.{awaited, unawaited, least, length_marks}
+use Rattle.daide_traffic.proofs.MarksLemmas.{answers_wait, least, length_marks}
+use Rattle.daide_traffic.proofs.PartsLemmas.{below, not_below}
 
 -- no frame answers a side that has no answer
 pub silent : (f : Fields) (side to : Side) → IsSound f → (at f.sides side).verdict ≡ None →
@@ -18,39 +19,18 @@ pub silent : (f : Fields) (side to : Side) → IsSound f → (at f.sides side).v
 silent f side Bot i free = omega (arith, i.once side ∙ ap presence free)
 silent f side Server i free = omega (arith, i.once side ∙ ap presence free)
 
-none_awaited : (f : Fields) (side : Side) → IsSound f → presence (at f.sides side).verdict ≡ 0 →
-    is_awaited (at (traffic_of f).waiting) side ≡ false
-none_awaited f side i none =
-    let once = i.once side in
-    rw (
-      unawaited side Bot (answer_at f.sides) f.wires.bot (omega arith),
-      unawaited side Server (answer_at f.sides) f.wires.server (omega arith),
-    ) refl
-
-or_true : (a : Bool) → (a || true) ≡ true
-or_true true = refl
-or_true false = refl
-
-some_awaited : (f : Fields) (side : Side) → IsSound f → presence (at f.sides side).verdict ≡ 1 →
-    is_awaited (at (traffic_of f).waiting) side ≡ true
-some_awaited f side i some = go (count_of (answer_mark side) f.wires.bot.items) refl
-  where
-    go : (n : ℕ) → count_of (answer_mark side) f.wires.bot.items ≡ n →
-        (has_answer side (frames_to f Bot) || has_answer side (frames_to f Server)) ≡ true
-    go zero e =
-        let once = i.once side in
-        rw (awaited side Server (answer_at f.sides) f.wires.server (omega arith))
-        (or_true (has_answer side (frames_to f Bot)))
-    go (suc n) e = rw (awaited side Bot (answer_at f.sides) f.wires.bot (omega (arith, e))) refl
+some_of : (m n : ℕ) (o : Option Verdict) → m + n ≡ presence o → (nat_lt 0 m || nat_lt 0 n) ≡ is_some o
+some_of m n None e = rw (not_below 0 m (omega arith), not_below 0 n (omega arith)) refl
+some_of zero n (Some verdict) e = rw (below 0 n (omega arith)) refl
+some_of (suc m) n (Some verdict) e = rw (below 0 (suc m) (omega arith)) refl
 
 awaited_is : (f : Fields) (side : Side) → IsSound f →
     is_awaited (at (traffic_of f).waiting) side ≡ is_some (at f.sides side).verdict
-awaited_is f side i = go (at f.sides side).verdict refl
-  where
-    go : (o : Option Verdict) → (at f.sides side).verdict ≡ o →
-        is_awaited (at (traffic_of f).waiting) side ≡ is_some (at f.sides side).verdict
-    go None e = none_awaited f side i (ap presence e) ∙ sym (ap is_some e)
-    go (Some verdict) e = some_awaited f side i (ap presence e) ∙ sym (ap is_some e)
+awaited_is f side i =
+    rw (
+      answers_wait side Bot (answer_at f.sides) f.wires.bot,
+      answers_wait side Server (answer_at f.sides) f.wires.server,
+    ) (some_of _ _ (at f.sides side).verdict (i.once side))
 
 none_of : (o : Option Verdict) → is_some o ≡ false → o ≡ None
 none_of None e = refl
@@ -66,9 +46,8 @@ pub record IsSeen (f : Fields) (t : Traffic) (side one : Side) : Type 0 where
   pub arrival : at t.sides side ≡ arrival_of (at f.sides one)
   pub awaited : is_awaited (at t.waiting) side ≡ is_some (at f.sides one).verdict
 
-pub seen : (f : Fields) (t : Traffic) (side one : Side) → traffic_of f ≡ t → IsSound f → side ≡ one →
-    IsSeen f t side one
-seen f t side one is i s = record {
+pub seen : {f : Fields} {t : Traffic} {side one : Side} → IsSound f → traffic_of f ≡ t → side ≡ one → IsSeen f t side one
+seen {f} {t} {side} {one} i is s = record {
   is = is;
   sound = i;
   its = s;
@@ -97,9 +76,10 @@ pub record IsSeenFree (f : Fields) (t : Traffic) (side one : Side) : Type 0 wher
   pub free : (at f.sides one).verdict ≡ None
   pub pending : pending t side ≡ (at f.sides one).held
 
-pub seen_free : {f : Fields} {t : Traffic} {side one : Side} → IsSeen f t side one →
+pub seen_free : {f : Fields} {t : Traffic} {side one : Side} → IsSound f → traffic_of f ≡ t → side ≡ one →
     is_awaited (at t.waiting) side ≡ false → IsSeenFree f t side one
-seen_free {f} {t} {side} {one} h none =
+seen_free {f} {t} {side} {one} i is s none =
+    let h : IsSeen f t side one = seen i is s in
     let free = none_of (at f.sides one).verdict (sym h.awaited ∙ none) in
     record {
       seen = h;
@@ -109,31 +89,25 @@ seen_free {f} {t} {side} {one} h none =
     }
 
 -- where no answer waits, the bytes that are held are those since the last whole frame
-pub tied : {f : Fields} {t : Traffic} {side one : Side} → IsSeen f t side one →
+pub tied : {f : Fields} {t : Traffic} {side one : Side} → IsSound f → traffic_of f ≡ t → side ≡ one →
     is_awaited (at t.waiting) side ≡ false → (holding t side).held ≡ pending t side
-tied h none = ap (λ (a : Arrival). a.holding.held) h.arrival ∙ sym (seen_free h none).pending
+tied {f} {t} {side} {one} i is s none =
+    let h : IsSeenFree f t side one = seen_free i is s none in
+    ap (λ (a : Arrival). a.holding.held) h.seen.arrival ∙ sym h.pending
 
 -- a side without an answer leaves room for one frame more on each wire
 pub reply_room : {f : Fields} {t : Traffic} {side one : Side} → IsSeenFree f t side one → (to : Side) →
     length (at f.wires to).items < 3
-reply_room {f} {t} {side} {one} h to = go one to (silent f one to i h.free)
+reply_room {f} {t} {side} {one} h to = go one (silent f one to i h.free) (most to)
   where
     i : IsSound f
     i = h.seen.sound
 
-    go : (one wire : Side) → count_of (answer_mark one) (at f.wires wire).items ≡ 0 → length (at f.wires wire).items < 3
-    go Bot Bot e =
-        omega (arith, e, length_marks f.wires.bot.items, i.ends Bot, i.once Server, least f.sides.server.verdict)
-    go Bot Server e =
-        omega (arith, e, length_marks f.wires.server.items, i.ends Server, i.once Server, least f.sides.server.verdict)
-    go Server Bot e = omega (
-      arith,
-      e,
-      length_marks f.wires.bot.items,
-      i.ends Bot,
-      i.once Bot,
-      least
-          f.sides.bot.verdict,
-    )
-    go Server Server e =
-        omega (arith, e, length_marks f.wires.server.items, i.ends Server, i.once Bot, least f.sides.bot.verdict)
+    most : (wire : Side) → count_of (answer_mark (other one)) (at f.wires wire).items ≤ 1
+    most Bot = omega (arith, i.once (other one), least (at f.sides (other one)).verdict)
+    most Server = omega (arith, i.once (other one), least (at f.sides (other one)).verdict)
+
+    go : (one : Side) → count_of (answer_mark one) (at f.wires to).items ≡ 0 →
+        count_of (answer_mark (other one)) (at f.wires to).items ≤ 1 → length (at f.wires to).items < 3
+    go Bot e l = omega (arith, length_marks (at f.wires to).items, i.ends to)
+    go Server e l = omega (arith, length_marks (at f.wires to).items, i.ends to)

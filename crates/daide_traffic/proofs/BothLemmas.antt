@@ -1,20 +1,17 @@
 -- What is said of a side holds of either.
-use Rattle.std.proofs.Common.{◌≡◌, false, refl, ap, ◌∙◌}
+use Rattle.std.proofs.Common.{◌≡◌, refl, ap, ◌∙◌}
 use Rattle.daide_frame.specs.declared.side.Side.{Side}
 use Rattle.daide_frame.specs.declared.side.Side.TheVariants.{Bot, Server}
-use Rattle.daide_machine.specs.Wires.{same_side}
+use Rattle.daide_machine.specs.Events.{other}
 use Rattle.daide_traffic.specs.Both.{Both, at, put}
-
-pub other_at : {A : Type 0} (b : Both A) (side one : Side) (x : A) → same_side one side ≡ false →
-    at (put b side x) one ≡ at b one
-other_at b Bot Bot x e = absurd (cc)
-other_at b Bot Server x e = refl
-other_at b Server Bot x e = refl
-other_at b Server Server x e = absurd (cc)
 
 pub at_put : {A : Type 0} (b : Both A) (side : Side) (x : A) → at (put b side x) side ≡ x
 at_put b Bot x = refl
 at_put b Server x = refl
+
+pub put_there : {A : Type 0} (b : Both A) (side : Side) (x : A) → at (put b side x) (other side) ≡ at b (other side)
+put_there b Bot x = refl
+put_there b Server x = refl
 
 -- what holds of something new at a side, and of each side before, holds of each side after
 pub put_all : {A : Type 0} (P : Side → A → Type 0) (b : Both A) (side : Side) (x : A) → P side x →
@@ -23,6 +20,14 @@ put_all P b Bot x here there Bot = here
 put_all P b Bot x here there Server = there Server
 put_all P b Server x here there Bot = there Bot
 put_all P b Server x here there Server = here
+
+-- the same where it held of the other side before
+pub put_each : {A : Type 0} (P : Side → A → Type 0) (b : Both A) (side : Side) (x : A) → P side x →
+    P (other side) (at b (other side)) → (one : Side) → P one (at (put b side x) one)
+put_each P b Bot x here there Bot = here
+put_each P b Bot x here there Server = there
+put_each P b Server x here there Bot = there
+put_each P b Server x here there Server = here
 
 pub both_same : {A : Type 0} (a b : Both A) → a.bot ≡ b.bot → a.server ≡ b.server → a ≡ b
 both_same {A = A} a b e h =

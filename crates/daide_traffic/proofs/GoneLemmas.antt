@@ -77,30 +77,24 @@ behind_same old new to n waiting side =
     ap (λ (w : Both (List Sent)). has_answer side w.bot || has_answer side w.server) waiting
     ∙ behind_awaited old.waiting to n side
 
-pub lets_none_go : (old new : Traffic) (to : Side) (n : ℕ) → new.cap ≡ old.cap → new.max_depth ≡ old.max_depth →
-    new.sides ≡ old.sides → new.waiting ≡ put old.waiting to (behind n (at old.waiting to)) → LetsGo old new
-lets_none_go old new to n cap depth sides waiting = record {
+lets_nothing : (old new : Traffic) → new.cap ≡ old.cap → new.max_depth ≡ old.max_depth → new.sides ≡ old.sides →
+    ((side : Side) → is_awaited (at new.waiting) side ≡ is_awaited (at old.waiting) side) → LetsGo old new
+lets_nothing old new cap depth sides same = record {
   cap = cap;
   max_depth = depth;
   coming = λ side. ap (λ (b : Both Arrival). (at b side).coming) sides;
   total = λ side. ap (λ (b : Both Arrival). (at b side).holding.total) sides;
-  fewer = λ side none. behind_same old new to n waiting side ∙ none;
-  gone = λ side some none. (let bad = sym some ∙ sym (behind_same old new to n waiting side) ∙ none in absurd (cc));
+  fewer = λ side none. same side ∙ none;
+  gone = λ side some none. (let bad = sym some ∙ sym (same side) ∙ none in absurd (cc));
   kept = λ side e. ap (λ (b : Both Arrival). (at b side).holding) sides;
 }
 
--- ---- one call after the other
+pub lets_none_go : (old new : Traffic) (to : Side) (n : ℕ) → new.cap ≡ old.cap → new.max_depth ≡ old.max_depth →
+    new.sides ≡ old.sides → new.waiting ≡ put old.waiting to (behind n (at old.waiting to)) → LetsGo old new
+lets_none_go old new to n cap depth sides waiting =
+    lets_nothing old new cap depth sides (behind_same old new to n waiting)
 
-pub lets_same : (t : Traffic) → LetsGo t t
-lets_same t = record {
-  cap = refl;
-  max_depth = refl;
-  coming = λ side. refl;
-  total = λ side. refl;
-  fewer = λ side e. e;
-  gone = λ side some none. absurd (cc);
-  kept = λ side e. refl;
-}
+-- ---- one call after the other
 
 pub lets_more : (old mid new : Traffic) → LetsGo old mid → LetsGo mid new → LetsGo old new
 lets_more old mid new a b = record {
@@ -138,7 +132,7 @@ drop_none b Bot = refl
 drop_none b Server = refl
 
 pub losing_none : (t : Traffic) (to : Side) → IsLosing t t to 0
-losing_none t to = record { goes = lets_same t; left = drop_none t.waiting to }
+losing_none t to = record { goes = lets_nothing t t refl refl refl (λ side. refl); left = drop_none t.waiting to }
 
 others_drop : (n : ℕ) (frames : List Sent) → others (drop n frames) ≡ drop (suc n) frames
 others_drop zero [] = refl

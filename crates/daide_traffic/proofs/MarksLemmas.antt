@@ -2,13 +2,13 @@
 use Rattle.std.proofs.Common.{◌≡◌, ℕ, ◌+◌, ◌<◌, ◌≤◌, Bool, true, false, List, [], ◌∷◌, ◌++◌, length, map, Option, Some}
 use Rattle.std.proofs.Common.{None}
 use Rattle.std.proofs.Common.{refl, sym, ap, ◌∙◌, arith}
-use Rattle.std.specs.Prelude.{if◌then◌else◌, ◌||◌}
+use Rattle.std.specs.Prelude.{if◌then◌else◌, ◌||◌, nat_lt}
 use Rattle.std.proofs.lemmas.List.{map-append}
 use Rattle.daide_frame.specs.declared.side.Side.{Side}
 use Rattle.daide_frame.specs.declared.side.Side.TheVariants.{Bot, Server}
 use Rattle.daide_reader.specs.declared.verdict.Verdict.{Verdict}
 use Rattle.daide_machine.specs.Machine.{Sent}
-use Rattle.daide_machine.specs.Wires.{same_side, is_answer, has_answer}
+use Rattle.daide_machine.specs.Wires.{is_answer, has_answer}
 use Rattle.daide_traffic.specs.declared.wire.Waiting.{Waiting}
 use Rattle.daide_traffic.specs.declared.wire.Waiting.TheVariants.{Answer, Fm, Em}
 use Rattle.daide_traffic.specs.Both.{Both, at, put}
@@ -17,7 +17,8 @@ use Rattle.daide_traffic.specs.Wire.{Queue, pushed}
 use Rattle.daide_traffic.specs.Traffic.{answer_at, answers_of, bytes_in, frame_of, behind, frames_of, answer_mark}
 use Rattle.daide_traffic.specs.Traffic.{end_mark}
 use Rattle.daide_traffic.specs.Traffic.{count_of, presence, IsBegun, is_end, has_end, posted}
-use Rattle.daide_traffic.proofs.BothLemmas.{other_at, put_all}
+use Rattle.daide_traffic.proofs.BothLemmas.{put_all}
+use Rattle.daide_traffic.proofs.PartsLemmas.{below}
 
 -- ---- counts
 
@@ -105,84 +106,69 @@ frames_pushed a w Server item h =
 
 -- ---- other answers
 
--- the answers agree but for one side's
-abbrev pub Agrees : Side → (Side → List ℕ) → (Side → List ℕ) → Type 0
-Agrees side a b = (one : Side) → same_side one side ≡ false → b one ≡ a one
+-- the answers among these frames are the same
+abbrev pub Agree : (Side → List ℕ) → (Side → List ℕ) → List Waiting → Type 0
+Agree a b items = (side : Side) → 0 < count_of (answer_mark side) items → b side ≡ a side
 
-pub agrees_put : (sides : Both Inbound) (side : Side) (x : Inbound) →
-    Agrees side (answer_at sides) (answer_at (put sides side x))
-agrees_put sides side x one e = rw (other_at sides side one x e) refl
+-- an answer that isn't among them may be any
+pub agree_put : (sides : Both Inbound) (side : Side) (x : Inbound) (items : List Waiting) →
+    count_of (answer_mark side) items ≡ 0 → Agree (answer_at sides) (answer_at (put sides side x)) items
+agree_put sides Bot x items none Bot some = absurd (omega arith)
+agree_put sides Bot x items none Server some = refl
+agree_put sides Server x items none Bot some = refl
+agree_put sides Server x items none Server some = absurd (omega arith)
 
--- a frame that is not the side's answer is the same
-unseen_bytes : (side : Side) (a b : Side → List ℕ) → Agrees side a b → (item : Waiting) →
-    answer_mark side item ≡ 0 → bytes_in b item ≡ bytes_in a item
-unseen_bytes side a b same (Answer one) none = go (same_side one side) refl
-  where
-    go : (k : Bool) → same_side one side ≡ k → b one ≡ a one
-    go true e = let bad = rw e at none in absurd (omega arith)
-    go false e = same one e
-unseen_bytes side a b same Fm none = refl
-unseen_bytes side a b same (Em code) none = refl
+same_bytes : (a b : Side → List ℕ) (item : Waiting) → ((side : Side) → 0 < answer_mark side item → b side ≡ a side) →
+    bytes_in b item ≡ bytes_in a item
+same_bytes a b (Answer Bot) h = h Bot (omega arith)
+same_bytes a b (Answer Server) h = h Server (omega arith)
+same_bytes a b Fm h = refl
+same_bytes a b (Em code) h = refl
 
-frames_unseen : (side to : Side) (a b : Side → List ℕ) → Agrees side a b → (items : List Waiting) →
-    count_of (answer_mark side) items ≡ 0 → map (frame_of to b) items ≡ map (frame_of to a) items
-frames_unseen side to a b same [] none = refl
-frames_unseen side to a b same (x ∷ items) none =
-    rw (unseen_bytes side a b same x (omega arith), frames_unseen side to a b same items (omega arith)) refl
-
-pub begun_unseen : (side : Side) (a b : Side → List ℕ) → Agrees side a b → (n : ℕ) (items : List Waiting) →
-    count_of (answer_mark side) items ≡ 0 → IsBegun a n items → IsBegun b n items
-begun_unseen side a b same n [] none h = h
-begun_unseen side a b same n (x ∷ items) none h = rw (unseen_bytes side a b same x (omega arith)) h
-
-pub both_unseen : (side : Side) (a b : Side → List ℕ) (w : Both Queue) → Agrees side a b →
-    ((wire : Side) → count_of (answer_mark side) (at w wire).items ≡ 0) → both_frames b w ≡ both_frames a w
-both_unseen side a b w same none =
+pub same_frames : (to : Side) (a b : Side → List ℕ) (items : List Waiting) → Agree a b items →
+    map (frame_of to b) items ≡ map (frame_of to a) items
+same_frames to a b [] h = refl
+same_frames to a b (x ∷ items) h =
     rw (
-      frames_unseen side Bot a b same w.bot.items (none Bot),
-      frames_unseen side Server a b same w.server.items
-          (none Server),
-    )
-    refl
+      same_bytes a b x (λ side some. h side (omega arith)),
+      same_frames to a b items (λ side some. h side (omega arith)),
+    ) refl
+
+pub same_begun : (a b : Side → List ℕ) (n : ℕ) (items : List Waiting) → Agree a b items → IsBegun a n items →
+    IsBegun b n items
+same_begun a b n [] h begun = begun
+same_begun a b n (x ∷ items) h begun = rw (same_bytes a b x (λ side some. h side (omega arith))) begun
+
+pub same_both : (a b : Side → List ℕ) (w : Both Queue) → ((wire : Side) → Agree a b (at w wire).items) →
+    both_frames b w ≡ both_frames a w
+same_both a b w h =
+    rw (same_frames Bot a b w.bot.items (h Bot), same_frames Server a b w.server.items (h Server)) refl
 
 -- ---- whether an answer waits
 
-no_answer : (side to : Side) (a : Side → List ℕ) (items : List Waiting) → count_of (answer_mark side) items ≡ 0 →
-    has_answer side (map (frame_of to a) items) ≡ false
-no_answer side to a [] none = refl
-no_answer side to a (x ∷ items) none = go (is_answer side (answers_of x)) refl
-    (no_answer side to a items (omega arith))
-  where
-    go : (k : Bool) → is_answer side (answers_of x) ≡ k → has_answer side (map (frame_of to a) items) ≡ false →
-        (is_answer side (answers_of x) || has_answer side (map (frame_of to a) items)) ≡ false
-    go true e more = let one : answer_mark side x ≡ 1 = rw e at (mark_is side x) in absurd (omega arith)
-    go false e more = rw e more
-
-some_answer : (side to : Side) (a : Side → List ℕ) (items : List Waiting) → 0 < count_of (answer_mark side) items →
-    has_answer side (map (frame_of to a) items) ≡ true
-some_answer side to a [] some = absurd (omega arith)
-some_answer side to a (x ∷ items) some = go (is_answer side (answers_of x)) refl (some_answer side to a items)
+-- whether one is above 0, as a test
+has_answers : (side to : Side) (a : Side → List ℕ) (items : List Waiting) →
+    has_answer side (map (frame_of to a) items) ≡ nat_lt 0 (count_of (answer_mark side) items)
+has_answers side to a [] = refl
+has_answers side to a (x ∷ items) = go (is_answer side (answers_of x)) refl (has_answers side to a items)
   where
     go : (k : Bool) → is_answer side (answers_of x) ≡ k →
-        (0 < count_of (answer_mark side) items → has_answer side (map (frame_of to a) items) ≡ true) →
-        (is_answer side (answers_of x) || has_answer side (map (frame_of to a) items)) ≡ true
-    go true e more = rw e refl
-    go false e more = let none : answer_mark side x ≡ 0 = rw e at (mark_is side x) in rw e (more (omega arith))
+        has_answer side (map (frame_of to a) items) ≡ nat_lt 0 (count_of (answer_mark side) items) →
+        (is_answer side (answers_of x) || has_answer side (map (frame_of to a) items))
+        ≡ nat_lt 0 (answer_mark side x + count_of (answer_mark side) items)
+    go true e more = rw e (sym (below 0 _ (let one : answer_mark side x ≡ 1 = rw e at (mark_is side x) in omega arith)))
+    go false e more =
+        let none : answer_mark side x ≡ 0 = rw e at (mark_is side x) in
+        rw e (more ∙ ap (nat_lt 0) (omega arith))
 
 pub answer_behind : (side : Side) (n : ℕ) (frames : List Sent) →
     has_answer side (behind n frames) ≡ has_answer side frames
 answer_behind side n [] = refl
 answer_behind side n (frame ∷ frames) = refl
 
-pub unawaited : (side to : Side) (a : Side → List ℕ) (q : Queue) → count_of (answer_mark side) q.items ≡ 0 →
-    has_answer side (frames_of to a q) ≡ false
-unawaited side to a q none = answer_behind side q.written (map (frame_of to a) q.items)
-    ∙ no_answer side to a q.items none
-
-pub awaited : (side to : Side) (a : Side → List ℕ) (q : Queue) → 0 < count_of (answer_mark side) q.items →
-    has_answer side (frames_of to a q) ≡ true
-awaited side to a q some = answer_behind side q.written (map (frame_of to a) q.items)
-    ∙ some_answer side to a q.items some
+pub answers_wait : (side to : Side) (a : Side → List ℕ) (q : Queue) →
+    has_answer side (frames_of to a q) ≡ nat_lt 0 (count_of (answer_mark side) q.items)
+answers_wait side to a q = answer_behind side q.written (map (frame_of to a) q.items) ∙ has_answers side to a q.items
 
 -- ---- whether a frame ends the session
 

@@ -1,10 +1,10 @@
 -- A side's frame changes, and no answer to it waits before or after.
-use Rattle.std.proofs.Common.{◌≡◌, ℕ, ◌<◌, List, ◌++◌, length, drop, Option, None}
+use Rattle.std.proofs.Common.{◌≡◌, ℕ, ◌<◌, ◌≤◌, List, ◌++◌, length, drop, Option, None}
 use Rattle.std.proofs.Common.{refl, sym, ap, ◌∙◌, subst, arith, ◌⊎◌}
 use Rattle.daide_frame.specs.declared.side.Side.{Side}
 use Rattle.daide_frame.specs.declared.side.Side.TheVariants.{Bot, Server}
 use Rattle.daide_frame.specs.declared.cutter.Step.{Step}
-use Rattle.daide_frame.specs.Frames.{fed, fed_items, told, head_in, IsFault}
+use Rattle.daide_frame.specs.Frames.{fed, fed_items, told, head_in, missing, IsFault}
 use Rattle.daide_grammar.specs.declared.level.Level.{Level}
 use Rattle.daide_reader.specs.declared.verdict.Verdict.{Verdict}
 use Rattle.daide_traffic.specs.Both.{at, put}
@@ -14,7 +14,7 @@ use Rattle.daide_traffic.specs.Traffic.{pending}
 use Rattle.daide_traffic.specs.Traffic.{pending_by, presence, traffic_of}
 use Rattle.daide_traffic.proofs.AwaitedLemmas.{IsSeenFree, silent}
 use Rattle.daide_traffic.proofs.BothLemmas.{put_all}
-use Rattle.daide_traffic.proofs.MarksLemmas.{agrees_put, begun_unseen, both_unseen}
+use Rattle.daide_traffic.proofs.MarksLemmas.{agree_put, same_begun, same_both}
 
 abbrev pub with_side : Fields → Side → Inbound → Fields
 with_side f side x = record { sides = put f.sides side x; wires = f.wires }
@@ -51,8 +51,8 @@ sound_side {f} {t} {given} {side} x h e none = record {
   ends = i.ends;
   filled = put_all (λ (s : Side) (y : Inbound). presence y.verdict ≡ 1 → 0 < length (answer_of y)) f.sides side x
       (none_there x.verdict none) i.filled;
-  begun = λ to. begun_unseen side (answer_at f.sides) (answer_at (put f.sides side x)) (agrees_put f.sides side x)
-      (at f.wires to).written (at f.wires to).items (silent f side to i h.free) (i.begun to);
+  begun = λ to. same_begun (answer_at f.sides) (answer_at (put f.sides side x)) (at f.wires to).written
+      (at f.wires to).items (agree_put f.sides side x (at f.wires to).items (silent f side to i h.free)) (i.begun to);
 }
   where
     i : IsSound f
@@ -61,12 +61,28 @@ sound_side {f} {t} {given} {side} x h e none = record {
     none_there : {A : Type 0} → (o : Option Verdict) → o ≡ None → presence o ≡ 1 → A
     none_there o e h = let bad = rw e at h in absurd (omega arith)
 
+-- after a frame began anew, and after its message was read on
+pub begun_sound : {f : Fields} {t : Traffic} {given side : Side} {x : Inbound} {level : Level} {bytes : List ℕ} →
+    IsSeenFree f t given side → Begins (at f.sides side) level bytes x → IsSound (with_side f side x)
+begun_sound {x = x} h b =
+    sound_side x h (record { side = b.side; cap = b.cap; max_depth = b.max_depth }) b.unanswered
+
+pub read_sound : {f : Fields} {t : Traffic} {given side : Side} {x : Inbound} {bytes : List ℕ} →
+    IsSeenFree f t given side → Reads (at f.sides side) bytes x → IsSound (with_side f side x)
+read_sound {x = x} h r =
+    sound_side x h (record { side = r.side; cap = r.cap; max_depth = r.max_depth }) r.unanswered
+
+-- what there is room for
+pub fits_side : {f : Fields} {t : Traffic} {side one : Side} (n : ℕ) → IsSeenFree f t side one →
+    n ≤ missing t.cap (pending t side) → n ≤ missing (at f.sides one).cap (at f.sides one).held
+fits_side {f} {t} {side} {one} n h l = rw (h.seen.cap, h.pending) at l
+
 -- what waits is the same
 pub waiting_side : {f : Fields} {t : Traffic} {side one : Side} (x : Inbound) → IsSeenFree f t side one →
     (traffic_of (with_side f one x)).waiting ≡ t.waiting
 waiting_side {f} {t} {side} {one} x h =
-    both_unseen one (answer_at f.sides) (answer_at (put f.sides one x)) f.wires (agrees_put f.sides one x)
-    (λ to. silent f one to h.seen.sound h.free)
+    same_both (answer_at f.sides) (answer_at (put f.sides one x)) f.wires
+    (λ to. agree_put f.sides one x (at f.wires to).items (silent f one to h.seen.sound h.free))
     ∙ ap (λ (v : Traffic). v.waiting) h.seen.is
 
 -- ---- a value t that the fields stand for, and a side that is known
@@ -133,11 +149,11 @@ pub record IsToldOf (cap : ℕ) (bytes piece : List ℕ) (step : Step) (new_cap 
   pub whole : IsFault step ⊎ (new_bytes ≡ bytes ++ piece)
 
 pub told_of : {f : Fields} {t : Traffic} {side one : Side} (x : Inbound) (piece : List ℕ) (step : Step) →
-    IsSeenFree f t side one → x.verdict ≡ None → x.cap ≡ (at f.sides one).cap →
+    IsSeenFree f t side one → Reads (at f.sides one) (fed (at f.sides one).cap (at f.sides one).held piece) x →
     IsToldOf (at f.sides one).cap (at f.sides one).held piece step x.cap x.held →
     IsToldOf t.cap (pending t side) piece step (traffic_of (with_side f one x)).cap
     (pending (traffic_of (with_side f one x)) side)
-told_of {f} {t} {side} {one} x piece step h none same told =
+told_of {f} {t} {side} {one} x piece step h r told =
     subst (λ (n : ℕ). IsToldOf t.cap (pending t side) piece step n (pending (traffic_of (with_side f one x)) side))
-    (same ∙ sym h.seen.cap ∙ sym (cap_kept f t one x h.seen.is same))
-    (rw (pending_arrived f side one x h.seen.its none, h.pending, h.seen.cap) told)
+    (r.cap ∙ sym h.seen.cap ∙ sym (cap_kept f t one x h.seen.is r.cap))
+    (rw (pending_arrived f side one x h.seen.its r.unanswered, h.pending, h.seen.cap) told)

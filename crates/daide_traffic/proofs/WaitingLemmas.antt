@@ -13,13 +13,13 @@ use Rattle.daide_traffic.specs.declared.wire.Waiting.TheVariants.{Answer}
 use Rattle.daide_traffic.specs.Both.{Both, at, put}
 use Rattle.daide_traffic.specs.Inbound.{Answers, Inbound, answer_of}
 use Rattle.daide_traffic.specs.Wire.{Queue, pushed}
-use Rattle.daide_traffic.specs.Traffic.{Arrival, Fields, IsSound, Traffic, answer_at, answer_mark, bytes_in, count_of}
+use Rattle.daide_traffic.specs.Traffic.{Arrival, Fields, IsBegun, IsSound, Traffic, answer_at, answer_mark, bytes_in, count_of}
 use Rattle.daide_traffic.specs.Traffic.{end_mark, end_to, ending_of, frame_of, has_end, noted, pending, posted}
 use Rattle.daide_traffic.specs.Traffic.{presence, traffic_of}
 use Rattle.daide_traffic.proofs.AwaitedLemmas.{IsSeenFree, silent}
 use Rattle.daide_traffic.proofs.BothLemmas.{at_put, put_all}
 use Rattle.daide_traffic.proofs.FrontLemmas.{waits_at}
-use Rattle.daide_traffic.proofs.MarksLemmas.{agrees_put, begun_pushed, begun_unseen, both_unseen, count_pushed}
+use Rattle.daide_traffic.proofs.MarksLemmas.{agree_put, begun_pushed, count_pushed, same_begun, same_both}
 use Rattle.daide_traffic.proofs.MarksLemmas.{first_pushed}
 use Rattle.daide_traffic.proofs.MarksLemmas.{frames_pushed, least, length_marks, unended, unmarked_pushed}
 use Rattle.daide_traffic.proofs.SidesLemmas.{IsSameSide, caps, depths, its_sides}
@@ -44,6 +44,13 @@ presence_put sides Bot Server x e h = omega arith
 presence_put sides Server Bot x e h = omega arith
 presence_put sides Server Server x e h = rw (e, h) refl
 
+-- what waits is begun as it was
+replied_begun : (f : Fields) (side : Side) (x : Inbound) → IsSound f → (at f.sides side).verdict ≡ None →
+    (wire : Side) → IsBegun (answer_at (put f.sides side x)) (at f.wires wire).written (at f.wires wire).items
+replied_begun f side x i free wire =
+    same_begun (answer_at f.sides) (answer_at (put f.sides side x)) (at f.wires wire).written (at f.wires wire).items
+    (agree_put f.sides side x (at f.wires wire).items (silent f side wire i free)) (i.begun wire)
+
 replied_sound : (f : Fields) (side to : Side) (x : Inbound) → IsSound f → (at f.sides side).verdict ≡ None →
     IsSameSide (at f.sides side) x → presence x.verdict ≡ 1 → 0 < length (answer_of x) →
     IsSound (record { sides = put f.sides side x; wires = put f.wires to (pushed (at f.wires to) (Answer side)) })
@@ -57,17 +64,9 @@ replied_sound f side to x i free same one_more some = record {
   ends = λ one. rw (unmarked_pushed f.wires to one end_mark (Answer side) refl) (i.ends one);
   filled = put_all (λ (s : Side) (y : Inbound). presence y.verdict ≡ 1 → 0 < length (answer_of y)) f.sides side x
       (λ _. some) i.filled;
-  begun = λ one. begun_pushed after f.wires to one (Answer side) more
-      (λ wire. begun_unseen side (answer_at f.sides) after
-      (agrees_put f.sides side x) (at f.wires wire).written (at f.wires wire).items (silent f side wire i free)
-      (i.begun wire));
+  begun = λ one. begun_pushed (answer_at (put f.sides side x)) f.wires to one (Answer side)
+      (rw (at_put f.sides side x) some) (replied_begun f side x i free);
 }
-  where
-    after : Side → List ℕ
-    after = answer_at (put f.sides side x)
-
-    more : 0 < length (after side)
-    more = rw (at_put f.sides side x) some
 
 replied_waiting : (f : Fields) (side to : Side) (x : Inbound) → IsSound f → (at f.sides side).verdict ≡ None →
     (traffic_of (record {
@@ -77,11 +76,10 @@ replied_waiting : (f : Fields) (side to : Side) (x : Inbound) → IsSound f → 
     })).waiting
     ≡ posted (traffic_of f).waiting (record { to = to; answers = Some side; bytes = answer_of x })
 replied_waiting f side to x i free =
-    frames_pushed after f.wires to (Answer side) (λ wire. begun_unseen side (answer_at f.sides) after
-    (agrees_put f.sides side x) (at f.wires wire).written (at f.wires wire).items (silent f side wire i free)
-    (i.begun wire))
+    frames_pushed after f.wires to (Answer side) (replied_begun f side x i free)
     ∙ ap (λ (w : Both (List Sent)). posted w (frame_of to after (Answer side)))
-    (both_unseen side (answer_at f.sides) after f.wires (agrees_put f.sides side x) (λ wire. silent f side wire i free))
+    (same_both (answer_at f.sides) after f.wires
+    (λ wire. agree_put f.sides side x (at f.wires wire).items (silent f side wire i free)))
     ∙ ap (λ (y : Inbound). posted (traffic_of f).waiting (record { to = to; answers = Some side; bytes = answer_of y }))
     (at_put f.sides side x)
   where
@@ -89,40 +87,32 @@ replied_waiting f side to x i free =
     after = answer_at (put f.sides side x)
 
 -- the side's frame is answered, and the wires are as they were but for the answer
-pub record IsPosted (f : Fields) (t : Traffic) (side one to : Side) (head : Head) (verdict : Verdict) (x : Inbound)
-    (w : Both Queue) : Type 0 where
-  pub seen : IsSeenFree f t side one
-  pub answers : Answers (at f.sides one) head verdict x
-  pub wires : w ≡ put f.wires to (pushed (at f.wires to) (Answer side))
-
-pub post_sound : {f : Fields} {t : Traffic} {side one to : Side} {head : Head} {verdict : Verdict} {x : Inbound}
-    {w : Both Queue} → IsPosted f t side one to head verdict x w →
-    IsSound (record { sides = put f.sides one x; wires = w })
-post_sound {f} {t} {side} {one} {to} {head} {verdict} {x} p =
-    let a = p.answers in
+pub post_sound : {f : Fields} {t : Traffic} {side one : Side} (to : Side) {head : Head} {verdict : Verdict} {x : Inbound}
+    {w : Both Queue} → IsSeenFree f t side one → Answers (at f.sides one) head verdict x →
+    w ≡ put f.wires to (pushed (at f.wires to) (Answer side)) → IsSound (record { sides = put f.sides one x; wires = w })
+post_sound {f} {t} {side} {one} to {head} {verdict} {x} h a wires =
     subst (λ (v : Both Queue). IsSound (record { sides = put f.sides one x; wires = v }))
-    (sym (p.wires ∙ ap (λ (s : Side). put f.wires to (pushed (at f.wires to) (Answer s))) p.seen.seen.its))
-    (replied_sound f one to x p.seen.seen.sound p.seen.free
-    (record { side = a.side; cap = a.cap; max_depth = a.max_depth })
+    (sym (wires ∙ ap (λ (s : Side). put f.wires to (pushed (at f.wires to) (Answer s))) h.seen.its))
+    (replied_sound f one to x h.seen.sound h.free (record { side = a.side; cap = a.cap; max_depth = a.max_depth })
     (ap presence a.verdict_set) (answer_some (at f.sides one) x head verdict a))
 
-pub post_waiting : {f : Fields} {t : Traffic} {side one to : Side} {head : Head} {verdict : Verdict} {x : Inbound}
-    {w : Both Queue} → IsPosted f t side one to head verdict x w →
+pub post_waiting : {f : Fields} {t : Traffic} {side one : Side} (to : Side) {head : Head} {verdict : Verdict} {x : Inbound}
+    {w : Both Queue} → IsSeenFree f t side one → Answers (at f.sides one) head verdict x →
+    w ≡ put f.wires to (pushed (at f.wires to) (Answer side)) →
     (traffic_of (record { sides = put f.sides one x; wires = w })).waiting ≡ posted t.waiting (record {
       to = to;
       answers = Some side;
       bytes = answer_bytes head (drop 4 (pending t side)) verdict;
     })
-post_waiting {f} {t} {side} {one} {to} {head} {verdict} {x} p =
-    let its = p.seen.seen.its in
+post_waiting {f} {t} {side} {one} to {head} {verdict} {x} h a wires =
+    let its = h.seen.its in
     let bytes : answer_of x ≡ answer_bytes head (drop 4 (pending t side)) verdict =
-    answer_is (at f.sides one) x head verdict p.answers
-    ∙ ap (λ (b : List ℕ). answer_bytes head (drop 4 b) verdict) (sym p.seen.pending) in
+    answer_is (at f.sides one) x head verdict a
+    ∙ ap (λ (b : List ℕ). answer_bytes head (drop 4 b) verdict) (sym h.pending) in
     ap (λ (v : Both Queue). (traffic_of (record { sides = put f.sides one x; wires = v })).waiting)
-    (p.wires ∙ ap (λ (s : Side). put f.wires to (pushed (at f.wires to) (Answer s))) its)
-    ∙ replied_waiting f one to x p.seen.seen.sound p.seen.free
-    ∙ ap (λ (v : Traffic). posted v.waiting (record { to = to; answers = Some one; bytes = answer_of x }))
-    p.seen.seen.is
+    (wires ∙ ap (λ (s : Side). put f.wires to (pushed (at f.wires to) (Answer s))) its)
+    ∙ replied_waiting f one to x h.seen.sound h.free
+    ∙ ap (λ (v : Traffic). posted v.waiting (record { to = to; answers = Some one; bytes = answer_of x })) h.seen.is
     ∙ ap (λ (s : Side). posted t.waiting (record { to = to; answers = Some s; bytes = answer_of x })) (sym its)
     ∙ ap (λ (b : List ℕ). posted t.waiting (record { to = to; answers = Some side; bytes = b })) bytes
 
@@ -147,29 +137,13 @@ unended_field f t to is none =
 pub end_room : (f : Fields) (t : Traffic) (to : Side) → traffic_of f ≡ t → IsSound f → has_end (at t.waiting to)
     ≡ false →
     length (at f.wires to).items < 3
-end_room f t to is i none = go to (unended_field f t to is none)
+end_room f t to is i none =
+    let none = unended_field f t to is none in
+    omega (arith, length_marks (at f.wires to).items, once Bot to, once Server to)
   where
-    go : (wire : Side) → count_of end_mark (at f.wires wire).items ≡ 0 → length (at f.wires wire).items < 3
-    go Bot e =
-        omega (
-          arith,
-          e,
-          length_marks f.wires.bot.items,
-          i.once Bot,
-          i.once Server,
-          least f.sides.bot.verdict,
-          least f.sides.server.verdict,
-        )
-    go Server e =
-        omega (
-          arith,
-          e,
-          length_marks f.wires.server.items,
-          i.once Bot,
-          i.once Server,
-          least f.sides.bot.verdict,
-          least f.sides.server.verdict,
-        )
+    once : (side wire : Side) → count_of (answer_mark side) (at f.wires wire).items ≤ 1
+    once side Bot = omega (arith, i.once side, least (at f.sides side).verdict)
+    once side Server = omega (arith, i.once side, least (at f.sides side).verdict)
 
 ending_some : (a : Side → List ℕ) (code : Option Code) → 0 < length (bytes_in a (ending_of code))
 ending_some a None = omega arith

@@ -1,6 +1,5 @@
 use Rattle.daide_traffic.specs.Traffic.{fields}
 use Rattle.daide_traffic.proofs.DroppedLemmas.{IsLeft, dropped_first}
-use Rattle.daide_traffic.proofs.FrontsKept.{dropped_front}
 use Rattle.daide_traffic.proofs.traffic.Traffic.drop_first.Given.{Over}
 use Rattle.daide_traffic.proofs.traffic.Traffic.drop_first.Goals.{After-release}
 use Rattle.daide_traffic.proofs.traffic.Traffic.drop_first.Goals as goal
@@ -23,9 +22,4 @@ pub returns-clause-waiting : goal.returns-clause-waiting
 returns-clause-waiting g c = (left g (goal.at.returns-clause-waiting g c).After-release).waiting
 
 pub returns-clause-other_front : goal.returns-clause-other_front
-returns-clause-other_front g c =
-    let d = c.self.inside in
-    let f = fields d.bot d.server d.to_bot d.to_server in
-    let n = fields c.release.new.bot c.release.new.server c.pop-gone.new.to_bot c.pop-gone.new.to_server in
-    dropped_front f n c.args.self.now c.args.to c.pop-gone.result c.self.view_is c.self.invariant
-    c.pop-gone.ensures.gone c.pop-gone.ensures.left c.release.ensures.bot c.release.ensures.server
+returns-clause-other_front g c = (left g (goal.at.returns-clause-other_front g c).After-release).other_front

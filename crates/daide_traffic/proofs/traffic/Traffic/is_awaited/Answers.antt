@@ -1,31 +1,17 @@
 use Rattle.std.proofs.Common.{sym, ◌∙◌}
-use Rattle.daide_frame.specs.declared.side.Side.TheVariants.{Bot, Server}
-use Rattle.daide_traffic.specs.Traffic.{fields}
 use Rattle.daide_traffic.proofs.AwaitedLemmas.{seen, tied}
 use Rattle.daide_traffic.proofs.traffic.Traffic.is_awaited.Goals as goal
 
 pub returns-in-Bot-clause-value : goal.returns-in-Bot-clause-value
 returns-in-Bot-clause-value g c =
-    let d = c.self.inside in
-    c.is_awaited.ensures ∙ sym
-    (seen (fields d.bot d.server d.to_bot d.to_server) c.args.self.now c.args.side Bot c.self.view_is
-    c.self.invariant c.in-Bot.is).awaited
+    c.is_awaited.ensures ∙ sym (seen c.self.invariant c.self.view_is c.in-Bot.is).awaited
 
 pub returns-in-Bot-clause-tied : goal.returns-in-Bot-clause-tied
-returns-in-Bot-clause-tied g c =
-    let d = c.self.inside in
-    tied (seen (fields d.bot d.server d.to_bot d.to_server) c.args.self.now c.args.side Bot c.self.view_is
-    c.self.invariant c.in-Bot.is)
+returns-in-Bot-clause-tied g c = tied c.self.invariant c.self.view_is c.in-Bot.is
 
 pub returns-in-Server-clause-value : goal.returns-in-Server-clause-value
 returns-in-Server-clause-value g c =
-    let d = c.self.inside in
-    c.is_awaited-in-Server.ensures ∙ sym
-    (seen (fields d.bot d.server d.to_bot d.to_server) c.args.self.now c.args.side Server c.self.view_is
-    c.self.invariant c.in-Server.is).awaited
+    c.is_awaited-in-Server.ensures ∙ sym (seen c.self.invariant c.self.view_is c.in-Server.is).awaited
 
 pub returns-in-Server-clause-tied : goal.returns-in-Server-clause-tied
-returns-in-Server-clause-tied g c =
-    let d = c.self.inside in
-    tied (seen (fields d.bot d.server d.to_bot d.to_server) c.args.self.now c.args.side Server c.self.view_is
-    c.self.invariant c.in-Server.is)
+returns-in-Server-clause-tied g c = tied c.self.invariant c.self.view_is c.in-Server.is
