@@ -75,7 +75,7 @@ by-level n a b {f} {f'} {g} {g'} h x y z =
     go false false e = y
 
 -- what stands from a level on stands at every higher one
-from-within : (x a b : Level) {f g : Form} → a ⊑ b → Within f g → Within (from x a f) (from x b g)
+pub from-within : (x a b : Level) {f g : Form} → a ⊑ b → Within f g → Within (from x a f) (from x b g)
 from-within x a b h k = by-level (level_number x) a b h k missing missing
 
 -- operands are flat arrangements at first, and then any

@@ -1,92 +1,153 @@
 -- Calls of a hub in a row leave its sessions apart.
-use Rattle.std.proofs.Common.{◌≡◌, ℕ, zero, suc, List, [], ◌∷◌, ◌++◌, Option, Some, refl, sym, ap, subst, set}
+use Rattle.std.proofs.Common.{◌≡◌, ℕ, zero, suc, true, List, [], ◌∷◌, ◌++◌, length, map, Option, Some, refl, sym, ap}
+use Rattle.std.proofs.Common.{subst, set, ◌∙◌}
 use Rattle.std.specs.Prelude.{slice_get, remove, unwrap_or}
 use Rattle.daide_machine.specs.Machine.{Limits}
-use Rattle.daide_machine.specs.Wires.{Gateway, IsNew}
+use Rattle.daide_machine.specs.Wires.{Gateway, is_closed}
 use Rattle.daide_session.specs.Record.{PortAnswer}
 use Rattle.daide_session.specs.Hub.{Hosting, IsTurned}
-use Rattle.daide_session.specs.HubRuns.{HubCall, Added, Turned, Removed, HubStep, HubRuns, TurnsAlone, AreApart, none}
-use Rattle.daide_session.specs.HubRuns.{gone, stays, comes}
+use Rattle.daide_session.specs.HubRuns.{HubCall, Added, Turned, Removed, HubStep, HubRuns, Stood, Opened, Life}
+use Rattle.daide_session.specs.HubRuns.{fresh_life, turned, turned_at, lives_after, lives_after_all, lives_of}
+use Rattle.daide_session.specs.HubRuns.{WentAlone, AreApart}
+
+-- what is the one thing is the other
+some-same : {X : Type 0} (x y : X) → Some x ≡ Some y → x ≡ y
+some-same {X} x y e = ap (λ (o : Option X). unwrap_or o x) e
 
 module _ {P : Type 0} (told : P → Option (List PortAnswer)) (limits : Limits) where
-  -- turns after turns are turns
-  turns_join : (n m : ℕ) (a b c : Gateway × P) → TurnsAlone told n a b → TurnsAlone told m b c →
-      (k : ℕ) × TurnsAlone told k a c
-  turns_join n zero a b c s t = (n, subst (λ (x : Gateway × P). TurnsAlone told n a x) (sym t) s)
-  turns_join n (suc m) a b c s t =
-      let more = turns_join n m a b t.0 s t.1 in
-      (suc more.0, (t.0, more.1, t.2))
+  -- lives and places, one by one
+  abbrev Each : List (Life P) → List (Gateway × P) → Type 0
+  Each [] [] = Unit {0}
+  Each [] (place ∷ places) = ⊥
+  Each (life ∷ lives) [] = ⊥
+  Each (life ∷ lives) (place ∷ places) = WentAlone told limits life place × Each lives places
 
-  one_turn : (a b : Gateway × P) → IsTurned told a b → TurnsAlone told 1 a b
-  one_turn a b t = (a, refl, t)
+  each-standing : (places : List (Gateway × P)) → Each (map (λ place. fresh_life (Stood place)) places) places
+  each-standing [] = tt
+  each-standing (place ∷ places) = ((place, refl, refl), each-standing places)
 
-  all_stay : (xs : List (Gateway × P)) → AreApart told limits xs xs
-  all_stay [] = none
-  all_stay (x ∷ xs) = stays 0 x x xs xs refl (all_stay xs)
+  each-added : (lives : List (Life P)) (places : List (Gateway × P)) (life : Life P) (place : Gateway × P) →
+      WentAlone told limits life place → Each lives places → Each (lives ++ life ∷ []) (places ++ place ∷ [])
+  each-added [] [] life place w each = (w, tt)
+  each-added [] (p ∷ places) life place w each = absurd each
+  each-added (l ∷ lives) [] life place w each = absurd each
+  each-added (l ∷ lives) (p ∷ places) life place w each = (each.0, each-added lives places life place w each.1)
 
-  apart_join : (xs ys zs : List (Gateway × P)) → AreApart told limits xs ys → AreApart told limits ys zs →
-      AreApart told limits xs zs
-  apart_join xs ys zs none k = k
-  apart_join xs ys zs (gone p os ns h) k = gone p os zs (apart_join os ns zs h k)
-  apart_join xs ys zs (stays n p q os ns t h) (gone r ms ls k) = gone p os zs (apart_join os ns zs h k)
-  apart_join xs ys zs (stays n p q os ns t h) (stays m r s ms ls u k) =
-      let both = turns_join n m p q s t u in
-      stays both.0 p s os ls both.1 (apart_join os ns ls h k)
-  apart_join xs ys zs (comes n opened ports q ns new t h) (gone r ms ls k) = apart_join [] ns zs h k
-  apart_join xs ys zs (comes n opened ports q ns new t h) (stays m r s ms ls u k) =
-      let both = turns_join n m (opened, ports) q s t u in
-      comes both.0 opened ports s ls new both.1 (apart_join [] ns ls h k)
+  -- a turn of its own more
+  once-more : (life : Life P) (before after : Gateway × P) → WentAlone told limits life before →
+      IsTurned told before after → WentAlone told limits (turned life) after
+  once-more life before after w t = (w.0, w.1, (before, w.2, t))
 
-  added : (xs : List (Gateway × P)) (opened : Gateway) (ports : P) → IsNew limits opened →
-      AreApart told limits xs (xs ++ (opened, ports) ∷ [])
-  added [] opened ports new = comes 0 opened ports (opened, ports) [] new refl none
-  added (x ∷ xs) opened ports new = stays 0 x x xs (xs ++ (opened, ports) ∷ []) refl (added xs opened ports new)
+  each-turned : (lives : List (Life P)) (places : List (Gateway × P)) (i : ℕ) (before after : Gateway × P) →
+      slice_get places i ≡ Some before → IsTurned told before after → Each lives places →
+      Each (turned_at i lives) (set places i after)
+  each-turned [] [] i before after e t each = absurd (cc)
+  each-turned [] (p ∷ places) i before after e t each = absurd each
+  each-turned (l ∷ lives) [] i before after e t each = absurd each
+  each-turned (l ∷ lives) (p ∷ places) zero before after e t each =
+      let went = subst (λ (x : Gateway × P). WentAlone told limits l x) (some-same p before e) each.0 in
+      (once-more l before after went t, each.1)
+  each-turned (l ∷ lives) (p ∷ places) (suc i) before after e t each =
+      (each.0, each-turned lives places i before after e t each.1)
 
-  turned : (xs : List (Gateway × P)) (i : ℕ) (before after : Gateway × P) → slice_get xs i ≡ Some before →
-      IsTurned told before after → AreApart told limits xs (set xs i after)
-  turned [] i before after e t = absurd (cc)
-  turned (x ∷ xs) zero before after e t =
-      let same : x ≡ before = ap (λ (o : Option (Gateway × P)). unwrap_or o x) e in
-      stays 1 x after xs xs
-      (subst (λ (y : Gateway × P). TurnsAlone told 1 y after) (sym same) (one_turn before after t))
-      (all_stay xs)
-  turned (x ∷ xs) (suc i) before after e t = stays 0 x x xs (set xs i after) refl (turned xs i before after e t)
+  each-removed : (lives : List (Life P)) (places : List (Gateway × P)) (i : ℕ) → Each lives places →
+      Each (remove lives i) (remove places i)
+  each-removed [] [] zero each = tt
+  each-removed [] [] (suc i) each = tt
+  each-removed [] (p ∷ places) i each = absurd each
+  each-removed (l ∷ lives) [] i each = absurd each
+  each-removed (l ∷ lives) (p ∷ places) zero each = each.1
+  each-removed (l ∷ lives) (p ∷ places) (suc i) each = (each.0, each-removed lives places i each.1)
 
-  taken_out : (xs : List (Gateway × P)) (i : ℕ) (x : Gateway × P) → slice_get xs i ≡ Some x →
-      AreApart told limits xs (remove xs i)
-  taken_out [] i x e = absurd (cc)
-  taken_out (y ∷ xs) zero x e = gone y xs xs (all_stay xs)
-  taken_out (y ∷ xs) (suc i) x e = stays 0 y y xs (remove xs i) refl (taken_out xs i x e)
+  each-counted : (lives : List (Life P)) (places : List (Gateway × P)) → Each lives places →
+      length places ≡ length lives
+  each-counted [] [] each = refl
+  each-counted [] (p ∷ places) each = absurd each
+  each-counted (l ∷ lives) [] each = absurd each
+  each-counted (l ∷ lives) (p ∷ places) each = ap suc (each-counted lives places each.1)
+
+  -- the life at a place that there is
+  each-found : (lives : List (Life P)) (places : List (Gateway × P)) (i : ℕ) (now : Gateway × P) →
+      slice_get places i ≡ Some now → Each lives places →
+      (life : Life P) × (slice_get lives i ≡ Some life) × WentAlone told limits life now
+  each-found [] [] i now e each = absurd (cc)
+  each-found [] (p ∷ places) i now e each = absurd each
+  each-found (l ∷ lives) [] i now e each = absurd each
+  each-found (l ∷ lives) (p ∷ places) zero now e each =
+      (l, refl, subst (λ (x : Gateway × P). WentAlone told limits l x) (some-same p now e) each.0)
+  each-found (l ∷ lives) (p ∷ places) (suc i) now e each = each-found lives places i now e each.1
+
+  each-apart : (lives : List (Life P)) (places : List (Gateway × P)) → Each lives places →
+      AreApart told limits lives places
+  each-apart lives places each = record {
+    counted = each-counted lives places each;
+    alone = λ i life now e f.
+        let found = each-found lives places i now f each in
+        subst (λ (x : Life P). WentAlone told limits x now) (some-same found.0 life (sym found.1 ∙ e)) found.2;
+  }
 
 module _ {P : Type 0} (told : P → Option (List PortAnswer)) where
   -- what one call does, by its contract
-  one_call : (call : HubCall P) (old new : Hosting P) → HubStep told old call new →
-      (new.limits ≡ old.limits) × AreApart told old.limits old.places new.places
-  one_call (Added ports) old new s =
+  one-call : (call : HubCall P) (old new : Hosting P) (lives : List (Life P)) → HubStep told old call new →
+      Each told old.limits lives old.places →
+      (new.limits ≡ old.limits) × Each told old.limits (lives_after call lives) new.places
+  one-call (Added ports) old new lives s each =
       let same = s.2 in (
         ap (λ (h : Hosting P). h.limits) same,
-        subst (λ (h : Hosting P). AreApart told old.limits old.places h.places) (sym same)
-            (added told old.limits old.places s.0 ports s.1),
+        subst (λ (h : Hosting P). Each told old.limits (lives_after (Added ports) lives) h.places) (sym same)
+            (each-added told old.limits lives old.places (fresh_life (Opened ports)) (s.0, ports)
+            ((s.0, ports), (s.1, refl), refl) each),
       )
-  one_call (Turned i) old new s =
+  one-call (Turned i) old new lives s each =
       let same = s.3 in (
         ap (λ (h : Hosting P). h.limits) same,
-        subst (λ (h : Hosting P). AreApart told old.limits old.places h.places) (sym same)
-            (turned told old.limits old.places i s.0 s.1 s.2 s.4),
+        subst (λ (h : Hosting P). Each told old.limits (turned_at i lives) h.places) (sym same)
+            (each-turned told old.limits lives old.places i s.0 s.1 s.2 s.4 each),
       )
-  one_call (Removed i ports) old new s =
+  one-call (Removed i ports) old new lives s each =
       let same = s.3 in (
         ap (λ (h : Hosting P). h.limits) same,
-        subst (λ (h : Hosting P). AreApart told old.limits old.places h.places) (sym same)
-            (taken_out told old.limits old.places i (s.0, ports) s.1),
+        subst (λ (h : Hosting P). Each told old.limits (remove lives i) h.places) (sym same)
+            (each-removed told old.limits lives old.places i each),
       )
 
+  all-calls : (calls : List (HubCall P)) (old new : Hosting P) (lives : List (Life P)) → HubRuns told old calls new →
+      Each told old.limits lives old.places → Each told old.limits (lives_after_all calls lives) new.places
+  all-calls [] old new lives run each =
+      subst (λ (h : Hosting P). Each told old.limits lives h.places) (sym run) each
+  all-calls (call ∷ calls) old new lives run each =
+      let first = one-call call old run.0 lives run.1 each in
+      let after = lives_after call lives in
+      let here = subst (λ (l : Limits). Each told l after run.0.places) (sym first.0) first.1 in
+      subst (λ (l : Limits). Each told l (lives_after_all calls after) new.places) first.0
+      (all-calls calls run.0 new after run.2 here)
+
+  lives-of : (calls : List (HubCall P)) (old new : Hosting P) → HubRuns told old calls new →
+      Each told old.limits (lives_of old calls) new.places
+  lives-of calls old new run =
+      all-calls calls old new (map (λ place. fresh_life (Stood place)) old.places) run
+      (each-standing told old.limits old.places)
+
   pub sessions_apart : (calls : List (HubCall P)) (old new : Hosting P) → HubRuns told old calls new →
-      AreApart told old.limits old.places new.places
-  sessions_apart [] old new run =
-      subst (λ (h : Hosting P). AreApart told old.limits old.places h.places) (sym run)
-      (all_stay told old.limits old.places)
-  sessions_apart (call ∷ calls) old new run =
-      let first = one_call call old run.0 run.1 in
-      apart_join told old.limits old.places run.0.places new.places first.1
-      (subst (λ (l : Limits). AreApart told l run.0.places new.places) first.0 (sessions_apart calls run.0 new run.2))
+      AreApart told old.limits (lives_of old calls) new.places
+  sessions_apart calls old new run =
+      each-apart told old.limits (lives_of old calls) new.places (lives-of calls old new run)
+
+  -- a run in two parts
+  runs-split : (calls more : List (HubCall P)) (old new : Hosting P) → HubRuns told old (calls ++ more) new →
+      (mid : Hosting P) × HubRuns told old calls mid × HubRuns told mid more new
+  runs-split [] more old new run = (old, refl, run)
+  runs-split (call ∷ calls) more old new run =
+      let rest = runs-split calls more run.0 new run.2 in
+      (rest.0, (run.0, run.1, rest.1), rest.2)
+
+  pub ports_come_back : (calls : List (HubCall P)) (i : ℕ) (ports : P) (old new : Hosting P) →
+      HubRuns told old (calls ++ Removed i ports ∷ []) new →
+      (life : Life P) × (session : Gateway) × (slice_get (lives_of old calls) i ≡ Some life)
+      × (is_closed session ≡ true) × WentAlone told old.limits life (session, ports)
+  ports_come_back calls i ports old new run =
+      let parts = runs-split calls (Removed i ports ∷ []) old new run in
+      let removed = parts.2.1 in
+      let found = each-found told old.limits (lives_of old calls) parts.0.places i (removed.0, ports) removed.1
+      (lives-of calls old parts.0 parts.1) in
+      (found.0, removed.0, found.1, removed.2, found.2)

@@ -1,7 +1,7 @@
 //! Laws of what ports tell: functions with no parameters and an empty body, whose contracts are the laws.
 
 ghost use Rattle.daide_session.specs.Laws.{RelaysJoin, NewSessionsStand, HeadlinesJoin};
-ghost use Rattle.daide_session.specs.HubRuns.{SessionsAreApart};
+ghost use Rattle.daide_session.specs.HubRuns.{SessionsAreApart, PortsComeBackApart};
 
 use crate::ports::Ports;
 
@@ -21,8 +21,11 @@ pub fn headlines_join()
     ensures { HeadlinesJoin }
 {}
 
-/// Whatever calls are made of a hub, in whatever order, each of its sessions goes on by turns of its own alone:
-/// its answers, and what its ports were asked, are those that it would have had with no other session beside it.
+/// Whatever calls are made of a hub, in whatever order: the session at each place, however it moved, went on by turns
+/// of its own alone, as many as calls of `turn` were made of it, from its opening or from where it stood before. So
+/// its answers, and what its ports were asked, are those that it would have had with no other session beside it; and
+/// so are those of one that is taken out, whose ports come back.
 pub fn sessions_are_apart<P: Ports>()
-    ensures { SessionsAreApart P.told }
+    ensures kept { SessionsAreApart P.told }
+    ensures taken_out { PortsComeBackApart P.told }
 {}

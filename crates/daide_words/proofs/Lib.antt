@@ -4,3 +4,4 @@ pub mod WhereStopped
 pub mod AcceptedCodes
 mod WordFacts
 pub mod OverMessages
+pub mod WordsGrow

@@ -1,9 +1,10 @@
 //! What holds of all words that an operator may add. Each law is a function whose contract says it; none has anything
 //! to do.
 
-ghost use Rattle.std.specs.Prelude.{◌≡◌, ◌↔◌, ℕ, true, false, List};
+ghost use Rattle.std.specs.Prelude.{◌≡◌, ◌↔◌, ℕ, ◌≤◌, true, false, List};
 ghost use Rattle.daide_grammar.specs.declared.level.Level.{Level};
 ghost use Rattle.daide_grammar.specs.declared.side.Side2.{Side2};
+ghost use Rattle.daide_grammar.specs.Level.{level_number};
 ghost use Rattle.daide_grammar.specs.Paired.{begins_with_prn};
 ghost use Rattle.daide_grammar.specs.Laws.{PredictLaws};
 ghost use Rattle.daide_grammar.specs.LawfulStack.{IsLawful};
@@ -33,4 +34,12 @@ pub fn opening_stands_for_messages()
 /// A table speaks all words that are accepted one after the other.
 pub fn accepted_words_are_spoken()
     ensures { (words : List Word) → are_accepted words ≡ true → spoken (grammar_words words) ≡ grammar_words words }
+{}
+
+/// With an operator's words too a level only adds messages, whatever the list of words: what a side may say at a level,
+/// it may say at every higher one.
+pub fn levels_only_add()
+    ensures { (words : List Word) (side : Side2) (low high : Level) (m : List ℕ) →
+        level_number low ≤ level_number high →
+        IsMessageOver (grammar_words words) side low m → IsMessageOver (grammar_words words) side high m }
 {}

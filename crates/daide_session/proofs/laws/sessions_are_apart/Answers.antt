@@ -1,5 +1,8 @@
-use Rattle.daide_session.proofs.ApartLemmas.{sessions_apart}
+use Rattle.daide_session.proofs.ApartLemmas.{sessions_apart, ports_come_back}
 use Rattle.daide_session.proofs.laws.sessions_are_apart.Goals as goal
 
-pub returns : goal.returns
-returns g c = λ calls old new run. sessions_apart g.P.Ports.told calls old new run
+pub returns-clause-kept : goal.returns-clause-kept
+returns-clause-kept g c = λ calls old new run. sessions_apart g.P.Ports.told calls old new run
+
+pub returns-clause-taken_out : goal.returns-clause-taken_out
+returns-clause-taken_out g c = λ calls i ports old new run. ports_come_back g.P.Ports.told calls i ports old new run
