@@ -1,6 +1,6 @@
 -- Worked values of what a session holds, waits for and hands out: its bounds, its room, and what its calls keep. Each
 -- is worked out by hand, so that a wrong factor or the other side in a definition does not check.
-use Rattle.std.proofs.Common.{◌≡◌, ℕ, true, false, List, [], ◌∷◌, Some, None, refl}
+use Rattle.std.proofs.Common.{◌≡◌, ℕ, ◌≤◌, true, false, List, [], ◌∷◌, Some, None, refl, arith}
 use Rattle.daide_frame.specs.declared.side.Side.{Side}
 use Rattle.daide_frame.specs.declared.side.Side.TheVariants.{Bot, Server}
 use Rattle.daide_frame.specs.declared.head.Kind.TheVariants.{Dm, Fm}
@@ -16,7 +16,7 @@ use Rattle.daide_machine.specs.declared.note.Note.TheVariants as Notes
 use Rattle.daide_machine.specs.Machine.{Limits, Sent, fm_bytes, in_phase, opening, with_pending}
 use Rattle.daide_machine.specs.Wires.{Gateway, Holding, waiting, room_of, is_awaited, is_closed, without, first_len}
 use Rattle.daide_machine.specs.Wires.{bytes_of, held_after, grown, counts_from, asked_at_most}
-use Rattle.daide_machine.specs.Weight.{weight_of, weight_bound, steps_bound}
+use Rattle.daide_machine.specs.Weight.{weight_of, weight_bound, steps_bound, IsKeptSmall}
 
 -- ---- sessions of which this is held
 
@@ -153,6 +153,16 @@ bound_of_an_answer : (weight_bound (answering_bot Open unclosed (answer Bot Bot 
     × (weight_bound (answering_server Open unclosed [] (answer Server Server unclosed_prn ∷ [])) ≡ 108)
 unfolding weight_bound announced head_in head_of
 bound_of_an_answer = (refl, refl)
+
+-- of a side that holds the HUH at most 8 * 2 + 16 entries are kept; four bytes of a body of two are too many
+kept_of_a_huh : (n : ℕ) → IsKeptSmall 65526 (record { held = huh_begun; entries = n; total = 9; total_before = 5 }) →
+    n ≤ 32
+unfolding announced head_in head_of
+kept_of_a_huh n kept = kept.entries
+
+kept_of_two_bytes : IsKeptSmall 65526 (holds (0x02 ∷ 0x00 ∷ 0x00 ∷ 0x02 ∷ 0x48 ∷ 0x03 ∷ 0x40 ∷ 0x00 ∷ [])) → ⊥
+unfolding announced head_in head_of
+kept_of_two_bytes kept = let few : 4 ≤ 2 = kept.bytes in absurd (omega arith)
 
 -- ---- the weight: body bytes, entries and frames
 

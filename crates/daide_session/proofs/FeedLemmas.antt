@@ -23,12 +23,12 @@ use Rattle.daide_machine.specs.Wires.{Gateway, Holding, waiting, holding, sent_t
 use Rattle.daide_machine.specs.Wires.{is_dm_head, asked_at_most, Goes, Takes}
 use Rattle.daide_machine.proofs.PieceRuns.{piece_runs, piece_outcome, IsTaken}
 use Rattle.daide_session.specs.declared.stage.Stage.{Stage}
-use Rattle.daide_traffic.specs.Both.{Both, at}
+use Rattle.daide_traffic.specs.Both.{at}
 use Rattle.daide_traffic.specs.Traffic.{Arrival, Traffic, Keeps, IsGrown, pending}
 use Rattle.daide_session.specs.Session.{state_of, gateway_of}
 use Rattle.daide_session.specs.Reaction.{Asks, IsUnread, Reacts}
 use Rattle.daide_traffic.proofs.InboundLemmas.{fed_grows, no_dm_before}
-use Rattle.daide_session.proofs.MovesLemmas.{waiting_at, coming_at}
+use Rattle.daide_session.proofs.MovesLemmas.{coming_at, waits_same}
 use Rattle.daide_session.proofs.ReactionLemmas.{holding_at, holding_same}
 
 -- ---- the run
@@ -107,11 +107,6 @@ pub fed_state : (t u : Traffic) (s : Stage) (side : Side) (bytes : List ℕ) →
 fed_state t u s Bot bytes keeps e = rw (keeps.cap, keeps.max_depth, keeps.other_side, e) refl
 fed_state t u s Server bytes keeps e = rw (keeps.cap, keeps.max_depth, keeps.other_side, e) refl
 
-pub fed_wait : (t u : Traffic) (s : Stage) (wire : Side) → u.waiting ≡ t.waiting →
-    waiting (gateway_of u s) wire ≡ waiting (gateway_of t s) wire
-fed_wait t u s wire e =
-    waiting_at u s wire ∙ (ap (λ (w : Both (List Sent)). at w wire) e ∙ sym (waiting_at t s wire))
-
 -- a side's piece was fed, and what its last byte made was gone by
 pub goes_fed : (t u v : Traffic) (s r : Stage) (side : Side) (piece : List ℕ) (step : Step) (note : Note) →
     is_over s.phase ≡ false → Keeps side t u → u.waiting ≡ t.waiting →
@@ -123,7 +118,7 @@ pub goes_fed : (t u v : Traffic) (s r : Stage) (side : Side) (piece : List ℕ) 
     Goes (gateway_of t s) (bytes_come side piece) note (gateway_of v r)
 goes_fed t u v s r side piece step note live keeps wait grown items whole h =
     goes_piece (gateway_of t s) (gateway_of u s) (gateway_of v r) side piece note live state
-    (λ wire. fed_wait t u s wire wait)
+    (λ wire. waits_same t u s s wire wait)
     (λ verdict. taken_or_over (state_of t s) side piece verdict step _ _ live here all)
     (subst (λ (x : List Item). Reacts (gateway_of u s) side x note (gateway_of v r)) (sym here) h)
   where

@@ -23,6 +23,12 @@ pub waiting_at : (t : Traffic) (s : Stage) (wire : Side) → waiting (gateway_of
 waiting_at t s Bot = refl
 waiting_at t s Server = refl
 
+-- what waits, where what the traffic lets wait is the same
+pub waits_same : (t u : Traffic) (s r : Stage) (wire : Side) → u.waiting ≡ t.waiting →
+    waiting (gateway_of u r) wire ≡ waiting (gateway_of t s) wire
+waits_same t u s r wire e =
+    waiting_at u r wire ∙ (ap (λ (w : Both (List Sent)). at w wire) e ∙ sym (waiting_at t s wire))
+
 -- ---- frames that come to wait
 
 pub frames_to-cons : (wire : Side) (frame : Sent) (frames : List Sent) →
@@ -103,9 +109,9 @@ not_empty [] e = absurd (cc)
 not_empty (x ∷ piece) e = omega arith
 
 -- a piece that has a byte and for which there is room
-pub free_for : (g now : Gateway) (side : Side) (piece : List ℕ) (empty : Bool) → empty ≡ (length piece == 0) →
-    empty ≡ false → length piece ≤ room_of now side → g ≡ now → IsFree g side
-free_for g now side piece empty e f few same =
+pub free_for : {g now : Gateway} {empty : Bool} (side : Side) (piece : List ℕ) → g ≡ now →
+    empty ≡ (length piece == 0) → empty ≡ false → length piece ≤ room_of now side → IsFree g side
+free_for {g} side piece same e f few =
     free_of g side (rw same (let some = not_empty piece (sym e ∙ f) in omega (arith, some, few)))
 
 -- what has room, as the traffic sees it

@@ -22,11 +22,11 @@ use Rattle.daide_machine.specs.Machine.{question_of}
 use Rattle.daide_machine.specs.Wires.{Holding, waiting, holding, sent_to, note_of, held_after}
 use Rattle.daide_machine.specs.Wires.{is_dm_head}
 use Rattle.daide_session.specs.declared.stage.Stage.{Stage}
-use Rattle.daide_traffic.specs.Both.{Both, at}
+use Rattle.daide_traffic.specs.Both.{at}
 use Rattle.daide_traffic.specs.Traffic.{Traffic, Arrival, Keeps}
 use Rattle.daide_session.specs.Session.{state_of, gateway_of}
 use Rattle.daide_session.specs.Reaction.{IsUnread, Reacts, IsBegun, note_by}
-use Rattle.daide_session.proofs.MovesLemmas.{waiting_at, coming_at}
+use Rattle.daide_session.proofs.MovesLemmas.{coming_at, waits_same}
 
 -- ---- outcomes
 
@@ -121,20 +121,16 @@ begun_and_empty t u v s r q side head told live timely bodiless b h = record {
         (ap (λ (c : Coming). c.noted) (coming_at u r side ∙ b.started.coming)) h.right)
 
     waited : (wire : Side) → waiting (gateway_of u r) wire ≡ waiting (gateway_of t s) wire
-    waited wire = waiting_at u r wire
-        ∙ (ap (λ (w : Both (List Sent)). at w wire) b.waiting ∙ sym (waiting_at t s wire))
+    waited wire = waits_same t u s r wire b.waiting
 
     held : (holding (gateway_of u r) side).held ≡ (holding (gateway_of t s) side).held
-    held = ap (λ (h : Holding). h.held) (holding_at u r side)
-        ∙ (b.started.held ∙ sym (ap (λ (h : Holding). h.held) (holding_at t s side)))
+    held = rw (holding_at u r side, holding_at t s side) b.started.held
 
     base : (holding (gateway_of u r) side).total_before ≡ (holding (gateway_of t s) side).total
-    base = ap (λ (h : Holding). h.total_before) (holding_at u r side)
-        ∙ (b.started.base ∙ sym (ap (λ (h : Holding). h.total) (holding_at t s side)))
+    base = rw (holding_at u r side, holding_at t s side) b.started.base
 
     total : (holding (gateway_of u r) side).total ≡ (holding (gateway_of t s) side).total
-    total = ap (λ (h : Holding). h.total) (holding_at u r side)
-        ∙ (b.started.total ∙ sym (ap (λ (h : Holding). h.total) (holding_at t s side)))
+    total = rw (holding_at u r side, holding_at t s side) b.started.total
 
     unread : IsUnread t.cap (holding (gateway_of t s) side).held
     unread = inl (ap (λ (h : Holding). drop 4 h.held) (holding_at t s side) ∙ bodiless)

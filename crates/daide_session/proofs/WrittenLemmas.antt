@@ -14,22 +14,12 @@ use Rattle.daide_session.specs.declared.stage.Stage.{Stage}
 use Rattle.daide_traffic.specs.Both.{Both, at, put}
 use Rattle.daide_traffic.specs.Traffic.{Traffic, Arrival}
 use Rattle.daide_traffic.specs.Traffic.{LetsGo as LetsTrafficGo}
+use Rattle.daide_traffic.proofs.BothLemmas.{at_put, put_there}
 use Rattle.daide_session.specs.Session.{state_of, gateway_of}
 use Rattle.daide_session.specs.Reaction.{Moves, KeepsSides, stopped}
 use Rattle.daide_session.proofs.MovesLemmas.{waiting_at}
 use Rattle.daide_session.proofs.ReactionLemmas.{holding_at}
 use Rattle.daide_session.proofs.SessionLemmas.{goes_event, stop_note, stopped_over}
-
--- ---- wires, one of them changed
-
-put_here : (w : Both (List Sent)) (side : Side) (frames : List Sent) → at (put w side frames) side ≡ frames
-put_here w Bot frames = refl
-put_here w Server frames = refl
-
-put_there : (w : Both (List Sent)) (side : Side) (frames : List Sent) →
-    at (put w side frames) (other side) ≡ at w (other side)
-put_there w Bot frames = refl
-put_there w Server frames = refl
 
 -- ---- an end lets nobody wait
 
@@ -103,7 +93,7 @@ wrote_of t v s side n l wait bytes = record {
   same_state = gone_state t v s l;
   taken = waiting_at v s side
       ∙ (ap (λ (w : Both (List Sent)). at w side) wait
-      ∙ (put_here t.waiting side (without n (at t.waiting side)) ∙ ap (without n) (sym (waiting_at t s side))));
+      ∙ (at_put t.waiting side (without n (at t.waiting side)) ∙ ap (without n) (sym (waiting_at t s side))));
   front_bytes = ap bytes_of (waiting_at v s side)
       ∙ (bytes ∙ ap (λ (w : List Sent). drop n (bytes_of w)) (sym (waiting_at t s side)));
   other_wire = waiting_at v s (other side)
@@ -119,7 +109,7 @@ lost_of t u v s r side m keeps l wait = record {
   effects = stop.effects;
   run = subst (λ (x : SessionState). Runs (state_of t s) (Loses side ∷ []) stop.effects x) (sym state) stop.run;
   dropped = waiting_at v r side
-      ∙ (ap (λ (w : Both (List Sent)). at w side) wait ∙ put_here u.waiting side []);
+      ∙ (ap (λ (w : Both (List Sent)). at w side) wait ∙ at_put u.waiting side []);
   other_wire = waiting_at v r (other side)
       ∙ (ap (λ (w : Both (List Sent)). at w (other side)) wait
       ∙ (put_there u.waiting side [] ∙ (sym (waiting_at u r (other side)) ∙ stop.kept (other side))));

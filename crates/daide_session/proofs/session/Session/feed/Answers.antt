@@ -28,42 +28,28 @@ returns-then-is_empty-clause-takes g c = takes_nothing c.args.self.now c.args.si
 
 pub feed-step-requires-clause-free : goal.feed-step-requires-clause-free
 feed-step-requires-clause-free g c =
-    let t = c.self.inside.traffic in
-    let s = c.self.inside.stage in
-    let free = free_for (gateway_of t s) c.args.self.now c.args.side c.args.piece.now c.is_empty.result
-    c.is_empty.ensures c.if-is_empty.false c.requires c.self.view_is in
+    let free = free_for c.args.side c.args.piece.now c.self.view_is c.is_empty.ensures c.if-is_empty.false c.requires in
     free.free
 
 pub feed-step-requires-clause-room : goal.feed-step-requires-clause-room
 feed-step-requires-clause-room g c =
-    let t = c.self.inside.traffic in
-    let s = c.self.inside.stage in
-    let free = free_for (gateway_of t s) c.args.self.now c.args.side c.args.piece.now c.is_empty.result
-    c.is_empty.ensures c.if-is_empty.false c.requires c.self.view_is in
-    fits t s c.args.side c.args.piece.now c.args.self.now c.self.view_is free.room c.requires
+    let free = free_for c.args.side c.args.piece.now c.self.view_is c.is_empty.ensures c.if-is_empty.false c.requires in
+    fits c.self.inside.traffic c.self.inside.stage c.args.side c.args.piece.now c.args.self.now c.self.view_is free.room
+    c.requires
 
 pub react-requires-clause-live : goal.react-requires-clause-live
 react-requires-clause-live g c =
-    let t = c.self.inside.traffic in
-    let s = c.self.inside.stage in
-    (free_for (gateway_of t s) c.args.self.now c.args.side c.args.piece.now c.is_empty.result
-    c.is_empty.ensures c.if-is_empty.false c.requires c.self.view_is).live
+    (free_for c.args.side c.args.piece.now c.self.view_is c.is_empty.ensures c.if-is_empty.false c.requires).live
 
 pub react-requires-clause-no_end : goal.react-requires-clause-no_end
 react-requires-clause-no_end g c = λ wire.
-    let t = c.self.inside.traffic in
-    let s = c.self.inside.stage in
-    let free = free_for (gateway_of t s) c.args.self.now c.args.side c.args.piece.now c.is_empty.result
-    c.is_empty.ensures c.if-is_empty.false c.requires c.self.view_is in
+    let free = free_for c.args.side c.args.piece.now c.self.view_is c.is_empty.ensures c.if-is_empty.false c.requires in
     ap (λ (w : Both (List Sent)). has_end (at w wire)) c.feed-step.ensures.waiting
-    ∙ (ap has_end (sym (waiting_at t s wire)) ∙ c.self.invariant.no_end free.live wire)
+    ∙ (ap has_end (sym (waiting_at c.self.inside.traffic c.self.inside.stage wire)) ∙ c.self.invariant.no_end free.live wire)
 
 pub react-requires-clause-free : goal.react-requires-clause-free
 react-requires-clause-free g c =
-    let t = c.self.inside.traffic in
-    let s = c.self.inside.stage in
-    let free = free_for (gateway_of t s) c.args.self.now c.args.side c.args.piece.now c.is_empty.result
-    c.is_empty.ensures c.if-is_empty.false c.requires c.self.view_is in
+    let free = free_for c.args.side c.args.piece.now c.self.view_is c.is_empty.ensures c.if-is_empty.false c.requires in
     ap (λ (w : Both (List Sent)). is_awaited (at w) c.args.side) c.feed-step.ensures.waiting ∙ free.free
 
 pub react-requires-clause-bodiless : goal.react-requires-clause-bodiless
@@ -82,12 +68,9 @@ went : (g : Over) (c : goal.After-react g) →
     Goes (gateway_of c.self.inside.traffic c.self.inside.stage) (bytes_come c.args.side c.args.piece.now)
     c.react.result (gateway_of c.react.new.traffic c.react.new.stage)
 went g c =
-    let t = c.self.inside.traffic in
-    let s = c.self.inside.stage in
-    let free = free_for (gateway_of t s) c.args.self.now c.args.side c.args.piece.now c.is_empty.result
-    c.is_empty.ensures c.if-is_empty.false c.requires c.self.view_is in
-    goes_fed t c.feed-step.new.self c.react.new.traffic s c.react.new.stage c.args.side c.args.piece.now
-    c.feed-step.result c.react.result free.live c.feed-step.ensures.keeps c.feed-step.ensures.waiting
+    let free = free_for c.args.side c.args.piece.now c.self.view_is c.is_empty.ensures c.if-is_empty.false c.requires in
+    goes_fed c.self.inside.traffic c.feed-step.new.self c.react.new.traffic c.self.inside.stage c.react.new.stage
+    c.args.side c.args.piece.now c.feed-step.result c.react.result free.live c.feed-step.ensures.keeps c.feed-step.ensures.waiting
     c.feed-step.ensures.grown c.feed-step.ensures.items c.feed-step.ensures.whole c.react.ensures
 
 pub invariant_of-self : goal.invariant_of-self
@@ -100,10 +83,9 @@ returns-clause-goes g c =
 
 pub returns-clause-takes : goal.returns-clause-takes
 returns-clause-takes g c =
-    let t = c.self.inside.traffic in
-    let s = c.self.inside.stage in
     subst (λ (v : Gateway). Takes v c.args.side c.args.piece.now c.react.result
     (gateway_of c.react.new.traffic c.react.new.stage)) c.self.view_is
-    (takes_some t c.feed-step.new.self c.react.new.traffic s c.react.new.stage c.args.side c.args.piece.now _
+    (takes_some c.self.inside.traffic c.feed-step.new.self c.react.new.traffic c.self.inside.stage c.react.new.stage
+    c.args.side c.args.piece.now _
     c.react.result (not_empty c.args.piece.now (sym c.is_empty.ensures ∙ c.if-is_empty.false))
     c.feed-step.ensures.keeps c.feed-step.ensures.grown c.feed-step.ensures.raised c.react.ensures)
