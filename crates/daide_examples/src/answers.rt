@@ -1,9 +1,9 @@
 //! The worked examples of what a frame of the bot gets, by their names in docs/EXAMPLES.md: the verdict on the
 //! message, and the bytes on both wires.
 
-use crate::messages::assert_verdicts;
+use crate::messages::{Example, assert_verdicts};
 use crate::script::Act::Says;
-use crate::script::{IM, RM, Script, assert_scenes, bytes_of};
+use crate::script::{Scene, Script, WIDEST, assert_scenes, bytes_of, script_of};
 use daide_frame::side::Side::{Bot, Server};
 use daide_grammar::level::Level::L0;
 use daide_grammar::side::Side2::Client;
@@ -11,172 +11,193 @@ use daide_reader::verdict::Verdict::{Huh, Prn, Relay};
 use std::process::Abort;
 use std::test::Fail;
 
-/// A bot's frame goes to the server of an open session, whole and byte by byte.
-fn assert_goes_on(
+/// The messages have their verdicts, and the scenes in an open session send their bytes, whole and byte by byte.
+fn assert_answers(
     rt: &(impl Abort + AllocGlobal),
-    frame: &'static str,
-    sent: &'static str,
+    messages: &[Example],
+    scenes: &[Scene],
 ) -> Result<(), Fail> {
-    assert_scenes(rt, true, &[(&[Says(Bot, frame)], "", sent)])
+    assert_verdicts(rt, messages)?;
+    assert_scenes(rt, true, scenes)
 }
 
-/// A bot's frame gets this answer in an open session, whole and byte by byte.
-fn assert_gets(
-    rt: &(impl Abort + AllocGlobal),
-    frame: &'static str,
-    answer: &'static str,
-) -> Result<(), Fail> {
-    assert_scenes(rt, true, &[(&[Says(Bot, frame)], answer, "")])
-}
+const NAME: &str = "02 00 00 0E  48 0C 40 00 4B 61 40 01 40 00 4B 62 40 01";
+
+const NAMES: &[Scene] = &[
+    (&[Says(Bot, NAME)], "", NAME),
+    (&[Says(Bot, "02 FF 00 02  48 0F")], "", "02 00 00 02  48 0F"),
+];
 
 #[test]
 fn relays_a_name_in_any_pieces(rt: HostRuntime) -> Result<(), Fail> {
-    assert_verdicts(&rt, &[(Client, L0, "NME ( 'a' ) ( 'b' )", Relay)])?;
-    let frame = "02 00 00 0E  48 0C 40 00 4B 61 40 01 40 00 4B 62 40 01";
-    assert_goes_on(&rt, frame, frame)?;
-    assert_goes_on(&rt, "02 FF 00 02  48 0F", "02 00 00 02  48 0F")
+    assert_answers(&rt, &[(Client, L0, "NME ( 'a' ) ( 'b' )", Relay)], NAMES)
 }
+
+const UNCLOSED: &[Scene] = &[(
+    &[Says(Bot, "02 00 00 04  48 03 40 00")],
+    "02 00 00 0A  48 13 40 00 48 03 40 00 40 01",
+    "",
+)];
 
 #[test]
 fn unclosed_bracket_gets_prn(rt: HostRuntime) -> Result<(), Fail> {
-    assert_verdicts(&rt, &[(Client, L0, "GOF (", Prn)])?;
-    assert_gets(
-        &rt,
-        "02 00 00 04  48 03 40 00",
-        "02 00 00 0A  48 13 40 00 48 03 40 00 40 01",
-    )
+    assert_answers(&rt, &[(Client, L0, "GOF (", Prn)], UNCLOSED)
 }
+
+const WORD_TOO_MANY: &[Example] = &[
+    (Client, L0, "NME ( 'a' ) GOF", Huh(4)),
+    (Client, L0, "NME ( 'a' ) GOF (", Prn),
+];
+
+const ERR_BEFORE_IT: &[Scene] = &[(
+    &[Says(Bot, "02 00 00 0A  48 0C 40 00 4B 61 40 01 48 03")],
+    "02 00 00 12  48 06 40 00 48 0C 40 00 4B 61 40 01 49 02 48 03 40 01",
+    "",
+)];
 
 #[test]
 fn word_after_a_whole_message_gets_err_before_it(rt: HostRuntime) -> Result<(), Fail> {
-    assert_verdicts(
-        &rt,
-        &[
-            (Client, L0, "NME ( 'a' ) GOF", Huh(4)),
-            (Client, L0, "NME ( 'a' ) GOF (", Prn),
-        ],
-    )?;
-    assert_gets(
-        &rt,
-        "02 00 00 0A  48 0C 40 00 4B 61 40 01 48 03",
-        "02 00 00 12  48 06 40 00 48 0C 40 00 4B 61 40 01 49 02 48 03 40 01",
-    )
+    assert_answers(&rt, WORD_TOO_MANY, ERR_BEFORE_IT)
 }
+
+const ERR_LAST: &[Scene] = &[(
+    &[Says(Bot, "02 00 00 08  48 0C 40 00 4B 61 40 01")],
+    "02 00 00 10  48 06 40 00 48 0C 40 00 4B 61 40 01 49 02 40 01",
+    "",
+)];
 
 #[test]
 fn message_that_ends_early_gets_err_last(rt: HostRuntime) -> Result<(), Fail> {
-    assert_verdicts(&rt, &[(Client, L0, "NME ( 'a' )", Huh(4))])?;
-    assert_gets(
-        &rt,
-        "02 00 00 08  48 0C 40 00 4B 61 40 01",
-        "02 00 00 10  48 06 40 00 48 0C 40 00 4B 61 40 01 49 02 40 01",
-    )
+    assert_answers(&rt, &[(Client, L0, "NME ( 'a' )", Huh(4))], ERR_LAST)
 }
+
+const EMPTY: &[Scene] = &[(
+    &[Says(Bot, "02 00 00 00")],
+    "02 00 00 08  48 06 40 00 49 02 40 01",
+    "",
+)];
 
 #[test]
 fn empty_message_gets_huh_err(rt: HostRuntime) -> Result<(), Fail> {
-    assert_verdicts(&rt, &[(Client, L0, "", Huh(0))])?;
-    assert_gets(&rt, "02 00 00 00", "02 00 00 08  48 06 40 00 49 02 40 01")
+    assert_answers(&rt, &[(Client, L0, "", Huh(0))], EMPTY)
 }
+
+const REPORT: &str = "02 00 00 08  48 13 40 00 40 00 40 01";
+
+const WRAPPED: &str = "02 00 00 0C  48 13 40 00 48 13 40 00 40 00 40 01";
+
+const REPORTS: &[Example] = &[
+    (Client, L0, "PRN ( ( )", Relay),
+    (Client, L0, "PRN ( (", Prn),
+];
+
+const REPORTS_GO_ON: &[Scene] = &[
+    (&[Says(Bot, REPORT)], "", REPORT),
+    (&[Says(Bot, "02 00 00 06  48 13 40 00 40 00")], WRAPPED, ""),
+    // the next gateway passes the answer on to its bot
+    (&[Says(Server, WRAPPED)], WRAPPED, ""),
+];
 
 #[test]
 fn prn_is_relayed_or_wrapped_once(rt: HostRuntime) -> Result<(), Fail> {
-    assert_verdicts(
-        &rt,
-        &[
-            (Client, L0, "PRN ( ( )", Relay),
-            (Client, L0, "PRN ( (", Prn),
-        ],
-    )?;
-    let report = "02 00 00 08  48 13 40 00 40 00 40 01";
-    assert_goes_on(&rt, report, report)?;
-    let answer = "02 00 00 0C  48 13 40 00 48 13 40 00 40 00 40 01";
-    assert_gets(&rt, "02 00 00 06  48 13 40 00 40 00", answer)?;
-    // the next gateway passes the answer on to its bot
-    assert_scenes(&rt, true, &[(&[Says(Server, answer)], answer, "")])
+    assert_answers(&rt, REPORTS, REPORTS_GO_ON)
 }
+
+const KET_FIRST: &[Scene] = &[(
+    &[Says(Bot, "02 00 00 06  48 03 40 01 40 00")],
+    "02 00 00 0C  48 13 40 00 48 03 40 01 40 00 40 01",
+    "",
+)];
 
 #[test]
 fn ket_before_bra_gets_prn(rt: HostRuntime) -> Result<(), Fail> {
-    assert_verdicts(&rt, &[(Client, L0, "GOF ) (", Prn)])?;
-    assert_gets(
-        &rt,
-        "02 00 00 06  48 03 40 01 40 00",
-        "02 00 00 0C  48 13 40 00 48 03 40 01 40 00 40 01",
-    )
+    assert_answers(&rt, &[(Client, L0, "GOF ) (", Prn)], KET_FIRST)
 }
 
-#[test]
-fn longest_body_gets_huh(rt: HostRuntime) -> Result<(), Fail> {
-    let mut frame = bytes_of(&rt, "02 00 FF F6")?;
-    let mut want = bytes_of(&rt, "02 00 FF FE 48 06 40 00 48 03 49 02")?;
-    for token in 0..32_763 {
-        frame.extend_from_slice(&[0x48, 0x03])?;
-        if token > 0 {
-            want.extend_from_slice(&[0x48, 0x03])?;
-        }
+/// This frame, and then so many times GOF, and then these words.
+fn with_gofs(
+    rt: &impl AllocGlobal,
+    front: &str,
+    count: usize,
+    last: &[u8],
+) -> Result<Vec<u8>, Fail> {
+    let mut bytes = bytes_of(rt, front)?;
+    for _token in 0..count {
+        bytes.extend_from_slice(&[0x48, 0x03])?;
     }
-    want.extend_from_slice(&[0x40, 0x01])?;
-    for piece in [65_530, 1] {
-        let mut script = Script::new(&rt, 60)?;
-        script.play(&rt, Says(Bot, IM), 8)?;
-        script.play(&rt, Says(Server, RM), 4)?;
-        script.to_bot.clear();
-        script.say(Bot, frame.as_slice(), piece)?;
-        assert!(rt;
-            script.to_bot.as_slice() == want.as_slice(),
-            "in pieces of {piece}"
-        );
-    }
+    bytes.extend_from_slice(last)?;
+    Ok(bytes)
+}
+
+/// In an open session a frame of the bot gets this answer, in pieces of so many bytes.
+fn assert_gets(
+    rt: &(impl Abort + AllocGlobal),
+    script: &mut Script,
+    frame: &[u8],
+    want: &[u8],
+    piece: usize,
+) -> Result<(), Fail> {
+    script.open(rt, piece)?;
+    script.say(Bot, frame, piece)?;
+    assert!(rt; script.to_bot.as_slice() == want, "in pieces of {piece}");
     Ok(())
 }
 
 #[test]
-fn wrong_length_and_over_the_cap_end_the_session(rt: HostRuntime) -> Result<(), Fail> {
-    let fm = "03 00 00 00";
-    assert_scenes(
-        &rt,
-        true,
-        &[
-            (&[Says(Bot, "02 00 00 03")], "04 00 00 02 00 09", fm),
-            (&[Says(Bot, "02 00 FF FE")], "04 00 00 02 00 08", fm),
-            (&[Says(Server, "02 00 00 03")], fm, "04 00 00 02 00 09"),
-        ],
-    )
+fn longest_body_gets_huh(rt: HostRuntime) -> Result<(), Fail> {
+    let frame = with_gofs(&rt, "02 00 FF F6", 32_763, &[])?;
+    let front = "02 00 FF FE 48 06 40 00 48 03 49 02";
+    let want = with_gofs(&rt, front, 32_762, &[0x40, 0x01])?;
+    for piece in [65_530, 1] {
+        let mut script = script_of(&rt, WIDEST)?;
+        assert_gets(&rt, &mut script, frame.as_slice(), want.as_slice(), piece)?;
+    }
+    Ok(())
 }
+
+const FM: &str = "03 00 00 00";
+
+const WRONG_LENGTHS: &[Scene] = &[
+    (&[Says(Bot, "02 00 00 03")], "04 00 00 02 00 09", FM),
+    (&[Says(Bot, "02 00 FF FE")], "04 00 00 02 00 08", FM),
+    (&[Says(Server, "02 00 00 03")], FM, "04 00 00 02 00 09"),
+];
+
+#[test]
+fn wrong_length_and_over_the_cap_end_the_session(rt: HostRuntime) -> Result<(), Fail> {
+    assert_scenes(&rt, true, WRONG_LENGTHS)
+}
+
+const ALIEN_TOKENS: &[Scene] = &[
+    (
+        &[Says(Bot, "02 00 00 06  48 03 58 00")],
+        "04 00 00 02 00 0E",
+        FM,
+    ),
+    (
+        &[Says(Bot, "02 00 00 06  48 03 58 00 48 03")],
+        "04 00 00 02 00 0E",
+        FM,
+    ),
+    (
+        &[Says(Server, "02 00 00 02  4C 00")],
+        FM,
+        "04 00 00 02 00 0E",
+    ),
+];
 
 #[test]
 fn alien_token_faults_at_its_second_byte(rt: HostRuntime) -> Result<(), Fail> {
-    let fm = "03 00 00 00";
-    assert_scenes(
-        &rt,
-        true,
-        &[
-            (
-                &[Says(Bot, "02 00 00 06  48 03 58 00")],
-                "04 00 00 02 00 0E",
-                fm,
-            ),
-            (
-                &[Says(Bot, "02 00 00 06  48 03 58 00 48 03")],
-                "04 00 00 02 00 0E",
-                fm,
-            ),
-            (
-                &[Says(Server, "02 00 00 02  4C 00")],
-                fm,
-                "04 00 00 02 00 0E",
-            ),
-        ],
-    )
+    assert_scenes(&rt, true, ALIEN_TOKENS)
 }
+
+const UNLISTED: &[Scene] = &[(
+    &[Says(Bot, "02 00 00 02  4A 12")],
+    "02 00 00 0A  48 06 40 00 49 02 4A 12 40 01",
+    "",
+)];
 
 #[test]
 fn unlisted_word_gets_huh(rt: HostRuntime) -> Result<(), Fail> {
-    assert_verdicts(&rt, &[(Client, L0, "#4a12", Huh(0))])?;
-    assert_gets(
-        &rt,
-        "02 00 00 02  4A 12",
-        "02 00 00 0A  48 06 40 00 49 02 4A 12 40 01",
-    )
+    assert_answers(&rt, &[(Client, L0, "#4a12", Huh(0))], UNLISTED)
 }

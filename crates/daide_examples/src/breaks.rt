@@ -4,13 +4,14 @@
 //! have been sent was worked out by hand: the frames of the whole conversation up to some place, and then a final
 //! message.
 
-use crate::relays::{NEVER, WIDEST, sent};
-use daide_frame::side::Side;
-use daide_frame::side::Side::{Bot, Server};
+use crate::relays::{NEVER, sent};
+use crate::script::WIDEST;
+use daide_frame::side::Side::{self, Bot, Server};
 use daide_gate::relaying::{RelayEnd, relay};
 use daide_session::memory_ports::{Arrival, MemoryPorts, Script};
 use daide_session::ports::{Ports, Pull, Put};
 use daide_session::session::Session;
+use std::alloc::Global;
 use std::process::Abort;
 use std::test::Fail;
 
@@ -46,13 +47,19 @@ const TO_THE_SERVER: [&[u8]; 2] = [&[0, 0, 0, 4, 0, 1, 0xDA, 0x10], &[2, 0, 0, 2
 /// A final message.
 const FM: &[u8] = &[3, 0, 0, 0];
 
-/// Where a conversation breaks, by the number of the call, from 1.
-#[derive(Clone, Copy, Debug, PartialEq, Eq)]
-enum Break {
-    /// This pull of a side ends.
-    Pull(Side, usize),
-    /// This put to a side fails.
-    Put(Side, usize),
+/// Where a conversation breaks: a put to a side fails, or else a pull from it ends; by the number of the call, from 1.
+#[derive(Clone, Copy)]
+struct Break {
+    is_put: bool,
+    side: Side,
+    number: usize,
+}
+
+impl Break {
+    /// Whether this call breaks.
+    fn is_at(self, is_put: bool, side: Side, number: usize) -> bool {
+        self.is_put == is_put && self.side == side && self.number == number
+    }
 }
 
 /// Ports that give and take a byte at a time, and break once. The bot waits after its IM until the RM has come, and the
@@ -67,23 +74,56 @@ struct Breaking {
     server_puts: usize,
 }
 
+/// Ports before their first call, which break there.
+fn breaking_at(alloc: Global, at: Break) -> Breaking {
+    Breaking {
+        ports: MemoryPorts::new(alloc, FROM_THE_BOT, FROM_THE_SERVER, NEVER),
+        at,
+        bot_pulls: 0,
+        server_pulls: 0,
+        bot_puts: 0,
+        server_puts: 0,
+    }
+}
+
+/// One more of a count, which it answers.
+fn count(number: &mut usize) -> usize {
+    *number = number.saturating_add(1);
+    *number
+}
+
+impl Breaking {
+    /// The number of this pull, and whether the side has nothing to say yet.
+    fn next_pull(&mut self, side: Side) -> (usize, bool) {
+        match side {
+            Bot => {
+                let number = count(&mut self.bot_pulls);
+                (number, number > 8 && number <= 40)
+            }
+            Server => {
+                let number = count(&mut self.server_pulls);
+                (number, number <= 20)
+            }
+        }
+    }
+
+    /// The number of this put.
+    fn next_put(&mut self, side: Side) -> usize {
+        match side {
+            Bot => count(&mut self.bot_puts),
+            Server => count(&mut self.server_puts),
+        }
+    }
+}
+
 impl Ports for Breaking {
     ghost use Rattle.std.specs.Prelude.{None};
 
     ghost told = { λ _. None };
 
     fn pull(&mut self, side: Side, buffer: &mut [u8]) -> Pull {
-        let number = match side {
-            Bot => &mut self.bot_pulls,
-            Server => &mut self.server_pulls,
-        };
-        *number = number.saturating_add(1);
-        let number = *number;
-        let waits = match side {
-            Bot => number > 8 && number <= 40,
-            Server => number <= 20,
-        };
-        if self.at == Break::Pull(side, number) {
+        let (number, waits) = self.next_pull(side);
+        if self.at.is_at(false, side, number) {
             return Pull::Ended;
         }
         if waits || buffer.is_empty() {
@@ -93,13 +133,8 @@ impl Ports for Breaking {
     }
 
     fn put(&mut self, side: Side, bytes: &[u8]) -> Put {
-        let number = match side {
-            Bot => &mut self.bot_puts,
-            Server => &mut self.server_puts,
-        };
-        *number = number.saturating_add(1);
-        let number = *number;
-        if self.at == Break::Put(side, number) {
+        let number = self.next_put(side);
+        if self.at.is_at(true, side, number) {
             return Put::Failed;
         }
         if bytes.is_empty() {
@@ -130,54 +165,68 @@ fn are_sent(bytes: &[u8], frames: &[&[u8]], failed: bool) -> bool {
     rest.is_empty() || rest == FM || (failed && FM.starts_with(rest))
 }
 
-/// Relays the conversation, which breaks there, and looks at what each side was sent.
-fn assert_whole_frames(rt: &(impl Abort + AllocGlobal), at: Break) -> Result<RelayEnd, Fail> {
-    let mut session = Session::new(rt.alloc(), WIDEST)?;
-    let mut ports = Breaking {
-        ports: MemoryPorts::new(rt.alloc(), FROM_THE_BOT, FROM_THE_SERVER, NEVER),
-        at,
-        bot_pulls: 0,
-        server_pulls: 0,
-        bot_puts: 0,
-        server_puts: 0,
-    };
-    let end = relay(&mut session, &mut ports, 400);
+/// A side was sent whole frames of these, and all of them where nothing broke.
+fn assert_sent_well(
+    rt: &(impl Abort + AllocGlobal),
+    ports: &Breaking,
+    side: Side,
+    frames: &[&[u8]],
+    all: Option<usize>,
+) -> Result<(), Fail> {
     let calls = ports.ports.calls().unwrap_or(&[]);
-    let failed_bot = matches!(at, Break::Put(Bot, _));
-    let failed_server = matches!(at, Break::Put(Server, _));
-    let to_bot = sent(rt, calls, Bot)?;
-    let to_server = sent(rt, calls, Server)?;
-    assert!(rt;
-        are_sent(to_bot.as_slice(), &TO_THE_BOT, failed_bot),
-        "the bot"
-    );
-    assert!(rt;
-        are_sent(to_server.as_slice(), &TO_THE_SERVER, failed_server),
-        "the server"
-    );
-    if end == RelayEnd::TurnsSpent {
-        assert_eq!(rt; to_bot.len(), 30, "all was sent");
-        assert_eq!(rt; to_server.len(), 14, "all was sent");
+    let bytes = sent(rt, calls, side)?;
+    let failed = ports.at.is_put && ports.at.side == side;
+    assert!(rt; are_sent(bytes.as_slice(), frames, failed), "{side:?}");
+    assert!(rt; all.is_none_or(|len| bytes.len() == len), "all was sent");
+    Ok(())
+}
+
+/// The same of both.
+fn assert_both_sent_well(
+    rt: &(impl Abort + AllocGlobal),
+    ports: &Breaking,
+    is_all: bool,
+) -> Result<(), Fail> {
+    assert_sent_well(rt, ports, Bot, &TO_THE_BOT, is_all.then_some(30))?;
+    assert_sent_well(rt, ports, Server, &TO_THE_SERVER, is_all.then_some(14))
+}
+
+/// Relays the conversation, which breaks there, looks at what each side was sent, and answers whether it was closed.
+fn is_closed_well(rt: &(impl Abort + AllocGlobal), at: Break) -> Result<bool, Fail> {
+    let mut session = Session::new(rt.alloc(), WIDEST)?;
+    let mut ports = breaking_at(rt.alloc(), at);
+    let end = relay(&mut session, &mut ports, 400);
+    let is_closed = end == RelayEnd::Closed;
+    assert_both_sent_well(rt, &ports, !is_closed)?;
+    Ok(is_closed)
+}
+
+/// Whether it is a put that breaks, or a pull, and of which side.
+const KINDS: [(bool, Side); 4] = [(false, Bot), (false, Server), (true, Bot), (true, Server)];
+
+/// How many conversations that break at calls of this number are closed.
+fn closed_at(rt: &(impl Abort + AllocGlobal), number: usize) -> Result<usize, Fail> {
+    let mut closed = 0_usize;
+    for (is_put, side) in &KINDS {
+        let at = Break {
+            is_put: *is_put,
+            side: *side,
+            number,
+        };
+        if is_closed_well(rt, at)? {
+            closed = closed.saturating_add(1);
+        }
     }
-    Ok(end)
+    Ok(closed)
 }
 
 #[test]
 fn ends_and_failures_at_every_place(rt: HostRuntime) -> Result<(), Fail> {
-    let mut closed = 0u32;
+    let mut closed = 0_usize;
     for number in 1..70 {
-        for at in [
-            Break::Pull(Bot, number),
-            Break::Pull(Server, number),
-            Break::Put(Bot, number),
-            Break::Put(Server, number),
-        ] {
-            if assert_whole_frames(&rt, at)? == RelayEnd::Closed {
-                closed = closed.saturating_add(1);
-            }
-        }
+        closed = closed.saturating_add(closed_at(&rt, number)?);
     }
     // 30 puts to the bot, 14 to the server, each of their pulls that is among the first 69
-    assert!(rt; closed >= 30 + 14 + 58, "{closed}");
+    assert!(rt; closed >= 30 + 14 + 58);
     Ok(())
 }

@@ -1,7 +1,8 @@
 //! How often a session takes memory, and how much: twice, in `new`, a body each.
 
-use crate::script::{IM, RM, bytes_of};
-use daide_frame::side::Side::{self, Bot, Server};
+use crate::script::Act::{self, Ends, Says, Sees};
+use crate::script::{IM, Look, RM, Script, bytes_of, script_over};
+use daide_frame::side::Side::{Bot, Server};
 use daide_session::config::Config;
 use daide_session::session::{Phase, Session, SessionError};
 use linked_list_allocator::LocalHeap;
@@ -9,11 +10,9 @@ use std::alloc::Allocator;
 use std::process::Abort;
 use std::test::Fail;
 
-const BODY: u16 = 512;
-
 const CONFIG: Config = Config {
     top_level: 60,
-    max_body: BODY,
+    max_body: 512,
     max_depth: 62,
 };
 
@@ -32,73 +31,70 @@ fn holes_of<'a>(
     Ok((wall, last))
 }
 
+/// The sizes of two holes, and whether a session finds room in them.
+const HOLES: [(u16, u16, bool); 7] = [
+    (512, 512, true),
+    (496, 512, false),
+    (512, 496, false),
+    (1008, 0, false),
+    (1024, 0, true),
+    (0, 1024, true),
+    (496, 1024, true),
+];
+
+/// Beside two walls of 16 bytes a session takes 1,024 bytes, or none where it is refused.
+fn assert_taken(rt: &impl Abort, heap: &LocalHeap, is_enough: bool) {
+    assert!(rt; heap.used() == 32, "two walls");
+    match Session::new(heap, CONFIG) {
+        Ok(session) => {
+            assert!(rt; is_enough && session.phase() == Phase::WaitIm, "not enough");
+            assert!(rt; heap.used() == 32 + 1024, "two bodies");
+        }
+        Err(fault) => {
+            assert!(rt; !is_enough && fault == SessionError::Memory, "enough");
+            assert!(rt; heap.used() == 32, "nothing");
+        }
+    }
+}
+
 #[test]
 fn new_takes_two_bodies_and_no_byte_more(rt: HostRuntime) -> Result<(), Fail> {
-    // the sizes of the two holes that are left, and whether they are enough
-    let rows: [(u16, u16, bool); 7] = [
-        (512, 512, true),
-        (496, 512, false),
-        (512, 496, false),
-        (1008, 0, false),
-        (1024, 0, true),
-        (0, 1024, true),
-        (496, 1024, true),
-    ];
-    for (first, second, is_enough) in rows {
-        let first = usize::from(first);
-        let second = usize::from(second);
+    for (first, second, is_enough) in &HOLES {
+        let first = usize::from(*first);
+        let second = usize::from(*second);
         let heap = LocalHeap::new(rt.alloc(), first + 16 + second + 16)?;
         let walls = holes_of(&heap, first, second)?;
-        assert_eq!(rt; heap.used(), 32, "two walls");
-        match Session::new(&heap, CONFIG) {
-            Ok(session) => {
-                assert!(rt; is_enough, "{first} and {second}");
-                assert_eq!(rt; session.phase(), Phase::WaitIm);
-                assert_eq!(rt; heap.used(), 32 + 1024, "{first} and {second}");
-            }
-            Err(fault) => {
-                assert!(rt; !is_enough, "{first} and {second}");
-                assert_eq!(rt; fault, SessionError::Memory);
-                assert_eq!(rt; heap.used(), 32, "{first} and {second}");
-            }
-        }
+        assert_taken(&rt, &heap, *is_enough);
         drop(walls);
     }
     Ok(())
 }
 
-/// Both sides, or the wires toward them.
-const BOTH: [Side; 2] = [Bot, Server];
+/// All that a session can be told: relays, answers, HLO and press; the longest bodies and an end come after it.
+const ACTS: &[Act] = &[
+    Says(Bot, IM),
+    Says(Server, RM),
+    Says(
+        Bot,
+        "02 00 00 0E  48 0C 40 00 4B 61 40 01 40 00 4B 62 40 01",
+    ),
+    Says(Bot, "02 00 00 04  48 03 40 00"),
+    Says(Server, "02 00 00 0A  48 0E 40 00 47 00 07 6D 40 01"),
+    Says(Server, "02 00 00 02  48 0F"),
+    Says(
+        Server,
+        "02 00 00 1A  48 04 40 00 41 01 40 01 40 00 04 D2 40 01 40 00 40 00 49 03 00 0A 40 01 40 01",
+    ),
+    Says(
+        Bot,
+        "02 00 00 1C  48 17 40 00 41 02 40 01 40 00 4A 13 40 00 4A 10 40 00 41 01 41 02 40 01 40 01 40 01",
+    ),
+];
 
-/// What a side sends, byte by byte where `whole` is false; all that waits is taken after each piece.
-fn say<A: Allocator>(
-    session: &mut Session<A>,
-    side: Side,
-    bytes: &[u8],
-    whole: bool,
-    got: &mut Vec<u8>,
-) -> Result<(), Fail> {
-    let mut rest = bytes;
-    for _piece in 0..=bytes.len() {
-        let most = if whole { 65_530 } else { 1 };
-        let count = rest.len().min(most).min(session.room(side));
-        let (now, later) = rest.split_at(count);
-        session.feed(side, now);
-        for wire in BOTH {
-            for _front in 0..8 {
-                let front = session.front(wire);
-                got.extend_from_slice(front)?;
-                let count = front.len();
-                session.wrote(wire, count);
-            }
-        }
-        rest = later;
-    }
-    Ok(())
-}
+const END: &[Act] = &[Ends(Bot), Sees(Look::Phase(Phase::Over))];
 
 /// A message of 512 bytes: HUH and 255 times GOF, and so a word too many after its first.
-fn longest_message(rt: &(impl Abort + AllocGlobal)) -> Result<Vec<u8>, Fail> {
+fn longest_message(rt: &impl AllocGlobal) -> Result<Vec<u8>, Fail> {
     let mut frame = bytes_of(rt, "02 00 02 00  48 06")?;
     for _token in 0..255 {
         frame.extend_from_slice(&[0x48, 0x03])?;
@@ -106,73 +102,48 @@ fn longest_message(rt: &(impl Abort + AllocGlobal)) -> Result<Vec<u8>, Fail> {
     Ok(frame)
 }
 
-/// All that a session can be told: relays, answers, HLO and press, the longest body of either side, and an end.
-fn whole_session<A: Allocator>(
+/// After each act, the longest body of either side, and the end, the heap is as full as before.
+fn assert_takes_nothing<A: Allocator>(
     rt: &(impl Abort + AllocGlobal),
-    session: &mut Session<A>,
-    whole: bool,
+    script: &mut Script<A>,
+    piece: usize,
     heap: &LocalHeap,
-) -> Result<Vec<u8>, Fail> {
-    let mut got = Vec::new(rt.alloc());
+) -> Result<(), Fail> {
     let used = heap.used();
-    let acts = [
-        (Bot, IM),
-        (Server, RM),
-        (
-            Bot,
-            "02 00 00 0E  48 0C 40 00 4B 61 40 01 40 00 4B 62 40 01",
-        ),
-        (Bot, "02 00 00 04  48 03 40 00"),
-        (Server, "02 00 00 0A  48 0E 40 00 47 00 07 6D 40 01"),
-        (Server, "02 00 00 02  48 0F"),
-        (
-            Server,
-            "02 00 00 1A  48 04 40 00 41 01 40 01 40 00 04 D2 40 01 40 00 40 00 49 03 00 0A 40 01 40 01",
-        ),
-        (
-            Bot,
-            "02 00 00 1C  48 17 40 00 41 02 40 01 40 00 4A 13 40 00 4A 10 40 00 41 01 41 02 40 01 40 01 40 01",
-        ),
-    ];
-    for (side, text) in acts {
-        say(
-            session,
-            side,
-            bytes_of(rt, text)?.as_slice(),
-            whole,
-            &mut got,
-        )?;
-        assert_eq!(rt; heap.used(), used, "{text}");
+    for act in ACTS {
+        script.play(rt, *act, piece)?;
+        assert!(rt; heap.used() == used, "after an act");
     }
     let longest = longest_message(rt)?;
-    for side in BOTH {
-        say(session, side, longest.as_slice(), whole, &mut got)?;
-        assert_eq!(rt; heap.used(), used, "the longest body of {side:?}");
-    }
-    session.ended(Bot);
-    say(session, Bot, &[], whole, &mut got)?;
-    assert_eq!(rt; heap.used(), used, "after the end");
-    assert_eq!(rt; session.phase(), Phase::Over);
-    Ok(got)
+    script.say(Bot, longest.as_slice(), piece)?;
+    assert!(rt; heap.used() == used, "after the bot's longest body");
+    script.say(Server, longest.as_slice(), piece)?;
+    assert!(rt; heap.used() == used, "after the server's longest body");
+    script.play_all(rt, END, piece)?;
+    assert!(rt; heap.used() == used, "after the end");
+    Ok(())
+}
+
+/// What a whole session in a heap of so many bytes sent to the bot, and then what it sent to the server. A heap that has
+/// room for its two bodies alone is full once it is made.
+fn sent_in(rt: &(impl Abort + AllocGlobal), bytes: usize, piece: usize) -> Result<Vec<u8>, Fail> {
+    let heap = LocalHeap::new(rt.alloc(), bytes)?;
+    let mut script = script_over(rt, Session::new(&heap, CONFIG)?);
+    assert!(rt; heap.used() == 1024, "two bodies");
+    assert_takes_nothing(rt, &mut script, piece, &heap)?;
+    let mut sent = Vec::from_slice(rt.alloc(), script.to_bot.as_slice())?;
+    sent.extend_from_slice(script.to_server.as_slice())?;
+    Ok(sent)
 }
 
 #[test]
 fn nothing_is_taken_after_new(rt: HostRuntime) -> Result<(), Fail> {
-    for whole in [true, false] {
-        let ample = LocalHeap::new(rt.alloc(), 65_536)?;
-        let mut session = Session::new(&ample, CONFIG)?;
-        let want = whole_session(&rt, &mut session, whole, &ample)?;
-        // a heap that is full once the session is made
-        let full = LocalHeap::new(rt.alloc(), 1024)?;
-        let mut session = Session::new(&full, CONFIG)?;
-        assert_eq!(rt; full.used(), 1024);
-        let got = whole_session(&rt, &mut session, whole, &full)?;
-        assert!(rt; got.as_slice() == want.as_slice());
+    for piece in [65_530, 1] {
+        let want = sent_in(&rt, 65_536, piece)?;
+        let sent = sent_in(&rt, 1024, piece)?;
+        assert!(rt; sent.as_slice() == want.as_slice());
         // the frames of the acts, 512 + 8 + 4 bytes of HUH for each longest message, and an FM
-        assert_eq!(rt;
-            got.len(),
-            8 + 4 + 18 + 14 + 14 + 14 + 30 + 32 + 2 * 524 + 4
-        );
+        assert!(rt; sent.len() == 8 + 4 + 18 + 14 + 14 + 14 + 30 + 32 + 2 * 524 + 4);
     }
     Ok(())
 }

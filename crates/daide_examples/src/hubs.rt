@@ -1,38 +1,36 @@
 //! Many sessions in one loop: places, refusals, and that none hears of another.
 
-use crate::relays::{NEVER, OPENS, QUIET, WIDEST, sent};
-use crate::script::bytes_of;
-use daide_frame::side::Side;
-use daide_frame::side::Side::{Bot, Server};
+use crate::relays::{NEVER, OPENS, QUIET, assert_sent, sent};
+use crate::script::{WIDEST, bytes_of};
+use daide_frame::side::Side::{self, Bot, Server};
 use daide_session::config::{Config, ConfigError};
 use daide_session::hub::{AddFault, Hub, HubError};
 use daide_session::memory_ports::{Acceptance, Arrival, MemoryPorts, Script};
 use daide_session::ports::{Ports, Pull, Put};
 use linked_list_allocator::LocalHeap;
+use std::alloc::Global;
 use std::process::Abort;
 use std::test::Fail;
 
+/// Limits and sizes of a hub, and the fault that is told, if one is.
+const SIZES: [(u16, usize, Option<HubError>); 5] = [
+    (65, 0, Some(HubError::Config(ConfigError::Level))),
+    (60, 0, Some(HubError::Sessions)),
+    (60, 257, Some(HubError::Sessions)),
+    (60, 1, None),
+    (60, 256, None),
+];
+
 #[test]
-fn hub_refusals_in_order(rt: HostRuntime) -> Result<(), Fail> {
-    let wrong = Config {
-        top_level: 65,
-        max_body: 512,
-        max_depth: 4,
-    };
-    let rows = [
-        (wrong, 0, HubError::Config(ConfigError::Level)),
-        (WIDEST, 0, HubError::Sessions),
-        (WIDEST, 257, HubError::Sessions),
-    ];
-    for (config, max, want) in rows {
-        match Hub::<MemoryPorts<'_>>::new(rt.alloc(), config, max) {
-            Ok(_hub) => assert!(rt; false, "{want:?}"),
-            Err(fault) => assert_eq!(rt; fault, want),
-        }
+fn hub_refusals_in_order(rt: HostRuntime) {
+    for (top_level, max, want) in &SIZES {
+        let config = Config {
+            top_level: *top_level,
+            ..WIDEST
+        };
+        let fault = Hub::<MemoryPorts<'_>>::new(rt.alloc(), config, *max).err();
+        assert!(rt; fault == *want, "{want:?}");
     }
-    assert!(rt; Hub::<MemoryPorts<'_>>::new(rt.alloc(), WIDEST, 1).is_ok());
-    assert!(rt; Hub::<MemoryPorts<'_>>::new(rt.alloc(), WIDEST, 256).is_ok());
-    Ok(())
 }
 
 /// A server that ends the session.
@@ -134,198 +132,328 @@ impl Ports for Feeding {
     }
 }
 
-/// Ports whose bot goes by a script for so many pulls, and then sends GOF for so many bytes.
-fn ports_of(
-    rt: &(impl Abort + AllocGlobal),
+/// What stands at a place of a hub: what its bot and its server send, how often its clock is quiet, and how many pulls of
+/// the bot go by its script before how many bytes of GOF.
+#[derive(Clone, Copy)]
+struct Seat {
     bot: Script<'static>,
+    server: Script<'static>,
+    quiet: u64,
     before: usize,
-    left: usize,
-) -> Result<Feeding, Fail> {
-    let mut gofs = Vec::new(rt.alloc());
+    gofs: usize,
+}
+
+/// A seat where nothing comes; with a bot's script it goes by that alone.
+const SEAT: Seat = Seat {
+    bot: QUIET,
+    server: QUIET,
+    quiet: NEVER,
+    before: 1_000,
+    gofs: 0,
+};
+
+/// A seat whose server ends the session.
+const FINISHING: Seat = Seat {
+    server: FINISHES,
+    ..SEAT
+};
+
+/// A seat whose bot opens.
+const BEGINNING: Seat = Seat {
+    bot: BEGINS,
+    ..SEAT
+};
+
+/// A seat whose clock pops at once.
+const LATE: Seat = Seat { quiet: 0, ..SEAT };
+
+/// A seat whose server ends the session while the bot's wire keeps a byte waiting.
+const KEEPING: Seat = Seat {
+    bot: KEEPS_A_BYTE,
+    server: FINISHES,
+    ..SEAT
+};
+
+/// A seat whose bot sends `GOF (` in single bytes, and ends.
+const SPELLING: Seat = Seat {
+    bot: BY_BYTES,
+    server: OPENS,
+    ..SEAT
+};
+
+/// A seat whose bot sends the longest body, and ends.
+const POURING: Seat = Seat {
+    bot: BEGINS_THE_LONGEST,
+    server: OPENS,
+    before: 9,
+    gofs: 65_526,
+    ..SEAT
+};
+
+/// The ports of a seat.
+fn ports_of(alloc: Global, seat: Seat) -> Result<Feeding, Fail> {
+    let mut gofs = Vec::new(alloc);
     for _token in 0..256 {
         gofs.extend_from_slice(&[0x48, 0x03])?;
     }
     Ok(Feeding {
-        ports: MemoryPorts::new(rt.alloc(), bot, OPENS, NEVER),
+        ports: MemoryPorts::new(alloc, seat.bot, seat.server, seat.quiet),
         gofs,
-        before,
-        left,
+        before: seat.before,
+        left: seat.gofs,
     })
 }
 
-/// A full hub hands the very ports back; a session that is over gives its ports, and the one behind it moves
-/// down and goes on.
-#[test]
-fn hub_places_move_down(rt: HostRuntime) -> Result<(), Fail> {
-    let fm = bytes_of(&rt, "03 00 00 00")?;
-    let mut hub = Hub::new(rt.alloc(), WIDEST, 2)?;
-    assert_eq!(rt;
-        hub.add(MemoryPorts::new(rt.alloc(), QUIET, FINISHES, NEVER))
-            .ok(),
-        Some(0)
-    );
-    assert_eq!(rt;
-        hub.add(MemoryPorts::new(rt.alloc(), BEGINS, QUIET, NEVER))
-            .ok(),
-        Some(1)
-    );
-    match hub.add(MemoryPorts::new(rt.alloc(), QUIET, QUIET, 0)) {
-        Ok(_place) => assert!(rt; false, "a full hub"),
+/// A call of a hub, and what is to come of it.
+#[derive(Clone, Copy)]
+enum Act {
+    /// A session is added, and has this place.
+    Adds(Seat, usize),
+    /// A session is refused, since the hub is full; its ports, whose clock pops at once, come back.
+    IsFull(Seat),
+    /// So many turns of the session at this place.
+    Turns(usize, usize),
+    /// The session at this place is taken out, and its wires were sent these bytes.
+    Removes(usize, &'static str, &'static str),
+    /// The session at this place is over or not, and stays, since it isn't closed.
+    Keeps(usize, bool),
+    /// The wires of the session at this place were sent these bytes.
+    Sent(usize, &'static str, &'static str),
+    /// There are so many sessions.
+    Counts(usize),
+}
+
+/// Adds a session, which has this place; a full hub hands the very ports back.
+fn add(
+    rt: &(impl Abort + AllocGlobal),
+    hub: &mut Hub<Feeding>,
+    seat: Seat,
+    want: Option<usize>,
+) -> Result<(), Fail> {
+    match hub.add(ports_of(rt.alloc(), seat)?) {
+        Ok(place) => assert!(rt; Some(place) == want, "its place"),
         Err((fault, mut ports)) => {
-            assert_eq!(rt; fault, AddFault::Full);
+            assert!(rt; want.is_none() && fault == AddFault::Full, "a full hub");
             assert!(rt; ports.clock_popped(), "the very ports");
         }
     }
-    assert_eq!(rt; hub.count(), 2);
-    if hub.count() == 2 {
-        hub.turn(1);
-    }
-    for _turn in 0..3 {
-        if hub.count() > 0 {
-            hub.turn(0);
-        }
-    }
-    if hub.count() > 0 {
-        match hub.remove_over(0) {
-            None => assert!(rt; false, "it is over"),
-            Some(ports) => {
-                let calls = ports.calls().unwrap_or(&[]);
-                assert_eq!(rt; sent(&rt, calls, Bot)?.as_slice(), fm.as_slice());
-            }
-        }
-    }
-    assert_eq!(rt; hub.count(), 1);
-    for _turn in 0..5 {
-        if hub.count() > 0 {
-            hub.turn(0);
-        }
-    }
-    if hub.count() > 0 {
-        assert!(rt; !hub.session(0).is_over());
-        assert!(rt; hub.remove_over(0).is_none());
-    }
-    assert_eq!(rt; hub.count(), 1);
     Ok(())
 }
 
-/// Takes the first session out of a hub, and compares what its two wires took.
+/// Makes turns of the session at a place.
+fn make_turns(rt: &impl Abort, hub: &mut Hub<Feeding>, place: usize, turns: usize) {
+    for _turn in 0..turns {
+        assert!(rt; place < hub.count());
+        hub.turn(place);
+    }
+}
+
+/// These bytes were sent to the two sides.
+fn assert_both_sent(
+    rt: &(impl Abort + AllocGlobal),
+    ports: &Feeding,
+    to_bot: &str,
+    to_server: &str,
+) -> Result<(), Fail> {
+    assert_sent(rt, ports.ports.calls(), Bot, to_bot)?;
+    assert_sent(rt, ports.ports.calls(), Server, to_server)
+}
+
+/// Takes out the session at a place, which is closed.
+fn take_out(rt: &impl Abort, hub: &mut Hub<Feeding>, place: usize) -> Result<Feeding, Fail> {
+    assert!(rt; place < hub.count());
+    Ok(
+        hub.remove_over(place)
+            .ok_or("it is over, and nothing waits")?,
+    )
+}
+
+/// The session at a place is over or not, and stays.
+fn assert_kept(rt: &impl Abort, hub: &mut Hub<Feeding>, place: usize, is_over: bool) {
+    assert!(rt; place < hub.count());
+    assert!(rt; hub.session(place).is_over() == is_over);
+    assert!(rt; hub.remove_over(place).is_none());
+}
+
+/// One call of a hub.
+fn play(rt: &(impl Abort + AllocGlobal), hub: &mut Hub<Feeding>, act: Act) -> Result<(), Fail> {
+    match act {
+        Act::Adds(seat, place) => add(rt, hub, seat, Some(place))?,
+        Act::IsFull(seat) => add(rt, hub, seat, None)?,
+        Act::Turns(place, turns) => make_turns(rt, hub, place, turns),
+        Act::Removes(place, to_bot, to_server) => {
+            let ports = take_out(rt, hub, place)?;
+            assert_both_sent(rt, &ports, to_bot, to_server)?;
+        }
+        Act::Keeps(place, is_over) => assert_kept(rt, hub, place, is_over),
+        Act::Sent(place, to_bot, to_server) => {
+            assert!(rt; place < hub.count());
+            assert_both_sent(rt, hub.ports(place), to_bot, to_server)?;
+        }
+        Act::Counts(count) => assert!(rt; hub.count() == count),
+    }
+    Ok(())
+}
+
+/// Calls of a fresh hub of at most so many sessions.
+fn assert_acts(rt: &(impl Abort + AllocGlobal), max: usize, acts: &[Act]) -> Result<(), Fail> {
+    let mut hub = Hub::new(rt.alloc(), WIDEST, max)?;
+    for act in acts {
+        play(rt, &mut hub, *act)?;
+    }
+    Ok(())
+}
+
+/// A full hub hands the very ports back; a session that is over gives its ports, and the one behind it moves
+/// down and goes on: it hands on its bot's IM.
+const MOVES_DOWN: &[Act] = &[
+    Act::Adds(FINISHING, 0),
+    Act::Adds(BEGINNING, 1),
+    Act::IsFull(LATE),
+    Act::Counts(2),
+    Act::Turns(1, 1),
+    Act::Turns(0, 3),
+    Act::Removes(0, "03 00 00 00", ""),
+    Act::Counts(1),
+    Act::Sent(0, "", ""),
+    Act::Turns(0, 5),
+    Act::Keeps(0, false),
+    Act::Sent(0, "", "00 00 00 04 00 01 DA 10"),
+    Act::Counts(1),
+];
+
+#[test]
+fn hub_places_move_down(rt: HostRuntime) -> Result<(), Fail> {
+    assert_acts(&rt, 2, MOVES_DOWN)
+}
+
+/// A session that is over is kept while a byte of it waits.
+const KEEPS_WHAT_WAITS: &[Act] = &[
+    Act::Adds(KEEPING, 0),
+    Act::Turns(0, 1),
+    Act::Keeps(0, true),
+    Act::Turns(0, 1),
+    Act::Keeps(0, true),
+    Act::Turns(0, 1),
+    Act::Keeps(0, true),
+    Act::Counts(1),
+    Act::Turns(0, 1),
+    Act::Removes(0, "03 00 00 00", ""),
+    Act::Counts(0),
+];
+
+#[test]
+fn session_with_a_byte_waiting_is_kept(rt: HostRuntime) -> Result<(), Fail> {
+    assert_acts(&rt, 1, KEEPS_WHAT_WAITS)
+}
+
+/// Takes out the first session, whose wires were sent these bytes.
 fn was_sent(
     rt: &(impl Abort + AllocGlobal),
     hub: &mut Hub<Feeding>,
     to_bot: &[u8],
-    to_server: &[u8],
 ) -> Result<(), Fail> {
-    let mut back = None;
-    if hub.count() > 0 {
-        back = hub.remove_over(0);
-    }
-    let Some(ports) = back else {
-        assert!(rt; false, "it is over, and nothing waits");
-        return Ok(());
-    };
+    let ports = take_out(rt, hub, 0)?;
     let calls = ports.ports.calls().unwrap_or(&[]);
-    assert_eq!(rt; sent(rt, calls, Bot)?.as_slice(), to_bot);
-    assert_eq!(rt; sent(rt, calls, Server)?.as_slice(), to_server);
-    Ok(())
+    assert!(rt; sent(rt, calls, Bot)?.as_slice() == to_bot);
+    assert_sent(
+        rt,
+        ports.ports.calls(),
+        Server,
+        "00 00 00 04 00 01 DA 10  03 00 00 00",
+    )
+}
+
+/// What the longest body of GOF gets: the RM, and HUH ( GOF ERR GOF .. GOF )
+fn answer_to_the_longest(rt: &impl AllocGlobal) -> Result<Vec<u8>, Fail> {
+    let mut bytes = bytes_of(rt, "01 00 00 00  02 00 FF FE  48 06 40 00 48 03 49 02")?;
+    for _token in 0..32_762 {
+        bytes.extend_from_slice(&[0x48, 0x03])?;
+    }
+    bytes.extend_from_slice(&[0x40, 0x01])?;
+    Ok(bytes)
+}
+
+/// One session that gets `GOF (` in single bytes, and one that gets the longest body; then both bots end.
+const SIDE_BY_SIDE: &[Act] = &[Act::Adds(SPELLING, 0), Act::Adds(POURING, 1)];
+
+/// Turns all sessions of a hub, round by round.
+fn turn_all(hub: &mut Hub<Feeding>, rounds: usize) {
+    for _round in 0..rounds {
+        for place in 0..hub.count() {
+            if place < hub.count() {
+                hub.turn(place);
+            }
+        }
+    }
 }
 
 /// While one session reads the longest body, another gets a message in single bytes, and then both bots end: the
 /// ports of each, handed back, were sent exactly its own answers.
 #[test]
 fn sessions_hear_nothing_of_each_other(rt: HostRuntime) -> Result<(), Fail> {
+    let longest = answer_to_the_longest(&rt)?;
     let mut hub = Hub::new(rt.alloc(), WIDEST, 2)?;
-    let ports = ports_of(&rt, BY_BYTES, 1_000, 0)?;
-    assert_eq!(rt; hub.add(ports).ok(), Some(0));
-    let ports = ports_of(&rt, BEGINS_THE_LONGEST, 9, 65_526)?;
-    assert_eq!(rt; hub.add(ports).ok(), Some(1));
-    for _turn in 0..400 {
-        for i in 0..hub.count() {
-            if i < hub.count() {
-                hub.turn(i);
-            }
-        }
+    for act in SIDE_BY_SIDE {
+        play(&rt, &mut hub, *act)?;
     }
+    turn_all(&mut hub, 400);
     assert!(rt; hub.weight() <= 2 * (2 * 65_526 + 16 * 62 + 96));
-    let to_server = bytes_of(&rt, "00 00 00 04 00 01 DA 10  03 00 00 00")?;
 
     // the RM, and PRN ( GOF ( )
-    let to_bot = bytes_of(
-        &rt,
-        "01 00 00 00  02 00 00 0A 48 13 40 00 48 03 40 00 40 01",
-    )?;
-    was_sent(&rt, &mut hub, to_bot.as_slice(), to_server.as_slice())?;
-
-    // the RM, and HUH ( GOF ERR GOF .. GOF )
-    let mut to_bot = bytes_of(&rt, "01 00 00 00  02 00 FF FE  48 06 40 00 48 03 49 02")?;
-    for _token in 0..32_762 {
-        to_bot.extend_from_slice(&[0x48, 0x03])?;
-    }
-    to_bot.extend_from_slice(&[0x40, 0x01])?;
-    was_sent(&rt, &mut hub, to_bot.as_slice(), to_server.as_slice())?;
-    assert_eq!(rt; hub.count(), 0);
+    let open_bracket = [
+        1, 0, 0, 0, 2, 0, 0, 0x0A, 0x48, 0x13, 0x40, 0, 0x48, 0x03, 0x40, 0, 0x40, 1,
+    ];
+    was_sent(&rt, &mut hub, &open_bracket)?;
+    was_sent(&rt, &mut hub, longest.as_slice())?;
+    assert!(rt; hub.count() == 0);
     Ok(())
 }
 
-/// A session that is over is kept while a byte of it waits.
-#[test]
-fn session_with_a_byte_waiting_is_kept(rt: HostRuntime) -> Result<(), Fail> {
-    let mut hub = Hub::new(rt.alloc(), WIDEST, 1)?;
-    assert_eq!(rt;
-        hub.add(MemoryPorts::new(rt.alloc(), KEEPS_A_BYTE, FINISHES, NEVER))
-            .ok(),
-        Some(0)
-    );
-    for _turn in 0..3 {
-        if hub.count() == 1 {
-            hub.turn(0);
-            assert!(rt; hub.session(0).is_over());
-            assert!(rt; hub.remove_over(0).is_none());
+/// What became of a hub of two sessions whose memory lies in this heap, and of a session added to it.
+#[derive(Clone, Copy)]
+enum Growth {
+    NoHub,
+    NoSession,
+    Whole,
+}
+
+fn growth_in(rt: &(impl Abort + AllocGlobal), heap: &LocalHeap) -> Growth {
+    let config = Config {
+        max_body: 512,
+        ..WIDEST
+    };
+    match Hub::new(heap, config, 2) {
+        Err(fault) => {
+            assert!(rt; fault == HubError::Memory);
+            Growth::NoHub
         }
-        assert_eq!(rt; hub.count(), 1);
+        Ok(mut hub) => match hub.add(MemoryPorts::new(rt.alloc(), QUIET, QUIET, 0)) {
+            Ok(place) => {
+                assert!(rt; place == 0 && hub.count() == 1);
+                Growth::Whole
+            }
+            Err((fault, mut ports)) => {
+                assert!(rt; fault == AddFault::Memory && hub.count() == 0);
+                assert!(rt; ports.clock_popped(), "the very ports");
+                Growth::NoSession
+            }
+        },
     }
-    if hub.count() == 1 {
-        hub.turn(0);
-        assert!(rt; hub.remove_over(0).is_some());
-    }
-    assert_eq!(rt; hub.count(), 0);
-    Ok(())
 }
 
 /// Over heaps from empty to ample: want of memory and nothing else, and the hub as it was.
 #[test]
 fn growths_of_a_hub_refused_in_turn(rt: HostRuntime) -> Result<(), Fail> {
-    let config = Config {
-        top_level: 60,
-        max_body: 512,
-        max_depth: 62,
-    };
-    let mut without_hub = 0u32;
-    let mut without_session = 0u32;
-    let mut whole = 0u32;
+    let mut seen = [false; 3];
     for step in 0..300 {
         let heap = LocalHeap::new(rt.alloc(), 32 * step)?;
-        match Hub::new(&heap, config, 2) {
-            Err(fault) => {
-                assert_eq!(rt; fault, HubError::Memory);
-                without_hub = without_hub.saturating_add(1);
-            }
-            Ok(mut hub) => match hub.add(MemoryPorts::new(rt.alloc(), QUIET, QUIET, 0)) {
-                Ok(place) => {
-                    assert_eq!(rt; place, 0);
-                    assert_eq!(rt; hub.count(), 1);
-                    whole = whole.saturating_add(1);
-                }
-                Err((fault, mut ports)) => {
-                    assert_eq!(rt; fault, AddFault::Memory);
-                    assert!(rt; ports.clock_popped(), "the very ports");
-                    assert_eq!(rt; hub.count(), 0);
-                    without_session = without_session.saturating_add(1);
-                }
-            },
+        match growth_in(&rt, &heap) {
+            Growth::NoHub => seen[0] = true,
+            Growth::NoSession => seen[1] = true,
+            Growth::Whole => seen[2] = true,
         }
     }
-    assert!(rt; without_hub > 0, "{without_hub}");
-    assert!(rt; without_session > 0, "{without_session}");
-    assert!(rt; whole > 0, "{whole}");
+    assert!(rt; seen == [true; 3], "each was seen");
     Ok(())
 }

@@ -134,7 +134,7 @@ fn parts_of_replies_and_reports(rt: HostRuntime) -> Result<(), Fail> {
 
 // side, level, message, verdict
 #[rattlefmt::skip]
-const SERVER: [Example; 120] = [
+const MAPS: [Example; 30] = [
     (ServerEnd, L0, "MAP ( FRA )", Huh(2)),
     (ServerEnd, L0, "MAP ( 'a' ) ( 'b' )", Huh(4)),
     (ServerEnd, L0, "SVE", Huh(1)),
@@ -166,6 +166,16 @@ const SERVER: [Example; 120] = [
     (ServerEnd, L0, "MDF ( FRA ) ( ( ) ( ) ) ( ( STP ( ( FLT STP ) NWY ) ) )", Huh(16)),
     (ServerEnd, L0, "MDF ( FRA ) ( ( ) ( ) ) ( ( STP ( ( FLT NCS SCS ) NWY ) ) )", Huh(17)),
     (ServerEnd, L0, "MDF ( FRA ) ( ( ) ( ) ) ( ( STP ( ( FLT NCS ) ( FLT SCS ) NWY ) ) )", Huh(19)),
+];
+
+#[test]
+fn parts_of_maps_and_saved_games(rt: HostRuntime) -> Result<(), Fail> {
+    assert_verdicts(&rt, &MAPS)
+}
+
+// side, level, message, verdict
+#[rattlefmt::skip]
+const STATES: [Example; 30] = [
     (ServerEnd, L0, "HLO ( ) ( 1 ) ( )", Huh(2)),
     (ServerEnd, L0, "HLO ( ( ENG ) ) ( 1 ) ( )", Huh(2)),
     (ServerEnd, L0, "HLO ( ENG ) ( ) ( )", Huh(5)),
@@ -196,6 +206,16 @@ const SERVER: [Example; 120] = [
     (ServerEnd, L0, "TME ( )", Huh(2)),
     (ServerEnd, L0, "TME ( 'a' )", Huh(2)),
     (ServerEnd, L0, "TME ( 30 ) ( 30 )", Huh(4)),
+];
+
+#[test]
+fn parts_of_what_a_server_tells_of_the_game(rt: HostRuntime) -> Result<(), Fail> {
+    assert_verdicts(&rt, &STATES)
+}
+
+// side, level, message, verdict
+#[rattlefmt::skip]
+const ANSWERS: [Example; 41] = [
     (ServerEnd, L0, "YES", Huh(1)),
     (ServerEnd, L0, "YES ( )", Huh(2)),
     (ServerEnd, L0, "YES ( OBS OBS )", Huh(3)),
@@ -237,6 +257,16 @@ const SERVER: [Example; 120] = [
     (ServerEnd, L0, "ADM ( FRA ) ( 'b' )", Huh(2)),
     (ServerEnd, L0, "ADM ( 'a' ) ( FRA )", Huh(5)),
     (ServerEnd, L0, "ADM ( 'a' ) ( 'b' ) ( 'c' )", Huh(7)),
+];
+
+#[test]
+fn parts_of_a_servers_answers_and_notices(rt: HostRuntime) -> Result<(), Fail> {
+    assert_verdicts(&rt, &ANSWERS)
+}
+
+// side, level, message, verdict
+#[rattlefmt::skip]
+const SENDS: [Example; 19] = [
     (ServerEnd, L10, "FRM ( ) ( ENG ) ( TRY ( ) )", Huh(2)),
     (ServerEnd, L10, "FRM ( UNO ) ( ENG ) ( TRY ( ) )", Huh(2)),
     (ServerEnd, L10, "FRM ( FRA ) ( ) ( TRY ( ) )", Huh(5)),
@@ -259,8 +289,8 @@ const SERVER: [Example; 120] = [
 ];
 
 #[test]
-fn parts_of_server_messages(rt: HostRuntime) -> Result<(), Fail> {
-    assert_verdicts(&rt, &SERVER)
+fn parts_of_press_from_a_server(rt: HostRuntime) -> Result<(), Fail> {
+    assert_verdicts(&rt, &SENDS)
 }
 
 // side, level, message, verdict

@@ -1,10 +1,8 @@
 //! Turns over ports in memory: what each side was sent, and what was asked of its wire.
 
-use crate::script::{IM, bytes_of};
-use daide_frame::side::Side;
-use daide_frame::side::Side::{Bot, Server};
+use crate::script::{WIDEST, assert_bytes};
+use daide_frame::side::Side::{self, Bot, Server};
 use daide_gate::relaying::{RelayEnd, relay};
-use daide_session::config::Config;
 use daide_session::memory_ports::{Acceptance, Arrival, Call, MemoryPorts, Script};
 use daide_session::ports::{Ports, Pull, Put};
 use daide_session::session::{Phase, Session};
@@ -22,16 +20,9 @@ pub const QUIET: Script<'static> = Script {
     puts: &[],
 };
 
-/// The widest limits.
-pub const WIDEST: Config = Config {
-    top_level: 60,
-    max_body: 65_526,
-    max_depth: 62,
-};
-
 /// What a wire took, by the calls that were stored.
 pub fn sent<A: Allocator>(
-    rt: &(impl Abort + AllocGlobal),
+    rt: &impl AllocGlobal,
     calls: &[Call<A>],
     side: Side,
 ) -> Result<Vec<u8>, Fail> {
@@ -46,14 +37,84 @@ pub fn sent<A: Allocator>(
     Ok(bytes)
 }
 
+/// A wire took these bytes, by the calls that were stored.
+pub fn assert_sent<A: Allocator>(
+    rt: &(impl Abort + AllocGlobal),
+    calls: Option<&[Call<A>]>,
+    side: Side,
+    want: &str,
+) -> Result<(), Fail> {
+    let calls = calls.ok_or("memory for the record")?;
+    let bytes = sent(rt, calls, side)?;
+    assert_bytes(rt, bytes.as_slice(), want)
+}
+
+/// A call of ports, as it is wanted: a clock that popped or not; a side, the length of the buffer, and what came; a
+/// side, the whole front, and what became of it.
+#[derive(Clone, Copy)]
+enum Asks {
+    Clock(bool),
+    Pull(Side, usize, Pull),
+    Put(Side, &'static [u8], Put),
+}
+
+/// Whether a call is the one that is wanted.
+fn is_wanted(call: &Call, want: Asks) -> bool {
+    match call {
+        Call::Clock(popped) => matches!(want, Asks::Clock(pops) if pops == *popped),
+        Call::Pulled(from, buffer, came, _) => {
+            matches!(want, Asks::Pull(side, len, pull) if side == *from && len == *buffer && pull == *came)
+        }
+        Call::Offered(to, bytes, became) => {
+            matches!(want, Asks::Put(side, front, put)
+                if side == *to && front == bytes.as_slice() && put == *became)
+        }
+    }
+}
+
+/// A relay: what the bot and the server send, how often the clock is quiet, how many turns there are at most, the end,
+/// and all that was asked.
+#[derive(Clone, Copy)]
+struct Relay {
+    bot: Script<'static>,
+    server: Script<'static>,
+    quiet: u64,
+    turns: u64,
+    end: RelayEnd,
+    asks: &'static [Asks],
+}
+
+/// The calls are those that are wanted.
+fn assert_calls(rt: &impl Abort, calls: &[Call], asks: &[Asks]) {
+    let mut rest = calls.iter();
+    for (place, want) in asks.iter().enumerate() {
+        let is_asked = rest.next().is_some_and(|call| is_wanted(call, *want));
+        assert!(rt; is_asked, "call {place}");
+    }
+    assert!(rt; rest.next().is_none(), "one call more");
+}
+
+/// A relay of a fresh session asks just that.
+fn assert_relay(rt: &(impl Abort + AllocGlobal), row: &Relay) -> Result<(), Fail> {
+    let mut session = Session::new(rt.alloc(), WIDEST)?;
+    let mut ports = MemoryPorts::new(rt.alloc(), row.bot, row.server, row.quiet);
+    let end = relay(&mut session, &mut ports, row.turns);
+    assert!(rt; end == row.end, "the end");
+    assert_calls(rt, ports.calls().unwrap_or(&[]), row.asks);
+    Ok(())
+}
+
 #[test]
 fn no_turns_ask_nothing(rt: HostRuntime) -> Result<(), Fail> {
-    let mut session = Session::new(rt.alloc(), WIDEST)?;
-    let mut ports = MemoryPorts::new(rt.alloc(), QUIET, QUIET, NEVER);
-    let end = relay(&mut session, &mut ports, 0);
-    assert_eq!(rt; end, RelayEnd::TurnsSpent);
-    assert!(rt; ports.calls().is_some_and(|calls| calls.is_empty()));
-    Ok(())
+    let row = Relay {
+        bot: QUIET,
+        server: QUIET,
+        quiet: NEVER,
+        turns: 0,
+        end: RelayEnd::TurnsSpent,
+        asks: &[],
+    };
+    assert_relay(&rt, &row)
 }
 
 /// A side that ends at once.
@@ -64,26 +125,38 @@ const ENDS: Script<'static> = Script {
 
 #[test]
 fn bot_that_ends_at_once_is_closed_after_one_turn(rt: HostRuntime) -> Result<(), Fail> {
-    let mut session = Session::new(rt.alloc(), WIDEST)?;
-    let mut ports = MemoryPorts::new(rt.alloc(), ENDS, QUIET, NEVER);
-    assert_eq!(rt; relay(&mut session, &mut ports, 1), RelayEnd::Closed);
-    let calls = ports.calls().unwrap_or(&[]);
-    assert_eq!(rt; calls.len(), 2);
-    assert!(rt; matches!(calls.first(), Some(Call::Clock(false))));
-    assert!(rt; matches!(calls.last(), Some(Call::Pulled(Bot, 4, Pull::Ended, _))));
-    Ok(())
+    let row = Relay {
+        bot: ENDS,
+        server: QUIET,
+        quiet: NEVER,
+        turns: 1,
+        end: RelayEnd::Closed,
+        asks: &[Asks::Clock(false), Asks::Pull(Bot, 4, Pull::Ended)],
+    };
+    assert_relay(&rt, &row)
 }
 
+/// The clock pops in the third turn, whose EM goes out in it, whole.
 #[test]
 fn late_initial_message_is_told_to_the_bot_alone(rt: HostRuntime) -> Result<(), Fail> {
-    let mut session = Session::new(rt.alloc(), WIDEST)?;
-    let mut ports = MemoryPorts::new(rt.alloc(), QUIET, QUIET, 2);
-    assert_eq!(rt; relay(&mut session, &mut ports, 9), RelayEnd::Closed);
-    let calls = ports.calls().unwrap_or(&[]);
-    let want = bytes_of(&rt, "04 00 00 02 00 01")?;
-    assert_eq!(rt; sent(&rt, calls, Bot)?.as_slice(), want.as_slice());
-    assert!(rt; sent(&rt, calls, Server)?.is_empty());
-    Ok(())
+    let row = Relay {
+        bot: QUIET,
+        server: QUIET,
+        quiet: 2,
+        turns: 9,
+        end: RelayEnd::Closed,
+        asks: &[
+            Asks::Clock(false),
+            Asks::Pull(Bot, 4, Pull::Idle),
+            Asks::Pull(Server, 4, Pull::Idle),
+            Asks::Clock(false),
+            Asks::Pull(Bot, 4, Pull::Idle),
+            Asks::Pull(Server, 4, Pull::Idle),
+            Asks::Clock(true),
+            Asks::Put(Bot, &[4, 0, 0, 2, 0, 1], Put::Took(6)),
+        ],
+    };
+    assert_relay(&rt, &row)
 }
 
 /// A bot whose wire fails at its first put.
@@ -92,49 +165,51 @@ const FAILS: Script<'static> = Script {
     puts: &[Acceptance::Fails],
 };
 
-/// Relays until the session is closed, and compares each put: its wire, its bytes, and what became of it.
-fn assert_puts(
-    rt: &(impl Abort + AllocGlobal),
-    bot: Script<'static>,
-    quiet: u64,
-    want: &[(Side, &[u8], Put)],
-) -> Result<(), Fail> {
-    let mut session = Session::new(rt.alloc(), WIDEST)?;
-    let mut ports = MemoryPorts::new(rt.alloc(), bot, OPENS, quiet);
-    assert_eq!(rt; relay(&mut session, &mut ports, 9), RelayEnd::Closed);
-    let mut rest = want.iter();
-    for call in ports.calls().unwrap_or(&[]) {
-        if let Call::Offered(to, bytes, put) = call {
-            match rest.next() {
-                None => assert!(rt; false, "one put more"),
-                Some((side, front, answer)) => {
-                    assert_eq!(rt; *to, *side);
-                    assert_eq!(rt; bytes.as_slice(), *front);
-                    assert_eq!(rt; *put, *answer);
-                }
-            }
-        }
-    }
-    assert!(rt; rest.next().is_none(), "all puts were made");
-    Ok(())
-}
+/// A server that opens.
+pub const OPENS: Script<'static> = Script {
+    pulls: &[
+        Arrival::Idle,
+        Arrival::Idle,
+        Arrival::Idle,
+        Arrival::Idle,
+        Arrival::Bytes(&[1, 0, 0, 0]),
+    ],
+    puts: &[],
+};
 
-/// A relayed frame is handed over by its parts; a frame that ends the session, whole and in the turn that let it
-/// wait: the EM of a popped timer, and the FM after a put that failed.
+/// A relayed frame is handed over by its parts, the bot isn't read while its IM waits, and the FM after a put that
+/// failed goes out whole, in the turn that let it wait.
 #[test]
 fn each_put_is_of_the_whole_front(rt: HostRuntime) -> Result<(), Fail> {
-    assert_puts(&rt, QUIET, 2, &[(Bot, &[4, 0, 0, 2, 0, 1], Put::Took(6))])?;
-    assert_puts(
-        &rt,
-        FAILS,
-        NEVER,
-        &[
-            (Server, &[0, 0, 0, 4], Put::Took(4)),
-            (Server, &[0, 1, 0xDA, 0x10], Put::Took(4)),
-            (Bot, &[1, 0, 0, 0], Put::Failed),
-            (Server, &[3, 0, 0, 0], Put::Took(4)),
+    let row = Relay {
+        bot: FAILS,
+        server: OPENS,
+        quiet: NEVER,
+        turns: 9,
+        end: RelayEnd::Closed,
+        asks: &[
+            Asks::Clock(false),
+            Asks::Pull(Bot, 4, Pull::Got(4)),
+            Asks::Pull(Server, 4, Pull::Idle),
+            Asks::Clock(false),
+            Asks::Pull(Bot, 4, Pull::Got(4)),
+            Asks::Pull(Server, 4, Pull::Idle),
+            Asks::Clock(false),
+            Asks::Put(Server, &[0, 0, 0, 4], Put::Took(4)),
+            Asks::Pull(Server, 4, Pull::Idle),
+            Asks::Clock(false),
+            Asks::Put(Server, &[0, 1, 0xDA, 0x10], Put::Took(4)),
+            Asks::Pull(Bot, 4, Pull::Idle),
+            Asks::Pull(Server, 4, Pull::Idle),
+            Asks::Clock(false),
+            Asks::Pull(Bot, 4, Pull::Idle),
+            Asks::Pull(Server, 4, Pull::Got(4)),
+            Asks::Clock(false),
+            Asks::Put(Bot, &[1, 0, 0, 0], Put::Failed),
+            Asks::Put(Server, &[3, 0, 0, 0], Put::Took(4)),
         ],
-    )
+    };
+    assert_relay(&rt, &row)
 }
 
 /// A bot whose wire takes none of the first put of a HUH, then three bytes a put.
@@ -190,44 +265,49 @@ const SERVER_OF_A_SLOW_BOT: Script<'static> = Script {
     puts: &[],
 };
 
-/// The bot's wire takes none of the first put of a HUH, then three bytes a put, while a message of the server
-/// comes in two pieces, the second after that first put: whole frames, one after the other, and no side is read
-/// while its answer waits.
-#[test]
-fn slow_wire_keeps_frames_whole_in_turns(rt: HostRuntime) -> Result<(), Fail> {
-    let im = bytes_of(&rt, IM)?;
-    let mut session = Session::new(rt.alloc(), WIDEST)?;
-    let mut ports = MemoryPorts::new(rt.alloc(), SLOW_BOT, SERVER_OF_A_SLOW_BOT, NEVER);
-    assert_eq!(rt; relay(&mut session, &mut ports, 60), RelayEnd::TurnsSpent);
-    let calls = ports.calls().unwrap_or(&[]);
-    let want = bytes_of(
-        &rt,
-        "01 00 00 00  02 00 00 08 48 06 40 00 49 02 40 01  02 00 00 0A 48 0E 40 00 47 00 07 6D 40 01",
-    )?;
-    assert_eq!(rt; sent(&rt, calls, Bot)?.as_slice(), want.as_slice());
-    assert_eq!(rt; sent(&rt, calls, Server)?.as_slice(), im.as_slice());
+/// Whether the bot was read on only once all sixteen bytes of the RM and its HUH were taken, and the server only once
+/// all thirty of these and its message were; and all eighteen bytes of the server came.
+fn is_read_in_time(calls: &[Call]) -> bool {
     let mut to_bot = 0_usize;
     let mut of_bot = 0_usize;
     let mut of_server = 0_usize;
+    let mut in_time = true;
     for call in calls {
         match call {
             Call::Offered(Bot, _, Put::Took(count)) => to_bot = to_bot.saturating_add(*count),
             Call::Pulled(Bot, _, _, bytes) => {
-                assert!(rt; of_bot < 12 || to_bot >= 16, "read while its HUH waits");
+                in_time = in_time && (of_bot < 12 || to_bot >= 16);
                 of_bot = of_bot.saturating_add(bytes.len());
             }
             Call::Pulled(Server, _, _, bytes) => {
-                assert!(rt;
-                    of_server < 18 || to_bot >= 30,
-                    "read while its message waits"
-                );
+                in_time = in_time && (of_server < 18 || to_bot >= 30);
                 of_server = of_server.saturating_add(bytes.len());
             }
             _ => {}
         }
     }
-    assert_eq!(rt; of_server, 18);
-    Ok(())
+    in_time && of_server == 18
+}
+
+/// The bot was sent the RM, the HUH and NOW, and the server the IM, and no side was read while its answer waited.
+fn assert_slow_calls(rt: &(impl Abort + AllocGlobal), calls: Option<&[Call]>) -> Result<(), Fail> {
+    assert!(rt; calls.is_some_and(is_read_in_time));
+    assert_sent(rt, calls, Server, "00 00 00 04 00 01 DA 10")?;
+    let want =
+        "01 00 00 00  02 00 00 08 48 06 40 00 49 02 40 01  02 00 00 0A 48 0E 40 00 47 00 07 6D 40 01";
+    assert_sent(rt, calls, Bot, want)
+}
+
+/// The bot's wire takes none of the first put of a HUH, then three bytes a put, while a message of the server
+/// comes in two pieces, the second after that first put: whole frames, one after the other, and no side is read
+/// while its answer waits.
+#[test]
+fn slow_wire_keeps_frames_whole_in_turns(rt: HostRuntime) -> Result<(), Fail> {
+    let mut session = Session::new(rt.alloc(), WIDEST)?;
+    let mut ports = MemoryPorts::new(rt.alloc(), SLOW_BOT, SERVER_OF_A_SLOW_BOT, NEVER);
+    let end = relay(&mut session, &mut ports, 60);
+    assert!(rt; end == RelayEnd::TurnsSpent);
+    assert_slow_calls(&rt, ports.calls())
 }
 
 /// Ports that note what the wire toward the bot took, beside ports in memory whose record may be refused.
@@ -281,42 +361,35 @@ const OPEN_BRACKET: Script<'static> = Script {
     puts: &[],
 };
 
-/// A server that opens.
-pub const OPENS: Script<'static> = Script {
-    pulls: &[
-        Arrival::Idle,
-        Arrival::Idle,
-        Arrival::Idle,
-        Arrival::Idle,
-        Arrival::Bytes(&[1, 0, 0, 0]),
-    ],
-    puts: &[],
-};
+/// What is sent, whatever becomes of the record: the RM, and PRN ( GOF ( ).
+const SENT_TO_THE_BOT: &[u8] = &[
+    1, 0, 0, 0, 2, 0, 0, 0x0A, 0x48, 0x13, 0x40, 0, 0x48, 0x03, 0x40, 0, 0x40, 1,
+];
+
+/// Relays the conversation over ports whose record lies in this heap, and answers whether the record was refused.
+fn is_record_refused(rt: &(impl Abort + AllocGlobal), heap: &LocalHeap) -> Result<bool, Fail> {
+    let mut session = Session::new(rt.alloc(), WIDEST)?;
+    let mut ports = Watching {
+        ports: MemoryPorts::new(heap, OPEN_BRACKET, OPENS, NEVER),
+        to_bot: Vec::new(rt.alloc()),
+        refused: false,
+    };
+    let end = relay(&mut session, &mut ports, 60);
+    assert!(rt; end == RelayEnd::Closed && session.phase() == Phase::Over);
+    assert!(rt; !ports.refused && ports.to_bot.as_slice() == SENT_TO_THE_BOT);
+    Ok(ports.ports.calls().is_none())
+}
 
 /// Over heaps from empty to ample, whatever becomes of the record, the same is sent.
 #[test]
 fn refused_record_changes_nothing(rt: HostRuntime) -> Result<(), Fail> {
-    let want = bytes_of(
-        &rt,
-        "01 00 00 00  02 00 00 0A 48 13 40 00 48 03 40 00 40 01",
-    )?;
     let mut refusals = 0u32;
     for step in 0..60 {
         let heap = LocalHeap::new(rt.alloc(), 1_024 * step)?;
-        let mut session = Session::new(rt.alloc(), WIDEST)?;
-        let mut ports = Watching {
-            ports: MemoryPorts::new(&heap, OPEN_BRACKET, OPENS, NEVER),
-            to_bot: Vec::new(rt.alloc()),
-            refused: false,
-        };
-        assert_eq!(rt; relay(&mut session, &mut ports, 60), RelayEnd::Closed);
-        assert_eq!(rt; session.phase(), Phase::Over);
-        assert!(rt; !ports.refused);
-        assert_eq!(rt; ports.to_bot.as_slice(), want.as_slice(), "{step}");
-        if ports.ports.calls().is_none() {
+        if is_record_refused(&rt, &heap)? {
             refusals = refusals.saturating_add(1);
         }
     }
-    assert!(rt; refusals > 0 && refusals < 60, "{refusals}");
+    assert!(rt; refusals > 0 && refusals < 60);
     Ok(())
 }

@@ -1,27 +1,74 @@
-//! A bot, a session and a server: what each side says, in pieces, and what reaches it.
+//! A bot, a session and a server: what each side says, in pieces, what reaches it, and what is seen of the session.
+//!
+//! A conversation is a table of acts, which one short loop plays; so a test is its table, and costs its check little.
 
-use daide_frame::side::Side;
+ghost use Rattle.std.specs.Prelude.{◌≤◌, length};
+
+use daide_frame::side::Side::{self, Bot, Server};
+use daide_grammar::level::Level;
 use daide_session::config::Config;
-use daide_session::session::{Note, Session};
-use std::alloc::Allocator;
+use daide_session::session::{Note, Phase, Session};
+use std::alloc::{Allocator, Global};
 use std::process::Abort;
 use std::test::Fail;
 
-/// What happens to a session.
-#[derive(Clone, Copy, Debug)]
+/// What happens to a session, or what is seen of it.
+#[derive(Clone, Copy)]
 pub enum Act {
-    /// The side sends these bytes, written in hexadecimal digits with blanks.
+    /// The side sends these bytes, written in hexadecimal digits with blanks. All that waits is taken after each piece.
     Says(Side, &'static str),
-    /// The side's stream ends.
+    /// The side sends these bytes, which there is room for, and nothing of what waits is taken.
+    Sends(Side, &'static str),
+    /// The side sends these bytes one by one, and this is told of them; all that waits is taken.
+    Tells(Side, &'static str, Note),
+    /// The wire toward the side takes so many bytes, at most three at once.
+    Takes(Side, usize),
+    /// The side's stream ends; all that waits is taken.
     Ends(Side),
-    /// The wire toward the side fails.
+    /// The side's stream ends, which is told, and nothing of what waits is taken.
+    Stops(Side),
+    /// The wire toward the side fails; all that waits is taken.
     Loses(Side),
-    /// The timer of the initial message pops.
+    /// The timer of the initial message pops; all that waits is taken.
     Pops,
+    /// This holds now.
+    Sees(Look),
 }
 
+/// What is seen of a session.
+#[derive(Clone, Copy)]
+pub enum Look {
+    Phase(Phase),
+    Level(Level),
+    /// So many bytes of the side are taken next.
+    Room(Side, usize),
+    /// So many bytes are handed to the wire toward the side next.
+    Front(Side, usize),
+    /// The session weighs from so much to so much.
+    Weight(usize, usize),
+    /// The side's message took from one step to so many, and its table was asked nothing beside, since the last look.
+    Steps(Side, u64),
+    /// No message of the side was judged.
+    NoSteps(Side),
+    /// The side was sent these bytes since the last look.
+    Sent(Side, &'static str),
+}
+
+/// The widest limits.
+pub const WIDEST: Config = Config {
+    top_level: 60,
+    max_body: 65_526,
+    max_depth: 62,
+};
+
+/// What a bot sends first.
+pub const IM: &str = "00 00 00 04  00 01 DA 10";
+
+/// The server's answer for the standard map.
+pub const RM: &str = "01 00 00 00";
+
 /// The bytes of hexadecimal digits with blanks between them.
-pub fn bytes_of(rt: &(impl Abort + AllocGlobal), text: &str) -> Result<Vec<u8>, Fail> {
+pub fn bytes_of(rt: &impl AllocGlobal, text: &str) -> Result<Vec<u8>, Fail> {
     let mut digits = Vec::new(rt.alloc());
     for byte in text.as_bytes() {
         if *byte != b' ' {
@@ -31,50 +78,93 @@ pub fn bytes_of(rt: &(impl Abort + AllocGlobal), text: &str) -> Result<Vec<u8>, 
     Ok(hex::decode(rt.alloc(), digits.as_slice())?)
 }
 
-/// A session and what it sent so far.
-#[derive(Drop)]
-pub struct Script {
-    pub session: Session,
-    pub to_bot: Vec<u8>,
-    pub to_server: Vec<u8>,
+/// These bytes were sent.
+pub fn assert_bytes(rt: &(impl Abort + AllocGlobal), sent: &[u8], want: &str) -> Result<(), Fail> {
+    let want = bytes_of(rt, want)?;
+    assert_eq!(rt; sent, want.as_slice());
+    Ok(())
 }
 
-impl Script {
-    /// A fresh session.
-    pub fn new(rt: &(impl Abort + AllocGlobal), top_level: u16) -> Result<Script, Fail> {
-        let config = Config {
-            top_level,
-            max_body: 65_526,
-            max_depth: 62,
-        };
-        Ok(Script {
-            session: Session::new(rt.alloc(), config)?,
-            to_bot: Vec::new(rt.alloc()),
-            to_server: Vec::new(rt.alloc()),
-        })
+/// A session and what it sent since it was last looked at.
+#[derive(Drop)]
+pub struct Script<A: Allocator = Global> {
+    pub session: Session<A>,
+    pub to_bot: Vec<u8>,
+    pub to_server: Vec<u8>,
+    /// How often the table of the bot's reader was asked by the messages that were looked at.
+    asked: u64,
+}
+
+/// A fresh session of these limits.
+pub fn script_of(rt: &impl AllocGlobal, config: Config) -> Result<Script, Fail> {
+    Ok(script_over(rt, Session::new(rt.alloc(), config)?))
+}
+
+/// This session, of which nothing was taken.
+pub fn script_over<A: Allocator>(rt: &impl AllocGlobal, session: Session<A>) -> Script<A> {
+    Script {
+        session,
+        to_bot: Vec::new(rt.alloc()),
+        to_server: Vec::new(rt.alloc()),
+        asked: 0,
+    }
+}
+
+/// Takes what waits for the wire toward a side, at most so many fronts.
+fn take_all<A: Allocator>(
+    session: &mut Session<A>,
+    side: Side,
+    taken: &mut Vec<u8>,
+) -> Result<(), Fail> {
+    for _front in 0..32 {
+        let front = session.front(side);
+        let count = front.len();
+        taken.extend_from_slice(front)?;
+        session.wrote(side, count);
+    }
+    Ok(())
+}
+
+/// Takes bytes that wait for the wire toward a side, at most three at once, until so many were taken.
+fn take<A: Allocator>(
+    session: &mut Session<A>,
+    side: Side,
+    taken: &mut Vec<u8>,
+    most: usize,
+) -> Result<(), Fail> {
+    let mut left = most;
+    for _front in 0..most {
+        let front = session.front(side);
+        let count = front.len().min(left).min(3);
+        taken.extend_from_slice(&front[..count])?;
+        session.wrote(side, count);
+        left = left.saturating_sub(count);
+    }
+    Ok(())
+}
+
+/// Feeds as much of these bytes as there is room for, and tells of it.
+fn feed<A: Allocator>(session: &mut Session<A>, side: Side, bytes: &[u8], most: usize) -> usize
+    ensures { result ≤ length bytes.now }
+{
+    let count = bytes.len().min(most).min(session.room(side));
+    session.feed(side, &bytes[..count]);
+    count
+}
+
+impl<A: Allocator> Script<A> {
+    /// Takes what waits for the wire toward a side.
+    pub fn take_all(&mut self, side: Side) -> Result<(), Fail> {
+        match side {
+            Bot => take_all(&mut self.session, Bot, &mut self.to_bot),
+            Server => take_all(&mut self.session, Server, &mut self.to_server),
+        }
     }
 
     /// Takes what waits for both wires.
     pub fn deliver(&mut self) -> Result<(), Fail> {
-        for _front in 0..32 {
-            let front = self.session.front(Side::Bot);
-            if front.is_empty() {
-                break;
-            }
-            self.to_bot.extend_from_slice(front)?;
-            let count = front.len();
-            self.session.wrote(Side::Bot, count);
-        }
-        for _front in 0..32 {
-            let front = self.session.front(Side::Server);
-            if front.is_empty() {
-                break;
-            }
-            self.to_server.extend_from_slice(front)?;
-            let count = front.len();
-            self.session.wrote(Side::Server, count);
-        }
-        Ok(())
+        self.take_all(Bot)?;
+        self.take_all(Server)
     }
 
     /// A side's bytes, in pieces of at most `piece` bytes, with all that waits taken after each. What comes
@@ -82,13 +172,135 @@ impl Script {
     pub fn say(&mut self, side: Side, bytes: &[u8], piece: usize) -> Result<(), Fail> {
         let mut rest = bytes;
         for _piece in 0..=bytes.len() {
-            let count = rest.len().min(piece).min(self.session.room(side));
-            let (now, later) = rest.split_at(count);
-            self.session.feed(side, now);
+            let count = feed(&mut self.session, side, rest, piece);
+            rest = &rest[count..];
             self.deliver()?;
-            rest = later;
         }
         Ok(())
+    }
+
+    /// The same, of bytes in hexadecimal digits.
+    fn say_text(
+        &mut self,
+        rt: &impl AllocGlobal,
+        side: Side,
+        text: &str,
+        piece: usize,
+    ) -> Result<(), Fail> {
+        let bytes = bytes_of(rt, text)?;
+        self.say(side, bytes.as_slice(), piece)
+    }
+
+    /// A side's bytes, all of which there is room for, while nothing of what waits is taken.
+    fn send(
+        &mut self,
+        rt: &(impl Abort + AllocGlobal),
+        side: Side,
+        text: &str,
+    ) -> Result<(), Fail> {
+        let bytes = bytes_of(rt, text)?;
+        let mut rest = bytes.as_slice();
+        for _piece in 0..=bytes.len() {
+            let count = feed(&mut self.session, side, rest, bytes.len());
+            rest = &rest[count..];
+        }
+        assert!(rt; rest.is_empty(), "no room");
+        Ok(())
+    }
+
+    /// What was told of a side's bytes one by one, of which at most one thing is to be told.
+    fn note_of(&mut self, rt: &impl Abort, side: Side, bytes: &[u8]) -> Result<Note, Fail> {
+        let mut told = Note::Nothing;
+        for byte in bytes {
+            if self.session.room(side) > 0 {
+                let note = self.session.feed(side, &[*byte]);
+                if note != Note::Nothing {
+                    assert!(rt; told == Note::Nothing, "told twice");
+                    told = note;
+                }
+            }
+            self.deliver()?;
+        }
+        Ok(told)
+    }
+
+    /// This is told of a side's bytes.
+    fn tell(
+        &mut self,
+        rt: &(impl Abort + AllocGlobal),
+        side: Side,
+        text: &str,
+        want: Note,
+    ) -> Result<(), Fail> {
+        let bytes = bytes_of(rt, text)?;
+        let told = self.note_of(rt, side, bytes.as_slice())?;
+        assert_eq!(rt; told, want);
+        Ok(())
+    }
+
+    /// What the wire toward a side took since it was last looked at.
+    pub fn sent(&self, side: Side) -> &[u8] {
+        match side {
+            Bot => self.to_bot.as_slice(),
+            Server => self.to_server.as_slice(),
+        }
+    }
+
+    /// A side was sent these bytes since it was last looked at.
+    pub fn assert_sent(
+        &mut self,
+        rt: &(impl Abort + AllocGlobal),
+        side: Side,
+        want: &str,
+    ) -> Result<(), Fail> {
+        assert_bytes(rt, self.sent(side), want)?;
+        match side {
+            Bot => self.to_bot.clear(),
+            Server => self.to_server.clear(),
+        }
+        Ok(())
+    }
+
+    /// The message of a side took from one step to so many, and its table was asked nothing beside.
+    fn assert_steps(&mut self, rt: &impl Abort, side: Side, most: u64) {
+        let steps = self.session.steps(side);
+        assert!(rt; 0 < steps && steps <= most);
+        self.asked = self.asked.saturating_add(steps);
+        assert!(rt; self.session.total(side) == self.asked);
+    }
+
+    /// What is seen of the session's state.
+    fn look(&mut self, rt: &impl Abort, look: Look) {
+        let session = &self.session;
+        match look {
+            Look::Phase(want) => assert_eq!(rt; session.phase(), want),
+            Look::Level(want) => assert_eq!(rt; session.level(), want),
+            Look::Room(side, want) => assert_eq!(rt; session.room(side), want),
+            Look::Front(side, want) => assert_eq!(rt; session.front(side).len(), want),
+            Look::Weight(least, most) => {
+                let weight = session.weight();
+                assert!(rt; least <= weight && weight <= most);
+            }
+            Look::NoSteps(side) => {
+                assert!(rt; session.steps(side) == 0 && session.total(side) == 0);
+            }
+            Look::Steps(side, most) => self.assert_steps(rt, side, most),
+            Look::Sent(_, _) => {}
+        }
+    }
+
+    /// An event that is no bytes.
+    fn hear(&mut self, act: Act) {
+        match act {
+            Act::Ends(side) => {
+                self.session.ended(side);
+            }
+            Act::Loses(side) => self.session.lost(side),
+            Act::Pops => {
+                self.session.im_timeout();
+            }
+            _ => {}
+        }
     }
 
     /// One act.
@@ -99,128 +311,117 @@ impl Script {
         piece: usize,
     ) -> Result<(), Fail> {
         match act {
-            Act::Says(side, text) => {
-                let bytes = bytes_of(rt, text)?;
-                self.say(side, bytes.as_slice(), piece)?;
+            Act::Says(side, text) => self.say_text(rt, side, text, piece),
+            Act::Sends(side, text) => self.send(rt, side, text),
+            Act::Tells(side, text, note) => self.tell(rt, side, text, note),
+            Act::Takes(Bot, most) => take(&mut self.session, Bot, &mut self.to_bot, most),
+            Act::Takes(Server, most) => take(&mut self.session, Server, &mut self.to_server, most),
+            Act::Ends(_) | Act::Loses(_) | Act::Pops => {
+                self.hear(act);
+                self.deliver()
             }
-            Act::Ends(side) => {
-                self.session.ended(side);
+            Act::Stops(side) => {
+                assert!(rt; self.session.ended(side), "an end is told once");
+                Ok(())
             }
-            Act::Loses(side) => self.session.lost(side),
-            Act::Pops => {
-                self.session.im_timeout();
+            Act::Sees(Look::Sent(side, want)) => self.assert_sent(rt, side, want),
+            Act::Sees(look) => {
+                self.look(rt, look);
+                Ok(())
             }
         }
-        self.deliver()
+    }
+
+    /// Acts one after the other.
+    pub fn play_all(
+        &mut self,
+        rt: &(impl Abort + AllocGlobal),
+        acts: &[Act],
+        piece: usize,
+    ) -> Result<(), Fail> {
+        for act in acts {
+            self.play(rt, *act, piece)?;
+        }
+        Ok(())
+    }
+
+    /// The IM and the RM go through, after which nothing was looked at.
+    pub fn open(&mut self, rt: &(impl Abort + AllocGlobal), piece: usize) -> Result<(), Fail> {
+        self.play_all(rt, &OPENING, piece)?;
+        self.to_bot.clear();
+        self.to_server.clear();
+        Ok(())
+    }
+
+    /// The acts send these bytes; where the scene begins open, the IM and the RM go before them.
+    fn assert_scene(
+        &mut self,
+        rt: &(impl Abort + AllocGlobal),
+        is_open: bool,
+        scene: &Scene,
+        piece: usize,
+    ) -> Result<(), Fail> {
+        let (acts, to_bot, to_server) = scene;
+        if is_open {
+            self.open(rt, piece)?;
+        }
+        self.play_all(rt, acts, piece)?;
+        self.deliver()?;
+        self.assert_sent(rt, Bot, to_bot)?;
+        self.assert_sent(rt, Server, to_server)
     }
 }
 
-/// Says bytes of a side one by one, with all that waits taken after each, and answers what was told: at most
-/// one thing of one frame.
-pub fn note_of(
+/// The IM and the RM.
+pub const OPENING: [Act; 2] = [Act::Says(Bot, IM), Act::Says(Server, RM)];
+
+/// Acts, and the bytes that they send to the bot and to the server, but for those that were looked at.
+pub type Scene = (&'static [Act], &'static str, &'static str);
+
+/// Plays a scene on a fresh session of these limits.
+fn assert_played(
     rt: &(impl Abort + AllocGlobal),
-    script: &mut Script,
-    side: Side,
-    text: &str,
-) -> Result<Note, Fail> {
-    let mut told = Note::Nothing;
-    let bytes = bytes_of(rt, text)?;
-    for byte in bytes.as_slice() {
-        if script.session.room(side) > 0 {
-            let note = script.session.feed(side, &[*byte]);
-            if note != Note::Nothing {
-                assert_eq!(rt; told, Note::Nothing, "{text}");
-                told = note;
-            }
-            script.deliver()?;
-        }
-    }
-    Ok(told)
-}
-
-/// What a side sends first, and what the server answers.
-pub const IM: &str = "00 00 00 04  00 01 DA 10";
-
-/// The server's answer for the standard map.
-pub const RM: &str = "01 00 00 00";
-
-/// Acts, and the bytes that they send to the bot and to the server.
-pub type Scene<'a> = (&'a [Act], &'static str, &'static str);
-
-/// Plays the acts on a fresh session; where it is open, the IM and the RM go before them.
-fn played(
-    rt: &(impl Abort + AllocGlobal),
+    config: Config,
     is_open: bool,
-    acts: &[Act],
+    scene: &Scene,
     piece: usize,
-) -> Result<Script, Fail> {
-    let mut script = Script::new(rt, 60)?;
-    if is_open {
-        script.play(rt, Act::Says(Side::Bot, IM), piece)?;
-        script.play(rt, Act::Says(Side::Server, RM), piece)?;
-        script.to_bot.clear();
-        script.to_server.clear();
+) -> Result<(), Fail> {
+    let mut script = script_of(rt, config)?;
+    script.assert_scene(rt, is_open, scene, piece)
+}
+
+/// The acts of a conversation, with what is seen among them, whole and byte by byte, in a fresh session of these limits.
+pub fn assert_acts(
+    rt: &(impl Abort + AllocGlobal),
+    config: Config,
+    acts: &[Act],
+) -> Result<(), Fail> {
+    for piece in [65_530, 1] {
+        let mut script = script_of(rt, config)?;
+        script.play_all(rt, acts, piece)?;
     }
-    for act in acts {
-        script.play(rt, *act, piece)?;
+    Ok(())
+}
+
+/// Each scene sends its bytes, whole and byte by byte, in a session of these limits.
+pub fn assert_scenes_within(
+    rt: &(impl Abort + AllocGlobal),
+    config: Config,
+    is_open: bool,
+    scenes: &[Scene],
+) -> Result<(), Fail> {
+    for scene in scenes {
+        assert_played(rt, config, is_open, scene, 65_530)?;
+        assert_played(rt, config, is_open, scene, 1)?;
     }
-    Ok(script)
+    Ok(())
 }
 
 /// Each scene sends its bytes, whole and byte by byte.
 pub fn assert_scenes(
     rt: &(impl Abort + AllocGlobal),
     is_open: bool,
-    scenes: &[Scene<'_>],
+    scenes: &[Scene],
 ) -> Result<(), Fail> {
-    for (acts, to_bot, to_server) in scenes {
-        for piece in [65_530, 1] {
-            let script = played(rt, is_open, acts, piece)?;
-            let want = bytes_of(rt, to_bot)?;
-            assert_eq!(rt;
-                script.to_bot.as_slice(),
-                want.as_slice(),
-                "to the bot, in pieces of {piece}: {acts:?}"
-            );
-            let want = bytes_of(rt, to_server)?;
-            assert_eq!(rt;
-                script.to_server.as_slice(),
-                want.as_slice(),
-                "to the server, in pieces of {piece}: {acts:?}"
-            );
-        }
-    }
-    Ok(())
-}
-
-/// Sends bytes to a session whose room takes them at once, and takes nothing of what waits.
-pub fn feed_all<A: Allocator>(
-    rt: &(impl Abort + AllocGlobal),
-    session: &mut Session<A>,
-    side: Side,
-    text: &str,
-) -> Result<(), Fail> {
-    let bytes = bytes_of(rt, text)?;
-    let mut rest = bytes.as_slice();
-    for _piece in 0..=bytes.len() {
-        let count = rest.len().min(session.room(side));
-        let (now, later) = rest.split_at(count);
-        session.feed(side, now);
-        rest = later;
-    }
-    assert_eq!(rt; rest.len(), 0);
-    Ok(())
-}
-
-/// A wire that takes at most three bytes of what waits for a side, and keeps them.
-pub fn take_three<A: Allocator>(
-    session: &mut Session<A>,
-    side: Side,
-    taken: &mut Vec<u8>,
-) -> Result<(), Fail> {
-    let front = session.front(side);
-    let count = front.len().min(3);
-    taken.extend_from_slice(&front[..count])?;
-    session.wrote(side, count);
-    Ok(())
+    assert_scenes_within(rt, WIDEST, is_open, scenes)
 }

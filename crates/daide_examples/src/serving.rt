@@ -1,7 +1,6 @@
 //! Whole runs in memory: what the system was asked, in which order, and what each bot was served.
 
-use crate::relays::{NEVER, QUIET, sent};
-use crate::script::bytes_of;
+use crate::relays::{NEVER, QUIET, assert_sent};
 use daide_frame::side::Side::Server;
 use daide_gate::serving::{ServeFault, serve};
 use daide_gate::settings::{Settings, read_settings};
@@ -10,6 +9,7 @@ use daide_session::config::ConfigError;
 use daide_session::memory_ports::{Arrival, MemoryPorts, Script};
 use linked_list_allocator::LocalHeap;
 use std::alloc::Global;
+use std::process::Abort;
 use std::test::Fail;
 
 /// What became of a connect, in a script.
@@ -279,13 +279,23 @@ const RUNS: &[(Scene, usize, u32, u64, &[Event])] = &[
     ),
 ];
 
+/// In a whole run by these settings the system is asked just that.
+fn assert_asked(
+    rt: &(impl Abort + AllocGlobal),
+    settings: &Settings,
+    scene: Scene,
+    want: &[Event],
+) {
+    let mut stage = Stage::new(rt.alloc(), scene);
+    assert!(rt; serve(rt.alloc(), settings, &mut stage).is_ok());
+    assert!(rt; stage.events.as_slice() == want, "{} events", want.len());
+}
+
 #[test]
 fn system_is_asked_round_by_round(rt: HostRuntime) -> Result<(), Fail> {
     for (scene, max_sessions, sessions, turns, want) in RUNS {
         let settings = settings(rt.alloc(), *max_sessions, *sessions, *turns)?;
-        let mut stage = Stage::new(rt.alloc(), *scene);
-        assert_eq!(rt; serve(rt.alloc(), &settings, &mut stage), Ok(()));
-        assert_eq!(rt; stage.events.as_slice(), *want, "{scene:?}");
+        assert_asked(&rt, &settings, *scene, want);
     }
     Ok(())
 }
@@ -301,7 +311,7 @@ fn spent_turns_end_an_open_wire(rt: HostRuntime) -> Result<(), Fail> {
         bot: OPENS_ALONE,
     };
     let mut stage = Stage::new(rt.alloc(), scene);
-    assert_eq!(rt; serve(rt.alloc(), &settings, &mut stage), Ok(()));
+    assert!(rt; serve(rt.alloc(), &settings, &mut stage).is_ok());
     let want = [
         Event::Came,
         Event::Ready,
@@ -309,15 +319,12 @@ fn spent_turns_end_an_open_wire(rt: HostRuntime) -> Result<(), Fail> {
         Event::Told(Notice::TurnsSpent),
         Event::Retired,
     ];
-    assert_eq!(rt; stage.events.as_slice(), want.as_slice());
+    assert!(rt; stage.events.as_slice() == want.as_slice());
     let Some(ports) = stage.retired.first() else {
         assert!(rt; false, "its ports were taken");
         return Ok(());
     };
-    let calls = ports.calls().unwrap_or(&[]);
-    let want = bytes_of(&rt, "00 00 00 04 00 01 DA 10")?;
-    assert_eq!(rt; sent(&rt, calls, Server)?.as_slice(), want.as_slice());
-    Ok(())
+    assert_sent(&rt, ports.calls(), Server, "00 00 00 04 00 01 DA 10")
 }
 
 #[test]
@@ -329,10 +336,8 @@ fn hundred_bots_sixteen_at_once(rt: HostRuntime) -> Result<(), Fail> {
         bot: QUIET,
     };
     let mut stage = Stage::new(rt.alloc(), scene);
-    assert_eq!(rt; serve(rt.alloc(), &settings, &mut stage), Ok(()));
-    assert_eq!(rt; stage.held, 0);
-    assert_eq!(rt; stage.most, 16);
-    assert_eq!(rt; stage.retired.len(), 98);
+    assert!(rt; serve(rt.alloc(), &settings, &mut stage).is_ok());
+    assert!(rt; stage.held == 0 && stage.most == 16 && stage.retired.len() == 98);
     Ok(())
 }
 
@@ -354,7 +359,7 @@ fn want_of_memory_ends_a_run(rt: HostRuntime) -> Result<(), Fail> {
         match serve(&heap, &settings, &mut stage) {
             Ok(()) => whole = whole.saturating_add(1),
             Err(fault) => {
-                assert_eq!(rt; fault, ServeFault::Memory);
+                assert!(rt; fault == ServeFault::Memory);
                 if stage.events.is_empty() {
                     without_hub = without_hub.saturating_add(1);
                 } else {
@@ -363,9 +368,7 @@ fn want_of_memory_ends_a_run(rt: HostRuntime) -> Result<(), Fail> {
             }
         }
     }
-    assert!(rt; without_hub > 0, "{without_hub}");
-    assert!(rt; without_session > 0, "{without_session}");
-    assert!(rt; whole > 0, "{whole}");
+    assert!(rt; without_hub > 0 && without_session > 0 && whole > 0);
     Ok(())
 }
 
@@ -378,27 +381,22 @@ fn faults_of_a_run_before_anybody_is_asked(rt: HostRuntime) -> Result<(), Fail> 
     };
     let mut wrong = settings(rt.alloc(), 0, 1, 9)?;
     let mut stage = Stage::new(rt.alloc(), scene);
-    assert_eq!(rt;
-        serve(rt.alloc(), &wrong, &mut stage),
-        Err(ServeFault::Sessions)
-    );
+    let fault = serve(rt.alloc(), &wrong, &mut stage).err();
+    assert!(rt; fault == Some(ServeFault::Sessions));
     wrong.config.max_depth = 63;
-    assert_eq!(rt;
-        serve(rt.alloc(), &wrong, &mut stage),
-        Err(ServeFault::Config(ConfigError::Depth))
-    );
+    let fault = serve(rt.alloc(), &wrong, &mut stage).err();
+    assert!(rt; fault == Some(ServeFault::Config(ConfigError::Depth)));
     assert!(rt; stage.events.is_empty());
-    assert_eq!(rt;
-        ServeFault::Memory.to_string(rt.alloc())?.as_str(),
-        "out of memory"
-    );
-    assert_eq!(rt;
-        Notice::TurnsSpent.to_string(rt.alloc())?.as_str(),
-        "turns spent"
-    );
-    assert_eq!(rt;
-        Notice::CannotReach.to_string(rt.alloc())?.as_str(),
-        "cannot reach the server"
-    );
+    Ok(())
+}
+
+#[test]
+fn texts_of_faults_and_notices(rt: HostRuntime) -> Result<(), Fail> {
+    let memory = ServeFault::Memory.to_string(rt.alloc())?;
+    assert!(rt; memory.as_str() == "out of memory");
+    let spent = Notice::TurnsSpent.to_string(rt.alloc())?;
+    assert!(rt; spent.as_str() == "turns spent");
+    let unreachable = Notice::CannotReach.to_string(rt.alloc())?;
+    assert!(rt; unreachable.as_str() == "cannot reach the server");
     Ok(())
 }

@@ -129,15 +129,15 @@ fn addresses_of_255_bytes_and_one_more(rt: HostRuntime) -> Result<(), Fail> {
 #[test]
 fn two_addresses_give_the_defaults(rt: HostRuntime) -> Result<(), Fail> {
     let settings = read_settings(rt.alloc(), ADDRESSES)?;
-    assert_eq!(rt; settings.listen.as_str(), "127.0.0.1:16713");
-    assert_eq!(rt; settings.server.as_str(), "127.0.0.1:16714");
-    assert_eq!(rt; settings.config.top_level, 60);
-    assert_eq!(rt; settings.config.max_body, 65_526);
-    assert_eq!(rt; settings.config.max_depth, 62);
-    assert_eq!(rt; settings.im_seconds, 30);
-    assert_eq!(rt; settings.max_sessions, 16);
-    assert_eq!(rt; settings.sessions, 1);
-    assert_eq!(rt; settings.turns, 1_000_000_000);
+    assert!(rt; settings.listen.as_str() == "127.0.0.1:16713");
+    assert!(rt; settings.server.as_str() == "127.0.0.1:16714");
+    assert!(rt; settings.config.top_level == 60);
+    assert!(rt; settings.config.max_body == 65_526);
+    assert!(rt; settings.config.max_depth == 62);
+    assert!(rt; settings.im_seconds == 30);
+    assert!(rt; settings.max_sessions == 16);
+    assert!(rt; settings.sessions == 1);
+    assert!(rt; settings.turns == 1_000_000_000);
     Ok(())
 }
 
@@ -147,15 +147,15 @@ fn each_key_sets_its_own_field(rt: HostRuntime) -> Result<(), Fail> {
         "turns = 7\nsessions = 6\nmax_sessions = 5\nim_seconds = 4\nmax_depth = 13\nmax_body = 1024\n\
         top_level = 20\nserver = \"s\"\nlisten = \"l\"\n";
     let settings = read_settings(rt.alloc(), text)?;
-    assert_eq!(rt; settings.listen.as_str(), "l");
-    assert_eq!(rt; settings.server.as_str(), "s");
-    assert_eq!(rt; settings.config.top_level, 20);
-    assert_eq!(rt; settings.config.max_body, 1_024);
-    assert_eq!(rt; settings.config.max_depth, 13);
-    assert_eq!(rt; settings.im_seconds, 4);
-    assert_eq!(rt; settings.max_sessions, 5);
-    assert_eq!(rt; settings.sessions, 6);
-    assert_eq!(rt; settings.turns, 7);
+    assert!(rt; settings.listen.as_str() == "l");
+    assert!(rt; settings.server.as_str() == "s");
+    assert!(rt; settings.config.top_level == 20);
+    assert!(rt; settings.config.max_body == 1_024);
+    assert!(rt; settings.config.max_depth == 13);
+    assert!(rt; settings.im_seconds == 4);
+    assert!(rt; settings.max_sessions == 5);
+    assert!(rt; settings.sessions == 6);
+    assert!(rt; settings.turns == 7);
     Ok(())
 }
 

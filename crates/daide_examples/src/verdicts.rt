@@ -135,9 +135,9 @@ fn nested(rt: &(impl Abort + AllocGlobal), brackets: usize) -> Result<Vec<Token>
 #[test]
 fn one_bracket_too_deep_gets_huh(rt: HostRuntime) -> Result<(), Fail> {
     let message = nested(&rt, 62)?;
-    assert_eq!(rt; verdict_on(Client, L0, message.as_slice()), Relay);
+    assert!(rt; verdict_on(Client, L0, message.as_slice()) == Relay);
     let message = nested(&rt, 63)?;
-    assert_eq!(rt; verdict_on(Client, L0, message.as_slice()), Huh(63));
+    assert!(rt; verdict_on(Client, L0, message.as_slice()) == Huh(63));
     Ok(())
 }
 
@@ -145,6 +145,6 @@ fn one_bracket_too_deep_gets_huh(rt: HostRuntime) -> Result<(), Fail> {
 fn longest_body_gets_huh(rt: HostRuntime) -> Result<(), Fail> {
     let gof = Token::by_name("GOF").ok_or("a name")?;
     let message = vec![in rt.alloc(); gof; 32_763]?;
-    assert_eq!(rt; verdict_on(Client, L0, message.as_slice()), Huh(1));
+    assert!(rt; verdict_on(Client, L0, message.as_slice()) == Huh(1));
     Ok(())
 }

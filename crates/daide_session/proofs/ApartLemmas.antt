@@ -1,14 +1,18 @@
 -- Calls of a hub in a row leave its sessions apart.
 use Rattle.std.proofs.Common.{◌≡◌, ℕ, zero, suc, true, List, [], ◌∷◌, ◌++◌, length, map, Option, Some, refl, sym, ap}
-use Rattle.std.proofs.Common.{subst, set, ◌∙◌}
+use Rattle.std.proofs.Common.{◌<◌, subst, set, ◌∙◌, arith}
 use Rattle.std.specs.Prelude.{slice_get, remove, unwrap_or}
 use Rattle.daide_machine.specs.Machine.{Limits}
 use Rattle.daide_machine.specs.Wires.{Gateway, is_closed}
-use Rattle.daide_session.specs.Record.{PortAnswer}
+use Rattle.daide_session.specs.Record.{PortAnswer, Carries}
+use Rattle.daide_session.specs.Turn.{Then}
+use Rattle.daide_session.specs.Headline.{Headline}
 use Rattle.daide_session.specs.Hub.{Hosting, IsTurned}
 use Rattle.daide_session.specs.HubRuns.{HubCall, Added, Turned, Removed, HubStep, HubRuns, Stood, Opened, Life}
 use Rattle.daide_session.specs.HubRuns.{fresh_life, turned, turned_at, lives_after, lives_after_all, lives_of}
-use Rattle.daide_session.specs.HubRuns.{WentAlone, AreApart}
+use Rattle.daide_session.specs.HubRuns.{TurnsAlone, BeginsAs, WentAlone, AreApart}
+use Rattle.daide_session.proofs.Stretches.{carries_then, carries_weaker}
+use Rattle.daide_session.proofs.Standing.{headlines_join}
 
 -- what is the one thing is the other
 some-same : {X : Type 0} (x y : X) → Some x ≡ Some y → x ≡ y
@@ -151,3 +155,29 @@ module _ {P : Type 0} (told : P → Option (List PortAnswer)) where
       let found = each-found told old.limits (lives_of old calls) parts.0.places i (removed.0, ports) removed.1
       (lives-of calls old parts.0 parts.1) in
       (found.0, removed.0, found.1, removed.2, found.2)
+
+  -- turns in a row have the headline of all that the ports told in them
+  many-headlines : (n : ℕ) (a b : Gateway × P) → TurnsAlone told (suc n) a b →
+      Carries Headline a.0 (told a.1) b.0 (told b.1)
+  many-headlines zero a b t =
+      subst (λ (x : Gateway × P). Carries Headline x.0 (told x.1) b.0 (told b.1)) t.1 t.2.headline
+  many-headlines (suc n) a b t =
+      let mid = t.0 in
+      carries_weaker (Then Headline Headline) Headline a.0 (told a.1) b.0 (told b.1)
+      (λ xs. headlines_join a.0 xs b.0)
+      (carries_then Headline Headline a.0 (told a.1) mid.0 (told mid.1) b.0 (told b.1)
+      (many-headlines n a mid t.1) t.2.headline)
+
+  some-headlines : (n : ℕ) (a b : Gateway × P) → 0 < n → TurnsAlone told n a b →
+      Carries Headline a.0 (told a.1) b.0 (told b.1)
+  some-headlines zero a b h t = absurd (omega arith)
+  some-headlines (suc n) a b h t = many-headlines n a b t
+
+  pub each_headline : (calls : List (HubCall P)) (old new : Hosting P) → HubRuns told old calls new →
+      (i : ℕ) (life : Life P) (now : Gateway × P) → slice_get (lives_of old calls) i ≡ Some life →
+      slice_get new.places i ≡ Some now → 0 < life.turns →
+      (first : Gateway × P) × BeginsAs old.limits life.begun first
+      × Carries Headline first.0 (told first.1) now.0 (told now.1)
+  each_headline calls old new run i life now e f h =
+      let went = (sessions_apart calls old new run).alone i life now e f in
+      (went.0, went.1, some-headlines life.turns went.0 now h went.2)

@@ -1,9 +1,10 @@
 -- Whole runs of a hub: what its calls, in whatever order, make of each session.
-use Rattle.std.specs.Prelude.{◌≡◌, ℕ, zero, suc, true, List, [], ◌∷◌, ◌++◌, map, length, Option, Some}
+use Rattle.std.specs.Prelude.{◌≡◌, ℕ, zero, suc, ◌<◌, true, List, [], ◌∷◌, ◌++◌, map, length, Option, Some}
 use Rattle.std.specs.Prelude.{slice_get, remove}
 use Rattle.daide_machine.specs.Machine.{Limits}
 use Rattle.daide_machine.specs.Wires.{Gateway, IsNew, is_closed}
-use Rattle.daide_session.specs.Record.{PortAnswer}
+use Rattle.daide_session.specs.Record.{PortAnswer, Carries}
+use Rattle.daide_session.specs.Headline.{Headline}
 use Rattle.daide_session.specs.Hub.{Hosting, Adds, Removes, Changes, IsTurned}
 
 -- ---- the calls
@@ -103,3 +104,14 @@ PortsComeBackApart {P} told = (calls : List (HubCall P)) (i : ℕ) (ports : P) (
     HubRuns told old (calls ++ Removed i ports ∷ []) new →
     (life : Life P) × (session : Gateway) × (slice_get (lives_of old calls) i ≡ Some life)
     × (is_closed session ≡ true) × WentAlone told old.limits life (session, ports)
+
+-- ---- the headline of each
+
+-- Whatever calls are made of a hub, each of its sessions that they turned is bounded and exact, by all that its ports
+-- told from its beginning on.
+abbrev pub EachHasItsHeadline : {P : Type 0} → (P → Option (List PortAnswer)) → Type 0
+EachHasItsHeadline {P} told = (calls : List (HubCall P)) (old new : Hosting P) → HubRuns told old calls new →
+    (i : ℕ) (life : Life P) (now : Gateway × P) → slice_get (lives_of old calls) i ≡ Some life →
+    slice_get new.places i ≡ Some now → 0 < life.turns →
+    (first : Gateway × P) × BeginsAs old.limits life.begun first
+    × Carries Headline first.0 (told first.1) now.0 (told now.1)

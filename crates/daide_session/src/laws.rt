@@ -1,7 +1,7 @@
 //! Laws of what ports tell: functions with no parameters and an empty body, whose contracts are the laws.
 
 ghost use Rattle.daide_session.specs.Laws.{RelaysJoin, NewSessionsStand, HeadlinesJoin};
-ghost use Rattle.daide_session.specs.HubRuns.{SessionsAreApart, PortsComeBackApart};
+ghost use Rattle.daide_session.specs.HubRuns.{SessionsAreApart, PortsComeBackApart, EachHasItsHeadline};
 
 use crate::ports::Ports;
 
@@ -24,8 +24,9 @@ pub fn headlines_join()
 /// Whatever calls are made of a hub, in whatever order: the session at each place, however it moved, went on by turns
 /// of its own alone, as many as calls of `turn` were made of it, from its opening or from where it stood before. So
 /// its answers, and what its ports were asked, are those that it would have had with no other session beside it; and
-/// so are those of one that is taken out, whose ports come back.
+/// so are those of one that is taken out, whose ports come back. Each that was turned has the headline.
 pub fn sessions_are_apart<P: Ports>()
     ensures kept { SessionsAreApart P.told }
     ensures taken_out { PortsComeBackApart P.told }
+    ensures headline { EachHasItsHeadline P.told }
 {}
