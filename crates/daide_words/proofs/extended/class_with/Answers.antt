@@ -16,7 +16,7 @@ returns-in_default c =
     sym c.requires
     ∙ sym (class_told (words_of c.args.words.now) c.args.token None
     (sym c.in_default.is ∙ c.place_in.ensures.place
-        ∙ ap (λ names. place_from 0 names c.args.token) c.names.ensures.names))
+    ∙ ap (λ names. place_from 0 names c.args.token) c.names.ensures.names))
 
 pub returns-else-number-eq-OTHER : goal.returns-else-number-eq-OTHER
 unfolding words_of

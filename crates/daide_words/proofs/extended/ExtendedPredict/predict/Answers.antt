@@ -18,7 +18,7 @@ returns-then-is_stop-clause-answer c =
     let words = c.args.self.now.words in
     c.where_stopped.ensures
     ∙ ap (λ ws. answer_over ws c.args.sym c.args.class)
-        (sym (all-spoken (spoken_words c.args.self.now) (accepted_free (words_of words) words.accepted)))
+    (sym (all-spoken (spoken_words c.args.self.now) (accepted_free (words_of words) words.accepted)))
 
 pub returns-then-is_stop-clause-words_stay : goal.returns-then-is_stop-clause-words_stay
 unfolding spoken_words
@@ -32,7 +32,7 @@ returns-clause-answer c =
     ∙ sym (not_stopped (spoken_words c.args.self.now) c.args.sym c.args.class
     (ap is_stop (sym c.predict-answer.ensures.answer) ∙ sym c.is_stop.ensures ∙ c.if-is_stop.false))
     ∙ ap (λ ws. answer_over ws c.args.sym c.args.class)
-        (sym (all-spoken (spoken_words c.args.self.now) (accepted_free (words_of words) words.accepted)))
+    (sym (all-spoken (spoken_words c.args.self.now) (accepted_free (words_of words) words.accepted)))
 
 pub returns-clause-words_stay : goal.returns-clause-words_stay
 unfolding spoken_words
