@@ -12,9 +12,6 @@ use std::net::{Net, SocketAddr};
 use std::rt::Clock;
 use std::time::{Duration, Instant};
 
-/// How many seconds a server is tried for a bot.
-const CONNECT_SECONDS: u64 = 5;
-
 /// How many milliseconds no bot is taken after an accept that failed, as for want of descriptors.
 const ACCEPT_PAUSE: u64 = 100;
 
@@ -42,25 +39,30 @@ impl<'w> Door<'w> {
         }
     }
 
-    /// The connection of a bot that came. After an accept that failed none is taken for a while.
+    /// The connection of a bot that came, if one did.
     pub fn accept<R: Clock>(&self, watch: &Watch<R>) -> Option<TcpStream> {
         self.reopen(watch);
-        let flags = self.place.flags;
-        if !flags.is_readable.get() {
+        if !self.place.flags.is_readable.get() {
             return None;
         }
         match self.listener.accept() {
-            Ok((stream, _)) => return Some(stream),
+            Ok((stream, _)) => Some(stream),
             Err(error) => {
-                flags.is_readable.set(false);
-                if error.kind() != ErrorKind::WouldBlock {
-                    flags
-                        .due
-                        .set(watch.after(Duration::from_millis(ACCEPT_PAUSE)));
-                }
+                self.refused(watch, error.kind());
+                None
             }
         }
-        None
+    }
+
+    /// Notes that an accept gave none: another is made once a bot comes, or after a pause where it failed.
+    pub fn refused<R: Clock>(&self, watch: &Watch<R>, why: ErrorKind) {
+        let flags = self.place.flags;
+        flags.is_readable.set(false);
+        if why != ErrorKind::WouldBlock {
+            flags
+                .due
+                .set(watch.after(Duration::from_millis(ACCEPT_PAUSE)));
+        }
     }
 }
 
@@ -95,12 +97,17 @@ pub enum Outcome<'w, R: Clock> {
 
 impl<'w> Arrival<'w> {
     /// A bot that came now; its connect begins with the first look at it.
-    pub fn new<R: Clock>(watch: &Watch<R>, bot: Socket<'w>, im_time: Duration) -> Arrival<'w> {
+    pub fn new<R: Clock>(
+        watch: &Watch<R>,
+        bot: Socket<'w>,
+        im_time: Duration,
+        connect_time: Duration,
+    ) -> Arrival<'w> {
         Arrival {
             bot,
             server: None,
             tried: 0,
-            gives_up: watch.after(Duration::from_secs(CONNECT_SECONDS)),
+            gives_up: watch.after(connect_time),
             im_over: watch.after(im_time),
         }
     }

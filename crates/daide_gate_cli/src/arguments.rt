@@ -48,44 +48,53 @@ const RUN_NOTES: &str = "\
 It prints 'listening' once bots may come. What ends no run, as a server that can't be reached, is told in a
 line on standard error. The exit status is 0 once all bots were served, and 1 where no bot can be.";
 
-/// The command line that is understood. Both options take any word, so that a wrong one is told in
-/// the program's own words.
-pub fn command<'a>(alloc: Global) -> Result<Command<'a>, AllocError> {
-    let side = Arg::new(alloc, "side")
-        .long("side")
+/// An option that takes any one word, so that a wrong one is told in the program's own words.
+fn option<'a>(alloc: Global, name: &'a str, value: &'a str, help: &'a str) -> Arg<'a> {
+    Arg::new(alloc, name)
+        .long(name)
         .action(ArgAction::Set)
-        .value_name("SIDE")
-        .help("Whose frame it is, bot or server [default: bot]");
-    let level = Arg::new(alloc, "level")
-        .long("level")
-        .action(ArgAction::Set)
-        .value_name("N")
-        .help("The level of press, 0, 10, 20, 30, 40, 50 or 60 [default: 0]");
-    let show = Command::new(alloc, "show")
+        .value_name(value)
+        .help(help)
+}
+
+fn show_command<'a>(alloc: Global) -> Result<Command<'a>, AllocError> {
+    let side = "Whose frame it is, bot or server [default: bot]";
+    let level = "The level of press, 0, 10, 20, 30, 40, 50 or 60 [default: 0]";
+    Command::new(alloc, "show")
         .about("Shows one frame, read as hexadecimal digits from standard input")
         .after_help(SHOW_NOTES)
-        .arg(side)?
-        .arg(level)?;
-    let check = Command::new(alloc, "check")
+        .arg(option(alloc, "side", "SIDE", side))?
+        .arg(option(alloc, "level", "N", level))
+}
+
+fn check_command<'a>(alloc: Global) -> Command<'a> {
+    Command::new(alloc, "check")
         .about("Reports what a gateway makes of each line of a log, read from standard input")
-        .after_help(CHECK_NOTES);
+        .after_help(CHECK_NOTES)
+}
+
+fn run_command<'a>(alloc: Global) -> Result<Command<'a>, AllocError> {
     let settings = Arg::new(alloc, "SETTINGS")
         .required(true)
         .action(ArgAction::Set)
         .help("The file of settings; docs/FORMATS.md and examples/settings.toml have its keys");
-    let run = Command::new(alloc, "run")
-        .about(
-            "Serves bots, each with a connection of its own to the server, until all were served",
-        )
+    let about =
+        "Serves bots, each with a connection of its own to the server, until all were served";
+    Command::new(alloc, "run")
+        .about(about)
         .after_help(RUN_NOTES)
-        .arg(settings)?;
+        .arg(settings)
+}
+
+/// The command line that is understood.
+pub fn command<'a>(alloc: Global) -> Result<Command<'a>, AllocError> {
     Command::new(alloc, "daide-gate")
         .version("0.1.0")
         .about("A gateway between one bot and a DAIDE server")
         .after_help(NOTES)
-        .subcommand(show)?
-        .subcommand(check)?
-        .subcommand(run)
+        .subcommand(show_command(alloc)?)?
+        .subcommand(check_command(alloc))?
+        .subcommand(run_command(alloc)?)
 }
 
 fn side_of(word: &str) -> Option<Side> {

@@ -20,8 +20,11 @@ const MOST_DROPPED: usize = 1 << 20;
 /// How many seconds they are waited for.
 const SECONDS: u64 = 1;
 
-/// The most bytes that are dropped of a socket in one round.
+/// The most bytes that are dropped of a socket at a look at it.
 const PIECE: usize = 4096;
+
+/// How many sockets are looked at in one round, by turns, so that those that close don't hold up those at work.
+const MOST_LOOKS: usize = 8;
 
 /// How many sockets close at once; where one more comes, the one that began first is closed.
 pub const MOST_CLOSING: usize = 256;
@@ -95,13 +98,16 @@ impl<'w> Closings<'w> {
         self.begin(watch, ports.server);
     }
 
-    /// Drops a piece of what came on each, and closes those that are to be.
+    /// Drops a piece of what came on the next few, and closes those that are to be.
     pub fn advance<R: Clock>(&mut self, watch: &Watch<R>) {
-        for i in (0..self.sockets.len()).rev() {
-            if let Some(closing) = self.sockets.get_mut(i)
-                && closing.drops_last(watch)
-            {
-                self.sockets.remove(i);
+        for _ in 0..self.sockets.len().min(MOST_LOOKS) {
+            if self.sockets.is_empty() {
+                return;
+            }
+            let mut closing = self.sockets.remove(0);
+            if !closing.drops_last(watch) {
+                // There is room for as many as there were.
+                let _ = self.sockets.push(closing);
             }
         }
     }

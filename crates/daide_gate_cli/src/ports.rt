@@ -17,6 +17,9 @@ use std::rt::Clock;
 /// How often an interrupted call is made in all.
 const TRIES: usize = 8;
 
+/// The most bytes that one write hands to the system, so that a long frame holds up no other session for its length.
+const MOST_AT_ONCE: usize = 16_384;
+
 /// Reads what is there, where something may be, and notes where nothing was.
 pub fn pull_from<S: Read>(stream: &mut S, flags: &Flags, buffer: &mut [u8]) -> Pull
     ensures within { IsPullWithin result (length buffer.old) }
@@ -49,8 +52,9 @@ pub fn put_to<S: Write>(stream: &mut S, flags: &Flags, bytes: &[u8]) -> Put
     if !flags.is_writable.get() {
         return Put::Took(0);
     }
+    let front = &bytes[..bytes.len().min(MOST_AT_ONCE)];
     for _ in 0..TRIES {
-        match stream.write(bytes) {
+        match stream.write(front) {
             Ok(count) => return Put::Took(count),
             Err(error) => match error.kind() {
                 ErrorKind::Interrupted => {}

@@ -3,7 +3,7 @@
 use crate::arguments::{Order, command, order_of};
 use crate::faults::{CLEAN, FAULT, NOT_RELAYED, USAGE, tell};
 use crate::running::run;
-use clap::error::ErrorKind;
+use clap::error::{Error, ErrorKind};
 use daide_frame::side::Side;
 use daide_gate::check_log;
 use daide_gate::frame_view::show;
@@ -43,6 +43,38 @@ fn run_check<R: AllocGlobal, I: Read, O: Write, E: Write>(
     }
 }
 
+/// Prints the help that was asked for, or tells what is wrong with the words.
+fn explain<O: Write, E: Write>(why: Error, output: &mut O, errors: &mut E) -> io::Result<u8> {
+    if why.kind() == ErrorKind::OutOfMemory {
+        return tell(errors, "out of memory", FAULT);
+    }
+    if why.use_stderr() {
+        write!(errors, "{why}")?;
+        return Ok(USAGE);
+    }
+    match write!(output, "{why}") {
+        Ok(()) => Ok(CLEAN),
+        Err(_) => tell(errors, "output could not be written", FAULT),
+    }
+}
+
+/// Does what is asked for.
+fn carry_out<R: AllocGlobal + Files + Clock + Net, I: Read, O: Write, E: Write>(
+    rt: &R,
+    order: Order<'_>,
+    input: &mut I,
+    output: &mut O,
+    errors: &mut E,
+) -> io::Result<u8> {
+    match order {
+        Order::Show(side, level) => run_show(rt, (side, level), input, output, errors),
+        Order::Check => run_check(rt, input, output, errors),
+        Order::Run(path) => run(rt, path, output, errors),
+        Order::BadSide => tell(errors, "bad side", USAGE),
+        Order::BadLevel => tell(errors, "bad level", USAGE),
+    }
+}
+
 /// Does what the words ask for, and gives the exit status. The first word is the program's name.
 /// Only a fault that could not be told is an error.
 pub fn answer<R: AllocGlobal + Files + Clock + Net, S: AsStr, I: Read, O: Write, E: Write>(
@@ -55,27 +87,8 @@ pub fn answer<R: AllocGlobal + Files + Clock + Net, S: AsStr, I: Read, O: Write,
     let Ok(command) = command(rt.alloc()) else {
         return tell(errors, "out of memory", FAULT);
     };
-    let matches = match command.try_get_matches_from(words) {
-        Ok(matches) => matches,
-        Err(why) if why.kind() == ErrorKind::OutOfMemory => {
-            return tell(errors, "out of memory", FAULT);
-        }
-        Err(why) if why.use_stderr() => {
-            write!(errors, "{why}")?;
-            return Ok(USAGE);
-        }
-        Err(help) => {
-            return match write!(output, "{help}") {
-                Ok(()) => Ok(CLEAN),
-                Err(_) => tell(errors, "output could not be written", FAULT),
-            };
-        }
-    };
-    match order_of(&matches) {
-        Order::Show(side, level) => run_show(rt, (side, level), input, output, errors),
-        Order::Check => run_check(rt, input, output, errors),
-        Order::Run(path) => run(rt, path, output, errors),
-        Order::BadSide => tell(errors, "bad side", USAGE),
-        Order::BadLevel => tell(errors, "bad level", USAGE),
+    match command.try_get_matches_from(words) {
+        Ok(matches) => carry_out(rt, order_of(&matches), input, output, errors),
+        Err(why) => explain(why, output, errors),
     }
 }

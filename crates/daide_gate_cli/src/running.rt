@@ -12,11 +12,15 @@ use std::alloc::{Allocator, Global};
 use std::io::{ErrorKind, Read, Write};
 use std::net::{Net, SocketAddr, ToSocketAddrs};
 use std::rt::{Clock, Files};
+use std::time::Duration;
 use std::{fs, io};
 use thiserror::Error;
 
 /// The most bytes that a file of settings may have.
 const MOST_BYTES: usize = 65_536;
+
+/// How many seconds a server is tried for a bot.
+const CONNECT_SECONDS: u64 = 5;
 
 /// Why a run doesn't begin, or ends early.
 #[derive(Clone, Copy, Debug, PartialEq, Eq, Error)]
@@ -97,16 +101,16 @@ fn serve_at<R: AllocGlobal + Clock + Net, O: Write, E: Write>(
         WatchFault::System => RunFault::Listen,
         WatchFault::Memory => RunFault::Memory,
     })?;
-    let servers = servers.as_slice();
     let mut system = Sockets::new(
         rt.alloc(),
         rt,
         &watch,
-        listener,
-        servers,
+        (listener, servers.as_slice()),
         settings,
+        Duration::from_secs(CONNECT_SECONDS),
         errors,
-    ).ok_or(RunFault::Memory)?;
+    )
+    .ok_or(RunFault::Memory)?;
     // Where nobody reads it the run goes on.
     let _ = writeln!(output, "listening");
     let _ = output.flush();

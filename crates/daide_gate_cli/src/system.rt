@@ -31,20 +31,22 @@ pub struct Sockets<'w, R: Clock + Net, E: Write + Drop> {
     door: Door<'w>,
     servers: &'w [SocketAddr],
     im_time: Duration,
+    connect_time: Duration,
     arrivals: Vec<Arrival<'w>>,
     closings: Closings<'w>,
     errors: E,
 }
 
 impl<'w, R: Clock + Net, E: Write + Drop> Sockets<'w, R, E> {
-    /// The sockets of a run that no bot came to yet; none where memory is refused or the listener can't be followed.
+    /// The sockets of a run that no bot came to yet, at a listener and towards a server that is tried for so long;
+    /// none where memory is refused or the listener can't be followed.
     pub fn new(
         alloc: Global,
         runtime: &'w R,
         watch: &'w Watch<&'w R>,
-        listener: TcpListener,
-        servers: &'w [SocketAddr],
+        (listener, servers): (TcpListener, &'w [SocketAddr]),
         settings: &Settings,
+        connect_time: Duration,
         errors: E,
     ) -> Option<Sockets<'w, R, E>> {
         Some(Sockets {
@@ -53,6 +55,7 @@ impl<'w, R: Clock + Net, E: Write + Drop> Sockets<'w, R, E> {
             door: Door::new(watch, listener)?,
             servers,
             im_time: Duration::from_secs(u64::from(settings.im_seconds)),
+            connect_time,
             arrivals: Vec::with_capacity(alloc, settings.max_sessions).ok()?,
             closings: Closings::new(alloc).ok()?,
             errors,
@@ -74,12 +77,17 @@ impl<'w, R: Clock + Net, E: Write + Drop> Sockets<'w, R, E> {
     /// Waits until the last sockets are closed, which takes a second at most.
     pub fn finish(&mut self) {
         for _ in 0..u64::MAX {
-            self.tidy();
-            if self.closings.is_empty() {
+            if !self.is_closing() {
                 return;
             }
             self.rest();
         }
+    }
+
+    /// Goes on with what closes, and answers whether anything does.
+    fn is_closing(&mut self) -> bool {
+        self.tidy();
+        !self.closings.is_empty()
     }
 
     /// Waits, but where a socket that closes may have more to drop.
@@ -105,7 +113,7 @@ impl<'w, R: Clock + Net, E: Write + Drop> System<SocketPorts<'w, &'w R>> for Soc
         let Some(bot) = Socket::new(self.watch, stream) else {
             return false;
         };
-        let arrival = Arrival::new(self.watch, bot, self.im_time);
+        let arrival = Arrival::new(self.watch, bot, self.im_time, self.connect_time);
         self.arrivals.push(arrival).is_ok()
     }
 

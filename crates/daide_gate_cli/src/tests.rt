@@ -10,26 +10,32 @@ use daide_grammar::level::Level;
 use linked_list_allocator::LocalHeap;
 use std::io;
 use std::io::{ErrorKind, Read, Write};
-use std::net::Net;
-use std::process::Abort;
-use std::rt::{Clock, Files};
 use std::test::Fail;
 
-/// What a run prints, what it tells on standard error, and its status.
-fn run<R: AllocGlobal + Files + Clock + Net>(
-    rt: &R,
-    words: &[&str],
-    input: &[u8],
-) -> Result<(String, String, u8), Fail> {
+/// What a run printed, what it told on standard error, and its status.
+#[derive(Drop)]
+struct Ran {
+    printed: String,
+    told: String,
+    status: u8,
+}
+
+/// Runs the program.
+fn run(rt: &HostRuntime, words: &[&str], input: &[u8]) -> Result<Ran, Fail> {
     let mut bytes = input;
     let mut output = Vec::new(rt.alloc());
     let mut errors = Vec::new(rt.alloc());
     let status = answer(rt, words, &mut bytes, &mut output, &mut errors)?;
-    Ok((
-        String::from_utf8(output)?,
-        String::from_utf8(errors)?,
+    Ok(Ran {
+        printed: String::from_utf8(output)?,
+        told: String::from_utf8(errors)?,
         status,
-    ))
+    })
+}
+
+/// A failure with this text, where something doesn't hold.
+fn holds(is_so: bool, text: &str) -> Result<(), Fail> {
+    if is_so { Ok(()) } else { Err(Fail::new(text)) }
 }
 
 /// Runs of the program: the words after its name | the input | what it prints, with `/` for the end
@@ -113,7 +119,7 @@ fn is_told(told: &str, fault: &str) -> bool {
 }
 
 /// The words of a command line, the program's name before them.
-fn words_of<'a, R: AllocGlobal>(rt: &R, text: &'a str) -> Result<Vec<&'a str>, Fail> {
+fn words_of<'a>(rt: &HostRuntime, text: &'a str) -> Result<Vec<&'a str>, Fail> {
     let mut words = vec![in rt.alloc(); "daide-gate"]?;
     for word in text.split_whitespace() {
         words.push(word)?;
@@ -121,21 +127,32 @@ fn words_of<'a, R: AllocGlobal>(rt: &R, text: &'a str) -> Result<Vec<&'a str>, F
     Ok(words)
 }
 
-/// Runs a row of the table, and looks at what it prints, tells and answers.
-fn check_run<R: AllocGlobal + Files + Clock + Net + Abort>(rt: &R, row: &str) -> Result<(), Fail> {
+/// The fields of a row, which has five at most.
+fn fields_of(row: &str) -> [&str; 5] {
     let mut fields = row.split('|');
-    let words = words_of(rt, fields.next().unwrap_or(""))?;
-    let input = fields.next().unwrap_or("");
-    let output = fields.next().unwrap_or("").trim();
-    let fault = fields.next().unwrap_or("").trim();
-    let status = fields.next().unwrap_or("").trim();
-    let (printed, told, ended) = run(rt, words.as_slice(), input.as_bytes())?;
-    let printed = printed.replace(rt.alloc(), "\n", "/")?;
-    let ended = ended.to_string(rt.alloc())?;
-    assert!(rt; printed.as_str() == output, "printed {printed} at {row}");
-    assert!(rt; is_told(told.as_str(), fault), "told {told} at {row}");
-    assert!(rt; ended.as_str() == status, "ended with {ended} at {row}");
-    Ok(())
+    let first = fields.next().unwrap_or("");
+    let second = fields.next().unwrap_or("");
+    let third = fields.next().unwrap_or("");
+    let fourth = fields.next().unwrap_or("");
+    [first, second, third, fourth, fields.next().unwrap_or("")]
+}
+
+/// What a run printed, with `/` for the end of a line, what it told, and its status are those.
+fn check_ran(rt: &HostRuntime, ran: &Ran, want: (&str, &str, &str)) -> Result<(), Fail> {
+    let (output, fault, status) = want;
+    let printed = ran.printed.replace(rt.alloc(), "\n", "/")?;
+    let ended = ran.status.to_string(rt.alloc())?;
+    holds(printed.as_str() == output.trim(), printed.as_str())?;
+    holds(is_told(ran.told.as_str(), fault.trim()), ran.told.as_str())?;
+    holds(ended.as_str() == status.trim(), ended.as_str())
+}
+
+/// Runs a row of the table.
+fn check_run(rt: &HostRuntime, row: &str) -> Result<(), Fail> {
+    let [words, input, output, fault, status] = fields_of(row);
+    let words = words_of(rt, words)?;
+    let ran = run(rt, words.as_slice(), input.as_bytes())?;
+    check_ran(rt, &ran, (output, fault, status))
 }
 
 #[test]
@@ -159,27 +176,12 @@ daide-log 1/config 060 1024 16/ | | line 2 is not a log line | 1
  | | line 1 is not a log line | 1
 ";
 
-/// Runs a row of that table, and looks at what it prints, tells and answers.
-fn check_report<R: AllocGlobal + Files + Clock + Net + Abort>(
-    rt: &R,
-    row: &str,
-) -> Result<(), Fail> {
-    let mut fields = row.split('|');
-    let log = fields
-        .next()
-        .unwrap_or("")
-        .trim()
-        .replace(rt.alloc(), "/", "\n")?;
-    let report = fields.next().unwrap_or("").trim();
-    let fault = fields.next().unwrap_or("").trim();
-    let status = fields.next().unwrap_or("").trim();
-    let (printed, told, ended) = run(rt, &["daide-gate", "check"], log.as_bytes())?;
-    let printed = printed.replace(rt.alloc(), "\n", "/")?;
-    let ended = ended.to_string(rt.alloc())?;
-    assert!(rt; printed.as_str() == report, "printed {printed} at {row}");
-    assert!(rt; is_told(told.as_str(), fault), "told {told} at {row}");
-    assert!(rt; ended.as_str() == status, "ended with {ended} at {row}");
-    Ok(())
+/// Runs a row of that table.
+fn check_report(rt: &HostRuntime, row: &str) -> Result<(), Fail> {
+    let [log, report, fault, status, _] = fields_of(row);
+    let log = log.trim().replace(rt.alloc(), "/", "\n")?;
+    let ran = run(rt, &["daide-gate", "check"], log.as_bytes())?;
+    check_ran(rt, &ran, (report, fault, status))
 }
 
 #[test]
@@ -226,26 +228,25 @@ show --level | error: a value is required for '--level <N>' but none was supplie
 show --level 0 --level 0 | error: the argument '--level <N>' cannot be used multiple times | 2
 ";
 
-/// Runs a row of that table: the text stands in one stream, and the other is empty.
-fn check_usage<R: AllocGlobal + Files + Clock + Net + Abort>(
-    rt: &R,
-    row: &str,
-) -> Result<(), Fail> {
-    let mut fields = row.split('|');
-    let words = words_of(rt, fields.next().unwrap_or(""))?;
-    let part = fields.next().unwrap_or("").trim();
-    let status = fields.next().unwrap_or("").trim();
-    let (printed, told, ended) = run(rt, words.as_slice(), b"")?;
-    let (text, other) = if ended == 0 {
-        (printed, told)
+/// Whether the text stands in one stream, and the other is empty.
+fn is_usage(ran: &Ran, part: &str) -> bool {
+    if ran.status == 0 {
+        ran.printed.as_str().contains(part) && ran.told.is_empty()
     } else {
-        (told, printed)
-    };
-    let ended = ended.to_string(rt.alloc())?;
-    assert!(rt; text.as_str().contains(part), "told {text} at {row}");
-    assert!(rt; other.is_empty(), "told {other} elsewhere at {row}");
-    assert!(rt; ended.as_str() == status, "ended with {ended} at {row}");
-    Ok(())
+        ran.told.as_str().contains(part) && ran.printed.is_empty()
+    }
+}
+
+/// Runs a row of that table.
+fn check_usage(rt: &HostRuntime, row: &str) -> Result<(), Fail> {
+    let [words, part, status, _, _] = fields_of(row);
+    let words = words_of(rt, words)?;
+    let ran = run(rt, words.as_slice(), b"")?;
+    let ended = ran.status.to_string(rt.alloc())?;
+    holds(
+        is_usage(&ran, part.trim()) && ended.as_str() == status.trim(),
+        row,
+    )
 }
 
 #[test]
@@ -256,46 +257,56 @@ fn each_usage_is_a_row(rt: HostRuntime) -> Result<(), Fail> {
     Ok(())
 }
 
-#[test]
-fn longest_frame_and_longest_input(rt: HostRuntime) -> Result<(), Fail> {
+/// A frame of the longest body, `GOF` again and again.
+fn longest_frame(rt: &HostRuntime) -> Result<Vec<u8>, Fail> {
     let mut digits = Vec::from_slice(rt.alloc(), b"0200FFF6".as_slice())?;
     for _ in 0..32_763 {
         digits.extend_from_slice(b"4803")?;
     }
-    let (printed, told, status) = run(&rt, &["daide-gate"], digits.as_slice())?;
-    assert!(rt; printed.as_str().starts_with("DM 65526\nGOF GOF GOF "));
-    assert!(rt;
-        printed
-            .as_str()
-            .contains(" GOF\nHUH at 1\nHUH ( GOF ERR GOF GOF ")
-    );
-    assert!(rt; told.is_empty() && status == 3);
-    for _ in digits.len()..200_000 {
-        digits.push(b' ')?;
-    }
-    let (again, _, status) = run(&rt, &["daide-gate"], digits.as_slice())?;
-    assert!(rt; again == printed && status == 3);
-    digits.push(b' ')?;
-    let (printed, told, status) = run(&rt, &["daide-gate"], digits.as_slice())?;
-    assert_eq!(rt; told.as_str(), "daide-gate: input is too long\n");
-    assert!(rt; printed.is_empty() && status == 1);
+    Ok(digits)
+}
+
+#[test]
+fn longest_frame_is_shown(rt: HostRuntime) -> Result<(), Fail> {
+    let ran = run(&rt, &["daide-gate"], longest_frame(&rt)?.as_slice())?;
+    let text = ran.printed.as_str();
+    assert!(rt; text.starts_with("DM 65526\nGOF GOF GOF "));
+    assert!(rt; text.contains(" GOF\nHUH at 1\nHUH ( GOF ERR GOF GOF "));
+    assert!(rt; ran.told.is_empty() && ran.status == 3);
     Ok(())
 }
 
 #[test]
-fn one_bracket_too_deep_gets_huh(rt: HostRuntime) -> Result<(), Fail> {
-    for (depth, length, verdict) in [(62, "00FA", "relay\n"), (63, "00FE", "HUH at 63\n")] {
-        let mut digits = format!(in rt.alloc(); "0200{length}4806")?;
-        for _ in 0..depth {
-            digits.push_str("4000")?;
-        }
-        for _ in 0..depth {
-            digits.push_str("4001")?;
-        }
-        let (printed, _, _) = run(&rt, &["daide-gate"], digits.as_bytes())?;
-        assert!(rt; printed.as_str().contains(verdict), "at {depth}");
+fn longest_input_is_read(rt: HostRuntime) -> Result<(), Fail> {
+    let mut digits = longest_frame(&rt)?;
+    for _ in digits.len()..200_000 {
+        digits.push(b' ')?;
     }
-    Ok(())
+    let ran = run(&rt, &["daide-gate"], digits.as_slice())?;
+    assert!(rt; ran.printed.as_str().starts_with("DM 65526\nGOF GOF GOF "));
+    assert!(rt; ran.told.is_empty() && ran.status == 3);
+    digits.push(b' ')?;
+    let ran = run(&rt, &["daide-gate"], digits.as_slice())?;
+    check_ran(&rt, &ran, ("", "input is too long", "1"))
+}
+
+/// So many brackets, of a message of this length, have this verdict.
+fn check_depth(rt: &HostRuntime, depth: u32, length: &str, verdict: &str) -> Result<(), Fail> {
+    let mut digits = format!(in rt.alloc(); "0200{length}4806")?;
+    for _ in 0..depth {
+        digits.push_str("4000")?;
+    }
+    for _ in 0..depth {
+        digits.push_str("4001")?;
+    }
+    let ran = run(rt, &["daide-gate"], digits.as_bytes())?;
+    holds(ran.printed.as_str().contains(verdict), verdict)
+}
+
+#[test]
+fn one_bracket_too_deep_gets_huh(rt: HostRuntime) -> Result<(), Fail> {
+    check_depth(&rt, 62, "00FA", "relay\n")?;
+    check_depth(&rt, 63, "00FE", "HUH at 63\n")
 }
 
 /// An input that gives three bytes at a read, and fails at a read.
@@ -357,127 +368,124 @@ impl Write for FailsAtWrite {
 /// The text shown for the frame that the tests of refusals read.
 const SHOWN: &[u8] = b"DM 4\nGOF (\nPRN\nPRN ( GOF ( )\n";
 
-#[test]
-fn each_read_refused_in_turn(rt: HostRuntime) -> Result<(), Fail> {
-    for reads in 0..8usize {
-        let mut reader = FailsAtRead {
-            bytes: b"0200000448034000",
-            reads,
-        };
-        let mut output = Vec::new(rt.alloc());
-        let answer = show(rt.alloc(), Side::Bot, Level::L0, &mut reader, &mut output);
-        if reads < 7 {
-            assert_eq!(rt; answer, Err(ShowFault::Read), "at {reads}");
-            assert!(rt; output.is_empty(), "at {reads}");
-        } else {
-            assert_eq!(rt; answer, Ok(false), "at {reads}");
-            assert_eq!(rt; output.as_slice(), SHOWN, "at {reads}");
-        }
-    }
-    Ok(())
+/// `show` of an unclosed bracket: its answer, and what it wrote.
+fn shown_of(rt: &HostRuntime, reads: usize) -> (Result<bool, ShowFault>, Vec<u8>) {
+    let mut reader = FailsAtRead {
+        bytes: b"0200000448034000",
+        reads,
+    };
+    let mut output = Vec::new(rt.alloc());
+    let answer = show(rt.alloc(), Side::Bot, Level::L0, &mut reader, &mut output);
+    (answer, output)
 }
 
 #[test]
-fn each_write_refused_in_turn(rt: HostRuntime) -> Result<(), Fail> {
-    for writes in 0..9usize {
-        let mut reader = b"0200000448034000".as_slice();
-        let mut writer = FailsAtWrite {
-            taken: Vec::new(rt.alloc()),
-            writes,
-        };
-        let answer = show(rt.alloc(), Side::Bot, Level::L0, &mut reader, &mut writer);
-        if writes < 8 {
-            assert_eq!(rt; answer, Err(ShowFault::Write), "at {writes}");
-            assert!(rt; SHOWN.starts_with(writer.taken.as_slice()), "at {writes}");
-        } else {
-            assert_eq!(rt; answer, Ok(false), "at {writes}");
-            assert_eq!(rt; writer.taken.as_slice(), SHOWN, "at {writes}");
-        }
+fn each_read_refused_in_turn(rt: HostRuntime) {
+    for reads in 0..7 {
+        let (answer, output) = shown_of(&rt, reads);
+        assert!(rt; answer == Err(ShowFault::Read) && output.is_empty());
     }
-    Ok(())
+    let (answer, output) = shown_of(&rt, 7);
+    assert!(rt; answer == Ok(false) && output.as_slice() == SHOWN);
 }
 
+/// `show` of the same frame onto an output: its answer, and what the output took.
+fn taken_of(rt: &HostRuntime, writes: usize) -> (Result<bool, ShowFault>, Vec<u8>) {
+    let mut reader = b"0200000448034000".as_slice();
+    let mut writer = FailsAtWrite {
+        taken: Vec::new(rt.alloc()),
+        writes,
+    };
+    let answer = show(rt.alloc(), Side::Bot, Level::L0, &mut reader, &mut writer);
+    (answer, writer.taken)
+}
+
+#[test]
+fn each_write_refused_in_turn(rt: HostRuntime) {
+    for writes in 0..8 {
+        let (answer, taken) = taken_of(&rt, writes);
+        assert!(rt; answer == Err(ShowFault::Write) && SHOWN.starts_with(taken.as_slice()));
+    }
+    let (answer, taken) = taken_of(&rt, 8);
+    assert!(rt; answer == Ok(false) && taken.as_slice() == SHOWN);
+}
+
+/// Whether `show` finds memory on a heap of this size. Where it doesn't, it says so and writes nothing.
+fn is_shown_within(rt: &HostRuntime, size: usize) -> Result<bool, Fail> {
+    let heap = LocalHeap::new(rt.alloc(), size)?;
+    let mut reader = b"0200000448034000".as_slice();
+    let mut output = Vec::new(rt.alloc());
+    let answer = show(&heap, Side::Bot, Level::L0, &mut reader, &mut output);
+    let is_shown = answer == Ok(false);
+    let written = if is_shown { SHOWN } else { b"" };
+    holds(is_shown || answer == Err(ShowFault::Memory), "the answer")?;
+    holds(output.as_slice() == written, "the output")?;
+    holds(heap.used() == 0, "the heap")?;
+    Ok(is_shown)
+}
+
+/// The heap gives out multiples of 16 bytes, so each growth is the first that does not fit at some size. The cutter
+/// takes its 65,526 at once: nothing new is refused between.
 #[test]
 fn growth_refused_in_turn(rt: HostRuntime) -> Result<(), Fail> {
-    let mut refused = 0u32;
-    let mut shown = 0u32;
-    for unit in 0..96usize {
-        // The heap gives out multiples of 16 bytes, so each growth is the first that does not fit at
-        // some size. The cutter takes its 65,526 at once: nothing new is refused between.
-        let size = if unit < 32 {
-            16 * unit
-        } else {
-            64_896 + 16 * unit
-        };
-        let heap = LocalHeap::new(rt.alloc(), size)?;
-        let mut reader = b"0200000448034000".as_slice();
-        let mut output = Vec::new(rt.alloc());
-        match show(&heap, Side::Bot, Level::L0, &mut reader, &mut output) {
-            Ok(relayed) => {
-                assert!(rt; !relayed, "at {size}");
-                assert_eq!(rt; output.as_slice(), SHOWN, "at {size}");
-                shown = shown.wrapping_add(1);
-            }
-            Err(fault) => {
-                assert_eq!(rt; fault, ShowFault::Memory, "at {size}");
-                assert!(rt; output.is_empty(), "at {size}");
-                refused = refused.wrapping_add(1);
-            }
-        }
-        assert_eq!(rt; heap.used(), 0, "at {size}");
+    for unit in 0..32usize {
+        assert!(rt; !is_shown_within(&rt, 16 * unit)?);
     }
-    assert_eq!(rt;
-        ShowFault::Memory.to_string(rt.alloc())?.as_str(),
-        "out of memory"
-    );
-    assert!(rt; refused > 32 && shown > 0);
+    for unit in 4088..4150usize {
+        is_shown_within(&rt, 16 * unit)?;
+    }
+    assert!(rt; is_shown_within(&rt, 16 * 4150)?);
     Ok(())
 }
 
 #[test]
-fn input_without_end_is_left(rt: HostRuntime) -> Result<(), Fail> {
+fn want_of_memory_has_its_text(rt: HostRuntime) -> Result<(), Fail> {
+    let text = ShowFault::Memory.to_string(rt.alloc())?;
+    assert!(rt; text.as_str() == "out of memory");
+    Ok(())
+}
+
+#[test]
+fn input_without_end_is_left(rt: HostRuntime) {
     let mut reader = HasNoEnd { given: 0 };
     let mut output = Vec::new(rt.alloc());
     let answer = show(rt.alloc(), Side::Bot, Level::L0, &mut reader, &mut output);
-    assert_eq!(rt; answer, Err(ShowFault::TooLong));
+    assert!(rt; answer == Err(ShowFault::TooLong));
     assert!(rt; output.is_empty() && reader.given == 200_001);
-    Ok(())
 }
 
 #[test]
-fn failing_streams_are_told(rt: HostRuntime) -> Result<(), Fail> {
-    let words = ["daide-gate"].as_slice();
-    let mut errors = Vec::new(rt.alloc());
+fn failed_read_is_told(rt: HostRuntime) -> Result<(), Fail> {
     let mut reader = FailsAtRead {
         bytes: b"",
         reads: 0,
     };
     let mut output = Vec::new(rt.alloc());
-    let status = answer(&rt, words, &mut reader, &mut output, &mut errors)?;
-    assert_eq!(rt;
-        errors.as_slice(),
-        b"daide-gate: input could not be read\n".as_slice()
-    );
+    let mut errors = Vec::new(rt.alloc());
+    let status = answer(&rt, &["daide-gate"], &mut reader, &mut output, &mut errors)?;
     assert!(rt; output.is_empty() && status == 1);
-    errors.clear();
+    assert!(rt; errors.as_slice() == b"daide-gate: input could not be read\n".as_slice());
+    Ok(())
+}
+
+/// A write of this run fails, and is told.
+fn check_failed_write(rt: &HostRuntime, words: &[&str]) -> Result<(), Fail> {
+    let mut input = b"02000002480F".as_slice();
     let mut writer = FailsAtWrite {
-        taken: output,
+        taken: Vec::new(rt.alloc()),
         writes: 2,
     };
-    let mut input = b"02000002480F".as_slice();
-    let status = answer(&rt, words, &mut input, &mut writer, &mut errors)?;
-    assert_eq!(rt;
-        errors.as_slice(),
-        b"daide-gate: output could not be written\n".as_slice()
-    );
-    assert_eq!(rt; status, 1);
-    errors.clear();
-    let words = ["daide-gate", "--help"].as_slice();
-    let status = answer(&rt, words, &mut input, &mut writer, &mut errors)?;
-    assert_eq!(rt;
-        errors.as_slice(),
-        b"daide-gate: output could not be written\n".as_slice()
-    );
-    assert_eq!(rt; status, 1);
-    Ok(())
+    let mut errors = Vec::new(rt.alloc());
+    let status = answer(rt, words, &mut input, &mut writer, &mut errors)?;
+    let told = b"daide-gate: output could not be written\n".as_slice();
+    holds(
+        status == 1 && errors.as_slice() == told,
+        "the line that tells it",
+    )
+}
+
+#[test]
+fn failed_write_is_told(rt: HostRuntime) -> Result<(), Fail> {
+    check_failed_write(&rt, &["daide-gate"])?;
+    check_failed_write(&rt, &["daide-gate", "--help"])
 }

@@ -1,17 +1,19 @@
 //! The gateway at work, over real sockets on loopback.
 
+use super::holds;
 use super::stage::Act::{
-    Comes, Ends, Floods, Hears, HearsEnd, Lasts, Leaves, Meets, MeetsNobody, Rests, Says,
+    Comes, Ends, Flooded, Floods, Hears, HearsEnd, Leave, Meets, MeetsNobody, Rests, Says,
 };
 use super::stage::Who::{Bot, Server};
-use super::stage::{Act, Report, run_beside};
+use super::stage::{Act, Report, any_port, run_beside};
+use crate::admission::Door;
 use crate::running::{RunFault, read_text, run_text};
+use crate::watch::Watch;
 use std::io;
 use std::io::{ErrorKind, Read, Write};
 use std::net::{Net, TcpListener, TcpStream};
-use std::process::Abort;
 use std::test::Fail;
-use std::time::{Duration, Instant};
+use std::time::Duration;
 
 const IM: &[u8] = b"\x00\x00\x00\x04\x00\x01\xda\x10";
 
@@ -31,9 +33,16 @@ const UNCLOSED: &[u8] = b"\x02\x00\x00\x04\x48\x03\x40\x00";
 const ITS_PRN: &[u8] = b"\x02\x00\x00\x0a\x48\x13\x40\x00\x48\x03\x40\x00\x40\x01";
 
 /// Nothing went wrong, and this was told.
-fn check<R: Abort>(rt: &R, report: &Report, told: &str) {
-    assert!(rt; report.wrong.is_none(), "act {:?} of it", report.wrong);
-    assert_eq!(rt; report.told.as_str(), told);
+fn check(report: &Report, told: &str) -> Result<(), Fail> {
+    if let Some(act) = report.wrong {
+        return Err(Fail::new(format_args!("act {act} went wrong")));
+    }
+    holds(report.told.as_str() == told, report.told.as_str())
+}
+
+/// All is acted as it stands here, and nothing is told.
+fn plays(rt: &HostRuntime, settings: &str, acts: &[Act]) -> Result<(), Fail> {
+    check(&run_beside(rt, settings, acts, None)?, "")
 }
 
 const OPENS_AND_ENDS: &[Act] = &[
@@ -51,8 +60,7 @@ const OPENS_AND_ENDS: &[Act] = &[
 
 #[test]
 fn opens_with_im_and_rm_over_sockets(rt: HostRuntime) -> Result<(), Fail> {
-    check(&rt, &run_beside(&rt, "", OPENS_AND_ENDS, true)?, "");
-    Ok(())
+    plays(&rt, "", OPENS_AND_ENDS)
 }
 
 const GETS_PRN: &[Act] = &[
@@ -74,18 +82,31 @@ const GETS_PRN: &[Act] = &[
 
 #[test]
 fn unclosed_bracket_gets_prn_over_sockets(rt: HostRuntime) -> Result<(), Fail> {
-    check(&rt, &run_beside(&rt, "", GETS_PRN, true)?, "");
-    Ok(())
+    plays(&rt, "", GETS_PRN)
 }
 
-/// A bot that no server is there for ends the run as a served one.
+const NOBODY_SERVES: &[Act] = &[Comes, HearsEnd(Bot(0)), Comes, HearsEnd(Bot(1))];
+
+/// A bot that no server is there for counts as a served one.
 #[test]
 fn nobody_listens_at_the_server(rt: HostRuntime) -> Result<(), Fail> {
-    let acts = [Comes, HearsEnd(Bot(0)), Comes, HearsEnd(Bot(1))];
-    let report = run_beside(&rt, "sessions = 2", acts.as_slice(), false)?;
+    let free = TcpListener::bind(&rt, any_port())?.local_addr()?;
+    let report = run_beside(&rt, "sessions = 2", NOBODY_SERVES, Some(free))?;
     let told = "daide-gate: cannot reach the server\ndaide-gate: cannot reach the server\n";
-    check(&rt, &report, told);
-    Ok(())
+    check(&report, told)
+}
+
+/// A server that lets its queue run full doesn't answer at all; it is given up after its time, and the run goes on.
+#[test]
+fn server_that_never_answers_is_given_up(rt: HostRuntime) -> Result<(), Fail> {
+    let server = TcpListener::bind(&rt, any_port())?;
+    let full = server.local_addr()?;
+    let mut queue = Vec::new(rt.alloc());
+    for _ in 0..160 {
+        queue.push(mio::net::TcpStream::connect(&rt, full)?)?;
+    }
+    let report = run_beside(&rt, "", &[Comes, HearsEnd(Bot(0))], Some(full))?;
+    check(&report, "daide-gate: cannot reach the server\n")
 }
 
 const TWO_AT_ONCE: &[Act] = &[
@@ -117,12 +138,7 @@ const TWO_AT_ONCE: &[Act] = &[
 
 #[test]
 fn two_sessions_at_once(rt: HostRuntime) -> Result<(), Fail> {
-    check(
-        &rt,
-        &run_beside(&rt, "sessions = 2", TWO_AT_ONCE, true)?,
-        "",
-    );
-    Ok(())
+    plays(&rt, "sessions = 2", TWO_AT_ONCE)
 }
 
 const ONE_FLOODS: &[Act] = &[
@@ -141,7 +157,7 @@ const ONE_FLOODS: &[Act] = &[
     Hears(Bot(1), RM),
     Says(Bot(1), OBS),
     Hears(Server(1), OBS),
-    Lasts(1000),
+    Flooded,
     Says(Bot(1), OBS),
     Hears(Server(1), OBS),
     Says(Bot(1), UNCLOSED),
@@ -149,14 +165,13 @@ const ONE_FLOODS: &[Act] = &[
     Says(Bot(1), FM),
     Hears(Server(1), FM),
     HearsEnd(Server(1)),
-    Leaves,
+    Leave,
     Hears(Server(0), FM),
 ];
 
 #[test]
 fn messages_pass_beside_a_flood(rt: HostRuntime) -> Result<(), Fail> {
-    check(&rt, &run_beside(&rt, "sessions = 2", ONE_FLOODS, true)?, "");
-    Ok(())
+    plays(&rt, "sessions = 2", ONE_FLOODS)
 }
 
 const SECOND_WAITS: &[Act] = &[
@@ -166,6 +181,8 @@ const SECOND_WAITS: &[Act] = &[
     Says(Bot(1), IM),
     Says(Bot(0), IM),
     Hears(Server(0), IM),
+    Says(Server(0), RM),
+    Hears(Bot(0), RM),
     MeetsNobody,
     Says(Bot(0), FM),
     Hears(Server(0), FM),
@@ -177,40 +194,66 @@ const SECOND_WAITS: &[Act] = &[
 
 #[test]
 fn one_bot_more_than_held_waits(rt: HostRuntime) -> Result<(), Fail> {
-    let settings = "max_sessions = 1\nsessions = 2";
-    check(&rt, &run_beside(&rt, settings, SECOND_WAITS, true)?, "");
-    Ok(())
+    plays(&rt, "max_sessions = 1\nsessions = 2", SECOND_WAITS)
 }
 
-/// The timer runs out while nothing comes, and few waits see it.
+/// Each bot is greeted at once, though all before it are idle: a wait that missed it would last for the whole play.
+#[test]
+fn each_is_greeted_beside_idle_ones(rt: HostRuntime) -> Result<(), Fail> {
+    let mut acts = Vec::new(rt.alloc());
+    for number in 0..60 {
+        acts.extend_from_slice(&[
+            Comes,
+            Meets,
+            Says(Bot(number), IM),
+            Hears(Server(number), IM),
+            Says(Server(number), RM),
+            Hears(Bot(number), RM),
+        ])?;
+    }
+    acts.push(Leave)?;
+    plays(&rt, "max_sessions = 60\nsessions = 60", acts.as_slice())
+}
+
+const STAYS_SILENT: &[Act] = &[
+    Comes,
+    Meets,
+    Rests,
+    Hears(Bot(0), EM_01),
+    HearsEnd(Bot(0)),
+    HearsEnd(Server(0)),
+];
+
+/// The timer runs out while nothing comes, and few rounds see it: the run waits.
 #[test]
 fn silent_bot_gets_em_01_after_its_time(rt: HostRuntime) -> Result<(), Fail> {
-    let acts = [
-        Comes,
-        Meets,
-        Rests,
-        Hears(Bot(0), EM_01),
-        HearsEnd(Bot(0)),
-        HearsEnd(Server(0)),
-    ];
-    let began = Instant::now(&rt)?;
-    let report = run_beside(&rt, "im_seconds = 1", acts.as_slice(), true)?;
-    check(&rt, &report, "");
-    let time = began.elapsed(&rt)?;
-    assert!(rt; time >= Duration::from_secs(1) && time < Duration::from_secs(20));
-    assert!(rt;
-        report.waits >= 1 && report.waits < 10,
-        "{} waits",
-        report.waits
-    );
-    Ok(())
+    let report = run_beside(&rt, "im_seconds = 1", STAYS_SILENT, None)?;
+    assert!(rt; report.rounds < 100);
+    check(&report, "")
 }
+
+const HEARS_THE_END: &[Act] = &[Comes, Meets, HearsEnd(Bot(0)), HearsEnd(Server(0))];
 
 #[test]
 fn spent_turns_are_told(rt: HostRuntime) -> Result<(), Fail> {
-    let acts = [Comes, Meets, HearsEnd(Bot(0)), HearsEnd(Server(0))];
-    let report = run_beside(&rt, "turns = 1", acts.as_slice(), true)?;
-    check(&rt, &report, "daide-gate: turns spent\n");
+    let report = run_beside(&rt, "turns = 1", HEARS_THE_END, None)?;
+    check(&report, "daide-gate: turns spent\n")
+}
+
+/// Where an accept fails, as for want of descriptors, none is made for a while, and then the bot that came is taken.
+#[test]
+fn failed_accept_is_made_again(rt: HostRuntime) -> Result<(), Fail> {
+    let listener = mio::net::TcpListener::bind(&rt, any_port())?;
+    let _bot = TcpStream::connect(&rt, listener.local_addr()?)?;
+    let watch = Watch::new(rt.alloc(), &rt, &rt, 1)?;
+    let Some(door) = Door::new(&watch, listener) else {
+        return Err(Fail::from("no row"));
+    };
+    watch.wait();
+    door.refused(&watch, ErrorKind::Other);
+    assert!(rt; door.accept(&watch).is_none());
+    watch.wait();
+    assert!(rt; door.accept(&watch).is_some());
     Ok(())
 }
 
@@ -240,50 +283,64 @@ impl<R: Net> Write for Announced<'_, R> {
     }
 }
 
-#[test]
-fn whole_run_listens_serves_and_ends(rt: HostRuntime) -> Result<(), Fail> {
-    let server = TcpListener::bind(&rt, "127.0.0.1:0")?;
-    let free = TcpListener::bind(&rt, "127.0.0.1:0")?;
-    let (to, at) = (server.local_addr()?, free.local_addr()?);
-    let gate = format!(in rt.alloc(); "{at}")?;
+/// A run with a bot that comes once it listens: what it prints is one line, and nothing is told.
+fn serves_one(rt: &HostRuntime, at: &str, to: &str) -> Result<(), Fail> {
     let settings = format!(in rt.alloc(); "listen = '{at}'\nserver = '{to}'")?;
-    drop(free);
     let mut output = Announced {
-        rt: &rt,
-        gate: gate.as_str(),
+        rt,
+        gate: at,
         text: Vec::new(rt.alloc()),
         bot: None,
     };
     let mut errors = Vec::new(rt.alloc());
-    let ended = run_text(&rt, settings.as_str(), &mut output, &mut errors);
-    assert_eq!(rt; ended, Ok(()));
-    assert!(rt; errors.is_empty() && output.bot.is_some());
-    assert_eq!(rt; output.text.as_slice(), b"listening\n".as_slice());
+    let ended = run_text(rt, settings.as_str(), &mut output, &mut errors);
+    let is_quiet = errors.is_empty() && output.text.as_slice() == b"listening\n".as_slice();
+    holds(
+        ended == Ok(()) && is_quiet && output.bot.is_some(),
+        "the run",
+    )
+}
+
+/// Whether a connection that waits at the server brought an IM and an FM.
+fn brought_both(rt: &HostRuntime, server: &TcpListener) -> Result<bool, Fail> {
     let (mut heard, _) = server.accept()?;
     heard.set_read_timeout(Some(Duration::from_secs(5)))?;
-    let mut bytes = [0u8; 12];
-    heard.read_exact(&mut bytes)?;
-    assert_eq!(rt; &bytes[..8], IM);
-    assert_eq!(rt; &bytes[8..], FM);
+    let mut bytes = vec![in rt.alloc(); 0u8; 12]?;
+    heard.read_exact(bytes.as_mut_slice())?;
+    Ok(bytes.starts_with(IM) && bytes.ends_with(FM))
+}
+
+#[test]
+fn whole_run_listens_serves_and_ends(rt: HostRuntime) -> Result<(), Fail> {
+    let server = TcpListener::bind(&rt, any_port())?;
+    let to = server.local_addr()?.to_string(rt.alloc())?;
+    let free = TcpListener::bind(&rt, any_port())?.local_addr()?;
+    let at = free.to_string(rt.alloc())?;
+    serves_one(&rt, at.as_str(), to.as_str())?;
+    assert!(rt; brought_both(&rt, &server)?);
     Ok(())
+}
+
+/// Nothing can be listened on there, and nothing is printed.
+fn cannot_listen(rt: &HostRuntime, listen: &str) -> Result<(), Fail> {
+    let settings = format!(in rt.alloc(); "listen = '{listen}'\nserver = '127.0.0.1:1'")?;
+    let mut output = Vec::new(rt.alloc());
+    let mut errors = Vec::new(rt.alloc());
+    let ended = run_text(rt, settings.as_str(), &mut output, &mut errors);
+    let is_silent = output.is_empty() && errors.is_empty();
+    holds(ended == Err(RunFault::Listen) && is_silent, "the run")
 }
 
 #[test]
 fn address_that_is_taken_cannot_be_listened_on(rt: HostRuntime) -> Result<(), Fail> {
-    let taken = TcpListener::bind(&rt, "127.0.0.1:0")?;
-    let at = taken.local_addr()?;
-    for listen in [
-        format!(in rt.alloc(); "{at}")?,
-        format!(in rt.alloc(); "127.0.0.1")?,
-    ] {
-        let settings = format!(in rt.alloc(); "listen = '{listen}'\nserver = '127.0.0.1:1'")?;
-        let mut output = Vec::new(rt.alloc());
-        let mut errors = Vec::new(rt.alloc());
-        let ended = run_text(&rt, settings.as_str(), &mut output, &mut errors);
-        assert_eq!(rt; ended, Err(RunFault::Listen), "at {listen}");
-        assert!(rt; output.is_empty() && errors.is_empty());
-    }
-    Ok(())
+    let taken = TcpListener::bind(&rt, any_port())?;
+    let at = taken.local_addr()?.to_string(rt.alloc())?;
+    cannot_listen(&rt, at.as_str())
+}
+
+#[test]
+fn address_with_no_port_cannot_be_listened_on(rt: HostRuntime) -> Result<(), Fail> {
+    cannot_listen(&rt, "127.0.0.1")
 }
 
 /// A reader that fails with one kind of error.
@@ -296,21 +353,26 @@ impl Read for Fails {
     }
 }
 
+/// Why a text of settings is refused, if it is.
+fn refusal(rt: &HostRuntime, input: &mut impl Read) -> Option<RunFault> {
+    read_text(rt.alloc(), input).err()
+}
+
 #[test]
-fn settings_that_cannot_be_read(rt: HostRuntime) -> Result<(), Fail> {
-    let mut longest = vec![in rt.alloc(); b'#'; 65_536]?;
-    assert!(rt; read_text(rt.alloc(), &mut longest.as_slice()).is_ok());
-    longest.push(b'#')?;
-    let mut not_text = b"listen = '\xff'".as_slice();
-    let refused = [
-        read_text(rt.alloc(), &mut longest.as_slice()),
-        read_text(rt.alloc(), &mut not_text),
-        read_text(rt.alloc(), &mut Fails(ErrorKind::Other)),
-    ];
-    for text in refused {
-        assert_eq!(rt; text.err(), Some(RunFault::Unreadable));
-    }
-    let memory = read_text(rt.alloc(), &mut Fails(ErrorKind::OutOfMemory));
-    assert_eq!(rt; memory.err(), Some(RunFault::Memory));
+fn settings_have_a_longest_text(rt: HostRuntime) -> Result<(), Fail> {
+    let mut text = vec![in rt.alloc(); b'#'; 65_536]?;
+    assert!(rt; refusal(&rt, &mut text.as_slice()).is_none());
+    text.push(b'#')?;
+    assert!(rt; refusal(&rt, &mut text.as_slice()) == Some(RunFault::Unreadable));
     Ok(())
+}
+
+#[test]
+fn settings_that_cannot_be_read(rt: HostRuntime) {
+    let mut not_text = b"listen = '\xff'".as_slice();
+    assert!(rt; refusal(&rt, &mut not_text) == Some(RunFault::Unreadable));
+    let other = refusal(&rt, &mut Fails(ErrorKind::Other));
+    assert!(rt; other == Some(RunFault::Unreadable));
+    let memory = refusal(&rt, &mut Fails(ErrorKind::OutOfMemory));
+    assert!(rt; memory == Some(RunFault::Memory));
 }

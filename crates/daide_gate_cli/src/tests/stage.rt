@@ -1,37 +1,39 @@
 //! Bots and a server over real sockets on loopback, in one thread with the run that stands between them.
 //!
-//! They act where the run rests: as far as they can at each of its waits.
+//! They act before each of the run's rounds, as far as they can. Their sockets have rows in the run's own table, so a
+//! wait ends where something came for one of them too; where nothing comes for anybody, it lasts until the play's time
+//! is over, and the play is wrong.
 
-ghost use Rattle.std.specs.Prelude.{None};
-
-use crate::ports::SocketPorts;
+use crate::ports::{Socket, SocketPorts};
 use crate::system::{Sockets, most_sockets};
-use crate::watch::Watch;
+use crate::watch::{Place, Watch};
 use daide_gate::serving::Service;
 use daide_gate::settings::{Settings, read_settings};
-use daide_gate::system::{Connect, Notice, System};
-use std::io::{ErrorKind, Read, Write};
-use std::net::{Net, Shutdown, SocketAddr, TcpListener, TcpStream};
-use std::process::Abort;
+use daide_gate::system::System;
+use daide_session::ports::{Pull, Put};
+use mio::Interest;
+use mio::net::{TcpListener, TcpStream};
+use std::net::{Net, Shutdown, SocketAddr};
 use std::rt::Clock;
 use std::test::Fail;
-use std::thread;
 use std::time::{Duration, Instant};
 
 /// Who acts: a bot, or the server's end of a connection, each numbered as they come.
-#[derive(Clone, Copy, Debug)]
+#[derive(Clone, Copy)]
 pub enum Who {
     Bot(usize),
     Server(usize),
 }
 
 /// What is done, or waited for.
-#[derive(Clone, Copy, Debug)]
+#[derive(Clone, Copy)]
 pub enum Act {
     /// A bot connects.
     Comes,
     /// The server accepts a connection.
     Meets,
+    /// Nobody connects to the server.
+    MeetsNobody,
     /// Sends these bytes.
     Says(Who, &'static [u8]),
     /// Has heard these bytes, and no more, since it last did.
@@ -40,14 +42,12 @@ pub enum Act {
     Ends(Who),
     /// Hears the end of the other's stream.
     HearsEnd(Who),
-    /// Nobody connects to the server within two rests.
-    MeetsNobody,
     /// A bot begins to send messages without end whose bracket never closes, and drops what it hears.
     Floods(usize),
-    /// So many milliseconds of that.
-    Lasts(u64),
-    /// It goes, and leaves unread what was sent to it.
-    Leaves,
+    /// It has done so for a second.
+    Flooded,
+    /// All bots go, and leave unread what was sent to them.
+    Leave,
     /// The run is left alone until all were served.
     Rests,
 }
@@ -58,46 +58,45 @@ const FLOOD: &[u8] = b"\x02\x00\x00\x04\x48\x03\x40\x00\x02\x00\x00\x04\x48\x03\
 \x02\x00\x00\x04\x48\x03\x40\x00\x02\x00\x00\x04\x48\x03\x40\x00\
 \x02\x00\x00\x04\x48\x03\x40\x00\x02\x00\x00\x04\x48\x03\x40\x00";
 
-/// One end of a connection.
-#[derive(Drop)]
-struct Peer {
-    stream: TcpStream,
-    heard: Vec<u8>,
-    has_ended: bool,
-}
+/// The most seconds that a play lasts.
+const MOST_SECONDS: u64 = 20;
+
+/// The most rounds of one.
+const MOST_ROUNDS: u64 = 100_000_000;
+
+/// The most sockets of the bots and the server.
+const MOST_PEERS: usize = 256;
+
+/// How many milliseconds a server is tried for a bot.
+const CONNECT_TIME: u64 = 100;
 
 /// What an act came to.
-#[derive(Clone, Copy, Debug, PartialEq, Eq)]
+#[derive(Clone, Copy, PartialEq, Eq)]
 enum Played {
     Done,
     NotYet,
     Wrong,
 }
 
-impl Peer {
-    fn new<R: AllocGlobal>(rt: &R, stream: TcpStream) -> Peer {
-        let _ = stream.set_nonblocking(true);
-        Peer {
-            stream,
-            heard: Vec::new(rt.alloc()),
-            has_ended: false,
-        }
-    }
+/// One end of a connection.
+#[derive(Drop)]
+struct Peer<'w> {
+    socket: Socket<'w>,
+    heard: Vec<u8>,
+    has_ended: bool,
+}
 
+impl Peer<'_> {
     /// Takes what is there.
     fn listen(&mut self) {
         let mut piece = [0u8; 4096];
         for _ in 0..64 {
-            match self.stream.read(&mut piece) {
-                Ok(0) => {
-                    self.has_ended = true;
-                    return;
-                }
-                Ok(count) => {
+            match self.socket.pull(&mut piece) {
+                Pull::Got(count) => {
                     let _ = self.heard.extend_from_slice(&piece[..count]);
                 }
-                Err(error) if error.kind() == ErrorKind::WouldBlock => return,
-                Err(_) => {
+                Pull::Idle => return,
+                Pull::Ended => {
                     self.has_ended = true;
                     return;
                 }
@@ -126,49 +125,52 @@ impl Peer {
         }
     }
 
+    /// Sends bytes that have room at once.
     fn says(&mut self, bytes: &[u8]) -> Played {
-        match self.stream.write_all(bytes) {
-            Ok(()) => Played::Done,
-            Err(_) => Played::Wrong,
+        match self.socket.put(bytes) {
+            Put::Took(0) => Played::NotYet,
+            Put::Took(count) if count == bytes.len() => Played::Done,
+            _ => Played::Wrong,
         }
     }
 
     fn ends(&mut self) -> Played {
-        match self.stream.shutdown(Shutdown::Write) {
+        match self.socket.stream.shutdown(Shutdown::Write) {
             Ok(()) => Played::Done,
             Err(_) => Played::Wrong,
         }
     }
 }
 
-/// How often an act is tried, a millisecond apart.
-const TRIES: u32 = 5000;
-
-/// The run's system, with those who act beside it.
-#[derive(Drop)]
-pub struct Stage<'s, 'w, R: Clock + Net, E: Write + Drop> {
-    rt: &'w R,
-    system: Sockets<'w, R, E>,
-    gate: SocketAddr,
-    server: TcpListener,
-    bots: Vec<Peer>,
-    servers: Vec<Peer>,
-    acts: &'s [Act],
-    at: usize,
-    tries: u32,
-    flooder: Option<usize>,
+/// A bot that floods.
+#[derive(Clone, Copy)]
+struct Flood {
+    bot: usize,
     /// How much of `FLOOD` went out.
-    flooded: usize,
-    began: Option<Instant>,
-    /// Whether all were served.
-    is_done: bool,
-    /// Whether an act went wrong, or came too late.
-    is_wrong: bool,
-    /// How often the run waited in earnest, when nothing was left to act.
-    waits: u32,
+    sent: usize,
+    /// When it did so for a second.
+    until: Option<Instant>,
 }
 
-fn play_one(peers: &mut Vec<Peer>, number: usize, act: Act) -> Played {
+/// The bots and the server, and what they do.
+#[derive(Drop)]
+struct Stage<'s, 'w, R: Clock + Net + AllocGlobal> {
+    rt: &'w R,
+    watch: &'w Watch<&'w R>,
+    gate: SocketAddr,
+    server: TcpListener,
+    /// The row of the server's listener, whose moment is the end of the play's time.
+    door: Place<'w>,
+    bots: Vec<Peer<'w>>,
+    servers: Vec<Peer<'w>>,
+    flood: Option<Flood>,
+    acts: &'s [Act],
+    at: usize,
+    /// Whether an act went wrong, or came too late.
+    is_wrong: bool,
+}
+
+fn play_one(peers: &mut Vec<Peer<'_>>, number: usize, act: Act) -> Played {
     let Some(peer) = peers.get_mut(number) else {
         return Played::Wrong;
     };
@@ -180,19 +182,57 @@ fn play_one(peers: &mut Vec<Peer>, number: usize, act: Act) -> Played {
     }
 }
 
-impl<'s, 'w, R: Clock + Net<Stream = TcpStream> + AllocGlobal, E: Write + Drop> Stage<
-    's,
-    'w,
-    R,
-    E,
-> {
+/// Wrong where something was refused.
+fn done_where(is_done: bool) -> Played {
+    if is_done { Played::Done } else { Played::Wrong }
+}
+
+impl<'s, 'w, R: Clock + Net + AllocGlobal> Stage<'s, 'w, R> {
+    /// Nobody came yet.
+    fn new(
+        rt: &'w R,
+        watch: &'w Watch<&'w R>,
+        server: TcpListener,
+        gate: SocketAddr,
+        acts: &'s [Act],
+    ) -> Result<Stage<'s, 'w, R>, Fail> {
+        let mut server = server;
+        let Some(door) = watch.follow(&mut server, Interest::READABLE) else {
+            return Err(Fail::from("no row"));
+        };
+        door.flags
+            .due
+            .set(watch.after(Duration::from_secs(MOST_SECONDS)));
+        Ok(Stage {
+            rt,
+            watch,
+            gate,
+            server,
+            door,
+            bots: Vec::new(rt.alloc()),
+            servers: Vec::new(rt.alloc()),
+            flood: None,
+            acts,
+            at: 0,
+            is_wrong: false,
+        })
+    }
+
+    fn peer(&self, stream: TcpStream) -> Option<Peer<'w>> {
+        Some(Peer {
+            socket: Socket::new(self.watch, stream)?,
+            heard: Vec::new(self.rt.alloc()),
+            has_ended: false,
+        })
+    }
+
     fn comes(&mut self) -> Played {
         let Ok(stream) = TcpStream::connect(self.rt, self.gate) else {
             return Played::Wrong;
         };
-        match self.bots.push(Peer::new(self.rt, stream)) {
-            Ok(()) => Played::Done,
-            Err(_) => Played::Wrong,
+        match self.peer(stream) {
+            Some(bot) => done_where(self.bots.push(bot).is_ok()),
+            None => Played::Wrong,
         }
     }
 
@@ -200,96 +240,88 @@ impl<'s, 'w, R: Clock + Net<Stream = TcpStream> + AllocGlobal, E: Write + Drop> 
         let Ok((stream, _)) = self.server.accept() else {
             return Played::NotYet;
         };
-        match self.servers.push(Peer::new(self.rt, stream)) {
-            Ok(()) => Played::Done,
-            Err(_) => Played::Wrong,
+        match self.peer(stream) {
+            Some(server) => done_where(self.servers.push(server).is_ok()),
+            None => Played::Wrong,
         }
     }
 
-    fn play(&mut self, act: Act) -> Played {
-        match act {
-            Act::Comes => self.comes(),
-            Act::Meets => self.meets(),
-            Act::MeetsNobody => match self.meets() {
-                Played::NotYet if self.tries >= 2 => Played::Done,
-                Played::NotYet => Played::NotYet,
-                _ => Played::Wrong,
-            },
-            Act::Floods(bot) => {
-                self.flooder = Some(bot);
-                self.began = Instant::now(self.rt).ok();
-                Played::Done
-            }
-            Act::Lasts(milliseconds) => self.lasts(milliseconds),
-            Act::Leaves => {
-                self.flooder = None;
-                self.bots.clear();
-                Played::Done
-            }
-            Act::Rests if self.is_done => Played::Done,
-            Act::Rests => Played::NotYet,
+    fn begin_flood(&mut self, bot: usize) {
+        self.flood = Some(Flood {
+            bot,
+            sent: 0,
+            until: self.watch.after(Duration::from_secs(1)),
+        });
+    }
+
+    /// Whether the flood lasted long enough.
+    fn has_flooded(&self) -> bool {
+        self.flood
+            .is_some_and(|flood| self.watch.is_over(flood.until))
+    }
+
+    fn leave(&mut self) {
+        self.flood = None;
+        self.bots.clear();
+    }
+
+    fn play(&mut self, act: Act, is_served: bool) -> Played {
+        let is_done = match act {
+            Act::Comes => return self.comes(),
+            Act::Meets => return self.meets(),
+            Act::MeetsNobody => return done_where(self.meets() == Played::NotYet),
             Act::Says(who, _) | Act::Hears(who, _) | Act::Ends(who) | Act::HearsEnd(who) => {
-                match who {
+                return match who {
                     Who::Bot(number) => play_one(&mut self.bots, number, act),
                     Who::Server(number) => play_one(&mut self.servers, number, act),
-                }
+                };
             }
-        }
-    }
-
-    /// Whether the flood began so long ago.
-    fn lasts(&self, milliseconds: u64) -> Played {
-        match self.began.map(|began| began.elapsed(self.rt)) {
-            Some(Ok(time)) if time >= Duration::from_millis(milliseconds) => Played::Done,
-            Some(Ok(_)) => Played::NotYet,
-            _ => Played::Wrong,
+            Act::Floods(bot) => {
+                self.begin_flood(bot);
+                true
+            }
+            Act::Leave => {
+                self.leave();
+                true
+            }
+            Act::Flooded => self.has_flooded(),
+            Act::Rests => is_served,
+        };
+        if is_done {
+            Played::Done
+        } else {
+            Played::NotYet
         }
     }
 
     /// Sends what the flooding bot's socket takes.
-    fn flood(&mut self) {
-        let Some(bot) = self.flooder else {
+    fn flood_on(&mut self) {
+        let Some(flood) = &mut self.flood else {
             return;
         };
-        let Some(peer) = self.bots.get_mut(bot) else {
+        let Some(peer) = self.bots.get_mut(flood.bot) else {
             return;
         };
         peer.listen();
         peer.heard.clear();
-        let rest = &FLOOD[self.flooded.min(FLOOD.len())..];
-        if let Ok(count) = peer.stream.write(rest) {
-            self.flooded = self.flooded.saturating_add(count) % FLOOD.len();
+        if let Put::Took(count) = peer.socket.put(&FLOOD[flood.sent.min(FLOOD.len())..]) {
+            flood.sent = flood.sent.saturating_add(count) % FLOOD.len();
         }
     }
 
-    /// What happens between two rounds: where a bot floods the run never rests, so the others act here.
-    fn act_beside(&mut self) {
-        if self.flooder.is_some() {
-            self.flood();
-            self.tries = 0;
-            self.act();
-        }
-    }
-
-    /// Acts as far as can be, and answers whether nothing is left to act now.
-    fn act(&mut self) -> bool {
+    /// Acts as far as can be, and answers whether nothing is left to act.
+    fn act(&mut self, is_served: bool) -> bool {
+        self.flood_on();
         for _ in 0..self.acts.len() {
             let Some(act) = self.acts.get(self.at) else {
                 return true;
             };
-            match self.play(*act) {
-                Played::NotYet if matches!(act, Act::Rests) => return true,
-                Played::Done => {
-                    self.at = self.at.saturating_add(1);
-                    self.tries = 0;
-                }
-                Played::NotYet if self.tries < TRIES => {
-                    self.tries = self.tries.saturating_add(1);
-                    return false;
-                }
+            match self.play(*act, is_served) {
+                Played::Done => self.at = self.at.saturating_add(1),
+                Played::NotYet if !self.watch.is_over(self.door.flags.due.get()) => return false,
                 _ => {
                     self.is_wrong = true;
-                    return true;
+                    return false;
                 }
             }
         }
@@ -297,144 +329,101 @@ impl<'s, 'w, R: Clock + Net<Stream = TcpStream> + AllocGlobal, E: Write + Drop> 
     }
 }
 
-impl<'s, 'w, R: Clock + Net<Stream = TcpStream> + AllocGlobal, E: Write + Drop> System<
-    SocketPorts<'w, &'w R>,
-> for Stage<'s, 'w, R, E> {
-    ghost use Rattle.std.specs.Prelude.{None};
-
-    ghost told = { λ _. None };
-
-    fn accept(&mut self) -> bool {
-        self.system.accept()
-    }
-
-    fn connected(&mut self) -> Connect<SocketPorts<'w, &'w R>> {
-        self.system.connected()
-    }
-
-    fn retire(&mut self, ports: SocketPorts<'w, &'w R>) {
-        self.system.retire(ports);
-    }
-
-    fn tell(&mut self, notice: Notice) {
-        self.system.tell(notice);
-    }
-
-    fn wait(&mut self, accepts: bool) {
-        if self.act() {
-            self.waits = self.waits.saturating_add(1);
-            self.system.wait(accepts);
-        } else {
-            thread::sleep(self.rt, Duration::from_millis(1));
-            self.system.look();
-        }
-    }
+/// A port of this machine that is free.
+pub fn any_port() -> SocketAddr {
+    SocketAddr::from(([127, 0, 0, 1], 0))
 }
 
-/// What a run came to: the number of the act that went wrong, if one did; what was told; and its real waits.
+/// Makes rounds until all was acted and all were served, or an act went wrong, and answers how many.
+fn play_rounds<'w, R: Clock + Net + AllocGlobal>(
+    stage: &mut Stage<'_, 'w, R>,
+    system: &mut Sockets<'w, R, &mut Vec<u8>>,
+    service: &mut Service<SocketPorts<'w, &'w R>>,
+) -> Result<u64, Fail> {
+    for round in 0..MOST_ROUNDS {
+        let is_served = service.is_done();
+        if (stage.act(is_served) && is_served) || stage.is_wrong {
+            return Ok(round);
+        }
+        if is_served {
+            system.wait(false);
+        } else {
+            service.round(system)?;
+        }
+    }
+    Ok(MOST_ROUNDS)
+}
+
+/// What a run came to: the number of the act that went wrong, if one did; how many rounds there were; what was told.
 #[derive(Drop)]
 pub struct Report {
     pub wrong: Option<usize>,
+    pub rounds: u64,
     pub told: String,
-    pub waits: u32,
 }
 
-/// Runs a gateway with these settings, beside its addresses, while all is acted. Where `has_server` is not, nobody
-/// listens at the server's address.
-pub fn run_beside<R: Clock + Net<Stream = TcpStream, Listener = TcpListener> + AllocGlobal + Abort>(
+/// Plays beside a run at this listener, which ends before this does.
+fn play_beside<'w, R: Clock + Net + AllocGlobal>(
+    stage: &mut Stage<'_, 'w, R>,
+    listener: TcpListener,
+    servers: &'w [SocketAddr],
+    settings: &Settings,
+    told: &mut Vec<u8>,
+) -> Result<u64, Fail> {
+    let rt = stage.rt;
+    let system = Sockets::new(
+        rt.alloc(),
+        rt,
+        stage.watch,
+        (listener, servers),
+        settings,
+        Duration::from_millis(CONNECT_TIME),
+        told,
+    );
+    let Some(mut system) = system else {
+        return Err(Fail::from("no sockets"));
+    };
+    let mut service = Service::new(rt.alloc(), settings)?;
+    let rounds = play_rounds(stage, &mut system, &mut service)?;
+    stage.bots.clear();
+    stage.servers.clear();
+    system.finish();
+    Ok(rounds)
+}
+
+/// Plays with the rows of a table.
+fn play_at<R: Clock + Net + AllocGlobal>(
+    rt: &R,
+    watch: &Watch<&R>,
+    settings: &Settings,
+    acts: &[Act],
+    server: Option<SocketAddr>,
+) -> Result<Report, Fail> {
+    let listener = TcpListener::bind(rt, any_port())?;
+    let gate = listener.local_addr()?;
+    let own = TcpListener::bind(rt, any_port())?;
+    let servers = [server.unwrap_or(own.local_addr()?)];
+    let mut stage = Stage::new(rt, watch, own, gate, acts)?;
+    let mut told = Vec::new(rt.alloc());
+    let rounds = play_beside(&mut stage, listener, &servers, settings, &mut told)?;
+    Ok(Report {
+        wrong: if stage.is_wrong { Some(stage.at) } else { None },
+        rounds,
+        told: String::from_utf8(told)?,
+    })
+}
+
+/// Runs a gateway with these settings, beside its addresses, while all is acted; towards this server in place of the
+/// stage's own, if it is given.
+pub fn run_beside<R: Clock + Net + AllocGlobal>(
     rt: &R,
     settings: &str,
     acts: &[Act],
-    has_server: bool,
+    server: Option<SocketAddr>,
 ) -> Result<Report, Fail> {
     let text = format!(in rt.alloc(); "listen = 'a'\nserver = 'b'\n{settings}")?;
-    let Ok(settings) = read_settings(rt.alloc(), text.as_str()) else {
-        return Err(Fail::from("settings"));
-    };
-    let server = TcpListener::bind(rt, "127.0.0.1:0")?;
-    server.set_nonblocking(true)?;
-    let other = TcpListener::bind(rt, "127.0.0.1:0")?;
-    let address = if has_server {
-        server.local_addr()?
-    } else {
-        other.local_addr()?
-    };
-    drop(other);
-    play_all(rt, &settings, acts, server, &[address])
-}
-
-fn play_all<R: Clock + Net<Stream = TcpStream, Listener = TcpListener> + AllocGlobal + Abort>(
-    rt: &R,
-    settings: &Settings,
-    acts: &[Act],
-    server: TcpListener,
-    addresses: &[SocketAddr],
-) -> Result<Report, Fail> {
-    let any = SocketAddr::from(([127, 0, 0, 1], 0));
-    let listener = mio::net::TcpListener::bind(rt, any)?;
-    let gate = listener.local_addr()?;
-    let Ok(watch) = Watch::new(rt.alloc(), rt, rt, most_sockets(settings.max_sessions)) else {
-        return Err(Fail::from("table"));
-    };
-    let mut told = Vec::new(rt.alloc());
-    let (wrong, waits) = {
-        let Some(system) = Sockets::new(
-            rt.alloc(),
-            rt,
-            &watch,
-            listener,
-            addresses,
-            settings,
-            &mut told,
-        ) else {
-            return Err(Fail::from("sockets"));
-        };
-        let mut stage = Stage {
-            rt,
-            system,
-            gate,
-            server,
-            bots: Vec::new(rt.alloc()),
-            servers: Vec::new(rt.alloc()),
-            acts,
-            at: 0,
-            tries: 0,
-            flooder: None,
-            flooded: 0,
-            began: None,
-            is_done: false,
-            is_wrong: false,
-            waits: 0,
-        };
-        let Ok(mut service) = Service::new(rt.alloc(), settings) else {
-            return Err(Fail::from("service"));
-        };
-        for _ in 0..10_000_000 {
-            if service.is_done() || stage.is_wrong {
-                break;
-            }
-            stage.act_beside();
-            if service.round(&mut stage).is_err() {
-                return Err(Fail::from("round"));
-            }
-        }
-        stage.is_done = service.is_done();
-        for _ in 0..TRIES {
-            if stage.is_wrong || stage.act() {
-                break;
-            }
-            thread::sleep(rt, Duration::from_millis(1));
-            stage.system.look();
-        }
-        stage.bots.clear();
-        stage.servers.clear();
-        stage.system.finish();
-        let is_whole = stage.is_done && !stage.is_wrong && stage.at >= acts.len();
-        (if is_whole { None } else { Some(stage.at) }, stage.waits)
-    };
-    Ok(Report {
-        wrong,
-        told: String::from_utf8(told)?,
-        waits,
-    })
+    let settings = read_settings(rt.alloc(), text.as_str())?;
+    let rows = most_sockets(settings.max_sessions).saturating_add(MOST_PEERS);
+    let watch = Watch::new(rt.alloc(), rt, rt, rows)?;
+    play_at(rt, &watch, &settings, acts, server)
 }
