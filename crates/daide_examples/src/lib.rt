@@ -32,3 +32,5 @@ mod sessions;
 mod settings;
 #[cfg(test)]
 mod verdicts;
+#[cfg(test)]
+mod words;

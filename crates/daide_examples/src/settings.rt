@@ -3,6 +3,10 @@
 //! The expected lines were worked out by hand from docs/FORMATS.md, "Settings".
 
 use daide_gate::settings::{SettingsError, read_settings};
+use daide_grammar::level::Level;
+use daide_token::token::Token;
+use daide_words::{Operand, Slot};
+use std::fmt::Write;
 use std::process::Abort;
 use std::test::Fail;
 
@@ -26,7 +30,7 @@ const DOCUMENTS: [(&str, &str); 16] = [
     ("depth = 5", "unknown key"),
     ("listen = 1\ndepth = 5", "unknown key"),
     ("[listen]\nport = 1", "wrong type for listen"),
-    ("listen = \"a\"\nserver = \"b\"\n[words]", "unknown key"),
+    ("listen = \"a\"\nserver = \"b\"\n[word]", "unknown key"),
     ("listen = \"a\"\nserver = \"b\"\nmax_body = 511\nmax_depth = true", "max_body out of range"),
 ];
 
@@ -83,12 +87,71 @@ const LINES: [(&str, &str); 48] = [
     ("# nothing else", ""),
 ];
 
+/// What stands at `words`, and the fault that it is, if it is one.
+#[rattlefmt::skip]
+const WORDS: [(&str, &str); 27] = [
+    ("[]", ""),
+    ("[ { name = \"XYZ\", code = 0x4A40, slot = \"press\", level = 20, operand = \"power\" } ]", ""),
+    ("[ { operand = \"power\", level = 20, slot = \"press\", code = 19008, name = \"XYZ\" } ]", ""),
+    ("1", "wrong type for words"),
+    ("{}", "wrong type for words"),
+    ("[ 1 ]", "wrong type for words"),
+    ("[ {} ]", "wrong type for words"),
+    ("[ { name = \"XYZ\", code = 0x4A40, slot = \"press\", level = 20 } ]", "wrong type for words"),
+    ("[ { name = \"XYZ\", code = 0x4A40, slot = \"press\", level = 20, operand = \"power\", side = 1 } ]", "wrong type for words"),
+    ("[ { name = 1, code = 0x4A40, slot = \"press\", level = 20, operand = \"power\" } ]", "wrong type for words"),
+    ("[ { name = \"XYZ\", code = \"4A40\", slot = \"press\", level = 20, operand = \"power\" } ]", "wrong type for words"),
+    ("[ { name = \"XYZ\", code = 0x4A40, slot = 0, level = 20, operand = \"power\" } ]", "wrong type for words"),
+    ("[ { name = \"XYZ\", code = 0x4A40, slot = \"press\", level = \"20\", operand = \"power\" } ]", "wrong type for words"),
+    ("[ { name = \"XYZ\", code = 0x4A40, slot = \"press\", level = 20, operand = [] } ]", "wrong type for words"),
+    ("[ { name = \"XYZ\", code = 0x4A40, slot = \"pres\", level = 20, operand = \"power\" } ]", "words out of range"),
+    ("[ { name = \"XYZ\", code = 0x4A40, slot = \"press\", level = 20, operand = \"province\" } ]", "words out of range"),
+    ("[ { name = \"XYZ\", code = 0x4A40, slot = \"press\", level = 25, operand = \"power\" } ]", "words out of range"),
+    ("[ { name = \"XYZ\", code = 0x4A40, slot = \"press\", level = 65556, operand = \"power\" } ]", "words out of range"),
+    ("[ { name = \"XYZ\", code = 0x4A40, slot = \"press\", level = 0, operand = \"power\" } ]", "words out of range"),
+    ("[ { name = \"XYZW\", code = 0x4A40, slot = \"press\", level = 20, operand = \"power\" } ]", "words out of range"),
+    ("[ { name = \"GOF\", code = 0x4A40, slot = \"press\", level = 20, operand = \"power\" } ]", "words out of range"),
+    ("[ { name = \"XYZ\", code = 0x4A10, slot = \"press\", level = 20, operand = \"power\" } ]", "words out of range"),
+    ("[ { name = \"XYZ\", code = 84544, slot = \"press\", level = 20, operand = \"power\" } ]", "words out of range"),
+    ("[ { name = \"XYZ\", code = -1, slot = \"press\", level = 20, operand = \"power\" } ]", "words out of range"),
+    ("[ { name = \"XYZ\", code = 0x4A40, slot = \"arrangement\", level = 20, operand = \"press\" } ]", "words out of range"),
+    // the shape of all before the range of any
+    ("[ { name = \"XYZ\", code = 0x4A40, slot = \"pres\", level = 20, operand = \"power\" }, { name = \"QQQ\" } ]", "wrong type for words"),
+    // a name twice
+    ("[ { name = \"XYZ\", code = 0x4A40, slot = \"press\", level = 20, operand = \"power\" }, { name = \"XYZ\", code = 0x4A41, slot = \"press\", level = 20, operand = \"power\" } ]", "words out of range"),
+];
+
+/// Whole lines with words, and their fault: words come last of all keys.
+const BESIDE_WORDS: [(&str, &str); 2] = [
+    ("turns = 0\nwords = 1", "turns out of range"),
+    (
+        "words = [ { name = \"XYZ\" } ]\nturns = 0",
+        "turns out of range",
+    ),
+];
+
 /// The fault of a text as its line, empty where there is none.
 fn fault_of<R: AllocGlobal>(rt: &R, text: &str) -> Result<String, Fail> {
     match read_settings(rt.alloc(), text) {
         Ok(_) => Ok(String::new(rt.alloc())),
         Err(fault) => Ok(fault.to_string(rt.alloc())?),
     }
+}
+
+/// Seventeen words, each of which would be accepted after the ones before it.
+fn seventeen<R: AllocGlobal>(rt: &R) -> Result<String, Fail> {
+    let mut text = String::new(rt.alloc());
+    text.push_str("words = [")?;
+    for number in 0..17u16 {
+        let letter = char::from(b'A' + number as u8);
+        let code = 0x4A50 + number;
+        write!(
+            text,
+            " {{ name = \"QQ{letter}\", code = {code}, slot = \"press\", level = 20, operand = \"power\" }},"
+        )?;
+    }
+    text.push_str(" ]")?;
+    Ok(text)
 }
 
 /// Each row is a text behind this front, and its fault.
@@ -108,6 +171,15 @@ fn assert_faults(
 fn settings_faults_in_order(rt: HostRuntime) -> Result<(), Fail> {
     assert_faults(&rt, "", &DOCUMENTS)?;
     assert_faults(&rt, ADDRESSES, &LINES)
+}
+
+#[test]
+fn shape_of_all_words_before_their_range(rt: HostRuntime) -> Result<(), Fail> {
+    let front = format!(in rt.alloc(); "{ADDRESSES}words = ")?;
+    assert_faults(&rt, front.as_str(), &WORDS)?;
+    assert_faults(&rt, ADDRESSES, &BESIDE_WORDS)?;
+    let many = seventeen(&rt)?;
+    assert_faults(&rt, ADDRESSES, &[(many.as_str(), "words out of range")])
 }
 
 #[test]
@@ -138,13 +210,15 @@ fn two_addresses_give_the_defaults(rt: HostRuntime) -> Result<(), Fail> {
     assert!(rt; settings.max_sessions == 16);
     assert!(rt; settings.sessions == 1);
     assert!(rt; settings.turns == 1_000_000_000);
+    assert!(rt; settings.words.names().len() == 0);
     Ok(())
 }
 
 #[test]
 fn each_key_sets_its_own_field(rt: HostRuntime) -> Result<(), Fail> {
     let text =
-        "turns = 7\nsessions = 6\nmax_sessions = 5\nim_seconds = 4\nmax_depth = 13\nmax_body = 1024\n\
+        "words = [ { name = \"XYZ\", code = 0x4A40, slot = \"press\", level = 20, operand = \"power\" } ]\n\
+        turns = 7\nsessions = 6\nmax_sessions = 5\nim_seconds = 4\nmax_depth = 13\nmax_body = 1024\n\
         top_level = 20\nserver = \"s\"\nlisten = \"l\"\n";
     let settings = read_settings(rt.alloc(), text)?;
     assert!(rt; settings.listen.as_str() == "l");
@@ -156,6 +230,12 @@ fn each_key_sets_its_own_field(rt: HostRuntime) -> Result<(), Fail> {
     assert!(rt; settings.max_sessions == 5);
     assert!(rt; settings.sessions == 6);
     assert!(rt; settings.turns == 7);
+    let word = settings.words.get(0).ok_or("a word")?;
+    assert!(rt; word.name == *b"XYZ");
+    assert!(rt; word.code == Token::from_code(0x4A40));
+    assert!(rt; word.slot == Slot::Press);
+    assert!(rt; word.level == Level::L20);
+    assert!(rt; word.operand == Operand::Power);
     Ok(())
 }
 

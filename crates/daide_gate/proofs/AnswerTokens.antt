@@ -3,12 +3,12 @@ use Rattle.std.proofs.Common.{◌≡◌, ◌++◌, ◌∷◌, [], ◌*◌, ◌%�
 use Rattle.std.proofs.Common.{arith}
 use Rattle.std.proofs.Common.{append_assoc, length-take, length-drop}
 use Rattle.daide_token.specs.Token.{prn, huh, bra, err, ket, tokens_of}
-use Rattle.daide_token.specs.Text.{text_of}
+use Rattle.daide_words.specs.declared.word.Word.{Word}
 use Rattle.daide_reader.specs.declared.verdict.Verdict.{Verdict}
 use Rattle.daide_reader.specs.declared.verdict.Verdict.TheVariants.{Relay, Prn, Huh}
 use Rattle.daide_reader.specs.Verdict.{IsPlaceIn}
 use Rattle.daide_machine.specs.Answers.{answer_body}
-use Rattle.daide_gate.specs.Shown.{prn_answer, huh_answer, is_relay, line, verdict_lines, verdict_name}
+use Rattle.daide_gate.specs.Shown.{prn_answer, huh_answer, is_relay, line, printed, verdict_lines, verdict_name}
 use Rattle.daide_gate.proofs.Tokens.{tokens_of-append, tokens_of-take, tokens_of-drop}
 
 -- PRN ( body )
@@ -41,13 +41,13 @@ tokens_of-huh place body even within =
     ∙ sym (append_assoc (take place (tokens_of body)) (err ∷ drop place (tokens_of body)) (ket ∷ [])))
 
 -- the lines of a verdict have the text of the answer that is sent
-pub lines_of_answer : (body : List ℕ) (verdict : Verdict) → length body % 2 ≡ 0 → IsPlaceIn body verdict →
-    is_relay verdict ≡ false →
-    verdict_lines verdict (tokens_of body)
-    ≡ line (verdict_name verdict) ++ line (text_of (tokens_of (answer_body body verdict)))
-lines_of_answer body Relay even within answered = absurd cc
-lines_of_answer body Prn even within answered =
-    ap (λ (ts : List ℕ). line (verdict_name Prn) ++ line (text_of ts)) (sym (tokens_of-prn body even))
-lines_of_answer body (Huh place) even within answered =
-    ap (λ (ts : List ℕ). line (verdict_name (Huh place)) ++ line (text_of ts))
+pub lines_of_answer : (words : List Word) (body : List ℕ) (verdict : Verdict) → length body % 2 ≡ 0 →
+    IsPlaceIn body verdict → is_relay verdict ≡ false →
+    verdict_lines words verdict (tokens_of body)
+    ≡ line (verdict_name verdict) ++ line (printed words (tokens_of (answer_body body verdict)))
+lines_of_answer words body Relay even within answered = absurd cc
+lines_of_answer words body Prn even within answered =
+    ap (λ (ts : List ℕ). line (verdict_name Prn) ++ line (printed words ts)) (sym (tokens_of-prn body even))
+lines_of_answer words body (Huh place) even within answered =
+    ap (λ (ts : List ℕ). line (verdict_name (Huh place)) ++ line (printed words ts))
     (sym (tokens_of-huh place body even within))

@@ -2,9 +2,12 @@ pub mod Reading
 pub mod Outcomes
 pub mod Tokens
 pub mod AnswerTokens
+pub mod WordedVerdicts
+pub mod WordedRuns
 pub mod OneFrame
 pub mod OneWay
 pub mod Members
+pub mod WordEntries
 pub mod SettingsFacts
 pub mod RelayLemmas
 pub mod ServingLemmas

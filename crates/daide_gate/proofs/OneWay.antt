@@ -10,26 +10,27 @@ use Rattle.daide_frame.specs.declared.head.Kind.TheVariants.{Im, Rm, Dm, Fm, Em}
 use Rattle.daide_grammar.specs.declared.side.Side2.{Side2}
 use Rattle.daide_grammar.specs.declared.level.Level.{Level}
 use Rattle.daide_grammar.specs.SideMessages.{IsMessageOver}
-use Rattle.daide_grammar.specs.Words.{Words}
+use Rattle.daide_words.specs.declared.word.Word.{Word}
+use Rattle.daide_words.specs.Word.{grammar_words}
 use Rattle.daide_reader.specs.declared.verdict.Verdict.{Verdict}
 use Rattle.daide_reader.proofs.VerdictLemmas.{verdict_is_one}
-use Rattle.daide_machine.specs.Bounds.{longest_body, deepest}
+use Rattle.daide_machine.specs.Bounds.{longest_body}
 use Rattle.daide_gate.specs.declared.frame_view.ShowFault.{ShowFault}
 use Rattle.daide_gate.specs.declared.frame_view.ShowFault.TheVariants.{TooLong, NotHex}
 use Rattle.daide_gate.specs.Input.{limit, bytes_of}
 use Rattle.daide_machine.specs.Machine.{side2_of}
-use Rattle.daide_gate.specs.Shown.{Shown, OneFrame, faulty, whole, not_one, found_in}
+use Rattle.daide_gate.specs.Shown.{Shown, OneFrame, deepest_shown, faulty, whole, not_one, found_in}
 use Rattle.daide_gate.specs.Shown.{message_shown, IsFrameShownAs, IsOneShownAs, AreShownAs, IsShownAs}
 
-module _ (words : Words) where
+module _ (words : List Word) where
   frame_is_one : (end : Side2) (level : Level) (kind : Kind) (len : ℕ) (body : List ℕ) (s t : Shown) →
       IsFrameShownAs words end level kind len body s → IsFrameShownAs words end level kind len body t → s ≡ t
   frame_is_one end level Im len body s t x y = x ∙ sym y
   frame_is_one end level Rm len body s t x y = x ∙ sym y
   frame_is_one end level Dm len body s t x y =
       x.2
-      ∙ ap (λ (v : Verdict). message_shown len (tokens_of body) v)
-      (verdict_is_one (IsMessageOver words end level) deepest (tokens_of body) x.0 y.0 x.1 y.1)
+      ∙ ap (λ (v : Verdict). message_shown words len (tokens_of body) v)
+      (verdict_is_one (IsMessageOver (grammar_words words) end level) deepest_shown (tokens_of body) x.0 y.0 x.1 y.1)
       ∙ sym y.2
   frame_is_one end level Fm len body s t x y = x ∙ sym y
   frame_is_one end level Em len body s t x y = x ∙ sym y

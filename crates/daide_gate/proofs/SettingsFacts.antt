@@ -1,16 +1,25 @@
 -- Rows of the table of settings in docs/FORMATS.md, computed from the definitions: each range at both ends, each
 -- default,
 -- and the order of the faults.
-use Rattle.std.proofs.Common.{◌≡◌, codes, true, false, Some, Ok, Err, refl}
+use Rattle.std.proofs.Common.{◌≡◌, codes, true, false, List, ℕ, [], ◌∷◌, Some, None, Ok, Err, refl}
 use Rattle.std.specs.Prelude.{pos, negsuc}
-use Rattle.toml.specs.Data.{string, integer, boolean, Members, no_members, member}
+use Rattle.toml.specs.Data.{Data, string, integer, boolean, array, table, Items, no_items, item, Members, no_members}
+use Rattle.toml.specs.Data.{member}
 use Rattle.toml.specs.Parse.{parse_document}
 use Rattle.toml.proofs.OnLiterals.{toml_on_literals}
 use Rattle.daide_gate.specs.declared.settings.key.Key.TheVariants.{Listen, Server, TopLevel, MaxBody, MaxDepth}
-use Rattle.daide_gate.specs.declared.settings.key.Key.TheVariants.{ImSeconds, MaxSessions, Sessions, Turns}
+use Rattle.daide_gate.specs.declared.settings.key.Key.TheVariants.{ImSeconds, MaxSessions, Sessions, Turns, Words}
 use Rattle.daide_gate.specs.declared.settings.SettingsError.TheVariants.{NotToml, Unknown, Missing, WrongType, Range}
 use Rattle.daide_gate.specs.Settings.{is_in_range, address_of, number_of, judged_members}
 use Rattle.daide_gate.specs.Settings.{judged_settings}
+use Rattle.daide_gate.specs.WordSettings.{words_judged}
+use Rattle.std.proofs.Common.{Result}
+use Rattle.daide_token.specs.Names.{names, name_of, token_named}
+use Rattle.daide_grammar.specs.declared.level.Level.TheVariants.{L20}
+use Rattle.daide_words.specs.declared.word.Word.{Word}
+use Rattle.daide_words.specs.declared.slot.Slot.TheVariants.{Press}
+use Rattle.daide_words.specs.declared.operand.Operand.TheVariants.{Power}
+use Rattle.daide_gate.specs.declared.settings.SettingsError.{SettingsError}
 
 -- ---- ranges, at both ends
 
@@ -132,6 +141,7 @@ defaults : judged_members two_addresses ≡ Ok (record {
   max_sessions = 16;
   sessions = 1;
   turns = 1000000000;
+  words = [];
 })
 unfolding judged_members
 defaults = refl
@@ -166,6 +176,63 @@ number_for_an_address = refl
 
 empty_address : address_of Server (Some (string (codes ""))) ≡ Err (Range Server)
 empty_address = refl
+
+-- ---- words; the members of an entry stand in the order of their keys' bytes
+
+-- an entry of these fields
+abbrev entry : ℕ → ℕ → List ℕ → List ℕ → List ℕ → Data
+entry code level name operand slot =
+    table (member (codes "code") (integer (pos code)) (member (codes "level") (integer (pos level))
+    (member (codes "name") (string name) (member (codes "operand") (string operand)
+    (member (codes "slot") (string slot) no_members)))))
+
+abbrev xyz : Data
+xyz = entry 0x4A40 20 (codes "XYZ") (codes "power") (codes "press")
+
+-- an entry without its operand
+abbrev halved : Data
+halved = table (member (codes "code") (integer (pos 0x4A40)) (member (codes "level") (integer (pos 20))
+    (member (codes "name") (string (codes "XYZ")) (member (codes "slot") (string (codes "press")) no_members))))
+
+abbrev words_at : Items → Result (List Word) SettingsError
+words_at entries = words_judged (Some (array entries))
+
+no_words : words_judged None ≡ Ok []
+no_words = refl
+
+one_word : words_at (item xyz no_items) ≡ Ok (record {
+  name = codes "XYZ";
+  code = 0x4A40;
+  slot = Press;
+  level = L20;
+  operand = Power;
+} ∷ [])
+unfolding name_of token_named names
+one_word = refl
+
+words_are_an_array : words_judged (Some (table no_members)) ≡ Err (WrongType Words)
+words_are_an_array = refl
+
+word_without_operand : words_at (item halved no_items) ≡ Err (WrongType Words)
+word_without_operand = refl
+
+wrong_slot : words_at (item (entry 0x4A40 20 (codes "XYZ") (codes "power") (codes "pres")) no_items) ≡ Err (Range Words)
+wrong_slot = refl
+
+-- the shape of a later entry is told before the range of an earlier one
+shape_before_range :
+    words_at (item (entry 0x4A40 20 (codes "XYZ") (codes "power") (codes "pres")) (item halved no_items))
+    ≡ Err (WrongType Words)
+shape_before_range = refl
+
+code_of_no_press : words_at (item (entry 0x4A10 20 (codes "XYZ") (codes "power") (codes "press")) no_items)
+    ≡ Err (Range Words)
+unfolding name_of token_named names
+code_of_no_press = refl
+
+word_twice : words_at (item xyz (item xyz no_items)) ≡ Err (Range Words)
+unfolding name_of token_named names
+word_twice = refl
 
 -- ---- whole texts
 

@@ -1,5 +1,6 @@
 -- What a value of `Settings` says.
 use Rattle.daide_gate.specs.declared.settings.Settings.{Settings}
+use Rattle.daide_words.specs.Words.{words_of}
 use Rattle.daide_gate.specs.Settings.{Given}
 
 abbrev pub given_of : Settings → Given
@@ -13,4 +14,5 @@ given_of settings = record {
   max_sessions = settings.max_sessions;
   sessions = settings.sessions;
   turns = settings.turns;
+  words = words_of settings.words;
 }

@@ -1,6 +1,7 @@
 pub mod Input
 pub mod Shown
 pub mod Found
+pub mod WordSettings
 pub mod Settings
 pub mod Given
 pub mod Relay

@@ -1,15 +1,17 @@
 -- Which settings a TOML document gives: docs/FORMATS.md, "Settings", as definitions. What a TOML document is, and which
 -- members it has, is the crate toml's. (own)
-use Rattle.std.specs.Prelude.{ℕ, ℤ, pos, negsuc, ◌&&◌, ◌||◌, nat_le, Bool, true, if◌then◌else◌}
+use Rattle.std.specs.Prelude.{ℕ, ℤ, pos, negsuc, ◌&&◌, ◌||◌, nat_le, Bool, if◌then◌else◌}
 use Rattle.std.specs.Prelude.{List, length, codes, Option, Some, None, Result, Ok, Err}
 use Rattle.std.specs.Str.{bytes_eq}
-use Rattle.toml.specs.Data.{Data, as_str, as_integer, Members, no_members, member, get_member}
+use Rattle.toml.specs.Data.{Data, as_str, as_integer, Members, get_member}
 use Rattle.daide_session.specs.Config.{is_level, is_body, is_depth}
 use Rattle.daide_gate.specs.declared.settings.key.Key.{Key}
 use Rattle.daide_gate.specs.declared.settings.key.Key.TheVariants.{Listen, Server, TopLevel, MaxBody, MaxDepth}
-use Rattle.daide_gate.specs.declared.settings.key.Key.TheVariants.{ImSeconds, MaxSessions, Sessions, Turns}
+use Rattle.daide_gate.specs.declared.settings.key.Key.TheVariants.{ImSeconds, MaxSessions, Sessions, Turns, Words}
 use Rattle.daide_gate.specs.declared.settings.SettingsError.{SettingsError}
 use Rattle.daide_gate.specs.declared.settings.SettingsError.TheVariants.{NotToml, Unknown, Missing, WrongType, Range}
+use Rattle.daide_words.specs.declared.word.Word.{Word}
+use Rattle.daide_gate.specs.WordSettings.{has_only, words_judged}
 
 -- ---- the table of keys
 
@@ -24,11 +26,12 @@ key_text ImSeconds = codes "im_seconds"
 key_text MaxSessions = codes "max_sessions"
 key_text Sessions = codes "sessions"
 key_text Turns = codes "turns"
+key_text Words = codes "words"
 
 abbrev pub is_within : ℕ → ℕ → ℕ → Bool
 is_within low high n = nat_le low n && nat_le n high
 
--- the range of a key's number; of an address, that of the number of its bytes
+-- the range of a key's number; of an address, that of the number of its bytes, and of words, of their number
 abbrev pub is_in_range : Key → ℕ → Bool
 is_in_range Listen n = is_within 1 255 n
 is_in_range Server n = is_within 1 255 n
@@ -39,8 +42,9 @@ is_in_range ImSeconds n = is_within 1 3600 n
 is_in_range MaxSessions n = is_within 1 256 n
 is_in_range Sessions n = is_within 1 1000000 n
 is_in_range Turns n = is_within 1 1000000000000 n
+is_in_range Words n = is_within 0 16 n
 
--- the number of a key that a document doesn't have; the two addresses have none, and must stand
+-- the number of a key that a document doesn't have; the two addresses have none, and must stand, and words are none
 abbrev pub default_of : Key → Option ℕ
 default_of Listen = None
 default_of Server = None
@@ -51,6 +55,7 @@ default_of ImSeconds = Some 30
 default_of MaxSessions = Some 16
 default_of Sessions = Some 1
 default_of Turns = Some 1000000000
+default_of Words = None
 
 -- whether a document may have this key
 abbrev pub is_known : List ℕ → Bool
@@ -58,10 +63,10 @@ is_known text =
     bytes_eq text (key_text Listen) || bytes_eq text (key_text Server) || bytes_eq text (key_text TopLevel)
     || bytes_eq text (key_text MaxBody) || bytes_eq text (key_text MaxDepth) || bytes_eq text (key_text ImSeconds)
     || bytes_eq text (key_text MaxSessions) || bytes_eq text (key_text Sessions) || bytes_eq text (key_text Turns)
+    || bytes_eq text (key_text Words)
 
 abbrev pub has_only_known : Members → Bool
-has_only_known no_members = true
-has_only_known (member text value others) = is_known text && has_only_known others
+has_only_known members = has_only is_known members
 
 -- ---- one key
 
@@ -102,6 +107,7 @@ pub record Given : Type 0 where
   pub max_sessions : ℕ
   pub sessions : ℕ
   pub turns : ℕ
+  pub words : List Word
 
 -- the next judgement, if the one before it passed
 abbrev pub then_with : {A B : Type 0} → Result A SettingsError → (A → Result B SettingsError) → Result B SettingsError
@@ -120,6 +126,7 @@ keys_judged members =
     then_with (number_of MaxSessions (get_member (key_text MaxSessions) members)) (λ max_sessions.
     then_with (number_of Sessions (get_member (key_text Sessions) members)) (λ sessions.
     then_with (number_of Turns (get_member (key_text Turns) members)) (λ turns.
+    then_with (words_judged (get_member (key_text Words) members)) (λ words.
     Ok (record {
       listen = listen;
       server = server;
@@ -130,7 +137,8 @@ keys_judged members =
       max_sessions = max_sessions;
       sessions = sessions;
       turns = turns;
-    }))))))))))
+      words = words;
+    })))))))))))
 
 -- a key that no settings have is told before any key is judged
 unfoldable pub judged_members : Members → Result Given SettingsError

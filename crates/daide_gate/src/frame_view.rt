@@ -10,6 +10,7 @@ mod verdict_of;
 
 ghost use Rattle.std.specs.Prelude.{◌≡◌, ◌≢◌, ◌≤◌, ◌+◌, ℕ, List, [], length, IfOk, IfErr, IfSome, Ok, Err};
 ghost use Rattle.std.specs.Io.KnownBytes.{Consumes, Keeps};
+ghost use Rattle.daide_words.specs.Words.{words_of};
 ghost use Rattle.daide_gate.specs.Input.{limit};
 ghost use Rattle.daide_gate.specs.Shown.{AreShownAs, IsShownAs, Shows, IsFaultAt};
 
@@ -17,6 +18,7 @@ use daide_frame::{Cutter, Side};
 use daide_grammar::Level;
 use daide_machine::MAX_BODY;
 use daide_machine::rules::side2_of;
+use daide_words::Words;
 use hex::FromHexError;
 use input::{drop_blanks, read_input};
 use one_frame::{Found, find_frame};
@@ -54,11 +56,12 @@ fn show_bytes<A: Allocator + Copy>(
     alloc: A,
     side: Side,
     level: Level,
+    words: &Words,
     bytes: &[u8],
 ) -> Result<(Vec<u8, A>, bool), ShowFault>
     ensures shown { IfOk result (λ answer.
-        AreShownAs [] side level bytes.now (Ok (record { text = answer.0.items; relayed = answer.1 }))) }
-    ensures refused { IfErr result (λ fault. fault ≢ ShowFault.Memory → AreShownAs [] side level bytes.now (Err fault)) }
+        AreShownAs (words_of words.now) side level bytes.now (Ok (record { text = answer.0.items; relayed = answer.1 }))) }
+    ensures refused { IfErr result (λ fault. fault ≢ ShowFault.Memory → AreShownAs (words_of words.now) side level bytes.now (Err fault)) }
 {
     let Ok(mut cutter) = Cutter::new(alloc, MAX_BODY) else {
         return Err(ShowFault::Memory);
@@ -69,6 +72,7 @@ fn show_bytes<A: Allocator + Copy>(
         Found::Fault(code) => write_fault(alloc, code, &mut text),
         Found::Whole(head) => write_frame(
             alloc,
+            words,
             side2_of(side),
             level,
             head,
@@ -87,16 +91,17 @@ fn show_input<A: Allocator + Copy>(
     alloc: A,
     side: Side,
     level: Level,
+    words: &Words,
     mut input: Vec<u8, A>,
 ) -> Result<(Vec<u8, A>, bool), ShowFault>
     requires { length input.items ≤ limit }
     ensures shown { IfOk result (λ answer.
-        IsShownAs [] side level input.items (Ok (record { text = answer.0.items; relayed = answer.1 }))) }
-    ensures refused { IfErr result (λ fault. fault ≢ ShowFault.Memory → IsShownAs [] side level input.items (Err fault)) }
+        IsShownAs (words_of words.now) side level input.items (Ok (record { text = answer.0.items; relayed = answer.1 }))) }
+    ensures refused { IfErr result (λ fault. fault ≢ ShowFault.Memory → IsShownAs (words_of words.now) side level input.items (Err fault)) }
 {
     drop_blanks(&mut input);
     match hex::decode(alloc, input.as_slice()) {
-        Ok(bytes) => show_bytes(alloc, side, level, bytes.as_slice()),
+        Ok(bytes) => show_bytes(alloc, side, level, words, bytes.as_slice()),
         Err(FromHexError::OutOfMemory) => Err(ShowFault::Memory),
         Err(_) => Err(ShowFault::NotHex),
     }
@@ -128,8 +133,36 @@ pub fn show<A: Allocator + Copy, R: Read, W: Write>(
     ensures read { (bytes : List ℕ) × Consumes (R.remaining reader.old) (R.remaining reader.new) bytes
         × (length bytes ≤ limit + 1) }
 {
+    show_with(alloc, side, level, &Words::new(), reader, writer)
+}
+
+/// Shows a frame as `show` does, judged with an operator's words too, which are printed by their own names.
+pub fn show_with<A: Allocator + Copy, R: Read, W: Write>(
+    alloc: A,
+    side: Side,
+    level: Level,
+    words: &Words,
+    reader: &mut R,
+    writer: &mut W,
+) -> Result<bool, ShowFault>
+    // What is written is what is shown for the input, and the answer is true exactly at a relay.
+    ensures shown { IfOk result (λ relayed. IfSome (R.remaining reader.old) (λ input.
+        Shows (words_of words.now) side level input relayed (W.contents writer.old) (W.contents writer.new))) }
+
+    // A fault of the input is its own, and a write fails only where there is something to show.
+    ensures refused { IfErr result (λ fault. IfSome (R.remaining reader.old) (λ input.
+        IsFaultAt (words_of words.now) side level input fault)) }
+
+    // Only a failed write can leave something written.
+    ensures nothing_written { IfErr result (λ fault. fault ≢ ShowFault.Write
+        → Keeps (W.contents writer.old) (W.contents writer.new)) }
+
+    // No more is read than tells an input that is too long.
+    ensures read { (bytes : List ℕ) × Consumes (R.remaining reader.old) (R.remaining reader.new) bytes
+        × (length bytes ≤ limit + 1) }
+{
     let input = read_input(alloc, reader)?;
-    let (text, relayed) = show_input(alloc, side, level, input)?;
+    let (text, relayed) = show_input(alloc, side, level, words, input)?;
     match writer.write_all(text.as_slice()) {
         Ok(()) => Ok(relayed),
         Err(_) => Err(ShowFault::Write),

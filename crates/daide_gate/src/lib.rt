@@ -14,7 +14,7 @@ pub mod system;
 mod tally;
 
 pub use daide_log::{LogFault, Summary, check_log};
-pub use frame_view::{ShowFault, show};
+pub use frame_view::{ShowFault, show, show_with};
 pub use relaying::{RelayEnd, relay};
 pub use serving::{ServeFault, Service, serve};
 pub use settings::{Address, Key, Settings, SettingsError, read_settings};

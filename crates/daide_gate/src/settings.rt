@@ -5,6 +5,7 @@
 
 mod address;
 mod key;
+mod words;
 
 ghost use Rattle.std.specs.Prelude.{◌≡◌, ◌≢◌, ◌≤◌, true, IfOk, IfErr, MatchResult, Ok, Err, option_map, string_bytes};
 ghost use Rattle.std.specs.List.{list_all};
@@ -18,11 +19,13 @@ ghost use Rattle.daide_gate.specs.Settings.{address_of, number_of as judged_numb
 
 pub use address::Address;
 use daide_session::config::Config;
+use daide_words::Words;
 pub use key::Key;
 use key::is_known;
 use std::alloc::Global;
 use thiserror::Error;
 use toml::{Table, Value};
+use words::words_at;
 
 /// Why a text gives no settings, in the order in which it is tested: of the whole text, of the whole
 /// document, then key by key in the order of `Key`. `Memory` comes at the growth that was refused.
@@ -65,6 +68,8 @@ pub struct Settings {
     pub sessions: u32,
     /// How many turns a session has at most.
     pub turns: u64,
+    /// The words of press that the operator adds.
+    pub words: Words,
 }
 
 /// Whether a table's keys are all known.
@@ -141,6 +146,7 @@ fn settings_of(alloc: Global, table: &Table) -> Result<Settings, SettingsError>
     let max_sessions = number_at(found(table, Key::MaxSessions), Key::MaxSessions)?;
     let sessions = number_at(found(table, Key::Sessions), Key::Sessions)?;
     let turns = number_at(found(table, Key::Turns), Key::Turns)?;
+    let words = words_at(found(table, Key::Words))?;
     let Ok(listen) = Address::new(alloc, listen) else {
         return Err(SettingsError::Memory);
     };
@@ -159,6 +165,7 @@ fn settings_of(alloc: Global, table: &Table) -> Result<Settings, SettingsError>
         max_sessions: max_sessions as usize,
         sessions: sessions as u32,
         turns,
+        words,
     })
 }
 

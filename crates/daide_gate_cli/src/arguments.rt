@@ -8,8 +8,8 @@ use std::alloc::{AllocError, Global};
 /// What the words ask for.
 #[derive(Clone, Copy, Debug, PartialEq, Eq)]
 pub enum Order<'a> {
-    /// Show one frame, judged as the side's at the level.
-    Show(Side, Level),
+    /// Show one frame, judged as the side's at the level, with the words of the settings at this path.
+    Show(Side, Level, Option<&'a str>),
     /// Report a log.
     Check,
     /// Serve with the settings of the file at this path.
@@ -25,6 +25,7 @@ const NOTES: &str = "\
 Without a command it does what 'show' does with its defaults. The options of 'show':
       --side <SIDE>  bot or server [default: bot]
       --level <N>    0, 10, 20, 30, 40, 50 or 60 [default: 0]
+      --words <SETTINGS>  a file of settings, whose words count as words of press
 
 Exit status:
   0  the frame would be relayed; the log has no PRN, HUH or fault; all bots were served; help and version
@@ -60,11 +61,13 @@ fn option<'a>(alloc: Global, name: &'a str, value: &'a str, help: &'a str) -> Ar
 fn show_command<'a>(alloc: Global) -> Result<Command<'a>, AllocError> {
     let side = "Whose frame it is, bot or server [default: bot]";
     let level = "The level of press, 0, 10, 20, 30, 40, 50 or 60 [default: 0]";
+    let words = "The file of settings whose words count as words of press";
     Command::new(alloc, "show")
         .about("Shows one frame, read as hexadecimal digits from standard input")
         .after_help(SHOW_NOTES)
         .arg(option(alloc, "side", "SIDE", side))?
-        .arg(option(alloc, "level", "N", level))
+        .arg(option(alloc, "level", "N", level))?
+        .arg(option(alloc, "words", "SETTINGS", words))
 }
 
 fn check_command<'a>(alloc: Global) -> Command<'a> {
@@ -121,11 +124,15 @@ fn level_of(word: &str) -> Option<Level> {
 /// What the words ask for; without any, what `show` does with its defaults. A bad side is told
 /// before a bad level.
 pub fn order_of<'a>(matches: &ArgMatches<'a>) -> Order<'a> {
-    let (side, level) = match matches.subcommand() {
+    let (side, level, words) = match matches.subcommand() {
         Some(("run", run)) => return Order::Run(run.get_str("SETTINGS").unwrap_or("")),
         Some(("check", _)) => return Order::Check,
-        Some((_, show)) => (show.get_str("side"), show.get_str("level")),
-        None => (None, None),
+        Some((_, show)) => (
+            show.get_str("side"),
+            show.get_str("level"),
+            show.get_str("words"),
+        ),
+        None => (None, None, None),
     };
     let Some(side) = side_of(side.unwrap_or("bot")) else {
         return Order::BadSide;
@@ -133,5 +140,5 @@ pub fn order_of<'a>(matches: &ArgMatches<'a>) -> Order<'a> {
     let Some(level) = level_of(level.unwrap_or("0")) else {
         return Order::BadLevel;
     };
-    Order::Show(side, level)
+    Order::Show(side, level, words)
 }

@@ -2,11 +2,11 @@
 
 use crate::arguments::{Order, command, order_of};
 use crate::faults::{CLEAN, FAULT, NOT_RELAYED, USAGE, tell};
-use crate::running::run;
+use crate::running::{run, settings_at};
 use clap::error::{Error, ErrorKind};
 use daide_frame::side::Side;
 use daide_gate::check_log;
-use daide_gate::frame_view::show;
+use daide_gate::frame_view::{show, show_with};
 use daide_grammar::level::Level;
 use std::convert::AsStr;
 use std::io;
@@ -14,15 +14,22 @@ use std::io::{Read, Write};
 use std::net::Net;
 use std::rt::{Clock, Files};
 
-/// Shows the frame of the input.
-fn run_show<R: AllocGlobal, I: Read, O: Write, E: Write>(
+/// Shows the frame of the input, with the words of the settings at a path. The settings are read before the input.
+fn run_show<R: AllocGlobal + Files, I: Read, O: Write, E: Write>(
     rt: &R,
-    (side, level): (Side, Level),
+    (side, level, path): (Side, Level, Option<&str>),
     input: &mut I,
     output: &mut O,
     errors: &mut E,
 ) -> io::Result<u8> {
-    match show(rt.alloc(), side, level, input, output) {
+    let shown = match path {
+        None => show(rt.alloc(), side, level, input, output),
+        Some(path) => match settings_at(rt, path) {
+            Ok(settings) => show_with(rt.alloc(), side, level, &settings.words, input, output),
+            Err(fault) => return tell(errors, fault, FAULT),
+        },
+    };
+    match shown {
         Ok(true) => Ok(CLEAN),
         Ok(false) => Ok(NOT_RELAYED),
         Err(fault) => tell(errors, fault, FAULT),
@@ -67,7 +74,7 @@ fn carry_out<R: AllocGlobal + Files + Clock + Net, I: Read, O: Write, E: Write>(
     errors: &mut E,
 ) -> io::Result<u8> {
     match order {
-        Order::Show(side, level) => run_show(rt, (side, level), input, output, errors),
+        Order::Show(side, level, path) => run_show(rt, (side, level, path), input, output, errors),
         Order::Check => run_check(rt, input, output, errors),
         Order::Run(path) => run(rt, path, output, errors),
         Order::BadSide => tell(errors, "bad side", USAGE),

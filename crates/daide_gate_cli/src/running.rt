@@ -65,6 +65,12 @@ fn text_at<R: AllocGlobal + Files>(rt: &R, path: &str) -> Result<String, RunFaul
     read_text(rt.alloc(), &mut file)
 }
 
+/// The settings of a file.
+pub fn settings_at<R: AllocGlobal + Files>(rt: &R, path: &str) -> Result<Settings, RunFault> {
+    let text = text_at(rt, path)?;
+    read_settings(rt.alloc(), text.as_str()).map_err(RunFault::Settings)
+}
+
 /// A listener at the first of an address's meanings that can be listened on.
 fn listener_at<R: Net>(net: &R, address: &str) -> Result<TcpListener, RunFault> {
     let addresses = address.to_socket_addrs(net).map_err(|_| RunFault::Listen)?;

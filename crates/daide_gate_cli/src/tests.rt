@@ -2,6 +2,7 @@
 
 mod gateway;
 mod stage;
+mod words;
 
 use crate::program::answer;
 use daide_frame::side::Side;
@@ -305,8 +306,8 @@ fn check_depth(rt: &HostRuntime, depth: u32, length: &str, verdict: &str) -> Res
 
 #[test]
 fn one_bracket_too_deep_gets_huh(rt: HostRuntime) -> Result<(), Fail> {
-    check_depth(&rt, 62, "00FA", "relay\n")?;
-    check_depth(&rt, 63, "00FE", "HUH at 63\n")
+    check_depth(&rt, 254, "03FA", "relay\n")?;
+    check_depth(&rt, 255, "03FE", "HUH at 255\n")
 }
 
 /// An input that gives three bytes at a read, and fails at a read.

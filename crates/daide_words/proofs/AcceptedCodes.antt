@@ -73,7 +73,7 @@ code_free : (taken : List Named) (word : code.Word) → is_ok (word_fault taken 
     is_free_code taken word.code ≡ true
 code_free taken word h =
     passed (nat_le 16 (length taken)) (is_free_name taken word.name) (is_free_code taken word.code)
-        (has_press word.level)
+    (has_press word.level)
     (may_hold word.slot word.operand) h
 
 -- which means nothing in the protocol
@@ -102,7 +102,7 @@ unfolding means_nothing
 free_after taken [] h = refl
 free_after taken (word ∷ words) h =
     let p =
-        both-pass (is_ok (word_fault taken word)) (are_accepted_after (taken ++ (word.code, word.name) ∷ []) words) h in
+    both-pass (is_ok (word_fault taken word)) (are_accepted_after (taken ++ (word.code, word.name) ∷ []) words) h in
     joined _ (are_free (grammar_words words)) (free_means_nothing taken word.code (code_free taken word p.0))
     (free_after (taken ++ (word.code, word.name) ∷ []) words p.1)
 
@@ -125,7 +125,7 @@ class_from j (word ∷ words) t = by_test (t == word.code) (class_from (suc j) w
   where
     by_test : (b : Bool) →
         (dialect_from (suc j) (grammar_words words)).class_of t
-            ≡ class_or (place_from (suc j) (names_of words) t) (class_of t) →
+        ≡ class_or (place_from (suc j) (names_of words) t) (class_of t) →
         (if b then Word j else (dialect_from (suc j) (grammar_words words)).class_of t)
         ≡ class_or (if b then Some j else place_from (suc j) (names_of words) t) (class_of t)
     by_test true h = refl

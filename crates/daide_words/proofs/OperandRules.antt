@@ -73,7 +73,7 @@ operand_slot L60 = refl
 -- no other symbol has a slot
 pub no_slot : (s : Sym) → ((l : Level) → s ≡ Press l → ⊥) → ((l : Level) → s ≡ Arrangement l → ⊥) →
     ((l : Level) → s ≡ Fact l → ⊥) → ((l : Level) → s ≡ Operand l → ⊥) →
-        ◌≡◌ {A = Option (Slot × Level)} None (slot_of s)
+    ◌≡◌ {A = Option (Slot × Level)} None (slot_of s)
 unfolding slot_of
 no_slot (Press l) p a f o = absurd (p l refl)
 no_slot (Arrangement l) p a f o = absurd (a l refl)

@@ -47,7 +47,7 @@ module _ (words : Words) (free : are_free words ≡ true) where
   class-prn : (t : ℕ) → (t == prn) ≡ true → (dialect_of words).class_of t ≡ Prn
   class-prn t e =
       ap (dialect_of words).class_of (eqb-true t prn e) ∙ keeps 0 words prn (free-codes words Prn free (omega arith))
-          ∙ class_of-prn
+      ∙ class_of-prn
 
   -- so no list of an opening symbol begins with PRN
   form-not-prn : (side : Side2) (l : Level) (m : List ℕ) → SymbolMatchesIn (dialect_of words) (opening_of side l) m →

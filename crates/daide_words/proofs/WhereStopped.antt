@@ -70,10 +70,10 @@ unfolding table_answer added_right
 slot_stops s p k o =
     let hs = heads standard 60 (form_of s ∷ []) in
     let a =
-        subst (λ (x : Option (Slot × Level)). added_right x (entries s) hs ≡ true) o (right_parts standard s).added in
+    subst (λ (x : Option (Slot × Level)). added_right x (entries s) hs ≡ true) o (right_parts standard s).added in
     let plain = both-pass (list_any is_unopened hs) (list_all (λ y. is_plain y.kind) (entries s)) a in
     let ends =
-        not_true (may_end_of s) (subst (λ (x : Option (Slot × Level)). stays x (may_end_of s) ≡ true) o (all_stay s)) in
+    not_true (may_end_of s) (subst (λ (x : Option (Slot × Level)). stays x (may_end_of s) ≡ true) o (all_stay s)) in
     ap (λ e. answer_by e (may_end_of s)) (none_found k (entries s) plain.1) ∙ ap (λ b. answer_by None b) ends
 
 module _ (words : Words) (s : Sym) (k : ℕ) where
@@ -114,11 +114,11 @@ found_from n j (suc k) (word ∷ words) e =
 -- a word's answer where the table stops it
 pub word_told : (words : List code.Word) (s : Sym) (k : ℕ) → table_answer s (Word k) ≡ Stop →
     answer_over (grammar_words words) s (Word k)
-        ≡ word_answer (slot_of s) (option_map grammar_word (word_at k words)) Stop
+    ≡ word_answer (slot_of s) (option_map grammar_word (word_at k words)) Stop
 unfolding answer_over
 word_told words s k e =
     ap (λ (o : Option AddedWord). word_answer (slot_of s) o (table_answer s (Word k)))
-        (found_from k 0 k words (omega arith))
+    (found_from k 0 k words (omega arith))
     ∙ ap (word_answer (slot_of s) (option_map grammar_word (word_at k words))) e
 
 -- without a word or without a slot it stays

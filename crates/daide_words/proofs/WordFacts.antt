@@ -54,9 +54,9 @@ refused :
     × (word_fault (names_of (xyz ∷ [])) (made (codes "QQQ") 0x4A40 slots.Press L20 operands.Power) ≡ Err faults.Code)
     × (word_fault (names_of (xyz ∷ [])) (made (codes "QQQ") 0x4B00 slots.Press L20 operands.Power) ≡ Err faults.Code)
     × (word_fault (names_of (xyz ∷ [])) (made (codes "QQQ") 0x4A41 slots.Arrangement L0 operands.Press)
-        ≡ Err faults.Level)
+    ≡ Err faults.Level)
     × (word_fault (names_of (xyz ∷ [])) (made (codes "QQQ") 0x4A41 slots.Arrangement L20 operands.Press)
-        ≡ Err faults.Operand)
+    ≡ Err faults.Operand)
     × (word_fault (names_of (xyz ∷ [])) (made (codes "QQQ") 0x4A41 slots.Press L20 operands.Press) ≡ Ok tt)
 unfolding name_of token_named names
 refused = (refl, refl, refl, refl, refl, refl, refl, refl, refl, refl)

@@ -31,7 +31,7 @@ names_back (name ∷ names) (meaning ∷ meanings) h =
 pub words_with-append : (names : List Named) (meanings : List Meaning) (name : Named) (meaning : Meaning) →
     length names ≡ length meanings →
     words_with (names ++ name ∷ []) (meanings ++ meaning ∷ [])
-        ≡ words_with names meanings ++ word_with name meaning ∷ []
+    ≡ words_with names meanings ++ word_with name meaning ∷ []
 words_with-append [] [] name meaning h = refl
 words_with-append [] (m ∷ meanings) name meaning h = cc
 words_with-append (n ∷ names) [] name meaning h = cc
@@ -53,13 +53,13 @@ pub accepted-append : (taken : List Named) (words : List Word) (word : Word) →
     are_accepted_after taken (words ++ word ∷ []) ≡ true
 accepted-append taken [] word h ok =
     joined (is_ok (word_fault taken word)) true
-        (subst (λ (t : List Named). is_ok (word_fault t word) ≡ true) (append-nil taken) ok) refl
+    (subst (λ (t : List Named). is_ok (word_fault t word) ≡ true) (append-nil taken) ok) refl
 accepted-append taken (w ∷ words) word h ok =
     let p = both (is_ok (word_fault taken w)) (are_accepted_after (taken ++ (w.code, w.name) ∷ []) words) h in
     joined (is_ok (word_fault taken w)) (are_accepted_after (taken ++ (w.code, w.name) ∷ []) (words ++ word ∷ [])) p.0
     (accepted-append (taken ++ (w.code, w.name) ∷ []) words word p.1
     (subst (λ (t : List Named). is_ok (word_fault t word) ≡ true)
-        (sym (append_assoc taken ((w.code, w.name) ∷ []) (names_of words))) ok))
+    (sym (append_assoc taken ((w.code, w.name) ∷ []) (names_of words))) ok))
 
 -- capital letters are ASCII
 pub capitals_are_ascii : (name : List ℕ) → list_all is_capital name ≡ true → IsAscii name
@@ -95,8 +95,12 @@ pub has_room : (names : List Named) (meanings : List Meaning) (n : ℕ) (word : 
 has_room names meanings n word few enough ok =
     let many : length (names_of (first_words names meanings n)) ≡ n =
     ap length (first_names names meanings n few enough) ∙ length-take-le n names few in
-    omega (arith, many, leb-false 16 (length (names_of (first_words names meanings n)))
-        (full-refused (nat_le 16 (length (names_of (first_words names meanings n)))) _ ok))
+    omega (
+      arith,
+      many,
+      leb-false 16 (length (names_of (first_words names meanings n)))
+          (full-refused (nat_le 16 (length (names_of (first_words names meanings n)))) _ ok),
+    )
 
 -- one of each put in the place behind is one word more
 pub kept : (names : List Named) (meanings : List Meaning) (n : ℕ) (name : Named) (meaning : Meaning) →

@@ -49,6 +49,8 @@ impl Extended {
 }
 
 /// What a token of the class means to the symbol where the protocol's table stops it.
+#[cold]
+#[inline(never)]
 fn where_stopped(words: &Words, sym: Symbol, class: Column) -> Move
     requires { table_answer sym class ≡ Stop }
     ensures { result ≡ answer_over (grammar_words (words_of words.now)) sym class }
@@ -66,14 +68,29 @@ fn where_stopped(words: &Words, sym: Symbol, class: Column) -> Move
 }
 
 /// The class of a token that is a word, else the class that it has without words.
+#[cold]
+#[inline(never)]
+fn class_among(words: &Words, token: Token, class: Column) -> Column
+    requires { class_of token ≡ class }
+    ensures { result ≡ (dialect_of (grammar_words (words_of words.now))).class_of token }
+{
+    match place_in(words.names(), token) {
+        Some(place) => Column::word(place),
+        None => class,
+    }
+}
+
+/// The same, where most tokens have a meaning without words, and are looked at no further.
+#[inline(always)]
 fn class_with(words: &Words, token: Token, class: Column) -> Column
     requires { class_of token ≡ class }
     ensures { result ≡ (dialect_of (grammar_words (words_of words.now))).class_of token }
 {
+    if class.is_bracket() {
+        return class;
+    }
     if class.number() == OTHER {
-        if let Some(place) = place_in(words.names(), token) {
-            return Column::word(place);
-        }
+        return class_among(words, token, class);
     }
     class
 }
@@ -105,6 +122,9 @@ impl Predict for Extended {
     #[inline(always)]
     fn predict(&mut self, sym: Symbol, class: Column) -> Move {
         let answer = self.table.predict(sym, class);
+        if answer.is_take() {
+            return answer;
+        }
         if answer.is_stop() {
             return where_stopped(&self.words, sym, class);
         }

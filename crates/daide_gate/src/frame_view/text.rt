@@ -1,13 +1,13 @@
 //! The text of a frame.
 
-ghost use Rattle.std.specs.Prelude.{◌≡◌, ◌≤◌, ◌*◌, ◌%◌, ◌++◌, [], length, true, IfOk, OnOk};
+ghost use Rattle.std.specs.Prelude.{◌≡◌, ◌≤◌, ◌*◌, ◌%◌, ◌++◌, length, true, IfOk, OnOk};
 ghost use Rattle.daide_token.specs.Token.{tokens_of};
-ghost use Rattle.daide_token.specs.Text.{text_of};
 ghost use Rattle.daide_frame.specs.Head.{has_right_length};
+ghost use Rattle.daide_words.specs.Words.{words_of};
 ghost use Rattle.daide_gate.specs.Shown.{Shown, Adds, IsFrameShownAs};
 ghost use Rattle.daide_reader.specs.Verdict.{IsPlaceIn};
 ghost use Rattle.daide_machine.specs.Bounds.{longest_body};
-ghost use Rattle.daide_gate.specs.Shown.{line, kind_line, name_of_kind, fault_shown, relayed_shown, im_shown};
+ghost use Rattle.daide_gate.specs.Shown.{line, printed, kind_line, name_of_kind, fault_shown, relayed_shown, im_shown};
 ghost use Rattle.daide_gate.specs.Shown.{verdict_lines, prn_answer, huh_answer, is_relay};
 ghost use Rattle.daide_frame.specs.InitialMessage.{im_of};
 
@@ -16,7 +16,8 @@ use daide_frame::{Code, Head, Kind, check_im};
 use daide_grammar::{Level, Side2};
 use daide_machine::answers::{CLOSE_WORD, ERR_WORD, HUH_OPEN, PRN_OPEN};
 use daide_reader::Verdict;
-use daide_token::write_text;
+use daide_token::write_text_with;
+use daide_words::Words;
 use std::alloc::{AllocError, Allocator};
 use std::io;
 use std::io::Write;
@@ -42,12 +43,12 @@ fn write_kind<A: Allocator>(head: Head, text: &mut Vec<u8, A>) -> io::Result<()>
     writeln!(text, "{kind} {len}")
 }
 
-/// Writes the text form of tokens on a line.
-fn write_tokens<A: Allocator>(tokens: &[u8], text: &mut Vec<u8, A>) -> io::Result<()>
+/// Writes the text form of tokens on a line, the operator's words by their own names.
+fn write_tokens<A: Allocator>(words: &Words, tokens: &[u8], text: &mut Vec<u8, A>) -> io::Result<()>
     requires { length tokens.now % 2 ≡ 0 }
-    ensures { OnOk result (text.new.items ≡ text.old.items ++ line (text_of (tokens_of tokens.now))) }
+    ensures { OnOk result (text.new.items ≡ text.old.items ++ line (printed (words_of words.now) (tokens_of tokens.now))) }
 {
-    write_text(tokens, text)?;
+    write_text_with(words.names(), tokens, text)?;
     text.write_all(b"\n")
 }
 
@@ -82,6 +83,7 @@ fn answer_huh<A: Allocator>(alloc: A, place: u16, body: &[u8]) -> Result<Vec<u8,
 /// Writes a verdict, and the answer that the sender gets.
 fn write_verdict<A: Allocator + Copy>(
     alloc: A,
+    words: &Words,
     verdict: Verdict,
     body: &[u8],
     text: &mut Vec<u8, A>,
@@ -89,7 +91,7 @@ fn write_verdict<A: Allocator + Copy>(
     requires even { length body.now % 2 ≡ 0 }
     requires within { IsPlaceIn body.now verdict }
     ensures { IfOk result (λ relayed.
-        (text.new.items ≡ text.old.items ++ verdict_lines verdict (tokens_of body.now))
+        (text.new.items ≡ text.old.items ++ verdict_lines (words_of words.now) verdict (tokens_of body.now))
         × (relayed ≡ is_relay verdict)) }
 {
     match verdict {
@@ -99,12 +101,12 @@ fn write_verdict<A: Allocator + Copy>(
         }
         Verdict::Prn => {
             text.write_all(b"PRN\n")?;
-            write_tokens(answer_prn(alloc, body)?.as_slice(), text)?;
+            write_tokens(words, answer_prn(alloc, body)?.as_slice(), text)?;
             Ok(false)
         }
         Verdict::Huh(place) => {
             writeln!(text, "HUH at {place}")?;
-            write_tokens(answer_huh(alloc, place, body)?.as_slice(), text)?;
+            write_tokens(words, answer_huh(alloc, place, body)?.as_slice(), text)?;
             Ok(false)
         }
     }
@@ -152,6 +154,7 @@ fn write_im<A: Allocator>(
 /// Writes a message and what becomes of it.
 fn write_message<A: Allocator + Copy>(
     alloc: A,
+    words: &Words,
     end: Side2,
     level: Level,
     head: Head,
@@ -162,18 +165,19 @@ fn write_message<A: Allocator + Copy>(
     requires even { length body.now % 2 ≡ 0 }
     requires capped { length body.now ≤ longest_body }
     ensures { IfOk result (λ relayed. (shown : Shown)
-        × IsFrameShownAs [] end level Kind.Dm head.len body.now shown
+        × IsFrameShownAs (words_of words.now) end level Kind.Dm head.len body.now shown
         × Adds text.old.items text.new.items relayed shown) }
 {
-    let verdict = verdict_of(end, level, body);
+    let verdict = verdict_of(words, end, level, body);
     write_kind(head, text)?;
-    write_tokens(body, text)?;
-    write_verdict(alloc, verdict, body, text)
+    write_tokens(words, body, text)?;
+    write_verdict(alloc, words, verdict, body, text)
 }
 
 /// Writes a whole frame and what becomes of it; the answer is whether it would be relayed.
 pub(super) fn write_frame<A: Allocator + Copy>(
     alloc: A,
+    words: &Words,
     end: Side2,
     level: Level,
     head: Head,
@@ -183,12 +187,12 @@ pub(super) fn write_frame<A: Allocator + Copy>(
     requires right { has_right_length head.kind (length body.now) ≡ true }
     requires capped { length body.now ≤ longest_body }
     ensures { IfOk result (λ relayed. (shown : Shown)
-        × IsFrameShownAs [] end level head.kind head.len body.now shown
+        × IsFrameShownAs (words_of words.now) end level head.kind head.len body.now shown
         × Adds text.old.items text.new.items relayed shown) }
 {
     match head.kind {
         Kind::Im => write_im(alloc, head, body, text),
-        Kind::Dm => write_message(alloc, end, level, head, body, text),
+        Kind::Dm => write_message(alloc, words, end, level, head, body, text),
         Kind::Rm | Kind::Fm | Kind::Em => write_relayed(head, text),
     }
 }

@@ -28,11 +28,13 @@ pub enum Key {
     Sessions,
     /// How many turns a session has at most: 1 to 1,000,000,000,000; 1,000,000,000 by default.
     Turns,
+    /// The words of press that an operator adds: an array of at most 16 tables; none by default.
+    Words,
 }
 
 impl Key {
     /// Every key, in the order in which they are judged.
-    pub const ALL: [Key; 9] = [
+    pub const ALL: [Key; 10] = [
         Key::Listen,
         Key::Server,
         Key::TopLevel,
@@ -42,6 +44,7 @@ impl Key {
         Key::MaxSessions,
         Key::Sessions,
         Key::Turns,
+        Key::Words,
     ];
 
     /// The key as a document writes it.
@@ -58,16 +61,18 @@ impl Key {
             Key::MaxSessions => "max_sessions",
             Key::Sessions => "sessions",
             Key::Turns => "turns",
+            Key::Words => "words",
         }
     }
 
-    /// The number of a key that a document doesn't have; none of the two addresses, which must stand.
+    /// The number of a key that a document doesn't have; none of the two addresses, which must stand,
+    /// and none of the words.
     pub fn default_number(self) -> Option<u64>
         ensures number { result ≡ default_of self }
         ensures within { IfSome result (λ n. is_in_keys_range self n ≡ true) }
     {
         match self {
-            Key::Listen | Key::Server => None,
+            Key::Listen | Key::Server | Key::Words => None,
             Key::TopLevel => Some(60),
             Key::MaxBody => Some(65_526),
             Key::MaxDepth => Some(62),
@@ -78,7 +83,7 @@ impl Key {
         }
     }
 
-    /// Whether a number is in the key's range; of an address, the number of its bytes.
+    /// Whether a number is in the key's range; of an address, the number of its bytes, and of words, their number.
     pub fn is_in_range(self, number: u64) -> bool
         ensures { result ≡ is_in_keys_range self number }
     {
@@ -94,6 +99,7 @@ impl Key {
             Key::MaxSessions => 1 <= number && number <= 256,
             Key::Sessions => 1 <= number && number <= 1_000_000,
             Key::Turns => 1 <= number && number <= 1_000_000_000_000,
+            Key::Words => number <= 16,
         }
     }
 }
@@ -119,4 +125,5 @@ pub(crate) fn is_known(text: &str) -> bool
         || text == Key::MaxSessions.text()
         || text == Key::Sessions.text()
         || text == Key::Turns.text()
+        || text == Key::Words.text()
 }

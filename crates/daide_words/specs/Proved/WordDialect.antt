@@ -44,7 +44,7 @@ module _ (s : Slot) (l : Level) where
       let form = tok (Word j) · group (operand_in x.operand s l) in
       let h = stands-passes d x.slot s (nat_le (level_number x.level) (level_number l)) form [] m in
       no-token d (is (Word j)) (group (operand_in x.operand s l))
-          (Reads_from_MatchAll d (form ∷ []) [] (alone d form [] h.1))
+      (Reads_from_MatchAll d (form ∷ []) [] (alone d form [] h.1))
   no-empty d j (x ∷ words) (second m) = no-empty d (suc j) words m
 
   -- and each begins with a word
@@ -79,7 +79,7 @@ free-code : (x : AddedWord) (c : Class) → is_free x ≡ true → class_number 
 free-code x c f h e =
     let p = both-pass (same_class (class_of x.code) Other) (not (x.code == token_of Other)) f in
     let other : class_of x.code ≡ Other =
-        class-Other (class_of x.code) (eqb-true (class_number (class_of x.code)) 77 p.0) in
+    class-Other (class_of x.code) (eqb-true (class_number (class_of x.code)) 77 p.0) in
     let same : c ≡ Other = sym (class_of-token_of c (standard-below c h)) ∙ ap class_of e ∙ other in
     not-both (x.code == token_of Other) (eq-eqb x.code (token_of Other) (sym e ∙ ap token_of same)) p.1
 
@@ -121,7 +121,7 @@ either-class j (x ∷ words) t = go (t == x.code) (either-class (suc j) words t)
     go : (b : Bool) → ((k : ℕ) × ((dialect_from (suc j) words).class_of t ≡ Word k))
         ⊎ ((dialect_from (suc j) words).class_of t ≡ class_of t) →
         ((k : ℕ) × ((if b then Word j else (dialect_from (suc j) words).class_of t) ≡ Word k))
-            ⊎ ((if b then Word j else (dialect_from (suc j) words).class_of t) ≡ class_of t)
+        ⊎ ((if b then Word j else (dialect_from (suc j) words).class_of t) ≡ class_of t)
     go true h = inl (j, refl)
     go false h = h
 

@@ -53,7 +53,7 @@ word-matches : (d : Dialect) (j k : ℕ) (f : Form) (t : ℕ) (w : List ℕ) →
 word-matches d j k f t w e q m =
     both {u = t ∷ []} {v = w}
     (token (subst (λ (c : Class). accepts (is (Word j)) c ≡ true) (sym e)
-        (eq-eqb (79 + j) (79 + k) (ap (λ n. 79 + n) q)))) m
+    (eq-eqb (79 + j) (79 + k) (ap (λ n. 79 + n) q)))) m
 
 -- a form that stands from a level on
 from-passes : (d : Dialect) (b : Bool) (f : Form) (w : List ℕ) → Matches d (elim b [ true ↦ f | false ↦ never ]) w →
@@ -147,7 +147,7 @@ words-from d k j (y ∷ words) s l t w x e f h m =
     elim (this_word-either (nat_eq j k) y x (word_from k (suc j) words) f) [
       | inl a ↦ first (subst (λ (z : AddedWord). Matches d (word_form j z s l) (t ∷ w)) (sym a.1)
           (stands-true d x.slot s (nat_le (level_number x.level) (level_number l))
-              (tok (Word j) · group (operand_in x.operand s l)) (t ∷ w) h
+          (tok (Word j) · group (operand_in x.operand s l)) (t ∷ w) h
           (word-matches d j k (group (operand_in x.operand s l)) t w e (eqb-true j k a.0) m)))
       | inr b ↦ second (words-from d k (suc j) words s l t w x e b h m)
     ]
@@ -177,10 +177,10 @@ unfolding known
 slot-to d p es t i w e a [] k h = absurd h
 slot-to d p es t i w e a (starts m fs ∷ hs) k (inl r) =
     absurd (plain-entries m (d.class_of t) i es a
-        (both-pass (list_any (λ g. same_kind m g.kind) es) (list_all (known (Some p) es) hs) k).0 e r.0)
+    (both-pass (list_any (λ g. same_kind m g.kind) es) (list_all (known (Some p) es) hs) k).0 e r.0)
 slot-to d p es t i w e a (starts m fs ∷ hs) k (inr r) =
     slot-to d p es t i w e a hs
-        (both-pass (list_any (λ g. same_kind m g.kind) es) (list_all (known (Some p) es) hs) k).1 r
+    (both-pass (list_any (λ g. same_kind m g.kind) es) (list_all (known (Some p) es) hs) k).1 r
 slot-to d p es t i w e a (ends ∷ hs) k (inl r) = cc
 slot-to d p es t i w e a (ends ∷ hs) k (inr r) = slot-to d p es t i w e a hs k r
 slot-to d p es t i w e a (unopened gs ∷ hs) k (inl r) =
@@ -206,7 +206,7 @@ unfolding known
 slot-from d p es t w m [] k u = cc
 slot-from d p es t w m (starts c fs ∷ hs) k u =
     inr (slot-from d p es t w m hs
-        (both-pass (list_any (λ g. same_kind c g.kind) es) (list_all (known (Some p) es) hs) k).1 u)
+    (both-pass (list_any (λ g. same_kind c g.kind) es) (list_all (known (Some p) es) hs) k).1 u)
 slot-from d p es t w m (ends ∷ hs) k u = inr (slot-from d p es t w m hs k u)
 slot-from d p es t w m (unopened gs ∷ hs) k u =
     inl (added-back d p gs (t ∷ w) (both-pass (is_added (Some p) gs) (list_all (known (Some p) es) hs) k).0 m)

@@ -20,7 +20,7 @@ use Rattle.daide_words.specs.Proved.WordDialect.{words-proper, only_bra, only_ke
 -- added words keep the laws of prediction, whatever their list
 pub laws_over : (words : Words) → are_free words ≡ true →
     PredictLaws (dialect_of words).class_of (SymbolMatchesIn (dialect_of words)) (answer_over words) may_end_of
-        (IsLawful (answer_over words))
+    (IsLawful (answer_over words))
 laws_over words f =
     let d = dialect_of words in
     let ok = words-proper words f in

@@ -74,7 +74,7 @@ module _ (words : Words) (t i : ℕ) (e : (dialect_of words).class_of t ≡ Word
   none-stands p x f b w m =
       let h = words-to d i 0 words p.0 p.1 t w e m in
       no-yes (stands x p.0 p.1)
-          (subst (λ (y : AddedWord). stands y p.0 p.1 ≡ true) (same-some h.word x (sym h.found ∙ f)) h.stands_so) b
+      (subst (λ (y : AddedWord). stands y p.0 p.1 ≡ true) (same-some h.word x (sym h.found ∙ f)) h.stands_so) b
 
   -- where the word stands, its operand follows
   word-follows : (s : Sym) (p : Slot × Level) (x : AddedWord) (w : List ℕ) → slot_of s ≡ Some p →
@@ -88,7 +88,7 @@ module _ (words : Words) (t i : ℕ) (e : (dialect_of words).class_of t ≡ Word
             let h = words-to d i 0 words p.0 p.1 t w e (q.0 m) in
             alone d (form_of g) w (subst (λ (f : Form). Matches d f w) (sym form)
             (subst (λ (y : AddedWord). Matches d (group (operand_in y.operand p.0 p.1)) w)
-                (same-some h.word x (sym h.found ∙ f)) h.operand)),
+            (same-some h.word x (sym h.found ∙ f)) h.operand)),
         λ m. q.1 (words-from d i 0 words p.0 p.1 t w x e f b
             (subst (λ (f : Form). Matches d f w) form (unalone d (form_of g) w m))),
       )
@@ -98,7 +98,7 @@ module _ (words : Words) (t i : ℕ) (e : (dialect_of words).class_of t ≡ Word
   Case s =
       (NoWord d (slot_of s) t × ((a : Answer) → word_answer (slot_of s) (word_from i 0 words) a ≡ a))
       ⊎ ((p : Slot × Level) × (x : AddedWord) × (slot_of s ≡ Some p) × (word_from i 0 words ≡ Some x)
-          × (stands x p.0 p.1 ≡ true))
+      × (stands x p.0 p.1 ≡ true))
 
   which-stands : (s : Sym) (p : Slot × Level) (x : AddedWord) (b : Bool) → slot_of s ≡ Some p →
       word_from i 0 words ≡ Some x → stands x p.0 p.1 ≡ b → Case s

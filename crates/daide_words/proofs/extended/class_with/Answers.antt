@@ -1,26 +1,29 @@
-use Rattle.std.proofs.Common.{Some, None, sym, ap, ◌∙◌}
+use Rattle.std.proofs.Common.{◌≡◌, true, sym, ap, ◌∙◌}
+use Rattle.daide_token.specs.declared.class.Class.{Class}
+use Rattle.daide_token.specs.declared.class.Class.TheVariants.{Bra, Ket}
 use Rattle.daide_grammar.specs.Classes.{class_number}
+use Rattle.daide_grammar.specs.Numbers.{is_bracket}
 use Rattle.daide_words.specs.Words.{words_of}
-use Rattle.daide_words.specs.Places.{place_from}
-use Rattle.daide_words.proofs.AcceptedCodes.{class_told, class_kept}
+use Rattle.daide_words.proofs.AcceptedCodes.{class_kept}
 use Rattle.daide_words.proofs.extended.class_with.Goals as goal
 
-pub returns-in-Some : goal.returns-in-Some
-returns-in-Some c =
-    c.word.ensures
-    ∙ sym (class_told (words_of c.args.words.now) c.args.token (Some c.in-Some.place)
-    (sym c.in-Some.is ∙ c.place_in.ensures.place ∙ ap (λ names. place_from 0 names c.args.token) c.names.ensures.names))
+-- a bracket has a meaning without words
+bracket_known : (class : Class) → is_bracket class ≡ true → class_number class ≡ 77 → ⊥
+bracket_known Bra h e = cc
+bracket_known Ket h e = cc
+bracket_known _ h e = cc
 
-pub returns-in_default : goal.returns-in_default
-returns-in_default c =
-    sym c.requires
-    ∙ sym (class_told (words_of c.args.words.now) c.args.token None
-    (sym c.in_default.is ∙ c.place_in.ensures.place
-        ∙ ap (λ names. place_from 0 names c.args.token) c.names.ensures.names))
-
-pub returns-else-number-eq-OTHER : goal.returns-else-number-eq-OTHER
+pub returns-then-is_bracket : goal.returns-then-is_bracket
 unfolding words_of
-returns-else-number-eq-OTHER c =
+returns-then-is_bracket c =
+    sym c.requires
+    ∙ sym (class_kept (words_of c.args.words.now) c.args.token c.args.words.now.accepted
+    (λ e. bracket_known c.args.class (sym c.is_bracket.ensures ∙ c.if-is_bracket.true)
+    (ap class_number (sym c.requires) ∙ e)))
+
+pub returns : goal.returns
+unfolding words_of
+returns c =
     sym c.requires
     ∙ sym (class_kept (words_of c.args.words.now) c.args.token c.args.words.now.accepted
     (λ e. c.if-number-eq-OTHER.false (c.number.ensures.number ∙ ap class_number (sym c.requires) ∙ e)))

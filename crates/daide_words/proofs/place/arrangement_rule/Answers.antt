@@ -17,7 +17,7 @@ pub returns-in-Arrangement : goal.returns-in-Arrangement
 returns-in-Arrangement c =
     ap (λ n. deed (104 + n)) c.level_place-step.ensures.place ∙ arrangement_rule c.args.level
     ∙ ap (λ (p : Place). Take (operand_symbol an_arrangement (grammar_place p) c.args.level ∷ []))
-        (sym c.in-Arrangement.is)
+    (sym c.in-Arrangement.is)
 
 pub returns-in-Flat : goal.returns-in-Flat
 returns-in-Flat c =

@@ -14,7 +14,7 @@ returns-then-not-may_make c =
     let word = c.args.word.now in
     c.of.ensures ∙ not_standing _ _
     (first_fails (makes (grammar_slot word.slot) (grammar_place c.args.place))
-        (nat_le (level_number word.level) (level_number c.args.level))
+    (nat_le (level_number word.level) (level_number c.args.level))
     (sym c.may_make.ensures ∙ c.if-not-may_make.true))
 
 pub returns-then-number : goal.returns-then-number
@@ -25,7 +25,7 @@ returns-then-number c =
     grind (arith, nat_tests, c.if-number.true, c.number.ensures, c.number-2.ensures) in
     c.of-then-number.ensures ∙ not_standing _ _
     (second_fails (makes (grammar_slot word.slot) (grammar_place c.args.place))
-        (nat_le (level_number word.level) (level_number c.args.level)) low)
+    (nat_le (level_number word.level) (level_number c.args.level)) low)
 
 pub returns : goal.returns
 returns c =
@@ -34,5 +34,5 @@ returns c =
     grind (arith, nat_tests, c.if-number.false, c.number.ensures, c.number-2.ensures) in
     c.of-2.ensures ∙ c.operand_rule.ensures ∙ standing _ _
     (both_hold (makes (grammar_slot word.slot) (grammar_place c.args.place))
-        (nat_le (level_number word.level) (level_number c.args.level))
+    (nat_le (level_number word.level) (level_number c.args.level))
     (sym c.may_make.ensures ∙ c.if-not-may_make.false) reached)

@@ -24,4 +24,4 @@ returns-in-Operand c =
 pub returns-in_default : goal.returns-in_default
 returns-in_default c =
     no_slot c.args.sym c.in_default.not-Press c.in_default.not-Arrangement c.in_default.not-Fact
-        c.in_default.not-Operand
+    c.in_default.not-Operand

@@ -1,22 +1,39 @@
-use Rattle.std.proofs.Common.{ℕ, subst}
+use Rattle.std.proofs.Common.{◌≡◌, ◌∙◌, sym, ap, ℕ, subst}
 use Rattle.daide_token.specs.Token.{tokens_of}
 use Rattle.daide_grammar.specs.Symbols.{opening_of}
-use Rattle.daide_grammar.specs.SideMessages.{SymbolMatches}
+use Rattle.daide_grammar.specs.SideMessages.{SymbolMatchesIn, dialect_of}
+use Rattle.daide_grammar.specs.Words.{Words}
+use Rattle.daide_words.specs.Word.{grammar_words}
+use Rattle.daide_words.specs.Words.{words_of}
+use Rattle.daide_words.specs.declared.extended.Extended.{Extended}
+use Rattle.daide_words.specs.Extended.{spoken_words}
+use Rattle.daide_words.specs.OverWords.{spoken}
+use Rattle.daide_words.proofs.AcceptedCodes.{accepted_free}
 use Rattle.daide_reader.specs.ViablePrefix.{IsMessageOf}
 use Rattle.daide_reader.specs.Verdict.{HasVerdict}
 use Rattle.daide_reader.proofs.BodyLemmas.{place_in}
-use Rattle.daide_reader.proofs.PlainVerdicts.{plain_verdicts}
-use Rattle.daide_machine.specs.Bounds.{deepest}
+use Rattle.daide_gate.specs.Shown.{deepest_shown}
+use Rattle.daide_gate.proofs.WordedVerdicts.{worded_verdicts}
 use Rattle.daide_gate.proofs.frame_view.verdict_of.verdict_of.Goals as goal
 
 pub returns-clause-verdict : goal.returns-clause-verdict
+unfolding words_of
 returns-clause-verdict c =
+    let words = grammar_words (words_of c.args.words.now) in
     let m = tokens_of c.args.body.now in
+    let first = opening_of c.args.end c.args.level in
+    let v = c.read_body.result in
     let read = c.read_body.ensures.verdict _ _ _ c.start.ensures.stands_after in
-    (plain_verdicts c.args.end c.args.level deepest m c.read_body.result).0
+    let table = c.new-reader.result.table in
+    let all : spoken (spoken_words table) ≡ words =
+    ap (λ (t : Extended). spoken (spoken_words t)) c.new-reader.ensures.table ∙ ap spoken c.new.ensures.words
+    ∙ c.new.ensures.all_spoken in
+    worded_verdicts words (accepted_free (words_of c.args.words.now) c.args.words.now.accepted) c.args.end c.args.level
+    deepest_shown m v
+    (subst (λ (ws : Words). HasVerdict (IsMessageOf (SymbolMatchesIn (dialect_of ws) first)) deepest_shown m v) all
     (subst
-    (λ (d : ℕ). HasVerdict (IsMessageOf (SymbolMatches (opening_of c.args.end c.args.level))) d m c.read_body.result)
-    c.new-reader.ensures.stands_after.depth_kept read)
+    (λ (d : ℕ). HasVerdict (IsMessageOf (SymbolMatchesIn (dialect_of (spoken (spoken_words table))) first)) d m v)
+    c.new-reader.ensures.stands_after.depth_kept read))
 
 pub returns-clause-within : goal.returns-clause-within
 returns-clause-within c =

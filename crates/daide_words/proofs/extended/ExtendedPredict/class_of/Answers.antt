@@ -12,4 +12,4 @@ returns c =
     let words = c.args.self.now.words in
     c.class_with.ensures
     ∙ ap (λ ws. (dialect_of ws).class_of c.args.token)
-        (sym (all-spoken (spoken_words c.args.self.now) (accepted_free (words_of words) words.accepted)))
+    (sym (all-spoken (spoken_words c.args.self.now) (accepted_free (words_of words) words.accepted)))

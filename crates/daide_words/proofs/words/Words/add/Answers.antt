@@ -12,11 +12,11 @@ listed c =
     let full : length words.names ≡ 16 = search rules in
     let more : length words.meanings ≡ 16 = search rules in
     let ok =
-        ap is_ok (ap (λ ns. word_fault ns c.args.word) (sym c.names.ensures.names) ∙ sym c.check.ensures
-            ∙ c.in_ok-check.was) in
+    ap is_ok (ap (λ ns. word_fault ns c.args.word) (sym c.names.ensures.names) ∙ sym c.check.ensures
+    ∙ c.in_ok-check.was) in
     let room =
-        has_room words.names words.meanings words.count c.args.word (omega (arith, full, words.few))
-            (omega (arith, more, words.few)) ok in
+    has_room words.names words.meanings words.count c.args.word (omega (arith, full, words.few))
+    (omega (arith, more, words.few)) ok in
     omega (arith, full, room)
 
 pub bounds-self-place : goal.bounds-self-place
@@ -26,10 +26,10 @@ bounds-self-place c =
     let full : length words.names ≡ 16 = search rules in
     let more : length words.meanings ≡ 16 = search rules in
     let ok =
-        ap is_ok (ap (λ ns. word_fault ns c.args.word) (sym c.names.ensures.names) ∙ sym c.check.ensures
-            ∙ c.in_ok-check.was) in
+    ap is_ok (ap (λ ns. word_fault ns c.args.word) (sym c.names.ensures.names) ∙ sym c.check.ensures
+    ∙ c.in_ok-check.was) in
     has_room words.names words.meanings words.count c.args.word (omega (arith, full, words.few))
-        (omega (arith, more, words.few)) ok
+    (omega (arith, more, words.few)) ok
 
 pub bounds-self-place-2 : goal.bounds-self-place-2
 unfolding words_of
@@ -38,10 +38,10 @@ bounds-self-place-2 c =
     let full : length words.names ≡ 16 = search rules in
     let more : length words.meanings ≡ 16 = search rules in
     let ok =
-        ap is_ok (ap (λ ns. word_fault ns c.args.word) (sym c.names.ensures.names) ∙ sym c.check.ensures
-            ∙ c.in_ok-check.was) in
+    ap is_ok (ap (λ ns. word_fault ns c.args.word) (sym c.names.ensures.names) ∙ sym c.check.ensures
+    ∙ c.in_ok-check.was) in
     has_room words.names words.meanings words.count c.args.word (omega (arith, full, words.few))
-        (omega (arith, more, words.few)) ok
+    (omega (arith, more, words.few)) ok
 
 pub invariant_of-self : goal.invariant_of-self
 unfolding words_of
@@ -50,16 +50,16 @@ invariant_of-self c =
     let full : length words.names ≡ 16 = search rules in
     let more : length words.meanings ≡ 16 = search rules in
     let ok =
-        ap is_ok (ap (λ ns. word_fault ns c.args.word) (sym c.names.ensures.names) ∙ sym c.check.ensures
-            ∙ c.in_ok-check.was) in
+    ap is_ok (ap (λ ns. word_fault ns c.args.word) (sym c.names.ensures.names) ∙ sym c.check.ensures
+    ∙ c.in_ok-check.was) in
     let room =
-        has_room words.names words.meanings words.count c.args.word (omega (arith, full, words.few))
-            (omega (arith, more, words.few)) ok in
+    has_room words.names words.meanings words.count c.args.word (omega (arith, full, words.few))
+    (omega (arith, more, words.few)) ok in
     record {
       few = omega (arith, room);
       accepted =
           kept-accepted words.names words.meanings words.count _ _ (omega (arith, full, room))
-              (omega (arith, more, room)) words.accepted ok;
+          (omega (arith, more, room)) words.accepted ok;
     }
 
 pub returns-clause-added : goal.returns-clause-added
@@ -69,9 +69,9 @@ returns-clause-added c =
     let full : length words.names ≡ 16 = search rules in
     let more : length words.meanings ≡ 16 = search rules in
     let ok =
-        ap is_ok (ap (λ ns. word_fault ns c.args.word) (sym c.names.ensures.names) ∙ sym c.check.ensures
-            ∙ c.in_ok-check.was) in
+    ap is_ok (ap (λ ns. word_fault ns c.args.word) (sym c.names.ensures.names) ∙ sym c.check.ensures
+    ∙ c.in_ok-check.was) in
     let room =
-        has_room words.names words.meanings words.count c.args.word (omega (arith, full, words.few))
-            (omega (arith, more, words.few)) ok in
+    has_room words.names words.meanings words.count c.args.word (omega (arith, full, words.few))
+    (omega (arith, more, words.few)) ok in
     kept words.names words.meanings words.count _ _ (omega (arith, full, room)) (omega (arith, more, room))

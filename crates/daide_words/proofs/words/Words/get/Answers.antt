@@ -18,6 +18,6 @@ returns c =
     let many : length c.names.result.now ≡ words.count =
     ap length c.names.ensures.names
     ∙ names-few words.names words.meanings words.count (omega (arith, full, words.few))
-        (omega (arith, more, words.few)) in
+    (omega (arith, more, words.few)) in
     sym (first_words-at words.names words.meanings words.count c.args.place _ _ (omega (arith, full, words.few))
     (omega (arith, more, words.few)) (omega (arith, many, c.if-place-names.false)))

@@ -1,0 +1,202 @@
+//! An operator's words: messages with them and without, as verdicts and as they are shown.
+//!
+//! XYZ is a press of a power from level 20 on, QQQ an arrangement of an arrangement from level 30 on.
+
+ghost use Rattle.std.specs.Prelude.{◌≤◌};
+
+use crate::messages::tokens_of_text;
+use daide_frame::side::Side;
+use daide_gate::frame_view::{ShowFault, show, show_with};
+use daide_grammar::level::Level;
+use daide_grammar::level::Level::{L10, L20, L30, L50};
+use daide_grammar::side::Side2;
+use daide_reader::reader::Reader;
+use daide_reader::verdict::Verdict;
+use daide_reader::verdict::Verdict::{Huh, Relay};
+use daide_token::token::Token;
+use daide_words::{Extended, Operand, Slot, Word, Words};
+use linked_list_allocator::LocalHeap;
+use std::process::Abort;
+use std::test::Fail;
+
+/// The two words.
+fn two_words() -> Words {
+    let mut words = Words::new();
+    let _ = words.add(Word {
+        name: *b"XYZ",
+        code: Token::from_code(0x4A40),
+        slot: Slot::Press,
+        level: Level::L20,
+        operand: Operand::Power,
+    });
+    let _ = words.add(Word {
+        name: *b"QQQ",
+        code: Token::from_code(0x4A41),
+        slot: Slot::Arrangement,
+        level: Level::L30,
+        operand: Operand::Arrangement,
+    });
+    words
+}
+
+/// The verdict of a reader of `N` entries on a bot's message.
+fn read<const N: usize>(
+    reader: &mut Reader<Extended, N>,
+    level: Level,
+    message: &[Token],
+) -> Verdict {
+    reader.start(Side2::Client, level);
+    for token in message {
+        if reader.is_full() {
+            break;
+        }
+        reader.push(*token);
+    }
+    reader.finish()
+}
+
+/// The verdict at a depth of 62 brackets, on as many entries as that takes.
+fn verdict_on_512(words: Words, level: Level, message: &[Token]) -> Verdict {
+    let _names = words.names();
+    let mut reader: Reader<Extended, 512> = Reader::new(Extended::new(words), 62);
+    read(&mut reader, level, message)
+}
+
+/// The verdict at a depth, on as many entries as the deepest takes.
+fn verdict_on_2048(words: Words, depth: u16, level: Level, message: &[Token]) -> Verdict
+    requires low { 4 ≤ depth }
+    requires high { depth ≤ 254 }
+{
+    let _names = words.names();
+    let mut reader: Reader<Extended, 2048> = Reader::new(Extended::new(words), depth);
+    read(&mut reader, level, message)
+}
+
+// a bot's message, #4a40 being XYZ and #4a41 QQQ; its level; its verdict with the words, and without
+#[rattlefmt::skip]
+const MESSAGES: [(&str, Level, Verdict, Verdict); 6] = [
+    ("SND ( FRA ) ( #4a40 ( ENG ) )", L20, Relay, Huh(5)),
+    ("SND ( FRA ) ( #4a40 ( ENG ) )", L10, Huh(5), Huh(5)),
+    ("SND ( FRA ) ( TRY ( #4a40 ) )", L10, Relay, Relay),
+    ("SND ( FRA ) ( PRP ( AND ( #4a41 ( DRW ) ) ( DRW ) ) )", L30, Relay, Huh(9)),
+    ("SND ( FRA ) ( PRP ( AND ( #4a41 ( AND ( DRW ) ( DRW ) ) ) ( DRW ) ) )", L30, Huh(11), Huh(9)),
+    ("SND ( FRA ) ( PRP ( AND ( #4a41 ( AND ( DRW ) ( DRW ) ) ) ( DRW ) ) )", L50, Relay, Huh(9)),
+];
+
+#[test]
+fn words_stand_from_their_level(rt: HostRuntime) -> Result<(), Fail> {
+    for (text, level, with, without) in MESSAGES {
+        let tokens = tokens_of_text(&rt, text)?;
+        let message = tokens.as_slice();
+        assert_eq!(rt; verdict_on_512(two_words(), level, message), with, "{text}");
+        assert_eq!(rt; verdict_on_512(Words::new(), level, message), without);
+        assert_eq!(rt; verdict_on_2048(two_words(), 254, level, message), with);
+        assert_eq!(rt; verdict_on_2048(Words::new(), 254, level, message), without);
+    }
+    Ok(())
+}
+
+/// HUH and that many opening and closing brackets.
+fn nested(rt: &(impl Abort + AllocGlobal), brackets: usize) -> Result<Vec<Token>, Fail> {
+    let mut message = tokens_of_text(rt, "HUH")?;
+    for _ in 0..brackets {
+        message.push(Token::from_code(0x4000))?;
+    }
+    for _ in 0..brackets {
+        message.push(Token::from_code(0x4001))?;
+    }
+    Ok(message)
+}
+
+#[test]
+fn as_deep_as_is_said_whatever_the_room(rt: HostRuntime) -> Result<(), Fail> {
+    for (brackets, want) in [(62, Relay), (63, Huh(63))] {
+        let tokens = nested(&rt, brackets)?;
+        let message = tokens.as_slice();
+        assert_eq!(rt; verdict_on_512(Words::new(), L10, message), want);
+        assert_eq!(rt; verdict_on_2048(Words::new(), 62, L10, message), want);
+    }
+    for (brackets, want) in [(254, Relay), (255, Huh(255))] {
+        let tokens = nested(&rt, brackets)?;
+        assert_eq!(rt;
+            verdict_on_2048(Words::new(), 254, L10, tokens.as_slice()),
+            want
+        );
+    }
+    Ok(())
+}
+
+/// A bot's `SND ( FRA ) ( XYZ ( ENG ) )` as a frame.
+const SENT: &[u8] = b"02000014 48174000 41024001 4000 4A40 4000 4101 4001 4001";
+
+// its level, and what is shown with the words
+const SHOWN: [(Level, &str); 2] = [
+    (L20, "DM 20\nSND ( FRA ) ( XYZ ( ENG ) )\nrelay\n"),
+    (
+        L10,
+        "DM 20\nSND ( FRA ) ( XYZ ( ENG ) )\nHUH at 5\nHUH ( SND ( FRA ) ( ERR XYZ ( ENG ) ) )\n",
+    ),
+];
+
+#[test]
+fn words_are_shown_by_their_names(rt: HostRuntime) -> Result<(), Fail> {
+    for (level, want) in SHOWN {
+        let mut input = SENT;
+        let mut output = Vec::new(rt.alloc());
+        let words = two_words();
+        let shown = show_with(
+            rt.alloc(),
+            Side::Bot,
+            level,
+            &words,
+            &mut input,
+            &mut output,
+        );
+        assert_eq!(rt; shown, Ok(level == L20));
+        assert_eq!(rt; String::from_utf8(output)?.as_str(), want);
+    }
+    let mut input = SENT;
+    let mut output = Vec::new(rt.alloc());
+    assert_eq!(rt;
+        show(rt.alloc(), Side::Bot, L20, &mut input, &mut output),
+        Ok(false)
+    );
+    let want =
+        "DM 20\nSND ( FRA ) ( #4a40 ( ENG ) )\nHUH at 5\nHUH ( SND ( FRA ) ( ERR #4a40 ( ENG ) ) )\n";
+    assert_eq!(rt; String::from_utf8(output)?.as_str(), want);
+    Ok(())
+}
+
+/// Shows the frame with the words on a heap of a size; whether memory sufficed.
+fn shows_on_heap(rt: &(impl Abort + AllocGlobal), size: usize) -> Result<bool, Fail> {
+    let heap = LocalHeap::new(rt.alloc(), size)?;
+    let mut input = SENT;
+    let mut output = Vec::new(rt.alloc());
+    let words = two_words();
+    let shown = show_with(&heap, Side::Bot, L20, &words, &mut input, &mut output);
+    assert_eq!(rt; heap.used(), 0, "at {size}");
+    if shown == Err(ShowFault::Memory) {
+        assert!(rt; output.is_empty(), "at {size}");
+        return Ok(false);
+    }
+    assert_eq!(rt; shown, Ok(true), "at {size}");
+    Ok(true)
+}
+
+#[test]
+fn growth_of_show_with_refused_in_turn(rt: HostRuntime) -> Result<(), Fail> {
+    let mut refused = 0u32;
+    for unit in 0..96usize {
+        // a multiple of 16 bytes more each time; the cutter takes its 65,526 at once
+        let size = if unit < 32 {
+            16 * unit
+        } else {
+            64_896 + 16 * unit
+        };
+        if !shows_on_heap(&rt, size)? {
+            refused = refused.wrapping_add(1);
+        }
+    }
+    assert!(rt; refused > 32 && refused < 96);
+    Ok(())
+}
