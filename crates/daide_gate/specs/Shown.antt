@@ -25,6 +25,7 @@ use Rattle.daide_reader.specs.declared.verdict.Verdict.{Verdict}
 use Rattle.daide_reader.specs.declared.verdict.Verdict.TheVariants.{Relay, Prn, Huh}
 use Rattle.daide_machine.specs.Bounds.{longest_body}
 use Rattle.daide_machine.specs.Machine.{side2_of}
+use Rattle.daide_log.specs.Report.{name_of_kind}
 use Rattle.daide_gate.specs.Input.{limit, bytes_of}
 use Rattle.daide_gate.specs.declared.frame_view.ShowFault.{ShowFault}
 use Rattle.daide_gate.specs.declared.frame_view.ShowFault.TheVariants.{Read, TooLong, NotHex, NotOneFrame}
@@ -72,14 +73,6 @@ abbrev pub is_relay : Verdict → Bool
 is_relay Relay = true
 is_relay Prn = false
 is_relay (Huh place) = false
-
--- a kind by the two letters of the protocol
-abbrev pub name_of_kind : Kind → List ℕ
-name_of_kind Im = codes "IM"
-name_of_kind Rm = codes "RM"
-name_of_kind Dm = codes "DM"
-name_of_kind Fm = codes "FM"
-name_of_kind Em = codes "EM"
 
 -- the kind and the length of a body
 abbrev pub kind_line : Kind → ℕ → List ℕ

@@ -1,13 +1,14 @@
 -- The lines of a log, as they are read.
 use Rattle.std.proofs.Common.{◌≡◌, ℕ, zero, suc, ◌+◌, ◌-◌, ◌<◌, ◌≤◌, Bool, true, false, List, [], ◌∷◌, ◌++◌, length, take, drop}
-use Rattle.std.proofs.Common.{Option, Some, None, Result, Ok, refl, sym, ap, ◌∙◌, subst, arith, ◌⊎◌, inl, inr, append-nil, append_assoc}
-use Rattle.std.proofs.Common.{length-append, length-drop, min, get_or, add-one}
+use Rattle.std.proofs.Common.{Option, Some, None, Result, Ok, Err, refl, sym, ap, ◌∙◌, subst, arith, ◌⊎◌, inl, inr, append-nil, append_assoc}
+use Rattle.std.proofs.Common.{length-append, length-drop, get_or, add-one}
 use Rattle.std.proofs.lemmas.List.{drop-take, drop-drop, take-append-drop, length-take-le}
 use Rattle.std.proofs.Math.Seq.{take-length}
-use Rattle.std.specs.Io.KnownBytes.{Consumes, Keeps, IsAtEnd}
-use Rattle.std.specs.List.{AllByRecursion}
-use Rattle.daide_log.specs.Log.{IsUnbroken, most_lines, longest_line}
-use Rattle.daide_log.specs.Lines.{Reads, LooksAt, Scans, HasMore}
+use Rattle.std.specs.Io.KnownBytes.{Consumes, Keeps}
+use Rattle.daide_log.specs.Log.{IsUnbroken, longest_line}
+use Rattle.daide_log.specs.declared.fault.LogFault.{LogFault}
+use Rattle.daide_log.specs.declared.fault.LogFault.TheVariants as Faults
+use Rattle.daide_log.specs.Lines.{Reads, Scans, HasMore, IsFound, block_size}
 
 pub unbroken_append : (a b : List ℕ) → IsUnbroken a → IsUnbroken b → IsUnbroken (a ++ b)
 unbroken_append [] b h k = k
@@ -92,9 +93,14 @@ scanned_on old held now text turn new block h r =
     }
 
 pub failed_read : (old : Option (List ℕ)) (held : List ℕ) (now : Option (List ℕ)) (text : List ℕ) (turn : ℕ)
-    (new : Option (List ℕ)) (block : List ℕ) → HasEmptied old held now text turn → Keeps now new × (block ≡ []) →
-    (x : List ℕ) × LooksAt old held x new block × (block ≡ []) × IsUnbroken x × (length x ≤ longest_line)
-failed_read old held now text turn new block h r = (
+    (new : Option (List ℕ)) (block : List ℕ) (count : ℕ) (fault : LogFault) → HasEmptied old held now text turn →
+    Reads now new block (Err fault) → IsFound old held count (Err fault) text new block
+failed_read old held now text turn new block count (Faults.BadLine n) h r = absurd r
+failed_read old held now text turn new block count (Faults.LineTooLong n) h r = absurd r
+failed_read old held now text turn new block count Faults.TooManyLines h r = absurd r
+failed_read old held now text turn new block count Faults.Write h r = tt
+failed_read old held now text turn new block count Faults.Memory h r = absurd r
+failed_read old held now text turn new block count Faults.Read h r = (
   text,
   (
     h.given,
@@ -106,6 +112,19 @@ failed_read old held now text turn new block h r = (
   h.unbroken,
   h.short,
 )
+
+-- what is held where nothing was, and a byte is looked for
+pub more_read : (old new : Option (List ℕ)) (held block : List ℕ) (more : Result Bool LogFault) → held ≡ [] →
+    Reads old new block more → HasMore old held more new block
+more_read old new held block (Ok true) e r = ((block, r.0, ap (λ (l : List ℕ). l ++ block) e), r.1, r.2)
+more_read old new held block (Ok false) e r = (([], r.0, ap (λ (l : List ℕ). l ++ []) e ∙ sym r.1), r.1, r.2)
+more_read old new held block (Err (Faults.BadLine n)) e r = absurd r
+more_read old new held block (Err (Faults.LineTooLong n)) e r = absurd r
+more_read old new held block (Err Faults.TooManyLines) e r = absurd r
+more_read old new held block (Err Faults.Write) e r = tt
+more_read old new held block (Err Faults.Memory) e r = absurd r
+more_read old new held block (Err Faults.Read) e r =
+    (([], keeps_consumes old new r.0, ap (λ (l : List ℕ). l ++ []) e ∙ sym r.1), r.1)
 
 -- ---- a line feed
 
@@ -170,13 +189,14 @@ line_scanned held text k n rest after fits room here unbroken split left grown =
 
 pub part_scanned : (held text : List ℕ) (k : ℕ) (rest after : List ℕ) → k ≤ length held →
     (k < length held → k + length text ≡ 2101) → IsUnbroken (take k held) → rest ≡ drop (length (take k held)) held →
-    after ≡ text ++ take k held → Scans held text false rest after
-part_scanned held text k rest after fits room unbroken left grown = (
+    after ≡ text ++ take k held → length held ≤ block_size → Scans held text false rest after
+part_scanned held text k rest after fits room unbroken left grown few = (
   take k held,
   sym (take-append-drop k held) ∙ ap (λ (l : List ℕ). take k held ++ l) (sym here),
   unbroken,
   grown,
   by_rest rest here,
+  less rest here,
 )
   where
     size : length (take k held) ≡ k
@@ -191,3 +211,10 @@ part_scanned held text k rest after fits room unbroken left grown = (
         let some = ap length e ∙ length-drop k held in
         let whole = room (omega arith) in
         inr (omega (arith, ap length grown, length-append text (take k held), size))
+
+    less : (l : List ℕ) → l ≡ drop k held → length text ≤ longest_line → length l < block_size
+    less [] e short = omega arith
+    less (x ∷ l) e short =
+        let some = ap length e ∙ length-drop k held in
+        let whole = room (omega arith) in
+        omega (arith, some, whole)

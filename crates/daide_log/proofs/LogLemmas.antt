@@ -1,25 +1,27 @@
 -- From line to line of a log.
-use Rattle.std.proofs.Common.{◌≡◌, ℕ, zero, suc, ◌+◌, ◌*◌, ◌<◌, ◌≤◌, Bool, true, false, List, [], ◌∷◌, ◌++◌, length, Option}
+use Rattle.std.proofs.Common.{◌≡◌, ℕ, ◌+◌, ◌*◌, ◌<◌, ◌≤◌, Bool, true, false, List, [], ◌∷◌, ◌++◌, length, Option}
 use Rattle.std.proofs.Common.{Some, None, Result, Ok, Err, refl, sym, ap, ◌∙◌, subst, arith, append-nil, append_assoc, IfSome, length-append}
-use Rattle.std.specs.Io.KnownBytes.{Consumes, Appends, IsAtEnd}
-use Rattle.daide_machine.specs.Machine.{Effect, SessionState, opening}
+use Rattle.std.specs.Io.KnownBytes.{Consumes, Keeps, Appends, IsAtEnd}
+use Rattle.daide_machine.specs.Machine.{Effect, SessionState}
 use Rattle.daide_log.specs.declared.report.Summary.{Summary}
 use Rattle.daide_log.specs.declared.lines.Found.TheVariants.{Line, Last, End}
 use Rattle.daide_log.specs.declared.fault.LogFault.{LogFault}
 use Rattle.daide_log.specs.declared.fault.LogFault.TheVariants as Faults
-use Rattle.daide_log.specs.LogLine.{without_cr, is_name, config_of_line, event_of_line}
+use Rattle.daide_log.specs.LogLine.{is_name, config_of_line, event_of_line}
 use Rattle.daide_log.specs.Report.{counted_all, nothing_counted, summary_line, lines_of, side_of}
-use Rattle.daide_log.specs.Log.{Stage, Unnamed, Named, Playing, GoesOn, IsBad, Reports, ReportsAll, IsReport, IsUnbroken, most_lines}
+use Rattle.daide_log.specs.Log.{Stage, Unnamed, Named, Playing, GoesOn, IsBad, Reports, ReportsAll, IsReport, most_lines}
 use Rattle.daide_log.specs.Log.{longest_line}
-use Rattle.daide_log.specs.Lines.{LooksAt, IsFound}
-use Rattle.daide_log.specs.Progress.{HasRead, HasReadAll, IsReadTo, IsFaultOf, Reported, IsNamed, AreLimits, begun}
+use Rattle.daide_log.specs.Lines.{LooksAt, IsFound, block_size}
+use Rattle.daide_log.specs.Progress.{HasRead, HasReadAll, StopsBehind, IsFaultOf, Reported, IsNamed, AreLimits}
+use Rattle.daide_log.specs.Progress.{begun}
 use Rattle.daide_log.specs.Progress.{after_name, after_limits, IsPlaying, IsOpened, IsFaultAfter}
 use Rattle.daide_machine.specs.Wires.{Gateway}
 use Rattle.daide_log.specs.Told.{HasRoom, IsMoreBy, IsIdle, Judges}
-use Rattle.std.proofs.Common.{◌⊎◌, inl, inr, IfOk}
+use Rattle.std.proofs.Common.{◌⊎◌, inl, inr, IfOk, IfErr, OnOk, ◌≢◌}
 use Rattle.daide_log.specs.declared.lines.Found.{Found}
 use Rattle.daide_session.specs.declared.config.Config.{Config}
 use Rattle.daide_log.proofs.LineLemmas.{consumes_more, consumes_none}
+use Rattle.daide_log.proofs.PageLemmas.{keeps_more, keeps_appends, keeps_and_appends, appends_and_keeps}
 use Rattle.daide_log.proofs.PlayLemmas.{appends_more, appends_none, counted_all-append}
 
 -- ---- what was looked at
@@ -135,27 +137,59 @@ ends_early old new n moves text stage h few =
     of_ended_log (λ log. IsReport log text (Err (Faults.BadLine (n + 1)))) old new h.given h.consumed h.ended
     (IsReport.cut_short h.given n moves text stage h.reports few)
 
+stops : (old now new : Option (List ℕ)) (held start beyond : List ℕ) (n : ℕ) (moves : List Effect) (text : List ℕ)
+    (stage : Stage) (count : ℕ) (h : HasRead old now held n moves text stage) → LooksAt now held start new beyond →
+    length start ≡ count → length beyond < block_size → StopsBehind old new text n count
+stops old now new held start beyond n moves text stage count h k started few = record {
+  given = h.given ++ k.0;
+  consumed = all_given old now new held start beyond n moves text stage h k;
+  bytes = h.bytes;
+  start = start;
+  beyond = beyond;
+  whole = looked old now new held start beyond n moves text stage h k;
+  started = started;
+  few = few;
+  moves = moves;
+  stage = stage;
+  reports = h.reports;
+}
+
+-- at the first byte of what is held
+stops_at_first : (old now new : Option (List ℕ)) (held rest : List ℕ) (n : ℕ) (moves : List Effect) (text : List ℕ)
+    (stage : Stage) (h : HasRead old now held n moves text stage) → LooksAt now held [] new rest → 0 < length rest →
+    length rest ≤ block_size → StopsBehind old new text n 1
+stops_at_first old now new held [] n moves text stage h k some few = absurd (omega arith)
+stops_at_first old now new held (x ∷ rest) n moves text stage h k some few =
+    stops old now new held (x ∷ []) rest n moves text stage 1 h (k.0, k.1, k.2) refl (omega arith)
+
 pub fault_found : (old now new : Option (List ℕ)) (held rest line : List ℕ) (n : ℕ) (moves : List Effect)
     (text : List ℕ) (stage : Stage) (fault : LogFault) → HasRead old now held n moves text stage →
     IsFound now held n (Err fault) line new rest → IsFaultOf old new text fault
 fault_found old now new held rest line n moves text stage (Faults.BadLine k) h f = absurd f
-fault_found old now new held rest line n moves text stage (Faults.LineTooLong k) h f =
-    of_log (λ log. IsReport log text (Err (Faults.LineTooLong k))) old new (h.given ++ f.1.0)
-    (all_given old now new held f.0 rest n moves text stage h f.1)
-    (λ more. subst (λ (log : List ℕ). IsReport log text (Err (Faults.LineTooLong k))) (same more)
-    (subst (λ (m : ℕ). IsReport (h.bytes ++ f.0 ++ (rest ++ more)) text (Err (Faults.LineTooLong m))) (sym f.5)
-    (IsReport.too_long h.bytes n moves text stage h.reports f.0 (rest ++ more) f.4 f.2 f.3)))
+fault_found old now new held rest line n moves text stage (Faults.LineTooLong k) h f = (
+  of_log (λ log. IsReport log text (Err (Faults.LineTooLong k))) old new (h.given ++ f.1.0)
+      (all_given old now new held f.0 rest n moves text stage h f.1)
+      (λ more. subst (λ (log : List ℕ). IsReport log text (Err (Faults.LineTooLong k))) (same more)
+      (subst (λ (m : ℕ). IsReport (h.bytes ++ f.0 ++ (rest ++ more)) text (Err (Faults.LineTooLong m))) (sym f.5)
+      (IsReport.too_long h.bytes n moves text stage h.reports f.0 (rest ++ more) f.4 f.2 (omega (arith, f.3))))),
+  n,
+  f.5,
+  stops old now new held f.0 rest n moves text stage (longest_line + 1) h f.1 f.3 f.6,
+)
   where
     same : (more : List ℕ) → h.bytes ++ f.0 ++ (rest ++ more) ≡ (h.given ++ f.1.0) ++ more
     same more = sym (ap (λ (l : List ℕ). l ++ more) (looked old now new held f.0 rest n moves text stage h f.1)
         ∙ simp append_assoc)
-fault_found old now new held rest line n moves text stage Faults.TooManyLines h f =
-    of_log (λ log. IsReport log text (Err Faults.TooManyLines)) old new (h.given ++ f.0.0)
-    (all_given old now new held [] rest n moves text stage h f.0)
-    (λ more. subst (λ (log : List ℕ). IsReport log text (Err Faults.TooManyLines)) (same more)
-    (IsReport.too_many h.bytes moves text stage
-    (subst (λ (m : ℕ). Reports h.bytes m moves text stage) f.2 h.reports) (rest ++ more)
-    (omega (arith, f.1, length-append rest more))))
+fault_found old now new held rest line n moves text stage Faults.TooManyLines h f = (
+  of_log (λ log. IsReport log text (Err Faults.TooManyLines)) old new (h.given ++ f.0.0)
+      (all_given old now new held [] rest n moves text stage h f.0)
+      (λ more. subst (λ (log : List ℕ). IsReport log text (Err Faults.TooManyLines)) (same more)
+      (IsReport.too_many h.bytes moves text stage
+      (subst (λ (m : ℕ). Reports h.bytes m moves text stage) f.2 h.reports) (rest ++ more)
+      (omega (arith, f.1, length-append rest more)))),
+  subst (λ (m : ℕ). StopsBehind old new text m 1) f.2
+      (stops_at_first old now new held rest n moves text stage h f.0 f.1 f.3),
+)
   where
     same : (more : List ℕ) → h.bytes ++ (rest ++ more) ≡ (h.given ++ f.0.0) ++ more
     same more = sym (ap (λ (l : List ℕ). l ++ more) (looked old now new held [] rest n moves text stage h f.0)
@@ -173,7 +207,7 @@ fault_found old now new held rest line n moves text stage Faults.Read h f = reco
   stage = stage;
   reports = h.reports;
 }
-fault_found old now new held rest line n moves text stage Faults.Write h f = absurd f
+fault_found old now new held rest line n moves text stage Faults.Write h f = tt
 fault_found old now new held rest line n moves text stage Faults.Memory h f = absurd f
 
 -- ---- the whole log
@@ -229,6 +263,44 @@ limits_judged old now new held line rest (Ok Last) h f = by_limits (config_of_li
 limits_judged old now new held line rest (Ok End) h f =
     ends_early old new 1 [] [] Named (end_read old now new held rest line 1 [] [] Named h f) (omega arith)
 
+pub name_kept : (found : Result Found LogFault) (is_name : Bool) (a b : Option (List ℕ)) → OnOk found (Keeps a b) →
+    OnOk (after_name found is_name) (Keeps a b)
+name_kept (Err fault) n a b h = tt
+name_kept (Ok Line) true a b h = h
+name_kept (Ok Line) false a b h = tt
+name_kept (Ok Last) true a b h = tt
+name_kept (Ok Last) false a b h = tt
+name_kept (Ok End) n a b h = tt
+
+pub name_kept_at_fault : (found : Result Found LogFault) (is_name : Bool) (a b : Option (List ℕ)) →
+    OnOk found (Keeps a b) → IfErr found (λ fault. fault ≢ Faults.Write → Keeps a b) →
+    IfErr (after_name found is_name) (λ fault. fault ≢ Faults.Write → Keeps a b)
+name_kept_at_fault (Err fault) n a b h k = k
+name_kept_at_fault (Ok Line) true a b h k = tt
+name_kept_at_fault (Ok Line) false a b h k = λ other. h
+name_kept_at_fault (Ok Last) true a b h k = λ other. h
+name_kept_at_fault (Ok Last) false a b h k = λ other. h
+name_kept_at_fault (Ok End) n a b h k = λ other. h
+
+pub limits_kept : (found : Result Found LogFault) (limits : Option Config) (a b : Option (List ℕ)) →
+    OnOk found (Keeps a b) → OnOk (after_limits found limits) (Keeps a b)
+limits_kept (Err fault) o a b h = tt
+limits_kept (Ok Line) (Some config) a b h = h
+limits_kept (Ok Line) None a b h = tt
+limits_kept (Ok Last) (Some config) a b h = h
+limits_kept (Ok Last) None a b h = tt
+limits_kept (Ok End) o a b h = tt
+
+pub limits_kept_at_fault : (found : Result Found LogFault) (limits : Option Config) (a b : Option (List ℕ)) →
+    OnOk found (Keeps a b) → IfErr found (λ fault. fault ≢ Faults.Write → Keeps a b) →
+    IfErr (after_limits found limits) (λ fault. fault ≢ Faults.Write → Keeps a b)
+limits_kept_at_fault (Err fault) o a b h k = k
+limits_kept_at_fault (Ok Line) (Some config) a b h k = tt
+limits_kept_at_fault (Ok Line) None a b h k = λ other. h
+limits_kept_at_fault (Ok Last) (Some config) a b h k = tt
+limits_kept_at_fault (Ok Last) None a b h k = λ other. h
+limits_kept_at_fault (Ok End) o a b h k = λ other. h
+
 -- ---- the lines from the third on
 
 -- between two lines: what is so whatever came before, and how far the log has come
@@ -261,6 +333,26 @@ plays_first now held session summary a idle e = record {
     few : IsMoreBy (1024 * 2) nothing_counted summary
     few = subst (IsMoreBy (1024 * 2) nothing_counted) (sym e)
         (record { relayed = omega arith; prn = omega arith; huh = omega arith; faults = omega arith })
+
+-- what is held back was handed over
+pub plays_kept : (start : Option (List ℕ) → Type 0) (now : Option (List ℕ)) (held : List ℕ) (n : ℕ) (session : Gateway)
+    (s : Summary) (a b c : Option (List ℕ)) → Plays start now held n session s a b → Keeps b c →
+    Plays start now held n session s a c
+plays_kept start now held n session s a b c p k = record {
+  idle = p.idle;
+  few = p.few;
+  fits = p.fits;
+  playing = λ origin h. let q = p.playing origin h in record {
+    moves = q.moves;
+    text = q.text;
+    has_read = q.has_read;
+    counts = q.counts;
+    few = q.few;
+    number_fits = q.number_fits;
+    idle = q.idle;
+    written = appends_and_keeps a b c q.text q.written k;
+  };
+}
 
 has_room : (n : ℕ) (s : Summary) → n ≤ most_lines → IsMoreBy (1024 * n) nothing_counted s → HasRoom 1024 s
 has_room n s h few = record { relayed = omega arith; prn = omega arith; huh = omega arith; faults = omega arith }
@@ -333,22 +425,23 @@ finished_at_last start now new held rest line n session next s t a b c d result 
 -- ---- faults, with what was written
 
 pub fault_after : (old new : Option (List ℕ)) (text : List ℕ) (a b : Option (List ℕ)) (fault : LogFault) →
-    IsFaultOf old new text fault → Appends a b text → IsFaultAfter old new a b fault
-fault_after old new text a b (Faults.BadLine n) h w = (text, h, w)
-fault_after old new text a b (Faults.LineTooLong n) h w = (text, h, w)
-fault_after old new text a b Faults.TooManyLines h w = (text, h, w)
-fault_after old new text a b Faults.Read h w = (text, h, w)
-fault_after old new text a b Faults.Write h w = absurd h
+    IsFaultOf old new text fault → (fault ≢ Faults.Write → Appends a b text) → IsFaultAfter old new a b fault
+fault_after old new text a b (Faults.BadLine n) h w = (text, h, w (λ e. absurd (cc)))
+fault_after old new text a b (Faults.LineTooLong n) h w = (text, h, w (λ e. absurd (cc)))
+fault_after old new text a b Faults.TooManyLines h w = (text, h, w (λ e. absurd (cc)))
+fault_after old new text a b Faults.Read h w = (text, h, w (λ e. absurd (cc)))
+fault_after old new text a b Faults.Write h w = tt
 fault_after old new text a b Faults.Memory h w = absurd h
 
 pub fault_in_play : (start : Option (List ℕ) → Type 0) (now new : Option (List ℕ)) (held rest line : List ℕ) (n : ℕ)
-    (session : Gateway) (s : Summary) (a b : Option (List ℕ)) (fault : LogFault) →
+    (session : Gateway) (s : Summary) (a b c : Option (List ℕ)) (fault : LogFault) →
     Plays start now held n session s a b → IsFound now held n (Err fault) line new rest →
-    (origin : Option (List ℕ)) → start origin → IsFaultAfter origin new a b fault
-fault_in_play start now new held rest line n session s a b fault p f origin h =
+    (fault ≢ Faults.Write → Keeps b c) → (origin : Option (List ℕ)) → start origin → IsFaultAfter origin new a c fault
+fault_in_play start now new held rest line n session s a b c fault p f k origin h =
     let q = p.playing origin h in
-    fault_after origin new q.text a b fault
-    (fault_found origin now new held rest line n q.moves q.text (Playing session.state) fault q.has_read f) q.written
+    fault_after origin new q.text a c fault
+    (fault_found origin now new held rest line n q.moves q.text (Playing session.state) fault q.has_read f)
+    (λ other. appends_and_keeps a b c q.text q.written (k other))
 
 pub bad_in_play : (start : Option (List ℕ) → Type 0) (now new : Option (List ℕ)) (held rest line : List ℕ) (n : ℕ)
     (session : Gateway) (s : Summary) (a b c : Option (List ℕ)) (fault : LogFault) →
@@ -380,3 +473,51 @@ pub opened_last : (config : Config) (is_ended : Bool) (old new : Option (List �
     IsOpened config is_ended old new held → HasReadAll old new 2 [] [] (begun config)
 opened_last config true old new held e h = absurd (cc)
 opened_last config false old new held e h = h
+
+-- ---- what is held back
+
+pub reported_kept : (old a b c : Option (List ℕ)) (answer : Result Summary LogFault) →
+    IfOk answer (λ summary. Reported old a b summary) → Keeps b c → IfOk answer (λ summary. Reported old a c summary)
+reported_kept old a b c (Err fault) h k = tt
+reported_kept None a b c (Ok summary) h k = tt
+reported_kept (Some log) a b c (Ok summary) h k = (h.0, h.1, appends_and_keeps a b c h.0 h.2 k)
+
+pub reported_from : (old a b c : Option (List ℕ)) (answer : Result Summary LogFault) → Keeps a b →
+    IfOk answer (λ summary. Reported old b c summary) → IfOk answer (λ summary. Reported old a c summary)
+reported_from old a b c (Err fault) k h = tt
+reported_from None a b c (Ok summary) k h = tt
+reported_from (Some log) a b c (Ok summary) k h = (h.0, h.1, keeps_and_appends a b c h.0 k h.2)
+
+pub fault_kept : (old new a b c : Option (List ℕ)) (fault : LogFault) → IsFaultAfter old new a b fault → Keeps b c →
+    IsFaultAfter old new a c fault
+fault_kept old new a b c (Faults.BadLine n) h k = (h.0, h.1, appends_and_keeps a b c h.0 h.2 k)
+fault_kept old new a b c (Faults.LineTooLong n) h k = (h.0, h.1, appends_and_keeps a b c h.0 h.2 k)
+fault_kept old new a b c Faults.TooManyLines h k = (h.0, h.1, appends_and_keeps a b c h.0 h.2 k)
+fault_kept old new a b c Faults.Read h k = (h.0, h.1, appends_and_keeps a b c h.0 h.2 k)
+fault_kept old new a b c Faults.Write h k = tt
+fault_kept old new a b c Faults.Memory h k = (h.0, h.1, h.2, h.3, keeps_more a b c h.4 k)
+
+pub fault_from : (old new a b c : Option (List ℕ)) (fault : LogFault) → Keeps a b → IsFaultAfter old new b c fault →
+    IsFaultAfter old new a c fault
+fault_from old new a b c (Faults.BadLine n) k h = (h.0, h.1, keeps_and_appends a b c h.0 k h.2)
+fault_from old new a b c (Faults.LineTooLong n) k h = (h.0, h.1, keeps_and_appends a b c h.0 k h.2)
+fault_from old new a b c Faults.TooManyLines k h = (h.0, h.1, keeps_and_appends a b c h.0 k h.2)
+fault_from old new a b c Faults.Read k h = (h.0, h.1, keeps_and_appends a b c h.0 k h.2)
+fault_from old new a b c Faults.Write k h = tt
+fault_from old new a b c Faults.Memory k h = (h.0, h.1, h.2, h.3, keeps_more a b c k h.4)
+
+pub refused_kept : (old new a b c : Option (List ℕ)) (answer : Result Summary LogFault) →
+    IfErr answer (λ fault. IsFaultAfter old new a b fault) → Keeps b c →
+    IfErr answer (λ fault. IsFaultAfter old new a c fault)
+refused_kept old new a b c (Ok summary) h k = tt
+refused_kept old new a b c (Err fault) h k = fault_kept old new a b c fault h k
+
+pub refused_from : (old new a b c : Option (List ℕ)) (answer : Result Summary LogFault) → Keeps a b →
+    IfErr answer (λ fault. IsFaultAfter old new b c fault) → IfErr answer (λ fault. IsFaultAfter old new a c fault)
+refused_from old new a b c (Ok summary) k h = tt
+refused_from old new a b c (Err fault) k h = fault_from old new a b c fault k h
+
+-- a fault of the first two lines, before which nothing was written
+pub fault_at_once : (old new a b : Option (List ℕ)) (fault : LogFault) → IsFaultOf old new [] fault →
+    (fault ≢ Faults.Write → Keeps a b) → IsFaultAfter old new a b fault
+fault_at_once old new a b fault h k = fault_after old new [] a b fault h (λ other. keeps_appends a b (k other))

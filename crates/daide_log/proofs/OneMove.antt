@@ -17,15 +17,13 @@ use Rattle.daide_frame.proofs.FramesLemmas.{at_head, at_body, last_items-short, 
 use Rattle.daide_frame.proofs.FramesLemmas.{missing-short, missing-of4, wanted}
 use Rattle.daide_frame.proofs.ListLemmas.{eqb_same}
 use Rattle.daide_frame.proofs.FeedingLemmas.{is_dm, alien_in-push}
-use Rattle.daide_frame.proofs.OneByte.{byte_tells, ByteTells, GoesOn, IsOver}
+use Rattle.daide_frame.proofs.OneByte.{byte_tells, ByteTells}
 use Rattle.daide_reader.specs.declared.verdict.Verdict.{Verdict}
-use Rattle.daide_machine.specs.declared.note.Note.{Note}
-use Rattle.daide_machine.specs.declared.note.Note.TheVariants as Notes
 use Rattle.daide_machine.specs.declared.phase.Phase.{Phase}
 use Rattle.daide_machine.specs.declared.phase.Phase.TheVariants.{WaitIm, WaitRm, Open, Over}
-use Rattle.daide_machine.specs.Events.{Event, Comes, Ends, Pops, bytes_come}
-use Rattle.daide_machine.specs.Machine.{SessionState, Effect, Outcome, Step, Runs, coming, with_pending, with_noted}
-use Rattle.daide_machine.specs.Machine.{items_outcome, event_outcome, is_over, untimely, whole, answered, fault, begun}
+use Rattle.daide_machine.specs.Events.{Event, Pops, bytes_come}
+use Rattle.daide_machine.specs.Machine.{SessionState, Effect, Outcome, Runs, coming, with_pending, with_noted}
+use Rattle.daide_machine.specs.Machine.{items_outcome, is_over, untimely, whole, answered, begun}
 use Rattle.daide_machine.specs.Machine.{im_answered, popped}
 use Rattle.daide_machine.specs.Wires.{note_of}
 use Rattle.daide_machine.proofs.PieceRuns.{over_stays}

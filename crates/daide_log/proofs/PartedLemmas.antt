@@ -1,5 +1,5 @@
 -- The first space of some text.
-use Rattle.std.proofs.Common.{◌≡◌, ℕ, zero, suc, ◌+◌, ◌<◌, Bool, true, false, List, [], ◌∷◌, length, take, drop, get_or}
+use Rattle.std.proofs.Common.{◌≡◌, ℕ, zero, suc, ◌+◌, ◌<◌, true, false, List, [], ◌∷◌, length, take, drop, get_or}
 use Rattle.std.proofs.Common.{Option, Some, None, refl, sym, ap, ◌∙◌, arith, cond, eqb, ◌⊎◌, inl, inr, add-one}
 use Rattle.std.proofs.Common.{◌-◌, subst, length-drop}
 use Rattle.std.proofs.Math.Seq.{take-length}

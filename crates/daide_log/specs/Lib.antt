@@ -4,3 +4,5 @@ pub mod Told
 pub mod Log
 pub mod Lines
 pub mod Progress
+pub mod MatchLine
+pub mod MatchTold

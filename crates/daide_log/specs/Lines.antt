@@ -1,6 +1,6 @@
 -- What the parts of the code read of a log.
-use Rattle.std.specs.Prelude.{◌≡◌, ◌≢◌, ℕ, ◌+◌, ◌<◌, ◌≤◌, ◌⊎◌, Bool, true, false, List, [], ◌∷◌, ◌++◌, length, take, drop, Option, Some, None}
-use Rattle.std.specs.Prelude.{Result, Ok, Err}
+use Rattle.std.specs.Prelude.{⊤, ◌≡◌, ℕ, ◌+◌, ◌<◌, ◌≤◌, ◌⊎◌, Bool, true, false, List, [], ◌∷◌, ◌++◌, length, take, drop}
+use Rattle.std.specs.Prelude.{Option, Some, None, Result, Ok, Err}
 use Rattle.std.specs.Io.KnownBytes.{Consumes, Keeps, IsAtEnd}
 use Rattle.daide_log.specs.declared.lines.Found.{Found}
 use Rattle.daide_log.specs.declared.lines.Found.TheVariants.{Line, Last, End}
@@ -9,11 +9,20 @@ use Rattle.daide_log.specs.declared.fault.LogFault.TheVariants as Faults
 use Rattle.daide_log.specs.LogLine.{without_cr}
 use Rattle.daide_log.specs.Log.{most_lines, longest_line, IsUnbroken}
 
--- one read: these bytes came, or the reader has none left, or it failed
-abbrev pub Reads : Option (List ℕ) → Option (List ℕ) → List ℕ → Result Bool (Unit {0}) → Type 0
-Reads old new bytes (Ok true) = Consumes old new bytes × (0 < length bytes)
+-- the most bytes that are read at once
+abbrev pub block_size : ℕ
+block_size = 8192
+
+-- one read: these bytes came, or the reader has none left, or it failed; or the report could not be handed over first
+abbrev pub Reads : Option (List ℕ) → Option (List ℕ) → List ℕ → Result Bool LogFault → Type 0
+Reads old new bytes (Ok true) = Consumes old new bytes × (0 < length bytes) × (length bytes ≤ block_size)
 Reads old new bytes (Ok false) = Consumes old new [] × (bytes ≡ []) × IsAtEnd new
-Reads old new bytes (Err failed) = Keeps old new × (bytes ≡ [])
+Reads old new bytes (Err Faults.Read) = Keeps old new × (bytes ≡ [])
+Reads old new bytes (Err Faults.Write) = ⊤
+Reads old new bytes (Err Faults.Memory) = ⊥
+Reads old new bytes (Err (Faults.BadLine n)) = ⊥
+Reads old new bytes (Err (Faults.LineTooLong n)) = ⊥
+Reads old new bytes (Err Faults.TooManyLines) = ⊥
 
 -- Of the bytes that were held and those that the reader gave, these were looked at, and the rest is held.
 abbrev pub LooksAt : Option (List ℕ) → List ℕ → List ℕ → Option (List ℕ) → List ℕ → Type 0
@@ -30,14 +39,14 @@ IsFound old held count (Ok Last) text new rest =
     × (0 < length text) × (count < most_lines)
 IsFound old held count (Ok End) text new rest = LooksAt old held [] new rest × (rest ≡ []) × IsAtEnd new
 IsFound old held count (Err (Faults.LineTooLong n)) text new rest =
-    (line : List ℕ) × LooksAt old held line new rest × IsUnbroken line × (longest_line < length line)
-    × (count < most_lines) × (n ≡ count + 1)
+    (line : List ℕ) × LooksAt old held line new rest × IsUnbroken line × (length line ≡ longest_line + 1)
+    × (count < most_lines) × (n ≡ count + 1) × (length rest < block_size)
 IsFound old held count (Err Faults.TooManyLines) text new rest =
-    LooksAt old held [] new rest × (0 < length rest) × (count ≡ most_lines)
+    LooksAt old held [] new rest × (0 < length rest) × (count ≡ most_lines) × (length rest ≤ block_size)
 IsFound old held count (Err Faults.Read) text new rest =
     (line : List ℕ) × LooksAt old held line new rest × (rest ≡ []) × IsUnbroken line × (length line ≤ longest_line)
 IsFound old held count (Err (Faults.BadLine n)) text new rest = ⊥
-IsFound old held count (Err Faults.Write) text new rest = ⊥
+IsFound old held count (Err Faults.Write) text new rest = ⊤
 IsFound old held count (Err Faults.Memory) text new rest = ⊥
 
 -- the place of the first line feed, if there is one
@@ -47,22 +56,22 @@ IsLineEnd bytes (Some n) =
     (n < length bytes) × IsUnbroken (take n bytes) × (bytes ≡ take n bytes ++ 10 ∷ drop (n + 1) bytes)
 
 -- What was held of a line went behind the text: all up to its line feed, or all that was held, or as much as makes the
--- text too long.
+-- text too long; less than a block is then left, as a byte of a line that was short went.
 abbrev pub Scans : List ℕ → List ℕ → Bool → List ℕ → List ℕ → Type 0
 Scans held before true rest after =
     (front : List ℕ) × (held ≡ front ++ 10 ∷ rest) × IsUnbroken front × (after ≡ before ++ front)
     × (length after ≤ longest_line)
 Scans held before false rest after =
     (front : List ℕ) × (held ≡ front ++ rest) × IsUnbroken front × (after ≡ before ++ front)
-    × ((rest ≡ []) ⊎ (longest_line < length after))
+    × ((rest ≡ []) ⊎ (longest_line < length after)) × (length before ≤ longest_line → length rest < block_size)
 
 -- whether a byte is left of what is held and what the reader has
 abbrev pub HasMore : Option (List ℕ) → List ℕ → Result Bool LogFault → Option (List ℕ) → List ℕ → Type 0
-HasMore old held (Ok true) new rest = LooksAt old held [] new rest × (0 < length rest)
+HasMore old held (Ok true) new rest = LooksAt old held [] new rest × (0 < length rest) × (length rest ≤ block_size)
 HasMore old held (Ok false) new rest = LooksAt old held [] new rest × (rest ≡ []) × IsAtEnd new
 HasMore old held (Err Faults.Read) new rest = LooksAt old held [] new rest × (rest ≡ [])
 HasMore old held (Err (Faults.BadLine n)) new rest = ⊥
 HasMore old held (Err (Faults.LineTooLong n)) new rest = ⊥
 HasMore old held (Err Faults.TooManyLines) new rest = ⊥
-HasMore old held (Err Faults.Write) new rest = ⊥
+HasMore old held (Err Faults.Write) new rest = ⊤
 HasMore old held (Err Faults.Memory) new rest = ⊥

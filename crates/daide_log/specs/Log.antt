@@ -1,7 +1,7 @@
 -- The report of a log: what is written for its lines, each judged by the session as the lines before it left it, with
 -- each answer taken at once. docs/FORMATS.md, "The log". (own)
-use Rattle.std.specs.Prelude.{◌≡◌, ◌≢◌, ℕ, ◌+◌, ◌<◌, ◌≤◌, ◌⊎◌, Bool, true, false, List, [], ◌∷◌, ◌++◌, length}
-use Rattle.std.specs.Prelude.{Option, Some, None, Result, Ok, Err}
+use Rattle.std.specs.Prelude.{◌≡◌, ◌≢◌, ℕ, ◌+◌, ◌<◌, ◌≤◌, true, false, List, [], ◌∷◌, ◌++◌, length}
+use Rattle.std.specs.Prelude.{Some, None, Result, Ok, Err}
 use Rattle.std.specs.List.{AllByRecursion}
 use Rattle.daide_machine.specs.Machine.{SessionState, Effect, Runs, opening}
 use Rattle.daide_session.specs.declared.config.Config.{Config}

@@ -1,7 +1,8 @@
 -- How far a log was read and reported, and what a fault leaves.
-use Rattle.std.specs.Prelude.{◌≡◌, ⊤, ℕ, ◌+◌, ◌*◌, ◌≤◌, Bool, true, false, List, [], ◌++◌, Option, Some, None, IfSome, Result, Ok, Err}
+use Rattle.std.specs.Prelude.{◌≡◌, ⊤, ℕ, ◌+◌, ◌*◌, ◌<◌, ◌≤◌, Bool, true, false, List, [], ◌++◌, length}
+use Rattle.std.specs.Prelude.{Option, Some, None, IfSome, Result, Ok, Err}
 use Rattle.std.specs.Io.KnownBytes.{Consumes, Keeps, Appends, IsAtEnd}
-use Rattle.daide_machine.specs.Machine.{Effect, SessionState, opening}
+use Rattle.daide_machine.specs.Machine.{Effect, opening}
 use Rattle.daide_machine.specs.Wires.{Gateway}
 use Rattle.daide_session.specs.declared.config.Config.{Config}
 use Rattle.daide_session.specs.Session.{limits_of}
@@ -11,7 +12,9 @@ use Rattle.daide_log.specs.declared.lines.Found.TheVariants.{Line, Last, End}
 use Rattle.daide_log.specs.declared.fault.LogFault.{LogFault}
 use Rattle.daide_log.specs.declared.fault.LogFault.TheVariants.{BadLine, LineTooLong, TooManyLines, Read, Write, Memory}
 use Rattle.daide_log.specs.Report.{counted_all, nothing_counted}
-use Rattle.daide_log.specs.Log.{Stage, Unnamed, Named, Playing, Reports, ReportsAll, IsUnbroken, IsReport, most_lines}
+use Rattle.daide_log.specs.Log.{Stage, Named, Playing, Reports, ReportsAll, IsUnbroken, IsReport, most_lines}
+use Rattle.daide_log.specs.Log.{longest_line}
+use Rattle.daide_log.specs.Lines.{block_size}
 use Rattle.daide_log.specs.Told.{IsIdle, IsMoreBy}
 
 -- These lines of what was read are reported, and these bytes are held.
@@ -24,12 +27,12 @@ pub record HasRead (old new : Option (List ℕ)) (held : List ℕ) (number : ℕ
   pub reports : Reports bytes number moves text stage
 
 -- All lines are reported, and nothing is left.
-pub record HasReadAll (old new : Option (List ℕ)) (number : ℕ) (moves : List Effect) (text : List ℕ) (stage : Stage) : Type 0
-  where
-    pub given : List ℕ
-    pub consumed : Consumes old new given
-    pub ended : IsAtEnd new
-    pub reports : ReportsAll given number moves text stage
+pub record HasReadAll (old new : Option (List ℕ)) (number : ℕ) (moves : List Effect) (text : List ℕ) (stage : Stage) :
+    Type 0 where
+  pub given : List ℕ
+  pub consumed : Consumes old new given
+  pub ended : IsAtEnd new
+  pub reports : ReportsAll given number moves text stage
 
 -- The reader failed within a line, after these were reported.
 pub record IsReadTo (old new : Option (List ℕ)) (text : List ℕ) : Type 0 where
@@ -44,6 +47,20 @@ pub record IsReadTo (old new : Option (List ℕ)) (text : List ℕ) : Type 0 whe
   pub stage : Stage
   pub reports : Reports bytes number moves text stage
 
+-- What was read: so many lines with this report, so many bytes of the next line, and less than a block behind these.
+pub record StopsBehind (old new : Option (List ℕ)) (text : List ℕ) (number count : ℕ) : Type 0 where
+  pub given : List ℕ
+  pub consumed : Consumes old new given
+  pub bytes : List ℕ
+  pub start : List ℕ
+  pub beyond : List ℕ
+  pub whole : given ≡ bytes ++ start ++ beyond
+  pub started : length start ≡ count
+  pub few : length beyond < block_size
+  pub moves : List Effect
+  pub stage : Stage
+  pub reports : Reports bytes number moves text stage
+
 -- the limits of a session that nothing came to
 abbrev pub begun : Config → Stage
 begun config = Playing (opening (limits_of config))
@@ -53,13 +70,17 @@ abbrev pub IsOpened : Config → Bool → Option (List ℕ) → Option (List ℕ
 IsOpened config true old new held = HasRead old new held 2 [] [] (begun config)
 IsOpened config false old new held = HasReadAll old new 2 [] [] (begun config)
 
--- the log has this fault, with this text before it
+-- The log has this fault, with this text before it; behind the byte that makes a line too long, or one line too many, a
+-- reader is asked for no more.
 abbrev pub IsFaultOf : Option (List ℕ) → Option (List ℕ) → List ℕ → LogFault → Type 0
 IsFaultOf old new text (BadLine n) = IfSome old (λ log. IsReport log text (Err (BadLine n)))
-IsFaultOf old new text (LineTooLong n) = IfSome old (λ log. IsReport log text (Err (LineTooLong n)))
-IsFaultOf old new text TooManyLines = IfSome old (λ log. IsReport log text (Err TooManyLines))
+IsFaultOf old new text (LineTooLong n) =
+    IfSome old (λ log. IsReport log text (Err (LineTooLong n))) × (number : ℕ) × (n ≡ number + 1)
+    × StopsBehind old new text number (longest_line + 1)
+IsFaultOf old new text TooManyLines =
+    IfSome old (λ log. IsReport log text (Err TooManyLines)) × StopsBehind old new text most_lines 1
 IsFaultOf old new text Read = IsReadTo old new text
-IsFaultOf old new text Write = ⊥
+IsFaultOf old new text Write = ⊤
 IsFaultOf old new text Memory = ⊥
 
 -- ---- the first two lines

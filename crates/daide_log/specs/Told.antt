@@ -4,7 +4,6 @@ use Rattle.std.specs.Io.KnownBytes.{Appends}
 use Rattle.daide_log.specs.declared.event_line.Told.{Told}
 use Rattle.daide_log.specs.declared.event_line.Told.TheVariants as Variants
 use Rattle.daide_frame.specs.declared.side.Side.{Side}
-use Rattle.daide_frame.specs.declared.side.Side.TheVariants.{Bot, Server}
 use Rattle.daide_machine.specs.declared.note.Note.{Note}
 use Rattle.daide_machine.specs.declared.note.Note.TheVariants as Notes
 use Rattle.daide_machine.specs.Events.{Event}
@@ -74,7 +73,8 @@ Tells number side old events new before after written_before written_after =
     × Appends written_before written_after (lines_of number side moves)
 
 -- A line tells an event, by which the session goes on; its moves are counted, and their lines written.
-abbrev pub Judges : ℕ → SessionState → List ℕ → SessionState → Summary → Summary → Option (List ℕ) → Option (List ℕ) → Type 0
+abbrev pub Judges : ℕ → SessionState → List ℕ → SessionState → Summary → Summary → Option (List ℕ) → Option (List ℕ) →
+    Type 0
 Judges number old line new before after written_before written_after =
     (event : LogEvent) × (event_of_line line ≡ Some event)
     × Tells number (side_of event) old (events_of event) new before after written_before written_after

@@ -2,8 +2,10 @@
 
 ghost use Rattle.std.specs.Prelude.{◌≡◌, ◌≤◌, [], length, drop, Ok, IfOk, IfErr, true, false};
 ghost use Rattle.std.specs.Io.KnownBytes.{Consumes, Keeps, IsAtEnd};
-ghost use Rattle.daide_log.specs.Lines.{Reads};
+ghost use Rattle.daide_log.specs.Lines.{Reads, block_size};
 
+use crate::fault::LogFault;
+use crate::page::Page;
 use std::io::Read;
 use std::marker::Model;
 
@@ -42,7 +44,8 @@ impl Block {
 
     /// The bytes.
     pub fn as_slice(&self) -> &[u8]
-        ensures { result.now ≡ self.now }
+        ensures value { result.now ≡ self.now }
+        ensures fits { length result.now ≤ block_size }
     {
         &self.bytes[self.from..self.to]
     }
@@ -55,9 +58,11 @@ impl Block {
         self.from += count;
     }
 
-    /// Reads more, and answers whether there was any.
-    pub fn refill<R: Read>(&mut self, reader: &mut R) -> Result<bool, ()>
-        requires { self.old ≡ [] }
+    /// Reads more, and answers whether there was any. A read may wait, so there is none while lines of the report are
+    /// held back.
+    pub fn refill<R: Read>(&mut self, reader: &mut R, held_back: &Page) -> Result<bool, LogFault>
+        requires looked_at { self.old ≡ [] }
+        requires handed_over { held_back.now.items ≡ [] }
         ensures { Reads (R.remaining reader.old) (R.remaining reader.new) self.new result }
     {
         self.from = 0;
@@ -67,7 +72,7 @@ impl Block {
                 self.to = count;
                 Ok(count > 0)
             }
-            Err(_) => Err(()),
+            Err(_) => Err(LogFault::Read),
         }
     }
 }

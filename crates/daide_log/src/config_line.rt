@@ -1,7 +1,7 @@
 //! The second line of a log, which sets the limits of its session.
 
 ghost use Rattle.std.specs.Prelude.{◌≡◌, option_map};
-ghost use Rattle.daide_log.specs.LogLine.{number_on, plain_number, Parted, parted_at_space, config_of_line};
+ghost use Rattle.daide_log.specs.LogLine.{number_on, plain_number, Parted, parted_at_space, config_of_numbers, config_of_line};
 
 use daide_session::Config;
 
@@ -27,7 +27,7 @@ fn number_of(digits: &[u8]) -> Option<u16>
 
 /// A number without a sign and without leading zeros.
 #[tactic(auto, unfolding(crate::specs::LogLine::plain_number))]
-fn plain_number(digits: &[u8]) -> Option<u16>
+pub(crate) fn plain_number(digits: &[u8]) -> Option<u16>
     ensures { result ≡ plain_number digits.now }
 {
     match digits {
@@ -39,7 +39,7 @@ fn plain_number(digits: &[u8]) -> Option<u16>
 }
 
 /// What stands before the first space, and what behind it.
-fn parted_at_space(text: &[u8]) -> Option<(&[u8], &[u8])>
+pub(crate) fn parted_at_space(text: &[u8]) -> Option<(&[u8], &[u8])>
     ensures { option_map (λ parts. record { word = parts.0.now; rest = parts.1.now }) result ≡ parted_at_space text.now }
 {
     for (i, c) in text.iter().enumerate() {
@@ -50,14 +50,10 @@ fn parted_at_space(text: &[u8]) -> Option<(&[u8], &[u8])>
     None
 }
 
-/// The limits that a line sets, if it is such a line.
-#[tactic(auto, unfolding(crate::specs::LogLine::config_of_line))]
-pub fn read_config(line: &[u8]) -> Option<Config>
-    ensures { result ≡ config_of_line line.now }
+/// Limits of three plain numbers, if a session takes them.
+pub(crate) fn limits_of(level: &[u8], body: &[u8], depth: &[u8]) -> Option<Config>
+    ensures { result ≡ config_of_numbers (plain_number level.now) (plain_number body.now) (plain_number depth.now) }
 {
-    let rest = line.strip_prefix(b"config ")?;
-    let (level, rest) = parted_at_space(rest)?;
-    let (body, depth) = parted_at_space(rest)?;
     let config = Config {
         top_level: plain_number(level)?,
         max_body: plain_number(body)?,
@@ -67,4 +63,15 @@ pub fn read_config(line: &[u8]) -> Option<Config>
         Ok(()) => Some(config),
         Err(_) => None,
     }
+}
+
+/// The limits that a line sets, if it is such a line.
+#[tactic(auto, unfolding(crate::specs::LogLine::config_of_line))]
+pub fn read_config(line: &[u8]) -> Option<Config>
+    ensures { result ≡ config_of_line line.now }
+{
+    let rest = line.strip_prefix(b"config ")?;
+    let (level, rest) = parted_at_space(rest)?;
+    let (body, depth) = parted_at_space(rest)?;
+    limits_of(level, body, depth)
 }

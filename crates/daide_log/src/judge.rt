@@ -1,11 +1,13 @@
 //! One line of a log from the third on, judged by the session.
 
 ghost use Rattle.std.specs.Prelude.{◌≡◌, ◌⊎◌, Ok, Err, None, OnOk, IfErr, MatchResult};
+ghost use Rattle.std.specs.Io.KnownBytes.{append_known};
 ghost use Rattle.daide_log.specs.LogLine.{event_of_line};
 ghost use Rattle.daide_log.specs.Told.{HasRoom, IsMoreBy, IsIdle, Judges};
 
 use crate::event_line::{MOST, Told, read_event};
 use crate::fault::LogFault;
+use crate::page::Page;
 use crate::play::{end, feed_all, time_out};
 use crate::report::Summary;
 use daide_session::Session;
@@ -31,6 +33,7 @@ pub fn judge<A: Allocator, W: Write>(
     number: u32,
     bytes: &mut [u8; MOST],
     summary: &mut Summary,
+    page: &mut Page,
     writer: &mut W,
 ) -> Result<(), LogFault>
     requires idle { IsIdle session.old }
@@ -38,17 +41,27 @@ pub fn judge<A: Allocator, W: Write>(
     ensures idle { IsIdle session.new }
     ensures few { IsMoreBy 1024 summary.old summary.new }
     ensures judged { OnOk result (Judges number session.old.state line.now session.new.state
-        summary.old summary.new (W.contents writer.old) (W.contents writer.new)) }
+        summary.old summary.new (append_known (W.contents writer.old) page.old.items)
+        (append_known (W.contents writer.new) page.new.items)) }
     ensures refused { IfErr result (λ fault. (fault ≡ LogFault.Write) ⊎ ((fault ≡ LogFault.BadLine number)
-        × (event_of_line line.now ≡ None) × (W.contents writer.new ≡ W.contents writer.old))) }
+        × (event_of_line line.now ≡ None) × (append_known (W.contents writer.new) page.new.items
+        ≡ append_known (W.contents writer.old) page.old.items))) }
 {
     match read_event(line, bytes) {
         None => Err(LogFault::BadLine(number)),
         Some(Told::Traffic(side, count)) => {
-            or_write(feed_all(session, side, &bytes[..count], number, summary, writer))
+            or_write(feed_all(
+                session,
+                side,
+                &bytes[..count],
+                number,
+                summary,
+                page,
+                writer,
+            ))
         }
-        Some(Told::EndOf(side)) => or_write(end(session, side, number, summary, writer)),
-        Some(Told::TimeOver) => or_write(time_out(session, number, summary, writer)),
+        Some(Told::EndOf(side)) => or_write(end(session, side, number, summary, page, writer)),
+        Some(Told::TimeOver) => or_write(time_out(session, number, summary, page, writer)),
         Some(Told::Silence) => Ok(()),
     }
 }

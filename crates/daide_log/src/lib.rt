@@ -12,6 +12,8 @@ pub mod event_line;
 pub mod fault;
 pub mod judge;
 pub mod lines;
+pub mod match_line;
+pub mod page;
 pub mod play;
 pub mod report;
 #[cfg(test)]

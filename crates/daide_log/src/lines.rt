@@ -1,14 +1,16 @@
 //! The lines of a log, one after the other.
 
-ghost use Rattle.std.specs.Prelude.{◌≡◌, ◌≤◌};
+ghost use Rattle.std.specs.Prelude.{◌≡◌, ◌≢◌, ◌≤◌, [], OnOk, IfErr};
+ghost use Rattle.std.specs.Io.KnownBytes.{Keeps, append_known};
 ghost use Rattle.daide_log.specs.Log.{most_lines};
 ghost use Rattle.daide_log.specs.LogLine.{without_cr};
-ghost use Rattle.daide_log.specs.Lines.{IsFound, IsLineEnd, Scans, HasMore};
+ghost use Rattle.daide_log.specs.Lines.{IsFound, IsLineEnd, Scans, HasMore, Reads};
 
 use crate::block::Block;
 use crate::fault::LogFault;
+use crate::page::{Page, hand_over};
 use arrayvec::ArrayVec;
-use std::io::Read;
+use std::io::{Read, Write};
 
 /// The most lines of a log.
 const MOST_LINES: u32 = 1_000_000;
@@ -74,33 +76,70 @@ fn drop_cr(text: &mut Text)
     }
 }
 
+/// Hands over what is held back of the report, and reads more.
+fn read_on<R: Read, W: Write>(
+    block: &mut Block,
+    page: &mut Page,
+    reader: &mut R,
+    writer: &mut W,
+) -> Result<bool, LogFault>
+    requires { block.old ≡ [] }
+    ensures read { Reads (R.remaining reader.old) (R.remaining reader.new) block.new result }
+    ensures kept { OnOk result (Keeps (append_known (W.contents writer.old) page.old.items)
+        (append_known (W.contents writer.new) page.new.items)) }
+    ensures kept_at_fault { IfErr result (λ fault. fault ≢ LogFault.Write →
+        Keeps (append_known (W.contents writer.old) page.old.items)
+        (append_known (W.contents writer.new) page.new.items)) }
+{
+    match hand_over(page, writer) {
+        Ok(()) => block.refill(reader, page),
+        Err(_) => Err(LogFault::Write),
+    }
+}
+
 /// Whether any byte of a log is left, of which a first one is read if none is held.
-fn has_more<R: Read>(block: &mut Block, reader: &mut R) -> Result<bool, LogFault>
-    ensures { HasMore (R.remaining reader.old) block.old result (R.remaining reader.new) block.new }
+fn has_more<R: Read, W: Write>(
+    block: &mut Block,
+    page: &mut Page,
+    reader: &mut R,
+    writer: &mut W,
+) -> Result<bool, LogFault>
+    ensures more { HasMore (R.remaining reader.old) block.old result (R.remaining reader.new) block.new }
+    ensures kept { OnOk result (Keeps (append_known (W.contents writer.old) page.old.items)
+        (append_known (W.contents writer.new) page.new.items)) }
+    ensures kept_at_fault { IfErr result (λ fault. fault ≢ LogFault.Write →
+        Keeps (append_known (W.contents writer.old) page.old.items)
+        (append_known (W.contents writer.new) page.new.items)) }
 {
     if !block.as_slice().is_empty() {
         return Ok(true);
     }
-    match block.refill(reader) {
-        Ok(more) => Ok(more),
-        Err(()) => Err(LogFault::Read),
-    }
+    read_on(block, page, reader, writer)
 }
 
 /// Takes the next line of a log, behind so many lines. A line that is too long is told at the byte by which it is, and
-/// one line too many at its first byte, with nothing read further.
-pub fn next_line<R: Read>(
+/// one line too many at its first byte, with nothing read further. What is held back of the report is handed over
+/// before each read.
+pub fn next_line<R: Read, W: Write>(
     block: &mut Block,
     text: &mut Text,
     count: u32,
+    page: &mut Page,
     reader: &mut R,
+    writer: &mut W,
 ) -> Result<Found, LogFault>
     requires { count ≤ most_lines }
-    ensures { IsFound (R.remaining reader.old) block.old count result text.new.items (R.remaining reader.new) block.new }
+    ensures found { IsFound (R.remaining reader.old) block.old count result text.new.items
+        (R.remaining reader.new) block.new }
+    ensures kept { OnOk result (Keeps (append_known (W.contents writer.old) page.old.items)
+        (append_known (W.contents writer.new) page.new.items)) }
+    ensures kept_at_fault { IfErr result (λ fault. fault ≢ LogFault.Write →
+        Keeps (append_known (W.contents writer.old) page.old.items)
+        (append_known (W.contents writer.new) page.new.items)) }
 {
     text.clear();
     if count == MOST_LINES {
-        return if has_more(block, reader)? {
+        return if has_more(block, page, reader, writer)? {
             Err(LogFault::TooManyLines)
         } else {
             Ok(Found::End)
@@ -114,11 +153,11 @@ pub fn next_line<R: Read>(
         if text.len() == TOO_LONG {
             return Err(LogFault::LineTooLong(count + 1));
         }
-        match block.refill(reader) {
+        match read_on(block, page, reader, writer) {
             Ok(true) => {}
             Ok(false) if text.is_empty() => return Ok(Found::End),
             Ok(false) => return Ok(Found::Last),
-            Err(()) => return Err(LogFault::Read),
+            Err(fault) => return Err(fault),
         }
     }
     unreachable!()

@@ -1,7 +1,7 @@
 //! The session of a log, by the lines from the third on.
 
 ghost use Rattle.std.specs.Prelude.{◌≡◌, ◌≤◌, ℕ, List, [], ◌∷◌, length, OnOk, IfErr};
-ghost use Rattle.std.specs.Io.KnownBytes.{Appends};
+ghost use Rattle.std.specs.Io.KnownBytes.{Appends, append_known};
 ghost use Rattle.daide_frame.specs.declared.side.Side.{Side};
 ghost use Rattle.daide_machine.specs.Events.{Event, Ends, Pops, bytes_come, other as opposite};
 ghost use Rattle.daide_machine.specs.Machine.{Effect, Runs};
@@ -9,7 +9,8 @@ ghost use Rattle.daide_machine.specs.Wires.{waiting, room_of};
 ghost use Rattle.daide_log.specs.Report.{counted, counted_all, lines_of};
 ghost use Rattle.daide_log.specs.Told.{HasRoom, IsMoreBy, IsIdle, Moves, Tells, told_lines};
 
-use crate::report::{Summary, write_move};
+use crate::page::{Page, put_move};
+use crate::report::Summary;
 use daide_frame::Side;
 use daide_machine::Note;
 use daide_session::Session;
@@ -56,17 +57,19 @@ fn tell<W: Write>(
     side: Side,
     told: Note,
     summary: &mut Summary,
+    page: &mut Page,
     writer: &mut W,
 ) -> io::Result<()>
     requires { HasRoom 1 summary.old }
     ensures counted { summary.new ≡ counted told summary.old }
     ensures few { IsMoreBy 1 summary.old summary.new }
-    ensures text { OnOk result (Appends (W.contents writer.old) (W.contents writer.new) (told_lines number side told)) }
+    ensures text { OnOk result (Appends (append_known (W.contents writer.old) page.old.items)
+        (append_known (W.contents writer.new) page.new.items) (told_lines number side told)) }
 {
     summary.count(told);
     match told {
         Note::Nothing => Ok(()),
-        Note::Frame(..) | Note::Fault(_) => write_move(number, side, told, writer),
+        Note::Frame(..) | Note::Fault(_) => put_move(number, side, told, page, writer),
     }
 }
 
@@ -77,6 +80,7 @@ pub fn feed_all<A: Allocator, W: Write>(
     bytes: &[u8],
     number: u32,
     summary: &mut Summary,
+    page: &mut Page,
     writer: &mut W,
 ) -> io::Result<()>
     requires idle { IsIdle session.old }
@@ -84,13 +88,14 @@ pub fn feed_all<A: Allocator, W: Write>(
     ensures idle { IsIdle session.new }
     ensures few { IsMoreBy (length bytes.now) summary.old summary.new }
     ensures told { OnOk result (Tells number side session.old.state (bytes_come side bytes.now) session.new.state
-        summary.old summary.new (W.contents writer.old) (W.contents writer.new)) }
+        summary.old summary.new (append_known (W.contents writer.old) page.old.items)
+        (append_known (W.contents writer.new) page.new.items)) }
 {
     let mut rest = bytes;
     while !rest.is_empty() && !session.is_over() {
         let (piece, more) = rest.split_at(rest.len().min(session.room(side)));
         let told = feed_piece(session, side, piece);
-        tell(number, side, told, summary, writer)?;
+        tell(number, side, told, summary, page, writer)?;
         rest = more;
     }
     Ok(())
@@ -102,19 +107,21 @@ pub fn end<A: Allocator, W: Write>(
     side: Side,
     number: u32,
     summary: &mut Summary,
+    page: &mut Page,
     writer: &mut W,
 ) -> io::Result<()>
     requires room { HasRoom 1 summary.old }
     ensures idle { IsIdle session.new }
     ensures few { IsMoreBy 1 summary.old summary.new }
     ensures told { OnOk result (Tells number side session.old.state (Ends side ∷ []) session.new.state
-        summary.old summary.new (W.contents writer.old) (W.contents writer.new)) }
+        summary.old summary.new (append_known (W.contents writer.old) page.old.items)
+        (append_known (W.contents writer.new) page.new.items)) }
 {
     let ended = session.ended(side);
     take_answers(session);
     if ended {
         summary.count(Note::Nothing);
-        return write_move(number, side, Note::Nothing, writer);
+        return put_move(number, side, Note::Nothing, page, writer);
     }
     Ok(())
 }
@@ -124,15 +131,17 @@ pub fn time_out<A: Allocator, W: Write>(
     session: &mut Session<A>,
     number: u32,
     summary: &mut Summary,
+    page: &mut Page,
     writer: &mut W,
 ) -> io::Result<()>
     requires room { HasRoom 1 summary.old }
     ensures idle { IsIdle session.new }
     ensures few { IsMoreBy 1 summary.old summary.new }
     ensures told { OnOk result (Tells number Side.Bot session.old.state (Pops ∷ []) session.new.state
-        summary.old summary.new (W.contents writer.old) (W.contents writer.new)) }
+        summary.old summary.new (append_known (W.contents writer.old) page.old.items)
+        (append_known (W.contents writer.new) page.new.items)) }
 {
     let told = session.im_timeout();
     take_answers(session);
-    tell(number, Side::Bot, told, summary, writer)
+    tell(number, Side::Bot, told, summary, page, writer)
 }

@@ -35,7 +35,8 @@ fn side_name(side: Side) -> &'static str
     }
 }
 
-fn kind_name(kind: Kind) -> &'static str
+/// A kind by the two letters of the protocol.
+pub fn kind_name(kind: Kind) -> &'static str
     ensures { result.now ≡ name_of_kind kind }
 {
     match kind {

@@ -6,6 +6,9 @@ use crate::report::Summary;
 use std::process::Abort;
 use std::test::Fail;
 
+mod match_lines;
+mod streams;
+
 /// What a check answers, and what it writes.
 fn checked<R: AllocGlobal + Abort>(
     rt: &R,
@@ -42,6 +45,19 @@ daide-log 1/config 60 1024 16/bot 000000040001DA10/server 01000000/bot 020000024
 daide-log 1/config 60 1024 16/bot 000000040001da100200/server 01000000/bot 00024803020000020000/ | 3 bot IM 4 relay/4 server RM 0 relay/5 bot DM 2 relay/5 bot DM 2 huh 0/relayed 3 prn 0 huh 1 faults 0/ |
 daide-log 1/config 60 1024 16/server 00000004/ | 3 server fault 07/relayed 0 prn 0 huh 0 faults 1/ |
 daide-log 1/config 60 1024 16/bot 00 / | | line 3 is not a log line
+daide-log 1/config 60 1024 16/\r/timer/ | 4 bot fault 01/relayed 0 prn 0 huh 0 faults 1/ |
+daide-log 1/config 60 1024 16/\r | | line 3 is not a log line
+daide-log 1/config 60 1024 16/\r\r/ | | line 3 is not a log line
+daide-log 1/config 60 1024 16/end server/timer/bot 0/ | 3 server end/ | line 5 is not a log line
+daide-log 1/config 60 1024 16/bot  00/ | | line 3 is not a log line
+daide-log 1/config 60 1024 16/bot / | | line 3 is not a log line
+daide-log 1/config 60 1024 16/bot/ | | line 3 is not a log line
+daide-log 1/config 60 1024 16/end  bot/ | | line 3 is not a log line
+daide-log 1/config 60 1024 16/ #/ | | line 3 is not a log line
+daide-log 1/config 60 +1024 16/ | | line 2 is not a log line
+daide-log 1/config 60 66560 16/ | | line 2 is not a log line
+daide-log 1/config 60 1024/ | | line 2 is not a log line
+daide-log 1/config 60 1024 16 0/ | | line 2 is not a log line
 daide-log 1/config 60 1024 16/Bot 00/ | | line 3 is not a log line
 ";
 

@@ -7,13 +7,15 @@ ghost use Rattle.daide_words.specs.Words.{words_of};
 ghost use Rattle.daide_gate.specs.Shown.{Shown, Adds, IsFrameShownAs};
 ghost use Rattle.daide_reader.specs.Verdict.{IsPlaceIn};
 ghost use Rattle.daide_machine.specs.Bounds.{longest_body};
-ghost use Rattle.daide_gate.specs.Shown.{line, printed, kind_line, name_of_kind, fault_shown, relayed_shown, im_shown};
+ghost use Rattle.daide_log.specs.Report.{name_of_kind};
+ghost use Rattle.daide_gate.specs.Shown.{line, printed, kind_line, fault_shown, relayed_shown, im_shown};
 ghost use Rattle.daide_gate.specs.Shown.{verdict_lines, prn_answer, huh_answer, is_relay};
 ghost use Rattle.daide_frame.specs.InitialMessage.{im_of};
 
 use super::verdict_of::verdict_of;
 use daide_frame::{Code, Head, Kind, check_im};
 use daide_grammar::{Level, Side2};
+use daide_log::report::kind_name;
 use daide_machine::answers::{CLOSE_WORD, ERR_WORD, HUH_OPEN, PRN_OPEN};
 use daide_reader::Verdict;
 use daide_token::write_text_with;
@@ -21,18 +23,6 @@ use daide_words::Words;
 use std::alloc::{AllocError, Allocator};
 use std::io;
 use std::io::Write;
-
-fn kind_name(kind: Kind) -> &'static str
-    ensures { result.now ≡ name_of_kind kind }
-{
-    match kind {
-        Kind::Im => "IM",
-        Kind::Rm => "RM",
-        Kind::Dm => "DM",
-        Kind::Fm => "FM",
-        Kind::Em => "EM",
-    }
-}
 
 /// Writes a frame's kind, and the length of its body.
 fn write_kind<A: Allocator>(head: Head, text: &mut Vec<u8, A>) -> io::Result<()>

@@ -1,30 +1,33 @@
-use Rattle.std.proofs.Common.{arith, ap, ◌∙◌, subst, Ok, Bool, Result, true}
+use Rattle.std.proofs.Common.{arith, ap, ◌∙◌, subst, Ok}
 use Rattle.daide_log.specs.Lines.{Reads}
-use Rattle.daide_log.proofs.LineLemmas.{emptied, scanned_on, failed_read, HasEmptied}
+use Rattle.daide_log.proofs.LineLemmas.{emptied, scanned_on, failed_read}
+use Rattle.daide_log.proofs.PageLemmas.{keeps_more}
 use Rattle.daide_log.proofs.lines.next_line.Goals as goal
-use Rattle.daide_log.proofs.lines.next_line.Goals.{In-Err, In-Ok-true}
-use Rattle.daide_log.proofs.lines.next_line.Given as given
 
-pub returns-in-Err : goal.returns-in-Err
-returns-in-Err g c =
+pub returns-in-Err-clause-found : goal.returns-in-Err-clause-found
+returns-in-Err-clause-found g c =
     failed_read (g.R.Read.remaining c.args.reader.now) c.args.block.now (g.R.Read.remaining c.loop-turn.reader)
-    c.scan.new.text.items c.loop-turn._turn (g.R.Read.remaining c.refill.new.reader) c.refill.new.self
+    c.scan.new.text.items c.loop-turn._turn (g.R.Read.remaining c.read_on.new.reader) c.read_on.new.block c.args.count
+    c.in-Err.fault
     (emptied (g.R.Read.remaining c.args.reader.now) c.args.block.now (g.R.Read.remaining c.loop-turn.reader)
     c.loop-turn.text.items c.loop-turn.block c.scan.new.text.items c.scan.new.block c.loop-turn._turn
-    c.loop-turn.invariant c.if-scan.ensures (λ e. c.if-len-eq-TOO_LONG.false (c.len.ensures.value ∙ e))
+    c.loop-turn.invariant.0 c.if-scan.ensures (λ e. c.if-len-eq-TOO_LONG.false (c.len.ensures.value ∙ e))
     (omega (arith, c.len.ensures.value, c.len.ensures.fits)))
-    c.in-Err.ensures
+    (subst (Reads (g.R.Read.remaining c.loop-turn.reader) (g.R.Read.remaining c.read_on.new.reader) c.read_on.new.block)
+    c.in-Err.is c.read_on.ensures.read)
 
 pub loop-turn-preserved : goal.loop-turn-preserved
-loop-turn-preserved g c =
-    scanned_on (g.R.Read.remaining c.args.reader.now) c.args.block.now (g.R.Read.remaining c.loop-turn.reader)
-    c.scan.new.text.items c.loop-turn._turn (g.R.Read.remaining c.refill.new.reader) c.refill.new.self
-    (emptied (g.R.Read.remaining c.args.reader.now) c.args.block.now (g.R.Read.remaining c.loop-turn.reader)
-    c.loop-turn.text.items c.loop-turn.block c.scan.new.text.items c.scan.new.block c.loop-turn._turn
-    c.loop-turn.invariant c.if-scan.ensures (λ e. c.if-len-eq-TOO_LONG.false (c.len.ensures.value ∙ e))
-    (omega (arith, c.len.ensures.value, c.len.ensures.fits)))
-    (subst (Reads (g.R.Read.remaining c.loop-turn.reader) (g.R.Read.remaining c.refill.new.reader) c.refill.new.self)
-    (c.in-Ok-true.is ∙ ap Ok c.in-Ok-true.field-0-test) c.refill.ensures)
+loop-turn-preserved g c = (
+  scanned_on (g.R.Read.remaining c.args.reader.now) c.args.block.now (g.R.Read.remaining c.loop-turn.reader)
+      c.scan.new.text.items c.loop-turn._turn (g.R.Read.remaining c.read_on.new.reader) c.read_on.new.block
+      (emptied (g.R.Read.remaining c.args.reader.now) c.args.block.now (g.R.Read.remaining c.loop-turn.reader)
+      c.loop-turn.text.items c.loop-turn.block c.scan.new.text.items c.scan.new.block c.loop-turn._turn
+      c.loop-turn.invariant.0 c.if-scan.ensures (λ e. c.if-len-eq-TOO_LONG.false (c.len.ensures.value ∙ e))
+      (omega (arith, c.len.ensures.value, c.len.ensures.fits)))
+      (subst (Reads (g.R.Read.remaining c.loop-turn.reader) (g.R.Read.remaining c.read_on.new.reader) c.read_on.new.block)
+      (c.in-Ok-true.is ∙ ap Ok c.in-Ok-true.field-0-test) c.read_on.ensures.read),
+  keeps_more _ _ _ c.loop-turn.invariant.1 c.in-Ok-true.ensures.kept,
+)
 
 pub unreachable-requires : goal.unreachable-requires
-unreachable-requires g c = let t = c.loop-turn.invariant.turns in let s = c.loop-turn.invariant.short in omega arith
+unreachable-requires g c = let t = c.loop-turn.invariant.0.turns in let s = c.loop-turn.invariant.0.short in omega arith

@@ -1,5 +1,6 @@
-use Rattle.std.proofs.Common.{sym, ◌∙◌, inr, inl, arith, take, drop, ◌≡◌, List, ℕ, ◌++◌}
+use Rattle.std.proofs.Common.{sym, ◌∙◌, inr, arith}
 use Rattle.std.proofs.lemmas.List.{take-append-drop}
+use Rattle.std.specs.Io.KnownBytes.{append_known}
 use Rattle.daide_log.proofs.PlayLemmas.{piece_fed, all_fed, idle_free}
 use Rattle.daide_frame.proofs.FeedingLemmas.{not_empty}
 use Rattle.daide_log.proofs.play.feed_all.Goals as goal
@@ -10,7 +11,8 @@ loop-session-preserved g c =
     let room = c.room.ensures.waited_for live (idle_free c.loop-session.session c.args.side c.loop-session.invariant.idle) in
     piece_fed c.args.number c.args.side c.args.bytes.now c.loop-session.rest.now c.split_at.result.0.now
     c.split_at.result.1.now c.args.session.now.state c.loop-session.session c.feed_piece-told.new.session
-    c.args.summary.now c.loop-session.summary c.tell.new.summary _ (g.W.Write.contents c.loop-session.writer) _
+    c.args.summary.now c.loop-session.summary c.tell.new.summary _
+    (append_known (g.W.Write.contents c.loop-session.writer) c.loop-session.page.items) _
     c.feed_piece-told.result c.loop-session.invariant
     (rw (c.split_at.ensures.front, c.split_at.ensures.back) (sym (take-append-drop _ c.loop-session.rest.now)))
     (omega (arith, not_empty _ (sym c.is_empty.ensures ∙ c.loop-session-test.true), room, c.split_at.ensures.front_len, c.min.ensures))
@@ -20,5 +22,6 @@ loop-session-preserved g c =
 pub returns-else-not-is_over-clause-told : goal.returns-else-not-is_over-clause-told
 returns-else-not-is_over-clause-told g c =
     all_fed c.args.number c.args.side c.args.bytes.now c.loop-session.rest.now c.args.session.now.state
-    c.loop-session.session c.args.summary.now c.loop-session.summary _ (g.W.Write.contents c.loop-session.writer)
+    c.loop-session.session c.args.summary.now c.loop-session.summary _
+    (append_known (g.W.Write.contents c.loop-session.writer) c.loop-session.page.items)
     c.loop-session.invariant (inr (sym c.is_over.ensures ∙ c.if-not-is_over.false))

@@ -1,5 +1,4 @@
-use Rattle.std.proofs.Common.{◌≡◌, ℕ, List, length}
-use Rattle.daide_machine.specs.Events.{other}
+use Rattle.std.proofs.Common.{length}
 use Rattle.daide_machine.specs.Wires.{waiting, bytes_of}
 use Rattle.daide_log.proofs.PlayLemmas.{IsTaking}
 use Rattle.daide_log.proofs.play.take_waiting.Given as goal

@@ -1,0 +1,67 @@
+//! The end of a report, which is handed to the writer in blocks.
+
+ghost use Rattle.std.specs.Prelude.{◌≡◌, [], OnOk};
+ghost use Rattle.std.specs.Io.KnownBytes.{Appends, Keeps, append_known};
+ghost use Rattle.daide_log.specs.Report.{move_line, summary_line};
+
+use crate::report::{Summary, write_move, write_summary};
+use arrayvec::ArrayVec;
+use daide_frame::Side;
+use daide_machine::Note;
+use std::io;
+use std::io::Write;
+
+/// How many bytes are held back at most.
+const PAGE: usize = 8192;
+
+/// More bytes than any line of a report has.
+const LINE: usize = 128;
+
+/// The lines of a report that were not handed to the writer yet.
+pub type Page = ArrayVec<u8, PAGE>;
+
+/// Hands all that is held to the writer.
+pub fn hand_over<W: Write>(page: &mut Page, writer: &mut W) -> io::Result<()>
+    ensures emptied { OnOk result (page.new.items ≡ []) }
+    ensures written { OnOk result (Keeps (append_known (W.contents writer.old) page.old.items)
+        (append_known (W.contents writer.new) page.new.items)) }
+{
+    writer.write_all(page.as_slice())?;
+    page.clear();
+    Ok(())
+}
+
+/// Hands what is held to the writer where a line more might not find room.
+fn make_room<W: Write>(page: &mut Page, writer: &mut W) -> io::Result<()>
+    ensures { OnOk result (Keeps (append_known (W.contents writer.old) page.old.items)
+        (append_known (W.contents writer.new) page.new.items)) }
+{
+    if page.remaining_capacity() < LINE {
+        hand_over(page, writer)?;
+    }
+    Ok(())
+}
+
+/// Writes the line of a side's move behind what is held.
+pub fn put_move<W: Write>(
+    number: u32,
+    side: Side,
+    told: Note,
+    page: &mut Page,
+    writer: &mut W,
+) -> io::Result<()>
+    ensures { OnOk result (Appends (append_known (W.contents writer.old) page.old.items)
+        (append_known (W.contents writer.new) page.new.items) (move_line number side told)) }
+{
+    make_room(page, writer)?;
+    write_move(number, side, told, page)
+}
+
+/// Writes the last line of a report behind what is held.
+pub fn put_summary<W: Write>(summary: Summary, page: &mut Page, writer: &mut W) -> io::Result<()>
+    ensures { OnOk result (Appends (append_known (W.contents writer.old) page.old.items)
+        (append_known (W.contents writer.new) page.new.items) (summary_line summary)) }
+{
+    make_room(page, writer)?;
+    write_summary(summary, page)
+}
