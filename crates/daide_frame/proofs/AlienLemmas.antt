@@ -1,12 +1,14 @@
 -- The first alien token of a body that grows.
-use Rattle.std.proofs.Common.{◌≡◌, ℕ, suc, ◌+◌, ◌%◌, ◌<◌, ◌≤◌, Bool, true, false, cond, List, [], ◌∷◌, ◌++◌, length}
+use Rattle.std.proofs.Common.{◌≡◌, ℕ, zero, suc, ◌+◌, ◌-◌, ◌*◌, ◌%◌, ◌<◌, ◌≤◌, Bool, true, false, cond, List, [], ◌∷◌, ◌++◌, length}
 use Rattle.std.proofs.Common.{get_or, take, drop, Option, Some, None, refl, sym, ap, ◌∙◌, arith, length-drop}
-use Rattle.std.proofs.Common.{length-take, drop-cons}
+use Rattle.std.proofs.Common.{length-take, drop-cons, subst, leb, inl, inr, ◌⊎◌}
+use Rattle.std.proofs.lemmas.Bool.Decides.{leb_tells}
 use Rattle.std.specs.Prelude.{not}
 use Rattle.std.proofs.lemmas.List.{take-append-drop}
 use Rattle.daide_token.specs.Token.{token_of_bytes}
 use Rattle.daide_token.specs.Class.{has_known_category}
 use Rattle.daide_frame.specs.Frames.{is_alien, further, first_alien}
+use Rattle.daide_frame.specs.Cutter.{AreKnown}
 
 pub is_alien-is : (high low : ℕ) → is_alien high low ≡ not (has_known_category (token_of_bytes (high ∷ low ∷ [])))
 unfolding is_alien
@@ -135,6 +137,38 @@ first_alien-next v n m q h a e =
     e ∙ ap (further n) (first_alien-drop v n h
     ∙ ap (λ (b : Bool). cond b (Some 2) (further 2 (first_alien (drop (n + 2) v)))) a)
     ∙ further-further n 2 (first_alien (drop (n + 2) v)) ∙ ap (λ (k : ℕ). further k (first_alien (drop k v))) (sym q)
+
+-- the same of as many tokens as are known
+pub first_alien-known_run : (v : List ℕ) (first n : ℕ) → 2 * (first + n) ≤ length v → AreKnown v first n →
+    first_alien v ≡ further (2 * first) (first_alien (drop (2 * first) v)) →
+    first_alien v ≡ further (2 * (first + n)) (first_alien (drop (2 * (first + n)) v))
+first_alien-known_run v first zero inside known before =
+    let none : first + 0 ≡ first = omega arith in
+    rw none before
+first_alien-known_run v first (suc n) inside known before =
+    first_alien-next v (2 * (first + n)) (2 * (first + suc n)) (omega arith) (omega (arith, inside))
+    (known n (omega arith))
+    (first_alien-known_run v first n (omega (arith, inside)) (λ k less. known k (omega arith)) before)
+
+-- one token more
+pub known_more : (v : List ℕ) (first n : ℕ) → AreKnown v first n →
+    is_alien (get_or v (2 * (first + n)) 0) (get_or v (2 * (first + n) + 1) 0) ≡ false → AreKnown v first (n + 1)
+known_more v first n known here k less = by_place (leb_tells (k + 1) n)
+  where
+    by_place : ((leb (k + 1) n ≡ true) × (k + 1 ≤ n)) ⊎ ((leb (k + 1) n ≡ false) × (n < k + 1)) →
+        is_alien (get_or v (2 * (first + k)) 0) (get_or v (2 * (first + k) + 1) 0) ≡ false
+    by_place (inl t) = known k (omega (arith, t.1))
+    by_place (inr t) =
+        let same : n ≡ k = omega (arith, t.1, less) in
+        subst (λ (p : ℕ). is_alien (get_or v (2 * (first + p)) 0) (get_or v (2 * (first + p) + 1) 0) ≡ false) same here
+
+-- tokens that are known are so from any of them on
+pub known_from : (v : List ℕ) (first n later m : ℕ) → AreKnown v first n → first ≤ later → later + m ≡ first + n →
+    AreKnown v later m
+known_from v first n later m known below end k less =
+    let same : first + (later - first + k) ≡ later + k = omega arith in
+    subst (λ (p : ℕ). is_alien (get_or v (2 * p) 0) (get_or v (2 * p + 1) 0) ≡ false) same
+    (known (later - first + k) (omega arith))
 
 first_alien-short : (v : List ℕ) → length v ≤ 1 → first_alien v ≡ None
 first_alien-short [] h = refl

@@ -67,7 +67,7 @@ alien_in-end head v n e l =
 
 -- a byte that ends nothing, and one that ends something
 
-fed-on : (limit : ℕ) (b : List ℕ) (x : ℕ) (piece : List ℕ) → last_items limit (b ++ x ∷ []) ≡ [] →
+pub fed-on : (limit : ℕ) (b : List ℕ) (x : ℕ) (piece : List ℕ) → last_items limit (b ++ x ∷ []) ≡ [] →
     (fed limit b (x ∷ piece) ≡ fed limit (b ++ x ∷ []) piece)
     × (fed_items limit b (x ∷ piece) ≡ fed_items limit (b ++ x ∷ []) piece)
 fed-on limit b x piece e = (rw e refl, rw e refl)
@@ -77,7 +77,7 @@ fed-stop : (limit : ℕ) (b : List ℕ) (x : ℕ) (piece : List ℕ) (item : Ite
     (fed limit b (x ∷ piece) ≡ b ++ x ∷ []) × (fed_items limit b (x ∷ piece) ≡ item ∷ items)
 fed-stop limit b x piece item items e = (rw e refl, rw e refl)
 
-fed-one : (limit : ℕ) (b : List ℕ) (x : ℕ) →
+pub fed-one : (limit : ℕ) (b : List ℕ) (x : ℕ) →
     (fed limit b (x ∷ []) ≡ b ++ x ∷ []) × (fed_items limit b (x ∷ []) ≡ last_items limit (b ++ x ∷ []))
 fed-one limit b x = by_items (last_items limit (b ++ x ∷ [])) refl
   where

@@ -5,5 +5,6 @@ pub mod AlienLemmas
 pub mod FramesLemmas
 pub mod CutterLemmas
 pub mod FeedingLemmas
+pub mod HeaderFeeding
 pub mod OneByte
 pub mod CutsAgree

@@ -1,10 +1,10 @@
 -- What a cutter keeps of a frame.
-use Rattle.std.specs.Prelude.{ℕ, ◌≡◌, ◌<◌, ◌≤◌, ◌⊎◌, Bool, false, List, [], ◌++◌, length, take}
+use Rattle.std.specs.Prelude.{ℕ, ◌≡◌, ◌+◌, ◌*◌, ◌<◌, ◌≤◌, ◌⊎◌, Bool, false, List, [], ◌++◌, length, take, slice_index}
 use Rattle.std.specs.Prelude.{drop, Option, None, Some, is_some, MatchOption}
 use Rattle.daide_frame.specs.declared.head.Head.{Head}
 use Rattle.daide_frame.specs.declared.cutter.Step.{Step}
 use Rattle.daide_frame.specs.declared.cutter.Step.TheVariants.{Bodied}
-use Rattle.daide_frame.specs.Frames.{alien_in, head_in, missing, fed, fed_items, answer_to}
+use Rattle.daide_frame.specs.Frames.{is_alien, alien_in, head_in, missing, fed, fed_items, answer_to}
 use Rattle.daide_frame.specs.Frames.{told, IsFault, IsEnd, IsWholeBody}
 
 -- whether a body has an alien token
@@ -32,3 +32,9 @@ pub record IsFed (cap : ℕ) (old piece : List ℕ) (step : Step) (new : List �
   pub whole : IsFault step ⊎ (new ≡ old ++ piece)
   pub full : step ≡ Bodied → IsWholeBody (head_in cap new) (drop 4 new)
   pub closed : IsEnd step → missing cap new ≡ 0
+
+-- whether none of so many tokens of a body, from a place on, is alien
+abbrev pub AreKnown : List ℕ → ℕ → ℕ → Type 0
+AreKnown body first n =
+    (k : ℕ) → k < n →
+    is_alien (slice_index body (2 * (first + k))) (slice_index body (2 * (first + k) + 1)) ≡ false

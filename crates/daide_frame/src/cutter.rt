@@ -3,10 +3,10 @@
 //! A cutter holds one frame at a time, and never more of it than its cap allows: it says at each moment
 //! how many bytes it takes. Its memory is taken once, in `new`; no later call can want for any.
 
-ghost use Rattle.std.specs.Prelude.{◌≡◌, ◌+◌, ◌*◌, ◌<◌, ◌≤◌, [], ◌∷◌, ◌++◌, length, take, drop, slice_index, ◌⊎◌, IfOk, None};
+ghost use Rattle.std.specs.Prelude.{◌≡◌, ◌+◌, ◌*◌, ◌<◌, ◌≤◌, [], ◌∷◌, ◌++◌, length, take, drop, slice_index, ◌⊎◌, IfOk, None, true};
 ghost use Rattle.daide_token.specs.Token.{token_of_bytes};
 ghost use Rattle.daide_frame.specs.Frames.{alien_in, first_alien, further, last_items, fed, fed_items, answer_to, told, IsFault, IsEnd, IsWholeBody, head_in, missing, announced};
-ghost use Rattle.daide_frame.specs.Cutter.{IsFed};
+ghost use Rattle.daide_frame.specs.Cutter.{AreKnown, IsFed};
 ghost use Rattle.daide_frame.specs.declared.cutter.Step.TheVariants.{More, Bodied};
 
 use crate::code::Code;
@@ -17,6 +17,9 @@ use std::marker::Model;
 
 /// How many bytes a header has.
 const HEADER: usize = 4;
+
+/// How many tokens of a body are looked at together.
+const TOGETHER: usize = 8;
 
 /// What the last byte of a piece made of the frame.
 #[derive(Clone, Copy, Debug, PartialEq, Eq)]
@@ -56,6 +59,22 @@ impl<A: Allocator> Model for Cutter<A> {
     ghost invariant = { λ c. IsConsistent c.cap c.have c.header c.head c.is_faulty c.body.items (vec_capacity c.body) };
 }
 
+/// Writes bytes of a header behind those that are held.
+fn put(header: &mut [u8; 4], have: usize, piece: &[u8])
+    requires room { have + length piece.now ≤ 4 }
+    ensures four { length header.new ≡ 4 }
+    ensures bytes { take (have + length piece.now) header.new ≡ take have header.old ++ piece.now }
+{
+    // most headers come whole
+    if let [kind, pad, high, low] = piece {
+        *header = [*kind, *pad, *high, *low];
+        return;
+    }
+    for k in 0..piece.len() {
+        header[have + k] = piece[k];
+    }
+}
+
 /// A token of a body.
 #[inline(always)]
 fn token_at(body: &[u8], place: usize) -> Token
@@ -65,8 +84,22 @@ fn token_at(body: &[u8], place: usize) -> Token
     Token::from_be([body[2 * place], body[2 * place + 1]])
 }
 
-/// How many tokens of a body have a known category, at least: those that were looked at before, and four by four those
-/// behind them, as long as all four have one.
+/// Whether eight tokens of a body, one after the other, all have a known category. Each is looked at, whatever the
+/// others are, so that the processor takes several at a time.
+#[inline(always)]
+fn are_known(body: &[u8], first: usize) -> bool
+    requires { 2 * (first + 8) ≤ length body.now }
+    ensures { result ≡ true → AreKnown body.now first 8 }
+{
+    let mut known = true;
+    for k in 0..TOGETHER {
+        known &= token_at(body, first + k).has_known_category();
+    }
+    known
+}
+
+/// How many tokens of a body have a known category, at least: those that were looked at before, eight by eight those
+/// behind them, as long as all eight have one, and then the last eight at once, some of them again.
 fn known_front(body: &[u8], known: usize) -> usize
     requires counted { 2 * known ≤ length body.now }
     requires none { first_alien body.now ≡ further (2 * known) (first_alien (drop (2 * known) body.now)) }
@@ -75,15 +108,14 @@ fn known_front(body: &[u8], known: usize) -> usize
 {
     let tokens = body.len() / 2;
     let mut i = known;
-    while tokens - i >= 4 {
-        if !token_at(body, i).has_known_category()
-            || !token_at(body, i + 1).has_known_category()
-            || !token_at(body, i + 2).has_known_category()
-            || !token_at(body, i + 3).has_known_category()
-        {
+    while tokens - i >= TOGETHER {
+        if !are_known(body, i) {
             return i;
         }
-        i += 4;
+        i += TOGETHER;
+    }
+    if i < tokens && tokens >= TOGETHER && are_known(body, tokens - TOGETHER) {
+        return tokens;
     }
     i
 }
@@ -164,21 +196,15 @@ impl<A: Allocator> Cutter<A> {
         self.body.clear();
     }
 
-    /// Takes a byte of the header.
-    fn push_header(&mut self, byte: u8) -> Step
-        requires { length self.old.bytes < 4 }
+    /// Takes bytes of the header, and judges it once it is whole.
+    fn feed_header(&mut self, piece: &[u8]) -> Step
+        requires header { length self.old.bytes < 4 }
+        requires room { length piece.now ≤ missing self.old.cap self.old.bytes }
         ensures cap { self.new.cap ≡ self.old.cap }
-        ensures bytes { self.new.bytes ≡ self.old.bytes ++ byte ∷ [] }
-        ensures items { last_items self.new.cap self.new.bytes
-            ≡ told result (head_in self.new.cap self.new.bytes) (drop 4 self.new.bytes) }
-        ensures step { result ≡ answer_to (last_items self.new.cap self.new.bytes) }
-        ensures last { (result ≡ More) ⊎ (missing self.old.cap self.old.bytes ≡ 1) }
-        ensures room { result ≡ More → missing self.new.cap self.new.bytes + 1 ≡ missing self.old.cap self.old.bytes }
-        ensures full { result ≡ Bodied → IsWholeBody (head_in self.new.cap self.new.bytes) (drop 4 self.new.bytes) }
-        ensures closed { IsEnd result → missing self.new.cap self.new.bytes ≡ 0 }
+        ensures fed { IsFed self.old.cap self.old.bytes piece.now result self.new.bytes }
     {
-        self.header[self.have] = byte;
-        self.have += 1;
+        put(&mut self.header, self.have, piece);
+        self.have += piece.len();
         if self.have < HEADER {
             return Step::More;
         }
@@ -193,22 +219,6 @@ impl<A: Allocator> Cutter<A> {
                 }
             }
         }
-    }
-
-    /// Takes bytes of the header, one by one.
-    fn feed_header(&mut self, piece: &[u8]) -> Step
-        requires header { length self.old.bytes < 4 }
-        requires room { length piece.now ≤ missing self.old.cap self.old.bytes }
-        ensures cap { self.new.cap ≡ self.old.cap }
-        ensures fed { IsFed self.old.cap self.old.bytes piece.now result self.new.bytes }
-    {
-        for byte in piece {
-            match self.push_header(*byte) {
-                Step::More => {}
-                step => return step,
-            }
-        }
-        Step::More
     }
 
     /// Takes bytes of the body all at once, and then looks at the tokens that they end. After a fault

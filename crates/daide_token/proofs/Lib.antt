@@ -1,5 +1,6 @@
 pub mod TableLemmas
 pub mod NameLaws
+pub mod NumberText
 pub mod TokenLemmas
 pub mod WholeText
 pub mod ClassNumbers

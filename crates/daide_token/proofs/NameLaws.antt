@@ -1,5 +1,5 @@
 -- Names and tokens give each other back: each row of the table is found from both sides.
-use Rattle.std.proofs.Common.{◌≡◌, ◌==◌, ℕ, Bool, true, false, List, Option, Some, None, bytes_eq, refl, sym, ap, ◌∙◌}
+use Rattle.std.proofs.Common.{◌≡◌, ◌==◌, ℕ, Bool, true, false, List, Option, Some, None, bytes_eq, nat_eq, length, refl, sym, ap, ◌∙◌}
 use Rattle.std.proofs.lemmas.Bool.{eqb-true}
 use Rattle.std.proofs.lemmas.Slice.Eq.{bytes_eq-Decides}
 use Rattle.std.specs.List.{list_all}
@@ -51,3 +51,14 @@ name_of-token_named name t e =
     λ row same back here. let letters = (bytes_eq-Decides row.1 name).0 same in
     ap name_of (sym here) ∙ is_name-same _ _ back ∙ ap Some letters
     )
+
+-- each name has three letters
+three_letters : list_all (λ (row : Named). nat_eq (length row.1) 3) names ≡ true
+unfolding names
+three_letters = refl
+
+pub name_of-length : (t : ℕ) (name : List ℕ) → name_of t ≡ Some name → length name ≡ 3
+unfolding name_of
+name_of-length t name e =
+    found_passes (λ (row : Named). row.1) (λ row. row.0 == t) (λ row. nat_eq (length row.1) 3) names name three_letters e
+    (λ row same three here. ap length (sym here) ∙ eqb-true _ _ three)

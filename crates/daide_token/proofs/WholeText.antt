@@ -3,7 +3,7 @@ use Rattle.std.proofs.Common.{◌≡◌, ℕ, ◌%◌, Bool, true, false, if◌t
 use Rattle.std.proofs.Common.{◌++◌, map, refl, ap, append_assoc, ◌∙◌, sym}
 use Rattle.std.proofs.lemmas.List.{append-nil}
 use Rattle.std.specs.List.{join_with_byte}
-use Rattle.daide_token.specs.Text.{Item, Word, Quote, before_items, is_quotable, items_of, item_text, text_of, text_with, word_with}
+use Rattle.daide_token.specs.Text.{Item, Word, Quote, before_items, is_quotable, items_of, item_text, text_with, word_with}
 use Rattle.daide_token.specs.Names.{Named}
 use Rattle.daide_token.specs.TextSteps.{before_item, before_character, rest_of_text}
 use Rattle.daide_token.specs.declared.text.Place.{Place}

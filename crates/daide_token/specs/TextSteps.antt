@@ -1,5 +1,8 @@
 -- The text in the order in which it is written: what a token adds depends on what was written last.
 use Rattle.std.specs.Prelude.{ℕ, ◌%◌, ◌++◌, if◌then◌else◌, List, [], ◌∷◌}
+use Rattle.std.specs.Prelude.{option_map, unwrap_or}
+use Rattle.std.specs.Fmt.{signed_decimal}
+use Rattle.daide_token.specs.Token.{number_of}
 use Rattle.daide_token.specs.Text.{is_quotable, word_with}
 use Rattle.daide_token.specs.Names.{Named}
 use Rattle.daide_token.specs.declared.text.Place.{Place}
@@ -20,6 +23,10 @@ before_character Quote = []
 -- what stands last once a token is written
 abbrev pub place_after : ℕ → Place
 place_after t = if is_quotable t then Quote else Word
+
+-- a token's number in decimal form, where it has one
+abbrev pub number_text : ℕ → List ℕ
+number_text t = unwrap_or (option_map signed_decimal (number_of t)) []
 
 -- what a token adds
 abbrev pub token_text : List Named → Place → ℕ → List ℕ

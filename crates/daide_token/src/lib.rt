@@ -3,6 +3,7 @@
 
 pub mod class;
 mod class_number;
+mod gathered;
 pub mod laws;
 mod names;
 #[cfg(test)]

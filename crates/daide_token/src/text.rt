@@ -1,15 +1,20 @@
 //! The text form of tokens, in which a person reads them.
 
-ghost use Rattle.std.specs.Prelude.{IfOk, OnOk, length, ◌%◌, ◌<◌, ◌≡◌};
+ghost use Rattle.std.specs.Prelude.{IfOk, OnOk, None, [], ◌++◌, length, ◌%◌, ◌<◌, ◌≤◌, ◌≡◌};
 ghost use Rattle.std.specs.Io.KnownBytes.{Appends};
 ghost use Rattle.std.specs.Prelude.{unwrap_or};
 ghost use Rattle.daide_token.specs.Text.{added_name_of, hex_digit_of, hex_text, is_quotable, text_of, text_with, word_with};
-ghost use Rattle.daide_token.specs.TextSteps.{before_item, place_after, token_text};
-ghost use Rattle.daide_token.specs.Token.{tokens_of};
+ghost use Rattle.daide_token.specs.TextSteps.{before_item, number_text, place_after, token_text};
+ghost use Rattle.daide_token.specs.Token.{number_of, tokens_of};
+ghost use Rattle.daide_token.specs.declared.text.Place.TheVariants.{Word};
 
+use crate::gathered::Gathered;
 use crate::token::Token;
 use std::io;
 use std::io::Write;
+
+/// From how many bytes on the text that was gathered is written before more comes.
+const MOST_GATHERED: usize = 240;
 
 /// What was written last.
 #[derive(Clone, Copy, Debug, PartialEq, Eq)]
@@ -45,40 +50,66 @@ pub fn write_text_with<W: Write>(
     ensures text { OnOk result
         (Appends (W.contents writer.old) (W.contents writer.new) (text_with added.now (tokens_of tokens.now))) }
 {
+    let mut text = Gathered::new();
     let mut place = Place::Start;
     let mut rest = tokens;
     while let [high, low, others @ ..] = rest {
-        place = write_token(added, place, Token::from_be([*high, *low]), writer)?;
+        if text.len() > MOST_GATHERED {
+            text.write_out(writer)?;
+        }
+        let token = Token::from_be([*high, *low]);
+        place = match token.number() {
+            Some(_) => write_number(token, place, &mut text, writer)?,
+            None => put_token(added, place, token, &mut text),
+        };
         rest = others;
     }
     if place == Place::Quote {
-        writer.write_all(b"'")?;
+        text.push(b'\'');
     }
-    Ok(())
+    text.write_out(writer)
 }
 
-/// Writes one token, and says what was written last.
-fn write_token<W: Write>(
-    added: &[(Token, [u8; 3])],
-    place: Place,
+/// Writes what was gathered, and a token's number behind it.
+fn write_number<W: Write>(
     token: Token,
+    place: Place,
+    text: &mut Gathered,
     writer: &mut W,
 ) -> Result<Place, io::Error>
-    ensures { IfOk result (λ next. (next ≡ place_after token)
-        × Appends (W.contents writer.old) (W.contents writer.new) (token_text added.now place token)) }
+    requires { length text.old ≤ 240 }
+    ensures { IfOk result (λ next. (next ≡ Word) × (text.new ≡ []) × Appends (W.contents writer.old)
+        (W.contents writer.new) (text.old ++ before_item place ++ number_text token)) }
+{
+    begin_item(place, text);
+    text.write_out(writer)?;
+    if let Some(number) = token.number() {
+        write!(writer, "{number}")?;
+    }
+    Ok(Place::Word)
+}
+
+/// Gathers the text of one token that is no number, and says what was gathered last.
+#[inline(always)]
+fn put_token(added: &[(Token, [u8; 3])], place: Place, token: Token, text: &mut Gathered) -> Place
+    requires room { length text.old ≤ 240 }
+    requires word { number_of token ≡ None }
+    ensures place { result ≡ place_after token }
+    ensures text { text.new ≡ text.old ++ token_text added.now place token }
+    ensures room { length text.new ≤ 250 }
 {
     if !quotable(token) {
-        begin_item(place, writer)?;
-        write_word(added, token, writer)?;
-        return Ok(Place::Word);
+        begin_item(place, text);
+        put_word(added, token, text);
+        return Place::Word;
     }
     if place != Place::Quote {
-        begin_item(place, writer)?;
-        writer.write_all(b"'")?;
+        begin_item(place, text);
+        text.push(b'\'');
     }
     let [_category, character] = token.to_be();
-    writer.write_all(&[character])?;
-    Ok(Place::Quote)
+    text.push(character);
+    Place::Quote
 }
 
 /// Whether a token is a character that can stand in quotes.
@@ -88,51 +119,50 @@ fn quotable(token: Token) -> bool
     matches!(token.to_be(), [0x4B, 0x20..=0x26 | 0x28..=0x7E])
 }
 
-/// Ends the run that is open, and writes the space before the next item.
-fn begin_item<W: Write>(place: Place, writer: &mut W) -> Result<(), io::Error>
-    ensures { OnOk result (Appends (W.contents writer.old) (W.contents writer.new) (before_item place)) }
+/// Ends the run that is open, and gathers the space before the next item.
+#[inline(always)]
+fn begin_item(place: Place, text: &mut Gathered)
+    requires { length text.old ≤ 240 }
+    ensures text { text.new ≡ text.old ++ before_item place }
+    ensures room { length text.new ≤ 242 }
 {
     match place {
-        Place::Start => Ok(()),
-        Place::Word => writer.write_all(b" "),
-        Place::Quote => writer.write_all(b"' "),
+        Place::Start => {}
+        Place::Word => text.push(b' '),
+        Place::Quote => {
+            text.push(b'\'');
+            text.push(b' ');
+        }
     }
 }
 
-/// Writes a token by itself.
-fn write_word<W: Write>(
-    added: &[(Token, [u8; 3])],
-    token: Token,
-    writer: &mut W,
-) -> Result<(), io::Error>
-    ensures { OnOk result (Appends (W.contents writer.old) (W.contents writer.new) (word_with added.now token)) }
+/// Gathers a token by itself that is no number.
+#[inline(always)]
+fn put_word(added: &[(Token, [u8; 3])], token: Token, text: &mut Gathered)
+    requires room { length text.old ≤ 242 }
+    requires word { number_of token ≡ None }
+    ensures text { text.new ≡ text.old ++ word_with added.now token }
+    ensures room { length text.new ≤ 250 }
 {
     match token.code() {
-        0x4000 => return writer.write_all(b"("),
-        0x4001 => return writer.write_all(b")"),
-        _ => {}
-    }
-    if let Some(number) = token.number() {
-        return write!(writer, "{number}");
-    }
-    match token.name() {
-        Some(name) => writer.write_all(name.as_bytes()),
-        None => write_unnamed(added, token, writer),
+        0x4000 => text.push(b'('),
+        0x4001 => text.push(b')'),
+        _ => match token.name() {
+            Some(name) => text.extend(name.as_bytes()),
+            None => put_unnamed(added, token, text),
+        },
     }
 }
 
-/// Writes a token that the protocol doesn't name: by its first entry among the added names, else as its digits.
-fn write_unnamed<W: Write>(
-    added: &[(Token, [u8; 3])],
-    token: Token,
-    writer: &mut W,
-) -> Result<(), io::Error>
-    ensures { OnOk result (Appends (W.contents writer.old) (W.contents writer.new)
-        (unwrap_or (added_name_of added.now token) (hex_text token))) }
+/// Gathers a token that the protocol doesn't name: by its first entry among the added names, else as its digits.
+fn put_unnamed(added: &[(Token, [u8; 3])], token: Token, text: &mut Gathered)
+    requires room { length text.old ≤ 242 }
+    ensures text { text.new ≡ text.old ++ unwrap_or (added_name_of added.now token) (hex_text token) }
+    ensures room { length text.new ≤ 250 }
 {
     match added_name_of(added, token) {
-        Some(name) => writer.write_all(&name),
-        None => write_hex(token, writer),
+        Some(name) => text.extend(&name),
+        None => put_hex(token, text),
     }
 }
 
@@ -146,18 +176,19 @@ fn added_name_of(added: &[(Token, [u8; 3])], token: Token) -> Option<[u8; 3]>
     Some(name)
 }
 
-/// Writes a token as its four digits.
-fn write_hex<W: Write>(token: Token, writer: &mut W) -> Result<(), io::Error>
-    ensures { OnOk result (Appends (W.contents writer.old) (W.contents writer.new) (hex_text token)) }
+/// Gathers a token as its four digits.
+fn put_hex(token: Token, text: &mut Gathered)
+    requires { length text.old ≤ 242 }
+    ensures { text.new ≡ text.old ++ hex_text token }
 {
     let code = token.code();
-    writer.write_all(&[
+    text.extend(&[
         b'#',
         hex_digit(code / 4096),
         hex_digit(code / 256 % 16),
         hex_digit(code / 16 % 16),
         hex_digit(code % 16),
-    ])
+    ]);
 }
 
 /// One digit.

@@ -1,83 +1,151 @@
-use Rattle.std.proofs.Common.{◌≡◌, ℕ, ◌≤◌, List, [], ◌∷◌, ◌++◌, length, get_or, drop, refl, sym, ap, ◌∙◌, subst, inr}
-use Rattle.std.proofs.Common.{⊎_elim, suc, arith, length-drop, drop-cons, append-nil}
-use Rattle.daide_frame.specs.declared.cutter.Step.TheVariants.{More, Bodied}
-use Rattle.daide_frame.specs.Frames.{fed, fed_items, last_items, answer_to, told, IsEnd, IsWholeBody, head_in, missing}
-use Rattle.daide_frame.proofs.FramesLemmas.{fed-loud, missing-short}
-use Rattle.daide_frame.proofs.ListLemmas.{all_taken, take_whole, drop_past}
+use Rattle.std.proofs.Common.{◌≡◌, ℕ, ◌+◌, ◌-◌, ◌<◌, ◌≤◌, List, [], ◌++◌, length, take, Some, Result, Ok, Err, refl, sym, ap, ◌∙◌, subst}
+use Rattle.std.proofs.Common.{arith, inl, inr}
+use Rattle.daide_frame.specs.declared.head.Head.{Head}
+use Rattle.daide_frame.specs.declared.code.Code.{Code}
+use Rattle.daide_frame.specs.declared.cutter.Step.TheVariants.{More, Fault, Headed, Bodied}
+use Rattle.daide_frame.specs.Frames.{Cut, missing, answer_to, last_items, IsEnd}
+use Rattle.daide_frame.specs.Cutter.{IsFed}
+use Rattle.daide_frame.proofs.CutterLemmas.{in_header, refused_closed, empty_closed, empty_whole, consistent_short}
+use Rattle.daide_frame.proofs.CutterLemmas.{consistent_head, header_told, told_ok, header_step, answer_to-empty}
+use Rattle.daide_frame.proofs.CutterLemmas.{answer_to-begun, missing-header, length_of_header}
+use Rattle.daide_frame.proofs.HeaderFeeding.{bytes_put, short_fed, fourth_fed}
+use Rattle.daide_frame.proofs.FramesLemmas.{at_head}
 use Rattle.daide_frame.proofs.cutter.Cutter.feed_header.Goals as goal
+use Rattle.daide_frame.proofs.cutter.Cutter.feed_header.Goals.{then-head-eq0, else-head-eq0}
 
-pub returns-clause-fed : goal.returns-clause-fed
-returns-clause-fed g c =
-    let p = c.args.piece.now in
-    let limit = c.args.self.now.cap in
-    let i = c.loop-byte.byte-index in
-    let inv = c.loop-byte.invariant in
-    let none : drop i p ≡ [] = drop_past i p c.loop-byte-test.false in
-    let items : fed_items limit c.args.self.now.bytes p ≡ [] =
-    sym inv.items ∙ ap (fed_items limit c.loop-byte.self.bytes) none in
+-- a header that isn't whole wants what it lacks of four bytes
+room_left : (cap have : ℕ) (header body : List ℕ) (old : Cut) (n : ℕ) → have < 4 → length header ≡ 4 → body ≡ [] →
+    record { cap = cap; bytes = take have header ++ body } ≡ old → n ≤ missing old.cap old.bytes → have + n ≤ 4
+room_left cap have header body old n less four none same room =
+    let left : missing old.cap old.bytes ≡ 4 - have =
+    ap (λ (v : Cut). missing v.cap v.bytes) (sym same) ∙ missing-header cap have header body less four none in
+    omega (arith, less, left, room)
+
+pub put-requires : goal.put-requires
+put-requires g c =
+    let a = c.self.inside in
+    let h = in_header a.cap a.have a.header a.head a.is_faulty a.body.items _ c.self.invariant
+    (subst (λ (v : Cut). length v.bytes < 4) (sym c.self.view_is) c.requires.header) in
     record {
-      bytes = ap (fed limit c.loop-byte.self.bytes) (sym none) ∙ inv.bytes;
-      answer = ap answer_to (sym items);
-      items = items;
-      whole = inr (inv.taken ∙ ap (λ (t : List ℕ). c.args.self.now.bytes ++ t) (take_whole i p c.loop-byte-test.false));
-      full = λ e. absurd (cc);
-      closed = λ e. absurd e;
+      room = room_left a.cap a.have a.header a.body.items c.args.self.now (length c.args.piece.now) h.less c.self.told
+          h.no_body c.self.view_is c.requires.room;
     }
 
-pub returns-in_default-clause-fed : goal.returns-in_default-clause-fed
-returns-in_default-clause-fed g c =
+pub invariant_of-self : goal.invariant_of-self
+invariant_of-self g c =
+    let a = c.self.inside in
+    let h = in_header a.cap a.have a.header a.head a.is_faulty a.body.items _ c.self.invariant
+    (subst (λ (v : Cut). length v.bytes < 4) (sym c.self.view_is) c.requires.header) in
+    consistent_short a.cap (a.have + length c.args.piece.now) c.put.new.header a.head a.is_faulty a.body.items _
+    c.if-self-lt-HEADER.true c.put.ensures.four h.no_body h.no_head h.no_fault
+    c.self.invariant.reserved
+
+pub returns-then-self-lt-HEADER-clause-fed : goal.returns-then-self-lt-HEADER-clause-fed
+returns-then-self-lt-HEADER-clause-fed g c =
+    let a = c.self.inside in
     let p = c.args.piece.now in
-    let i = c.loop-byte.byte-index in
-    let x = get_or p i 0 in
-    let limit = c.args.self.now.cap in
-    let before = c.loop-byte.self.bytes in
-    let after = c.push_header.new.self in
-    let inv = c.loop-byte.invariant in
-    let kept : after.cap ≡ limit = c.push_header.ensures.cap ∙ inv.kept in
-    let here : drop i p ≡ x ∷ drop (suc i) p = drop-cons p i 0 c.loop-byte-test.true in
-    let same : last_items after.cap after.bytes ≡ last_items limit (before ++ x ∷ []) =
-    ap (λ (n : ℕ). last_items n after.bytes) kept ∙ ap (last_items limit) c.push_header.ensures.bytes in
-    let loud = fed-loud limit before x (drop (suc i) p)
-    (λ h. c.in_default.not-More (c.push_header.ensures.step ∙ ap answer_to same ∙ h)) in
-    let items : fed_items limit c.args.self.now.bytes p ≡ last_items after.cap after.bytes =
-    sym inv.items ∙ ap (fed_items limit before) here ∙ loud.1 ∙ sym same in
-    let one : length (drop i p) ≤ missing c.loop-byte.self.cap before = inv.room in
-    record {
-      bytes = c.push_header.ensures.bytes ∙ sym loud.0 ∙ ap (fed limit before) (sym here) ∙ inv.bytes;
-      answer = c.push_header.ensures.step ∙ ap answer_to (sym items);
-      items = items ∙ c.push_header.ensures.items
-          ∙ ap (λ (n : ℕ). told c.push_header.result (head_in n after.bytes) (drop 4 after.bytes)) kept;
-      whole = inr (⊎_elim
-          (λ (h : c.push_header.result ≡ More). absurd (c.in_default.not-More h))
-          (λ (h : missing c.loop-byte.self.cap before ≡ 1). c.push_header.ensures.bytes
-          ∙ all_taken c.args.self.now.bytes before p i c.loop-byte-test.true (omega arith) inv.taken)
-          c.push_header.ensures.last);
-      full = λ (h : c.push_header.result ≡ Bodied). subst
-          (λ (n : ℕ). IsWholeBody (head_in n after.bytes) (drop 4 after.bytes)) kept (c.push_header.ensures.full h);
-      closed = λ (h : IsEnd c.push_header.result). ap (λ (n : ℕ). missing n after.bytes) (sym kept)
-          ∙ c.push_header.ensures.closed h;
-    }
+    let h = in_header a.cap a.have a.header a.head a.is_faulty a.body.items _ c.self.invariant
+    (subst (λ (v : Cut). length v.bytes < 4) (sym c.self.view_is) c.requires.header) in
+    let new = take (a.have + length p) c.put.new.header ++ a.body.items in
+    let size = length_of_header (a.have + length p) c.put.new.header a.body.items
+    (omega (arith, c.if-self-lt-HEADER.true)) c.put.ensures.four h.no_body in
+    subst (λ (v : Cut). IsFed v.cap v.bytes p More new) c.self.view_is
+    (short_fed a.cap (take a.have a.header ++ a.body.items) p new
+    (bytes_put a.have (length p) a.header c.put.new.header a.body.items p h.no_body c.put.ensures.bytes)
+    (omega (arith, size, c.if-self-lt-HEADER.true)))
 
-pub push_header-requires : goal.push_header-requires
-push_header-requires g c =
-    omega (
-      arith,
-      c.loop-byte.invariant.short,
-      c.loop-byte-test.true,
-      length-drop c.loop-byte.byte-index c.args.piece.now,
-    )
+pub invariant_of-self-in-Err : goal.invariant_of-self-in-Err
+invariant_of-self-in-Err g c =
+    let a = c.self.inside in
+    let h = in_header a.cap a.have a.header a.head a.is_faulty a.body.items _ c.self.invariant
+    (subst (λ (v : Cut). length v.bytes < 4) (sym c.self.view_is) c.requires.header) in
+    let whole : a.have + length c.args.piece.now ≡ 4 =
+    let most = room_left a.cap a.have a.header a.body.items c.args.self.now (length c.args.piece.now) h.less c.self.told
+    h.no_body c.self.view_is c.requires.room in
+    omega (arith, most, c.if-self-lt-HEADER.false) in
+    consistent_head a.cap (a.have + length c.args.piece.now) c.put.new.header a.head a.is_faulty a.body.items _
+    (Err c.in-Err.code) whole c.put.ensures.four h.no_body h.no_fault (sym c.read_head.ensures
+    ∙ c.in-Err.is) h.no_head c.self.invariant.reserved
 
-pub loop-byte-init : goal.loop-byte-init
-loop-byte-init g c = record {
-  kept = refl;
-  short = omega (
-    arith,
-    c.requires.header,
-    c.requires.room,
-    missing-short c.args.self.now.cap c.args.self.now.bytes c.requires.header,
-  );
-  room = c.requires.room;
-  taken = sym (append-nil c.args.self.now.bytes);
-  bytes = refl;
-  items = refl;
-}
+pub invariant_of-self-in-Ok : goal.invariant_of-self-in-Ok
+invariant_of-self-in-Ok g c =
+    let a = c.self.inside in
+    let h = in_header a.cap a.have a.header a.head a.is_faulty a.body.items _ c.self.invariant
+    (subst (λ (v : Cut). length v.bytes < 4) (sym c.self.view_is) c.requires.header) in
+    let whole : a.have + length c.args.piece.now ≡ 4 =
+    let most = room_left a.cap a.have a.header a.body.items c.args.self.now (length c.args.piece.now) h.less c.self.told
+    h.no_body c.self.view_is c.requires.room in
+    omega (arith, most, c.if-self-lt-HEADER.false) in
+    consistent_head a.cap (a.have + length c.args.piece.now) c.put.new.header (Some c.in-Ok.head) a.is_faulty
+    a.body.items _ (Ok c.in-Ok.head) whole c.put.ensures.four h.no_body h.no_fault
+    (sym c.read_head.ensures ∙ c.in-Ok.is) refl c.self.invariant.reserved
+
+pub returns-in-Err-clause-fed : goal.returns-in-Err-clause-fed
+returns-in-Err-clause-fed g c =
+    let a = c.self.inside in
+    let p = c.args.piece.now in
+    let n = a.have + length p in
+    let h = in_header a.cap a.have a.header a.head a.is_faulty a.body.items _ c.self.invariant
+    (subst (λ (v : Cut). length v.bytes < 4) (sym c.self.view_is) c.requires.header) in
+    let four = c.put.ensures.four in
+    let whole : a.have + length p ≡ 4 =
+    let most = room_left a.cap a.have a.header a.body.items c.args.self.now (length c.args.piece.now) h.less c.self.told
+    h.no_body c.self.view_is c.requires.room in
+    omega (arith, most, c.if-self-lt-HEADER.false) in
+    let read = sym c.read_head.ensures ∙ c.in-Err.is in
+    let size = length_of_header n c.put.new.header a.body.items (omega (arith, whole)) four h.no_body in
+    let old = length_of_header a.have a.header a.body.items (omega (arith, h.less)) c.self.told h.no_body in
+    let step = header_step a.cap n c.put.new.header a.body.items whole four h.no_body in
+    let new = take (a.have + length p) c.put.new.header ++ a.body.items in
+    subst (λ (v : Cut). IsFed v.cap v.bytes p (Fault c.in-Err.code) new) c.self.view_is
+    (fourth_fed a.cap (take a.have a.header ++ a.body.items) p new (Fault c.in-Err.code) (omega (arith, old, h.less))
+    (bytes_put a.have (length p) a.header c.put.new.header a.body.items p h.no_body c.put.ensures.bytes)
+    (omega (arith, size, whole))
+    (step ∙ ap (λ (r : Result Head Code). answer_to (at_head r)) read)
+    (header_told a.cap n c.put.new.header a.body.items (Err c.in-Err.code) (Fault c.in-Err.code) whole four h.no_body
+    read refl)
+    (λ k. absurd (cc))
+    (λ _. refused_closed a.cap n c.put.new.header a.body.items c.in-Err.code whole four read))
+
+pub returns-after-head-eq0-clause-fed : goal.returns-after-head-eq0-clause-fed
+returns-after-head-eq0-clause-fed g c =
+    let a = c.self.inside in
+    let p = c.args.piece.now in
+    let n = a.have + length p in
+    let h = in_header a.cap a.have a.header a.head a.is_faulty a.body.items _ c.self.invariant
+    (subst (λ (v : Cut). length v.bytes < 4) (sym c.self.view_is) c.requires.header) in
+    let four = c.put.ensures.four in
+    let whole : a.have + length p ≡ 4 =
+    let most = room_left a.cap a.have a.header a.body.items c.args.self.now (length c.args.piece.now) h.less c.self.told
+    h.no_body c.self.view_is c.requires.room in
+    omega (arith, most, c.if-self-lt-HEADER.false) in
+    let read = sym c.read_head.ensures ∙ c.in-Ok.is in
+    let size = length_of_header n c.put.new.header a.body.items (omega (arith, whole)) four h.no_body in
+    let old = length_of_header a.have a.header a.body.items (omega (arith, h.less)) c.self.told h.no_body in
+    let new = take (a.have + length p) c.put.new.header ++ a.body.items in
+    let step : answer_to (last_items a.cap new) ≡ answer_to (at_head (Ok c.in-Ok.head)) =
+    header_step a.cap n c.put.new.header a.body.items whole four h.no_body
+    ∙ ap (λ (r : Result Head Code). answer_to (at_head r)) read in
+    subst (λ (v : Cut). IsFed v.cap v.bytes p c.if-head-eq0.result new) c.self.view_is
+    (fourth_fed a.cap (take a.have a.header ++ a.body.items) p new c.if-head-eq0.result (omega (arith, old, h.less))
+    (bytes_put a.have (length p) a.header c.put.new.header a.body.items p h.no_body c.put.ensures.bytes)
+    (omega (arith, size, whole))
+    (elim c.if-head-eq0.branch [
+      | then-head-eq0 w ↦ step ∙ answer_to-empty c.in-Ok.head w.if-head-eq0.true ∙ sym w.result-is
+      | else-head-eq0 w ↦ step ∙ answer_to-begun c.in-Ok.head w.if-head-eq0.false ∙ sym w.result-is
+    ])
+    (header_told a.cap n c.put.new.header a.body.items (Ok c.in-Ok.head) c.if-head-eq0.result whole four h.no_body read
+    (told_ok c.in-Ok.head c.if-head-eq0.result (elim c.if-head-eq0.branch [
+      | then-head-eq0 w ↦ inl (w.if-head-eq0.true, w.result-is)
+      | else-head-eq0 w ↦ inr (w.if-head-eq0.false, w.result-is)
+    ])))
+    (λ told. empty_whole a.cap n c.put.new.header a.body.items c.in-Ok.head whole four h.no_body read
+    (elim c.if-head-eq0.branch [
+      | then-head-eq0 w ↦ w.if-head-eq0.true
+      | else-head-eq0 w ↦ absurd (let k : Headed ≡ Bodied = sym w.result-is ∙ told in cc)
+    ]))
+    (λ ends. empty_closed a.cap n c.put.new.header a.body.items c.in-Ok.head whole four h.no_body read
+    (elim c.if-head-eq0.branch [
+      | then-head-eq0 w ↦ w.if-head-eq0.true
+      | else-head-eq0 w ↦ absurd (subst IsEnd w.result-is ends)
+    ])))

@@ -1,0 +1,69 @@
+-- What becomes of a piece of a header that is taken all at once.
+use Rattle.std.proofs.Common.{◌≡◌, ℕ, inr, ◌+◌, ◌-◌, ◌<◌, ◌≤◌, List, [], ◌∷◌, ◌++◌, length, take, drop, refl, sym, ap, ◌∙◌}
+use Rattle.std.proofs.Common.{arith, length-append, append_assoc, append-nil}
+use Rattle.daide_frame.specs.declared.cutter.Step.{Step}
+use Rattle.daide_frame.specs.declared.cutter.Step.TheVariants.{More, Bodied}
+use Rattle.daide_frame.specs.Frames.{last_items, fed, fed_items, answer_to, told, head_in, missing, IsEnd, IsWholeBody}
+use Rattle.daide_frame.specs.Cutter.{IsFed}
+use Rattle.daide_frame.proofs.FramesLemmas.{last_items-short}
+use Rattle.daide_frame.proofs.FeedingLemmas.{fed-on, fed-one}
+
+-- bytes are put behind those that are held, while there is no body
+pub bytes_put : (have n : ℕ) (header new body piece : List ℕ) → body ≡ [] →
+    take (have + n) new ≡ take have header ++ piece → take (have + n) new ++ body ≡ (take have header ++ body) ++ piece
+bytes_put have n header new body piece b e =
+    rw b (rw (append-nil (take (have + n) new)) (rw (append-nil (take have header)) e))
+
+-- no byte before the fourth tells anything
+fed_header : (limit : ℕ) (old : List ℕ) (x : ℕ) (piece : List ℕ) → length old + length (x ∷ piece) ≤ 4 →
+    (fed limit old (x ∷ piece) ≡ old ++ x ∷ piece) × (fed_items limit old (x ∷ piece) ≡ last_items limit (old ++ x ∷ piece))
+fed_header limit old x [] h = fed-one limit old x
+fed_header limit old x (y ∷ piece) h =
+    let size = length-append old (x ∷ []) in
+    let on = fed-on limit old x (y ∷ piece) (last_items-short limit (old ++ x ∷ []) (omega (arith, size))) in
+    let next = fed_header limit (old ++ x ∷ []) y piece (omega (arith, size)) in
+    let joined = append_assoc old (x ∷ []) (y ∷ piece) in
+    (on.0 ∙ next.0 ∙ joined, on.1 ∙ next.1 ∙ ap (last_items limit) joined)
+
+-- where the header isn't whole yet
+pub short_fed : (limit : ℕ) (old piece new : List ℕ) → new ≡ old ++ piece → length new < 4 →
+    IsFed limit old piece More new
+short_fed limit old [] new e h = record {
+  bytes = e ∙ append-nil old;
+  answer = refl;
+  items = refl;
+  whole = inr e;
+  full = λ k. absurd (cc);
+  closed = λ k. absurd k;
+}
+short_fed limit old (x ∷ piece) new e h =
+    let f = fed_header limit old x piece (omega (arith, h, ap length e, length-append old (x ∷ piece))) in
+    let none : fed_items limit old (x ∷ piece) ≡ [] = f.1 ∙ ap (last_items limit) (sym e) ∙ last_items-short limit new h in
+    record {
+      bytes = e ∙ sym f.0;
+      answer = ap answer_to (sym none);
+      items = none;
+      whole = inr e;
+      full = λ k. absurd (cc);
+      closed = λ k. absurd k;
+    }
+
+-- where it is, and what its last byte tells is known
+pub fourth_fed : (limit : ℕ) (old piece new : List ℕ) (step : Step) → length old < 4 → new ≡ old ++ piece →
+    length new ≡ 4 → answer_to (last_items limit new) ≡ step →
+    last_items limit new ≡ told step (head_in limit new) (drop 4 new) →
+    (step ≡ Bodied → IsWholeBody (head_in limit new) (drop 4 new)) → (IsEnd step → missing limit new ≡ 0) →
+    IsFed limit old piece step new
+fourth_fed limit old [] new step less e h answer items full closed =
+    absurd (omega (arith, ap length e, length-append old []))
+fourth_fed limit old (x ∷ piece) new step less e h answer items full closed =
+    let f = fed_header limit old x piece (omega (arith, h, ap length e, length-append old (x ∷ piece))) in
+    let same = f.1 ∙ ap (last_items limit) (sym e) in
+    record {
+      bytes = e ∙ sym f.0;
+      answer = sym answer ∙ ap answer_to (sym same);
+      items = same ∙ items;
+      whole = inr e;
+      full = full;
+      closed = closed;
+    }
