@@ -7,6 +7,7 @@ use crate::ports::{Socket, SocketPorts};
 use crate::watch::{Place, Watch};
 use mio::Interest;
 use mio::net::{TcpListener, TcpStream};
+use std::io;
 use std::io::ErrorKind;
 use std::net::{Net, SocketAddr};
 use std::rt::Clock;
@@ -45,13 +46,20 @@ impl<'w> Door<'w> {
         if !self.place.flags.is_readable.get() {
             return None;
         }
-        match self.listener.accept() {
-            Ok((stream, _)) => Some(stream),
+        match self.take(watch) {
+            Ok(stream) => Some(stream),
             Err(error) => {
                 self.refused(watch, error.kind());
                 None
             }
         }
+    }
+
+    /// Accepts, where a descriptor is left for the bot's connect to the server too.
+    fn take<R: Clock>(&self, watch: &Watch<R>) -> io::Result<TcpStream> {
+        let _spare = watch.spare()?;
+        let (stream, _) = self.listener.accept()?;
+        Ok(stream)
     }
 
     /// Notes that an accept gave none: another is made once a bot comes, or after a pause where it failed.
@@ -96,7 +104,7 @@ pub enum Outcome<'w, R: Clock> {
 }
 
 impl<'w> Arrival<'w> {
-    /// A bot that came now; its connect begins with the first look at it.
+    /// A bot that came now, whose connect is still to begin.
     pub fn new<R: Clock>(
         watch: &Watch<R>,
         bot: Socket<'w>,
@@ -113,7 +121,12 @@ impl<'w> Arrival<'w> {
     }
 
     /// Begins to connect to the next address to which that can be done.
-    fn try_next<R: Clock, N: Net>(&mut self, watch: &'w Watch<R>, net: &N, servers: &[SocketAddr]) {
+    pub fn try_next<R: Clock, N: Net>(
+        &mut self,
+        watch: &'w Watch<R>,
+        net: &N,
+        servers: &[SocketAddr],
+    ) {
         self.server = None;
         for address in servers.iter().skip(self.tried) {
             self.tried = self.tried.saturating_add(1);
@@ -155,9 +168,6 @@ impl<'w> Arrival<'w> {
         servers: &[SocketAddr],
     ) -> Outcome<'w, R> {
         let mut arrival = self;
-        if arrival.tried == 0 {
-            arrival.try_next(watch, net, servers);
-        }
         for _ in 0..=servers.len() {
             match arrival.progress() {
                 Progress::Connected => return arrival.join(watch),

@@ -113,7 +113,8 @@ impl<'w, R: Clock + Net, E: Write + Drop> System<SocketPorts<'w, &'w R>> for Soc
         let Some(bot) = Socket::new(self.watch, stream) else {
             return false;
         };
-        let arrival = Arrival::new(self.watch, bot, self.im_time, self.connect_time);
+        let mut arrival = Arrival::new(self.watch, bot, self.im_time, self.connect_time);
+        arrival.try_next(self.watch, self.runtime, self.servers);
         self.arrivals.push(arrival).is_ok()
     }
 

@@ -8,6 +8,7 @@ use mio::event::{Event, Source};
 use mio::{Events, Interest, Poll, Registry, Token};
 use std::alloc::Global;
 use std::cell::{Cell, RefCell};
+use std::io;
 use std::net::Net;
 use std::rt::Clock;
 use std::time::{Duration, Instant};
@@ -163,6 +164,11 @@ impl<R: Clock> Watch<R> {
         let place = Place { flags };
         self.registry.register(source, Token(token), interest).ok()?;
         Some(place)
+    }
+
+    /// A descriptor that is free, for as long as this is held.
+    pub fn spare(&self) -> io::Result<Registry> {
+        self.registry.try_clone()
     }
 
     /// How long nothing is to be done, if nothing comes; none where no moment is waited for.
