@@ -1,5 +1,5 @@
 -- What becomes of a piece of a header that is taken all at once.
-use Rattle.std.proofs.Common.{◌≡◌, ℕ, inr, ◌+◌, ◌-◌, ◌<◌, ◌≤◌, List, [], ◌∷◌, ◌++◌, length, take, drop, refl, sym, ap, ◌∙◌}
+use Rattle.std.proofs.Common.{◌≡◌, ℕ, inr, ◌+◌, ◌<◌, ◌≤◌, List, [], ◌∷◌, ◌++◌, length, take, drop, refl, sym, ap, ◌∙◌}
 use Rattle.std.proofs.Common.{arith, length-append, append_assoc, append-nil}
 use Rattle.daide_frame.specs.declared.cutter.Step.{Step}
 use Rattle.daide_frame.specs.declared.cutter.Step.TheVariants.{More, Bodied}
