@@ -1,6 +1,6 @@
 -- Lines of a log and of its report, and whole logs in which no message is judged, computed from the definitions, so
 -- that a wrong one does not check. The tests have logs with messages.
-use Rattle.std.proofs.Common.{◌≡◌, ℕ, ◌≤◌, Bool, true, false, List, [], ◌∷◌, ◌++◌, length, Some, None}
+use Rattle.std.proofs.Common.{◌≡◌, ℕ, ◌+◌, ◌<◌, ◌≤◌, Bool, true, false, List, [], ◌∷◌, ◌++◌, length, Some, None}
 use Rattle.std.proofs.Common.{Ok, Err, refl, eqb, arith, ◌⊎◌, inl, inr, codes}
 use Rattle.std.specs.Prelude.{⊤, if◌then◌else◌}
 use Rattle.std.proofs.lemmas.Bool.Decides.{eqb_tells}
@@ -150,6 +150,27 @@ opened =
     (omega arith)
     (limits, refl, refl, refl, refl)
 
+-- one line more, by which no message is judged
+quiet_line : (bytes : List ℕ) (number : ℕ) (moves : List Effect) (text : List ℕ) (state : SessionState) →
+    Reports bytes number moves text (Playing state) → (line : List ℕ) (event : LogEvent) → has_no_feed line ≡ true →
+    length line ≤ 2100 → number < 1000000 → event_of_line (without_cr line) ≡ Some event →
+    AsksNothing state (events_of event) →
+    Reports (bytes ++ line ++ 10 ∷ []) (number + 1) (moves ++ quiet_moves state (events_of event))
+    (text ++ lines_of (number + 1) (side_of event) (quiet_moves state (events_of event)))
+    (Playing (quiet_state state (events_of event)))
+quiet_line bytes number moves text state reports line event whole short few is_event quiet =
+    Reports.line bytes number moves text (Playing state) reports line (quiet_moves state (events_of event))
+    (lines_of (number + 1) (side_of event) (quiet_moves state (events_of event)))
+    (Playing (quiet_state state (events_of event))) few (unbroken line whole) short
+    (event, is_event, quiet_state state (events_of event), quiet_run state (events_of event) quiet, refl, refl)
+
+-- a log that ends here
+ends_here : (bytes : List ℕ) (number : ℕ) (moves : List Effect) (text : List ℕ) (state : SessionState) →
+    Reports bytes number moves text (Playing state) →
+    IsReport bytes (text ++ summary_line (counted_all moves nothing_counted)) (Ok (counted_all moves nothing_counted))
+ends_here bytes number moves text state reports =
+    IsReport.whole bytes number moves text state (ReportsAll.ended bytes number moves text (Playing state) reports)
+
 -- a log of one line behind the opening
 one_line : (line : List ℕ) (event : LogEvent) → has_no_feed line ≡ true → length line ≤ 2100 →
     event_of_line (without_cr line) ≡ Some event → AsksNothing first (events_of event) →
@@ -157,16 +178,10 @@ one_line : (line : List ℕ) (event : LogEvent) → has_no_feed line ≡ true �
     (([] ++ lines_of 3 (side_of event) (quiet_moves first (events_of event)))
     ++ summary_line (counted_all ([] ++ quiet_moves first (events_of event)) nothing_counted))
     (Ok (counted_all ([] ++ quiet_moves first (events_of event)) nothing_counted))
-one_line line event unbroken_line short is_event quiet =
-    IsReport.whole (opening_lines ++ line ++ 10 ∷ []) 3 ([] ++ quiet_moves first (events_of event))
+one_line line event whole short is_event quiet =
+    ends_here (opening_lines ++ line ++ 10 ∷ []) 3 ([] ++ quiet_moves first (events_of event))
     ([] ++ lines_of 3 (side_of event) (quiet_moves first (events_of event))) (quiet_state first (events_of event))
-    (ReportsAll.ended (opening_lines ++ line ++ 10 ∷ []) 3 ([] ++ quiet_moves first (events_of event))
-    ([] ++ lines_of 3 (side_of event) (quiet_moves first (events_of event)))
-    (Playing (quiet_state first (events_of event)))
-    (Reports.line opening_lines 2 [] [] (Playing first) opened line (quiet_moves first (events_of event))
-    (lines_of 3 (side_of event) (quiet_moves first (events_of event))) (Playing (quiet_state first (events_of event)))
-    (omega arith) (unbroken line unbroken_line) short
-    (event, is_event, quiet_state first (events_of event), quiet_run first (events_of event) quiet, refl, refl)))
+    (quiet_line opening_lines 2 [] [] first opened line event whole short (omega arith) is_event quiet)
 
 -- the timer before the bot's first message is a fault
 timer_alone : IsReport (opening_lines ++ codes "timer" ++ 10 ∷ [])
@@ -222,3 +237,31 @@ unfolding event_of_line decode_pairs has_no_feed
 bad_third_line =
     IsReport.bad opening_lines 2 [] [] (Playing first) opened (codes "bot 02000") [] (omega arith)
     (unbroken (codes "bot 02000") refl) (omega arith) refl
+
+-- a leading zero in the second line
+leading_zero : IsReport ((codes "daide-log 1" ++ 10 ∷ []) ++ codes "config 060 1024 16" ++ 10 ∷ []) [] (Err (BadLine 2))
+unfolding config_of_line parted_at_space plain_number has_no_feed
+leading_zero =
+    IsReport.bad (codes "daide-log 1" ++ 10 ∷ []) 1 [] [] Named
+    (Reports.line [] 0 [] [] Unnamed Reports.none (codes "daide-log 1") [] [] Named (omega arith)
+    (unbroken (codes "daide-log 1") refl) (omega arith) (refl, refl, refl, refl))
+    (codes "config 060 1024 16") [] (omega arith) (unbroken (codes "config 060 1024 16") refl) (omega arith) refl
+
+-- the bot's FM before its IM ends the session, so the timer tells nothing
+fm_then_timer : IsReport ((opening_lines ++ codes "bot 03000000" ++ 10 ∷ []) ++ codes "timer" ++ 10 ∷ [])
+    ((codes "3 bot FM 0 drop" ++ 10 ∷ []) ++ codes "relayed 0 prn 0 huh 0 faults 0" ++ 10 ∷ [])
+    (Ok (record { relayed = 0; prn = 0; huh = 0; faults = 0 }))
+unfolding opening_lines first limits event_of_line move_line summary_line digits encode_with decode_pairs quiet_state
+    quiet_moves AsksNothing has_no_feed last_items first_items head_of is_alien
+fm_then_timer =
+    let fm : List Event = events_of (Traffic Bot (3 ∷ 0 ∷ 0 ∷ 0 ∷ [])) in
+    let over : SessionState = quiet_state first fm in
+    ends_here ((opening_lines ++ codes "bot 03000000" ++ 10 ∷ []) ++ codes "timer" ++ 10 ∷ []) 4
+    (([] ++ quiet_moves first fm) ++ quiet_moves over (events_of TimeOver))
+    (([] ++ lines_of 3 Bot (quiet_moves first fm)) ++ lines_of 4 Bot (quiet_moves over (events_of TimeOver)))
+    (quiet_state over (events_of TimeOver))
+    (quiet_line (opening_lines ++ codes "bot 03000000" ++ 10 ∷ []) 3 ([] ++ quiet_moves first fm)
+    ([] ++ lines_of 3 Bot (quiet_moves first fm)) over
+    (quiet_line opening_lines 2 [] [] first opened (codes "bot 03000000") (Traffic Bot (3 ∷ 0 ∷ 0 ∷ 0 ∷ [])) refl
+    (omega arith) (omega arith) refl (refl, (refl, (refl, (refl, tt)))))
+    (codes "timer") TimeOver refl (omega arith) (omega arith) refl (refl, tt))
