@@ -383,7 +383,7 @@ fn faults_of_a_run_before_anybody_is_asked(rt: HostRuntime) -> Result<(), Fail> 
     let mut stage = Stage::new(rt.alloc(), scene);
     let fault = serve(rt.alloc(), &wrong, &mut stage).err();
     assert!(rt; fault == Some(ServeFault::Sessions));
-    wrong.config.max_depth = 63;
+    wrong.config.max_depth = 255;
     let fault = serve(rt.alloc(), &wrong, &mut stage).err();
     assert!(rt; fault == Some(ServeFault::Config(ConfigError::Depth)));
     assert!(rt; stage.events.is_empty());

@@ -47,7 +47,7 @@ const WRONG_LIMITS: [(u16, u16, u16, ConfigError); 6] = [
     (60, 510, 3, ConfigError::Body),
     (60, 65_528, 3, ConfigError::Body),
     (60, 512, 3, ConfigError::Depth),
-    (60, 512, 63, ConfigError::Depth),
+    (60, 512, 255, ConfigError::Depth),
 ];
 
 #[test]

@@ -28,7 +28,7 @@ daide-log 1 | | line 2 is not a log line
 daide-log 1/ | | line 2 is not a log line
 daide-log 1/config 060 1024 16/ | | line 2 is not a log line
 daide-log 1/config 61 1024 16/ | | line 2 is not a log line
-daide-log 1/config 60 1024 63/ | | line 2 is not a log line
+daide-log 1/config 60 1024 255/ | | line 2 is not a log line
 daide-log 1/config 60 66048 16/ | | line 2 is not a log line
 daide-log 1/config 60 1024 16 / | | line 2 is not a log line
 daide-log 1/config 60 1024 16 | relayed 0 prn 0 huh 0 faults 0/ |

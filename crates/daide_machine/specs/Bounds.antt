@@ -6,6 +6,6 @@ use Rattle.std.specs.Prelude.{ℕ, ◌-◌}
 abbrev pub longest_body : ℕ
 longest_body = 65534 - 8
 
--- the most brackets of a message that may be open at once
+-- the most brackets of a message that an operator may let be open at once
 abbrev pub deepest : ℕ
-deepest = 62
+deepest = 254

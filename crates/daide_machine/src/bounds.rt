@@ -5,7 +5,7 @@
 pub const MAX_BODY: u16 = 65_534 - 8;
 
 /// The most brackets of a message that may be open at once.
-pub const MAX_DEPTH: u16 = 62;
+pub const MAX_DEPTH: u16 = 254;
 
 /// The room of a reader's stack: eight entries for each open bracket, and sixteen.
 pub const STACK_ENTRIES: usize = 8 * MAX_DEPTH as usize + 16;

@@ -104,8 +104,8 @@ goes_piece g m n side piece note live state wait taken r = record {
 pub fed_state : (t u : Traffic) (s : Stage) (side : Side) (bytes : List ℕ) → Keeps side t u →
     (at u.sides side).coming ≡ record { pending = bytes; noted = (at t.sides side).coming.noted } →
     state_of u s ≡ with_pending (state_of t s) side bytes
-fed_state t u s Bot bytes keeps e = rw (keeps.cap, keeps.max_depth, keeps.other_side, e) refl
-fed_state t u s Server bytes keeps e = rw (keeps.cap, keeps.max_depth, keeps.other_side, e) refl
+fed_state t u s Bot bytes keeps e = rw (keeps.cap, keeps.rules, keeps.other_side, e) refl
+fed_state t u s Server bytes keeps e = rw (keeps.cap, keeps.rules, keeps.other_side, e) refl
 
 -- a side's piece was fed, and what its last byte made was gone by
 pub goes_fed : (t u v : Traffic) (s r : Stage) (side : Side) (piece : List ℕ) (step : Step) (note : Note) →

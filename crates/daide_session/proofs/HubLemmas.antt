@@ -9,6 +9,7 @@ use Rattle.std.proofs.lemmas.List.Sums.{sum_by-cons}
 use Rattle.std.proofs.lemmas.Option.{slice_get-map, slice_get_read}
 use Rattle.daide_frame.specs.declared.side.Side.{Side}
 use Rattle.daide_frame.specs.declared.side.Side.TheVariants.{Bot, Server}
+use Rattle.daide_words.specs.declared.word.Word.{Word}
 use Rattle.daide_machine.specs.Machine.{Limits, SessionState}
 use Rattle.daide_machine.specs.Wires.{Gateway, holding, IsNew}
 use Rattle.daide_machine.specs.Weight.{weight_of}
@@ -17,7 +18,7 @@ use Rattle.daide_session.specs.declared.config.ConfigError.{ConfigError}
 use Rattle.daide_session.specs.declared.config.ConfigError.TheVariants as Errors
 use Rattle.daide_session.specs.Config.{config_fault, is_level, is_body, is_depth}
 use Rattle.daide_machine.specs.Weight.{IsKeptSmall}
-use Rattle.daide_session.specs.Session.{limits_of}
+use Rattle.daide_session.specs.Session.{limits_with}
 use Rattle.daide_session.specs.Hub.{Hosting, IsHosting, with_places, session_bound}
 use Rattle.std.proofs.lemmas.Bool.{leb-true}
 use Rattle.std.proofs.Math.Nat.{add-mul}
@@ -78,14 +79,14 @@ all_removed Q items i h =
 
 -- ---- what holds between calls
 
-module _ {X : Type 0} (seen : X → Gateway) (config : Config) (max : ℕ) where
+module _ {X : Type 0} (seen : X → Gateway) (config : Config) (words : List Word) (max : ℕ) where
   abbrev Limited : X → Type 0
-  Limited x = (seen x).state.limits ≡ limits_of config
+  Limited x = (seen x).state.limits ≡ limits_with config words
 
   -- one place changed, and its limits didn't
   pub hosting_set : (capacity : ℕ) (items : List X) (i : ℕ) (x y : X) → i < length items → x ≡ get_or items i x →
       (seen y).state.limits ≡ (seen x).state.limits →
-      IsHosting seen config max capacity items → IsHosting seen config max capacity (set items i y)
+      IsHosting seen config words max capacity items → IsHosting seen config words max capacity (set items i y)
   hosting_set capacity items i x y lt read same h =
       let old : Limited x =
       subst (λ (z : X). Limited z) (sym read) (All-get_or (λ (z : X). Limited z) items i x lt h.same_limits) in
@@ -98,8 +99,8 @@ module _ {X : Type 0} (seen : X → Gateway) (config : Config) (max : ℕ) where
       }
 
   -- a new session was added
-  pub hosting_added : (capacity : ℕ) (items : List X) (x : X) → length items < max → IsNew (limits_of config) (seen x) →
-      IsHosting seen config max capacity items → IsHosting seen config max capacity (items ++ x ∷ [])
+  pub hosting_added : (capacity : ℕ) (items : List X) (x : X) → length items < max → IsNew (limits_with config words) (seen x) →
+      IsHosting seen config words max capacity items → IsHosting seen config words max capacity (items ++ x ∷ [])
   hosting_added capacity items x lt new h = record {
     checked = h.checked;
     size = h.size;
@@ -131,35 +132,35 @@ and_both false b e = absurd (cc)
 
 -- limits that passed their check are small
 pub config_small : (config : Config) → config_fault config ≡ Ok tt →
-    2 * config.max_body + 16 * config.max_depth + 96 ≤ 132140
+    2 * config.max_body + 16 * config.max_depth + 96 ≤ 135212
 config_small config e = go (is_level config.top_level) (is_body config.max_body) (is_depth config.max_depth) refl refl e
   where
     go : (l b d : Bool) → is_body config.max_body ≡ b → is_depth config.max_depth ≡ d →
         ◌≡◌ {A = Result (Unit {0}) ConfigError}
         (cond l (cond b (cond d (Ok tt) (Err Errors.Depth)) (Err Errors.Body)) (Err Errors.Level)) (Ok tt) →
-        2 * config.max_body + 16 * config.max_depth + 96 ≤ 132140
+        2 * config.max_body + 16 * config.max_depth + 96 ≤ 135212
     go true true true eb ed e =
         let body : config.max_body ≤ 65526 =
         leb-true config.max_body 65526
         (and_both (nat_le 512 config.max_body) _ (and_both (config.max_body % 2 == 0) _ eb).1).1 in
-        let depth : config.max_depth ≤ 62 =
-        leb-true config.max_depth 62 (and_both (nat_le 4 config.max_depth) _ ed).1 in
+        let depth : config.max_depth ≤ 254 =
+        leb-true config.max_depth 254 (and_both (nat_le 4 config.max_depth) _ ed).1 in
         omega (arith, body, depth)
     go true true false eb ed e = absurd (cc)
     go true false d eb ed e = absurd (cc)
     go false b d eb ed e = absurd (cc)
 
 -- each place is within its bound
-pub place_small : {X : Type 0} (seen : X → Gateway) (config : Config) (max capacity : ℕ) (items : List X)
-    (i : ℕ) (x : X) → IsHosting seen config max capacity items → i < length items → x ≡ get_or items i x →
+pub place_small : {X : Type 0} (seen : X → Gateway) (config : Config) (words : List Word) (max capacity : ℕ)
+    (items : List X) (i : ℕ) (x : X) → IsHosting seen config words max capacity items → i < length items → x ≡ get_or items i x →
     ((side : Side) → IsKeptSmall (seen x).state.limits.cap (holding (seen x) side)) →
     ((side : Side) → (holding (seen x) side).entries ≤ 8 * (seen x).state.limits.max_depth + 16) →
     (length (seen x).to_bot ≤ 3) × (length (seen x).to_server ≤ 3) →
-    weight_of (seen x) ≤ session_bound (limits_of config)
-place_small {X} seen config max capacity items i x h lt read kept entries three =
-    let same : (seen x).state.limits ≡ limits_of config =
-    subst (λ (y : X). (seen y).state.limits ≡ limits_of config) (sym read)
-    (All-get_or (λ y. (seen y).state.limits ≡ limits_of config) items i x lt h.same_limits) in
+    weight_of (seen x) ≤ session_bound (limits_with config words)
+place_small {X} seen config words max capacity items i x h lt read kept entries three =
+    let same : (seen x).state.limits ≡ limits_with config words =
+    subst (λ (y : X). (seen y).state.limits ≡ limits_with config words) (sym read)
+    (All-get_or (λ y. (seen y).state.limits ≡ limits_with config words) items i x lt h.same_limits) in
     subst (λ (l : Limits). weight_of (seen x) ≤ session_bound l) same (weight_small (seen x) kept entries three)
 
 pub one_more : (n b total more : ℕ) → total ≤ n * b → more ≤ b → total + more ≤ (n + 1) * b

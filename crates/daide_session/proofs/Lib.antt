@@ -12,4 +12,5 @@ pub mod PortAnswers
 pub mod TurnLemmas
 pub mod Standing
 pub mod HubLemmas
+pub mod LimitFacts
 pub mod ApartLemmas

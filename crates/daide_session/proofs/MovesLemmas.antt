@@ -66,7 +66,7 @@ pub failed : (old mid new : Traffic) (stage later : Stage) (side : Side) (code :
     ((wire : Side) → at new.waiting wire ≡ at mid.waiting wire ++ frames_to wire (fm_to stage.phase (other side))) →
     Moves (gateway_of old stage) (fault (state_of old stage) side code) (gateway_of new later)
 failed old mid new stage later side code keeps post end close = record {
-  state = rw (keeps.cap, keeps.max_depth, keeps.sides, end) refl;
+  state = rw (keeps.cap, keeps.rules, keeps.sides, end) refl;
   sent = λ wire. waiting_at new later wire
       ∙ (close wire
       ∙ (ap (λ (w : Both (List Sent)). at w wire ++ frames_to wire fm) post

@@ -23,6 +23,7 @@ use Rattle.daide_machine.specs.Wires.{Holding, waiting, holding, sent_to, note_o
 use Rattle.daide_machine.specs.Wires.{is_dm_head}
 use Rattle.daide_session.specs.declared.stage.Stage.{Stage}
 use Rattle.daide_traffic.specs.Both.{at}
+use Rattle.daide_traffic.specs.Inbound.{Rules}
 use Rattle.daide_traffic.specs.Traffic.{Traffic, Arrival, Keeps}
 use Rattle.daide_session.specs.Session.{state_of, gateway_of}
 use Rattle.daide_session.specs.Reaction.{IsUnread, Reacts, IsBegun, note_by}
@@ -69,8 +70,8 @@ holding_same t u s r side e =
 noted_state : (t u : Traffic) (s : Stage) (side : Side) → Keeps side t u →
     (at u.sides side).coming ≡ record { pending = (at t.sides side).coming.pending; noted = s.level } →
     state_of u s ≡ with_noted (state_of t s) side s.level
-noted_state t u s Bot keeps e = rw (keeps.cap, keeps.max_depth, keeps.other_side, e) refl
-noted_state t u s Server keeps e = rw (keeps.cap, keeps.max_depth, keeps.other_side, e) refl
+noted_state t u s Bot keeps e = rw (keeps.cap, keeps.rules, keeps.other_side, e) refl
+noted_state t u s Server keeps e = rw (keeps.cap, keeps.rules, keeps.other_side, e) refl
 
 -- ---- a header whose body is empty
 
@@ -115,9 +116,9 @@ begun_and_empty t u v s r q side head told live timely bodiless b h = record {
         ∙ (ap (λ (x : SessionState). whole x side head [] h.verdict) mid
         ∙ sym (empty_outcome (state_of t s) side head h.verdict live timely))
 
-    right : IsRight [] t.max_depth (question_of side s.level head []) h.verdict
-    right = subst (λ (d : ℕ). IsRight [] d (question_of side s.level head []) h.verdict) b.keeps.max_depth
-        (subst (λ (l : Level). IsRight [] u.max_depth (question_of side l head []) h.verdict)
+    right : IsRight t.rules.words t.rules.max_depth (question_of side s.level head []) h.verdict
+    right = subst (λ (r : Rules). IsRight r.words r.max_depth (question_of side s.level head []) h.verdict) b.keeps.rules
+        (subst (λ (l : Level). IsRight u.rules.words u.rules.max_depth (question_of side l head []) h.verdict)
         (ap (λ (c : Coming). c.noted) (coming_at u r side ∙ b.started.coming)) h.right)
 
     waited : (wire : Side) → waiting (gateway_of u r) wire ≡ waiting (gateway_of t s) wire

@@ -21,8 +21,11 @@ use Rattle.daide_machine.specs.Machine.{is_over, fault, popped, event_outcome, o
 use Rattle.daide_machine.specs.Wires.{Gateway, waiting, sent_to, note_of, without, IsNew, Goes, Wrote}
 use Rattle.daide_machine.proofs.FramesHeard.{not_both, over_for_good, run_waits}
 use Rattle.daide_session.specs.declared.config.Config.{Config}
+use Rattle.daide_words.specs.declared.word.Word.{Word}
+use Rattle.daide_words.specs.Word.{grammar_words}
+use Rattle.daide_traffic.specs.Inbound.{Rules}
 use Rattle.daide_traffic.specs.Traffic.{Traffic, IsQuiet, is_end, has_end}
-use Rattle.daide_session.specs.Session.{IsStanding, state_of, gateway_of, limits_of}
+use Rattle.daide_session.specs.Session.{IsStanding, state_of, gateway_of, limits_with}
 use Rattle.daide_session.specs.Reaction.{Moves, stopped}
 use Rattle.daide_session.proofs.MovesLemmas.{waiting_at}
 use Rattle.daide_session.proofs.OpenRuns.{run_sends, has_end-append}
@@ -129,34 +132,43 @@ standing_wrote g n side k w standing = record {
 
 -- ---- a new session
 
-quiet_state : (cap max_depth : ℕ) (t : Traffic) (level : Level) → IsQuiet cap max_depth t →
+quiet_state : (cap : ℕ) (rules : Rules) (t : Traffic) (level : Level) → IsQuiet cap rules t →
     state_of t (record { top_level = level; phase = WaitIm; level = L0 })
-    ≡ opening (record { cap = cap; top_level = level; max_depth = max_depth; words = [] })
-quiet_state cap max_depth t level q = rw (q.cap_set, q.depth_set, q.coming Bot, q.coming Server) refl
+    ≡ opening (record { cap = cap; top_level = level; max_depth = rules.max_depth; words = rules.words })
+quiet_state cap rules t level q = rw (q.cap_set, q.rules_set, q.coming Bot, q.coming Server) refl
 
-pub new_of : (config : Config) (t : Traffic) (level : Level) → IsQuiet config.max_body config.max_depth t →
-    level ≡ unwrap_or (level_of_number config.top_level) L0 →
-    IsNew (limits_of config) (gateway_of t (record { top_level = level; phase = WaitIm; level = L0 }))
-new_of config t level q e = record {
-  state = quiet_state config.max_body config.max_depth t level q
+-- by what a session of this configuration judges
+abbrev rules_with : Config → List Word → Rules
+rules_with config words = record { max_depth = config.max_depth; words = grammar_words words }
+
+pub new_of : (config : Config) (words : List Word) (t : Traffic) (level : Level) →
+    IsQuiet config.max_body (rules_with config words) t → level ≡ unwrap_or (level_of_number config.top_level) L0 →
+    IsNew (limits_with config words) (gateway_of t (record { top_level = level; phase = WaitIm; level = L0 }))
+new_of config words t level q e = record {
+  state = quiet_state config.max_body (rules_with config words) t level q
       ∙ ap (λ (l : Level). opening
-      (record { cap = config.max_body; top_level = l; max_depth = config.max_depth; words = [] })) e;
+      (record {
+        cap = config.max_body;
+        top_level = l;
+        max_depth = config.max_depth;
+        words = grammar_words words;
+      })) e;
   to_bot = q.waiting Bot;
   to_server = q.waiting Server;
   held = (q.held Bot, q.held Server);
   unasked = (q.unasked Bot, q.unasked Server);
 }
 
-pub standing_new : (cap max_depth : ℕ) (t : Traffic) (level : Level) → IsQuiet cap max_depth t →
+pub standing_new : (cap : ℕ) (rules : Rules) (t : Traffic) (level : Level) → IsQuiet cap rules t →
     IsStanding (gateway_of t (record { top_level = level; phase = WaitIm; level = L0 }))
-standing_new cap max_depth t level q = record {
+standing_new cap rules t level q = record {
   wanted = λ live side. subst (λ (s : SessionState). 0 < missing s.limits.cap (coming s side).pending)
-      (sym (quiet_state cap max_depth t level q)) (by_side side);
+      (sym (quiet_state cap rules t level q)) (by_side side);
   no_end = λ live wire. ap has_end (waiting_at t (record { top_level = level; phase = WaitIm; level = L0 }) wire
       ∙ q.waiting wire);
 }
   where
     by_side : (side : Side) → 0 < missing cap (coming (opening
-        (record { cap = cap; top_level = level; max_depth = max_depth; words = [] })) side).pending
+        (record { cap = cap; top_level = level; max_depth = rules.max_depth; words = rules.words })) side).pending
     by_side Bot = omega (arith, missing-short cap [] (omega arith))
     by_side Server = omega (arith, missing-short cap [] (omega arith))

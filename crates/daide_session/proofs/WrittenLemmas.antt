@@ -63,7 +63,7 @@ stopped_awaited t u s r side one m = both
 -- ---- what is held
 
 gone_state : (u v : Traffic) (s : Stage) → LetsTrafficGo u v → state_of v s ≡ state_of u s
-gone_state u v s l = rw (l.cap, l.max_depth, l.coming Bot, l.coming Server) refl
+gone_state u v s l = rw (l.cap, l.rules, l.coming Bot, l.coming Server) refl
 
 lets_go : (t u v : Traffic) (s r : Stage) →
     ((one : Side) → is_awaited (waiting (gateway_of u r)) one ≡ is_awaited (waiting (gateway_of t s)) one) →

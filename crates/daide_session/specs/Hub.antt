@@ -1,6 +1,7 @@
 -- Many sessions in one loop: what a hub holds, and what each of its calls does to one session alone.
 use Rattle.std.specs.Prelude.{◌≡◌, ℕ, ◌+◌, ◌*◌, ◌<◌, ◌≤◌, ◌⊎◌, true, List, [], ◌∷◌, ◌++◌, length}
 use Rattle.std.specs.Prelude.{Option, Some, Ok, Err, slice_get, slice_set, remove, All}
+use Rattle.daide_words.specs.declared.word.Word.{Word}
 use Rattle.daide_machine.specs.Machine.{Limits}
 use Rattle.daide_machine.specs.Wires.{Gateway, IsNew, is_closed}
 use Rattle.daide_machine.specs.Weight.{weight_of, weight_bound}
@@ -10,7 +11,7 @@ use Rattle.daide_session.specs.declared.hub.AddFault.TheVariants as Faults
 use Rattle.daide_session.specs.declared.hub.HubError.{HubError}
 use Rattle.daide_session.specs.declared.hub.HubError.TheVariants as Errors
 use Rattle.daide_session.specs.Config.{config_fault}
-use Rattle.daide_session.specs.Session.{limits_of}
+use Rattle.daide_session.specs.Session.{limits_with}
 use Rattle.daide_session.specs.Record.{PortAnswer, Carries, Relays}
 use Rattle.daide_session.specs.Turn.{Turn, AsksAtMost, turn_steps}
 use Rattle.daide_session.specs.Headline.{Headline}
@@ -27,13 +28,13 @@ abbrev pub with_places : {P : Type 0} → Hosting P → List (Gateway × P) → 
 with_places hub places = record { limits = hub.limits; max = hub.max; places = places }
 
 -- what holds of a hub between calls; `seen` is a place's session
-pub record IsHosting {X : Type 0} (seen : X → Gateway) (config : Config) (max capacity : ℕ)
+pub record IsHosting {X : Type 0} (seen : X → Gateway) (config : Config) (words : List Word) (max capacity : ℕ)
     (items : List X) : Type 0 where
   pub checked : config_fault config ≡ Ok tt
   pub size : (0 < max) × (max ≤ 256)
   pub fits : length items ≤ max
   pub room : max ≤ capacity
-  pub same_limits : All (λ x. (seen x).state.limits ≡ limits_of config) items
+  pub same_limits : All (λ x. (seen x).state.limits ≡ limits_with config words) items
 
 -- ---- refusals
 

@@ -26,7 +26,7 @@ pub record Moves (old : Gateway) (o : Outcome) (new : Gateway) : Type 0 where
 -- nothing changed of what came and of what is held
 pub record KeepsSides (old new : Traffic) : Type 0 where
   pub cap : new.cap ≡ old.cap
-  pub max_depth : new.max_depth ≡ old.max_depth
+  pub rules : new.rules ≡ old.rules
   pub sides : new.sides ≡ old.sides
 
 -- a side's end, or its wire's

@@ -1,11 +1,13 @@
 -- How a session's parts stand for its value, and what holds of it between calls.
-use Rattle.std.specs.Prelude.{◌≡◌, ◌<◌, false, [], Ok, Err}
+use Rattle.std.specs.Prelude.{◌≡◌, ◌<◌, false, List, [], Ok, Err}
 use Rattle.std.specs.Option.{unwrap_or}
 use Rattle.daide_frame.specs.declared.side.Side.{Side}
 use Rattle.daide_frame.specs.Frames.{missing}
 use Rattle.daide_grammar.specs.declared.level.Level.{Level}
 use Rattle.daide_grammar.specs.declared.level.Level.TheVariants.{L0}
 use Rattle.daide_grammar.specs.Level.{level_of_number}
+use Rattle.daide_words.specs.declared.word.Word.{Word}
+use Rattle.daide_words.specs.Word.{grammar_words}
 use Rattle.daide_machine.specs.declared.phase.Phase.{Phase}
 use Rattle.daide_machine.specs.declared.phase.Phase.TheVariants.{WaitIm, WaitRm, Open, Over}
 use Rattle.daide_machine.specs.Machine.{Limits, SessionState, coming, is_over}
@@ -19,11 +21,15 @@ use Rattle.daide_traffic.specs.Traffic.{Traffic, has_end}
 
 -- ---- the value
 
--- the machine's state: the limits, with no words beside the protocol's own, where the session stands, and
--- what came of each side
+-- the machine's state: the limits with the operator's words, where the session stands, and what came of each side
 abbrev pub state_of : Traffic → Stage → SessionState
 state_of t stage = record {
-  limits = record { cap = t.cap; top_level = stage.top_level; max_depth = t.max_depth; words = [] };
+  limits = record {
+    cap = t.cap;
+    top_level = stage.top_level;
+    max_depth = t.rules.max_depth;
+    words = t.rules.words;
+  };
   phase = stage.phase;
   level = stage.level;
   bot = t.sides.bot.coming;
@@ -60,13 +66,18 @@ pub record IsStanding (g : Gateway) : Type 0 where
 
 -- ---- a new session
 
-abbrev pub limits_of : Config → Limits
-limits_of config = record {
+-- what an operator sets, and the words that the operator adds
+abbrev pub limits_with : Config → List Word → Limits
+limits_with config words = record {
   cap = config.max_body;
   top_level = unwrap_or (level_of_number config.top_level) L0;
   max_depth = config.max_depth;
-  words = [];
+  words = grammar_words words;
 }
+
+-- the same with no words
+abbrev pub limits_of : Config → Limits
+limits_of config = limits_with config []
 
 -- the limits are looked at first; memory is wanted only where they are right
 abbrev pub IsCause : Config → SessionError → Type 0

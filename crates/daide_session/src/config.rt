@@ -13,7 +13,7 @@ pub struct Config {
     pub top_level: u16,
     /// The longest body that is taken, in bytes: even, from 512 to 65,526.
     pub max_body: u16,
-    /// How many brackets of a message may be open at once: from 4 to 62.
+    /// How many brackets of a message may be open at once: from 4 to 254.
     pub max_depth: u16,
 }
 
@@ -24,7 +24,7 @@ pub enum ConfigError {
     Level,
     /// `max_body` is odd, or not from 512 to 65,526.
     Body,
-    /// `max_depth` is not from 4 to 62.
+    /// `max_depth` is not from 4 to 254.
     Depth,
 }
 

@@ -7,7 +7,8 @@ ghost use Rattle.std.specs.Prelude.{◌≡◌, ℕ, ◌+◌, ◌*◌, ◌<◌, �
 ghost use Rattle.std.specs.Prelude.{IfOk, IfErr, IfSome, IfNone, OnOk, OnErr, slice_get, sum_by};
 ghost use Rattle.daide_machine.specs.Wires.{is_closed};
 ghost use Rattle.daide_session.specs.Config.{config_fault};
-ghost use Rattle.daide_session.specs.Session.{limits_of};
+ghost use Rattle.daide_session.specs.Session.{limits_of, limits_with};
+ghost use Rattle.daide_words.specs.Words.{words_of};
 ghost use Rattle.daide_session.specs.Hub.{Hosting, IsHubSize, IsHubCause, IsAddCause, Adds, Removes, Changes, IsTurned};
 ghost use Rattle.daide_session.specs.Hub.{weight_at, session_bound};
 
@@ -15,6 +16,7 @@ use crate::config::{Config, ConfigError};
 use crate::exchange::turn;
 use crate::ports::Ports;
 use crate::session::Session;
+use daide_words::words::Words;
 use std::alloc::{Allocator, Global};
 use std::marker::Model;
 
@@ -54,30 +56,49 @@ struct Place<P: Ports, A: Allocator> {
 pub struct Hub<P: Ports, A: Allocator = Global> {
     alloc: A,
     config: Config,
+    words: Words,
     max: usize,
     places: Vec<Place<P, A>, A>,
 }
 
 impl<P: Ports, A: Allocator> Model for Hub<P, A> {
     ghost use Rattle.std.specs.Prelude.{map, vec_capacity};
-    ghost use Rattle.daide_session.specs.Session.{limits_of};
+    ghost use Rattle.daide_words.specs.Words.{words_of};
+    ghost use Rattle.daide_session.specs.Session.{limits_with};
     ghost use Rattle.daide_session.specs.Hub.{Hosting, IsHosting};
 
     ghost Value = { Hosting P };
 
     ghost view = { λ h. record {
-      limits = limits_of h.config;
+      limits = limits_with h.config (words_of h.words);
       max = h.max;
       places = map (λ p. (p.session, p.ports)) h.places.items;
     } };
 
-    ghost invariant = { λ h. IsHosting (λ p. p.session) h.config h.max (vec_capacity h.places) h.places.items };
+    ghost invariant = { λ h. IsHosting (λ p. p.session) h.config (words_of h.words) h.max (vec_capacity h.places)
+        h.places.items };
 }
 
 impl<P: Ports, A: Allocator + Copy> Hub<P, A> {
     /// A hub with no sessions, and room for so many.
     pub fn new(alloc: A, config: Config, max: usize) -> Result<Hub<P, A>, HubError>
         ensures opening { IfOk result (λ hub. hub ≡ record { limits = limits_of config; max = max; places = [] }) }
+        ensures accepted { IfOk result (λ hub. (config_fault config ≡ Ok tt) × IsHubSize max) }
+        ensures refused { IfErr result (λ error. IsHubCause config max error) }
+    {
+        Hub::with_words(alloc, config, max, Words::new())
+    }
+
+    /// A hub with no sessions, and room for so many, whose messages may hold these words of the operator's. It
+    /// takes the same memory as one without, and is refused as one without.
+    pub fn with_words(
+        alloc: A,
+        config: Config,
+        max: usize,
+        words: Words,
+    ) -> Result<Hub<P, A>, HubError>
+        ensures opening { IfOk result (λ hub. hub
+            ≡ record { limits = limits_with config (words_of words); max = max; places = [] }) }
         ensures accepted { IfOk result (λ hub. (config_fault config ≡ Ok tt) × IsHubSize max) }
         ensures refused { IfErr result (λ error. IsHubCause config max error) }
     {
@@ -93,6 +114,7 @@ impl<P: Ports, A: Allocator + Copy> Hub<P, A> {
         Ok(Hub {
             alloc,
             config,
+            words,
             max,
             places,
         })
@@ -112,7 +134,7 @@ impl<P: Ports, A: Allocator + Copy> Hub<P, A> {
         if place == self.max {
             return Err((AddFault::Full, ports));
         }
-        let Ok(session) = Session::new(self.alloc, self.config) else {
+        let Ok(session) = Session::with_words(self.alloc, self.config, self.words) else {
             return Err((AddFault::Memory, ports));
         };
         self.places.push_reserved(Place { session, ports });

@@ -21,9 +21,10 @@ ghost use Rattle.daide_machine.specs.Wires.{Lost, Wrote, Takes, HoldsTheSame, As
 ghost use Rattle.daide_machine.specs.Weight.{weight_of, weight_bound, steps_bound, IsKeptSmall, IsTied};
 ghost use Rattle.daide_machine.specs.declared.note.Note.TheVariants.{Nothing};
 ghost use Rattle.daide_session.specs.Config.{config_fault};
-ghost use Rattle.daide_session.specs.Session.{level_in, limits_of, IsCause};
+ghost use Rattle.daide_session.specs.Session.{level_in, limits_of, limits_with, IsCause};
 ghost use Rattle.daide_session.specs.Bounds.{IsWithinBounds};
 ghost use Rattle.daide_traffic.specs.Fronts.{KeepsFront};
+ghost use Rattle.daide_words.specs.Words.{words_of};
 
 use crate::config::{Config, ConfigError};
 use crate::reaction::react;
@@ -34,6 +35,7 @@ use daide_grammar::level::Level;
 pub use daide_machine::note::{Deed, Note};
 pub use daide_machine::phase::Phase;
 use daide_traffic::traffic::Traffic;
+use daide_words::words::Words;
 use std::alloc::{Allocator, Global};
 use std::marker::Model;
 
@@ -73,10 +75,20 @@ impl<A: Allocator + Copy> Session<A> {
         ensures accepted { IfOk result (λ session. config_fault config ≡ Ok tt) }
         ensures refused { IfErr result (λ error. IsCause config error) }
     {
+        Session::with_words(alloc, config, Words::new())
+    }
+
+    /// A session that nothing came to yet, whose messages may hold these words of the operator's. It takes the
+    /// same memory as one without, and is refused as one without.
+    pub fn with_words(alloc: A, config: Config, words: Words) -> Result<Session<A>, SessionError>
+        ensures opening { IfOk result (λ session. IsNew (limits_with config (words_of words)) session) }
+        ensures accepted { IfOk result (λ session. config_fault config ≡ Ok tt) }
+        ensures refused { IfErr result (λ error. IsCause config error) }
+    {
         if let Err(fault) = config.check() {
             return Err(SessionError::Config(fault));
         }
-        let Ok(traffic) = Traffic::new(alloc, config.max_body, config.max_depth) else {
+        let Ok(traffic) = Traffic::new(alloc, config.max_body, config.max_depth, words) else {
             return Err(SessionError::Memory);
         };
         let stage = Stage {

@@ -42,7 +42,7 @@ pub record IsSeen (f : Fields) (t : Traffic) (side one : Side) : Type 0 where
   pub sound : IsSound f
   pub its : side ≡ one
   pub cap : t.cap ≡ (at f.sides one).cap
-  pub max_depth : t.max_depth ≡ (at f.sides one).max_depth
+  pub rules : t.rules ≡ (at f.sides one).rules
   pub arrival : at t.sides side ≡ arrival_of (at f.sides one)
   pub awaited : is_awaited (at t.waiting) side ≡ is_some (at f.sides one).verdict
 
@@ -52,7 +52,7 @@ seen {f} {t} {side} {one} i is s = record {
   sound = i;
   its = s;
   cap = sym (ap (λ (x : Traffic). x.cap) is) ∙ cap one;
-  max_depth = sym (ap (λ (x : Traffic). x.max_depth) is) ∙ depth one;
+  rules = sym (ap (λ (x : Traffic). x.rules) is) ∙ ruled one;
   arrival = sym (ap (λ (x : Traffic). at x.sides side) is) ∙ ap (λ (x : Side). at (traffic_of f).sides x) s ∙ shown one;
   awaited = sym (ap (λ (x : Traffic). is_awaited (at x.waiting) side) is) ∙ awaited_is f side i
       ∙ ap (λ (x : Side). is_some (at f.sides x).verdict) s;
@@ -62,9 +62,9 @@ seen {f} {t} {side} {one} i is s = record {
     cap Bot = refl
     cap Server = sym i.same_cap
 
-    depth : (x : Side) → f.sides.bot.max_depth ≡ (at f.sides x).max_depth
-    depth Bot = refl
-    depth Server = sym i.same_depth
+    ruled : (x : Side) → f.sides.bot.rules ≡ (at f.sides x).rules
+    ruled Bot = refl
+    ruled Server = sym i.same_rules
 
     shown : (x : Side) → at (traffic_of f).sides x ≡ arrival_of (at f.sides x)
     shown Bot = refl

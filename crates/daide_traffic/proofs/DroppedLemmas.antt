@@ -108,7 +108,7 @@ record IsSideAfter (old new : Inbound) (its : Bool) : Type 0 where
 
 same_after : (i : Inbound) → IsSideAfter i i false
 same_after i = record {
-  same = record { side = refl; cap = refl; max_depth = refl };
+  same = record { side = refl; cap = refl; rules = refl };
   coming = refl;
   total = refl;
   fewer = λ e. e;
@@ -121,7 +121,7 @@ same_after i = record {
 released_after : (old new : Inbound) → Begins old old.level [] new → presence old.verdict ≡ 1 →
     IsSideAfter old new true
 released_after old new b some = record {
-  same = record { side = b.side; cap = b.cap; max_depth = b.max_depth };
+  same = record { side = b.side; cap = b.cap; rules = b.rules };
   coming = rw (b.unanswered, b.held, b.level_set) (ap (λ (bytes : List ℕ). record
       { pending = bytes; noted = old.level })
       (blank old.verdict some));
@@ -198,7 +198,7 @@ module _ (f : Fields) (b : Both Inbound) (to : Side) (i : IsSound f)
     left_sound = record {
       its_side = λ one. (side one).same.side ∙ i.its_side one;
       same_cap = (side Server).same.cap ∙ i.same_cap ∙ sym (side Bot).same.cap;
-      same_depth = (side Server).same.max_depth ∙ i.same_depth ∙ sym (side Bot).same.max_depth;
+      same_rules = (side Server).same.rules ∙ i.same_rules ∙ sym (side Bot).same.rules;
       once = λ one. put_ways f.wires to (tail (at f.wires to)) (answer_mark one) ∙ remain one;
       ends = put_all (λ (s : Side) (q : Queue). count_of end_mark q.items ≤ 1) f.wires to (tail (at f.wires to))
           (omega (arith, tail_fewer end_mark (at f.wires to).items, i.ends to)) i.ends;
@@ -214,7 +214,7 @@ module _ (f : Fields) (b : Both Inbound) (to : Side) (i : IsSound f)
     left_goes : LetsGo (traffic_of f) (traffic_of (after_drop f b to))
     left_goes = record {
       cap = (side Bot).same.cap;
-      max_depth = (side Bot).same.max_depth;
+      rules = (side Bot).same.rules;
       coming = λ one. rw ((now one).arrival, (was one).arrival) (side one).coming;
       total = λ one. ap (λ (a : Arrival). a.holding.total) (now one).arrival ∙ (side one).total
           ∙ sym (ap (λ (a : Arrival). a.holding.total) (was one).arrival);

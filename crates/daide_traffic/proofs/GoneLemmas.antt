@@ -36,7 +36,7 @@ advanced : (f : Fields) (to : Side) (n : ℕ) → IsSound f → n < first_len (f
 advanced f to n i l = record {
   its_side = i.its_side;
   same_cap = i.same_cap;
-  same_depth = i.same_depth;
+  same_rules = i.same_rules;
   once = λ side. once to side;
   ends = put_all (λ (s : Side) (q : Queue). count_of end_mark q.items ≤ 1) f.wires to (further (at f.wires to) n)
       (i.ends to) i.ends;
@@ -77,11 +77,11 @@ behind_same old new to n waiting side =
     ap (λ (w : Both (List Sent)). has_answer side w.bot || has_answer side w.server) waiting
     ∙ behind_awaited old.waiting to n side
 
-lets_nothing : (old new : Traffic) → new.cap ≡ old.cap → new.max_depth ≡ old.max_depth → new.sides ≡ old.sides →
+lets_nothing : (old new : Traffic) → new.cap ≡ old.cap → new.rules ≡ old.rules → new.sides ≡ old.sides →
     ((side : Side) → is_awaited (at new.waiting) side ≡ is_awaited (at old.waiting) side) → LetsGo old new
-lets_nothing old new cap depth sides same = record {
+lets_nothing old new cap rules sides same = record {
   cap = cap;
-  max_depth = depth;
+  rules = rules;
   coming = λ side. ap (λ (b : Both Arrival). (at b side).coming) sides;
   total = λ side. ap (λ (b : Both Arrival). (at b side).holding.total) sides;
   fewer = λ side none. same side ∙ none;
@@ -89,17 +89,17 @@ lets_nothing old new cap depth sides same = record {
   kept = λ side e. ap (λ (b : Both Arrival). (at b side).holding) sides;
 }
 
-pub lets_none_go : (old new : Traffic) (to : Side) (n : ℕ) → new.cap ≡ old.cap → new.max_depth ≡ old.max_depth →
+pub lets_none_go : (old new : Traffic) (to : Side) (n : ℕ) → new.cap ≡ old.cap → new.rules ≡ old.rules →
     new.sides ≡ old.sides → new.waiting ≡ put old.waiting to (behind n (at old.waiting to)) → LetsGo old new
-lets_none_go old new to n cap depth sides waiting =
-    lets_nothing old new cap depth sides (behind_same old new to n waiting)
+lets_none_go old new to n cap rules sides waiting =
+    lets_nothing old new cap rules sides (behind_same old new to n waiting)
 
 -- ---- one call after the other
 
 pub lets_more : (old mid new : Traffic) → LetsGo old mid → LetsGo mid new → LetsGo old new
 lets_more old mid new a b = record {
   cap = b.cap ∙ a.cap;
-  max_depth = b.max_depth ∙ a.max_depth;
+  rules = b.rules ∙ a.rules;
   coming = λ side. b.coming side ∙ a.coming side;
   total = λ side. b.total side ∙ a.total side;
   fewer = λ side e. b.fewer side (a.fewer side e);

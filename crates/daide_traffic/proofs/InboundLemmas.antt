@@ -16,14 +16,15 @@ use Rattle.daide_machine.specs.Wires.{is_dm_head}
 use Rattle.daide_machine.specs.Machine.{IsRight, question_of, is_dm, side2_of}
 use Rattle.daide_grammar.specs.declared.level.Level.{Level}
 use Rattle.daide_grammar.specs.declared.predict.Predict.{Ghosts}
-use Rattle.daide_grammar.specs.SideMessages.{IsMessage}
+use Rattle.daide_grammar.specs.SideMessages.{IsMessageOver}
 use Rattle.daide_grammar.specs.Symbols.{opening_of}
+use Rattle.daide_grammar.specs.Words.{Words}
 use Rattle.daide_reader.specs.Reading.{Reading, IsRaised, StandsAfter}
 use Rattle.daide_reader.specs.declared.verdict.Verdict.{Verdict}
 use Rattle.daide_reader.specs.declared.verdict.Verdict.TheVariants.{Relay}
 use Rattle.daide_reader.specs.Verdict.{IsPlaceIn}
 use Rattle.daide_reader.specs.Verdict.{HasVerdict}
-use Rattle.daide_traffic.specs.Inbound.{Inbound, IsReadOn, HasPlace, Reads, inbound_of}
+use Rattle.daide_traffic.specs.Inbound.{Inbound, Rules, IsReadOn, HasPlace, Reads, inbound_of, rules_of}
 use Rattle.daide_reader.proofs.BodyLemmas.{tokens_of-length, tokens_of-all}
 
 -- a piece makes the bytes longer, by no more than itself
@@ -157,43 +158,56 @@ fed_past limit b piece cut same bytes dm =
     ∙ ap (λ (x : List ℕ). is_dm_head (head_in limit x)) is) ∙ dm)
 
 pub stands_deep : {T : Type 0} (table : Ghosts T) (side : Side) (level : Level) (v w : Reading T) (cut : Cut) →
-    w.max_depth ≡ v.max_depth →
-    StandsAfter table [] (opening_of (side2_of side) level) v.max_depth w (tokens_held cut.cap cut.bytes) →
-    StandsAfter table [] (opening_of (side2_of side) level) w.max_depth w (tokens_held cut.cap cut.bytes)
-stands_deep table side level v w cut depth stands =
-    subst (λ (n : ℕ). StandsAfter table [] (opening_of (side2_of side) level) n w (tokens_held cut.cap cut.bytes))
-    (sym depth) stands
+    w.max_depth ≡ v.max_depth → table.words w.table ≡ table.words v.table →
+    StandsAfter table (table.words v.table) (opening_of (side2_of side) level) v.max_depth w
+    (tokens_held cut.cap cut.bytes) →
+    StandsAfter table (table.words w.table) (opening_of (side2_of side) level) w.max_depth w
+    (tokens_held cut.cap cut.bytes)
+stands_deep table side level v w cut depth words stands =
+    subst (λ (n : ℕ). StandsAfter table (table.words w.table) (opening_of (side2_of side) level) n w
+    (tokens_held cut.cap cut.bytes))
+    (sym depth)
+    (subst (λ (x : Words). StandsAfter table x (opening_of (side2_of side) level) v.max_depth w
+    (tokens_held cut.cap cut.bytes))
+    (sym words) stands)
 
 -- what is read stays read where the frame has other bytes and no answer
 pub read_along : {T : Type 0} (table : Ghosts T) (asked : T → ℕ) (side : Side) (level : Level) (old new : Cut)
     (v w : Reading T) (header : List ℕ) (verdict : Option Verdict) →
     IsReadOn table asked side level old v header verdict → verdict ≡ None → new.cap ≡ old.cap →
-    w.max_depth ≡ v.max_depth → w.finished ≡ false →
-    StandsAfter table [] (opening_of (side2_of side) level) v.max_depth w (tokens_held new.cap new.bytes) →
+    w.max_depth ≡ v.max_depth → table.words w.table ≡ table.words v.table → w.finished ≡ false →
+    StandsAfter table (table.words v.table) (opening_of (side2_of side) level) v.max_depth w
+    (tokens_held new.cap new.bytes) →
     (is_dm_head (head_in new.cap new.bytes) ≡ false → w.asked_before ≡ asked w.table) →
     IsReadOn table asked side level new w header verdict
-read_along table asked side level old new v w header verdict h none same depth goes_on stands uncounted = record {
+read_along table asked side level old new v w header verdict h none same depth words goes_on stands uncounted = record {
   four = h.four;
   place = subst (λ (a : Option Verdict). HasPlace new.bytes a) (sym none) tt;
   capped = rw same h.capped;
-  stands = stands_deep table side level v w new depth stands;
+  stands = stands_deep table side level v w new depth words stands;
   unfinished = λ free. goes_on;
   uncounted = uncounted;
 }
 
+-- where neither the depth nor the words change, a reader judges as before
+pub rules_kept : {T : Type 0} (words : T → Words) (v w : Reading T) → w.max_depth ≡ v.max_depth →
+    words w.table ≡ words v.table → rules_of words w ≡ rules_of words v
+rules_kept words v w depth same = rw (depth, same) refl
+
 -- nothing changed of a side but its bytes, and how far its message is read
-pub reads_of : {T : Type 0} (table : Ghosts T) (asked : T → ℕ) (side : Side) (level : Level) (old new : Cut)
-    (v w : Reading T) (header : List ℕ) (verdict : Option Verdict) (bytes : List ℕ) →
+pub reads_of : {T : Type 0} (table : Ghosts T) (words : T → Words) (asked : T → ℕ) (side : Side) (level : Level)
+    (old new : Cut) (v w : Reading T) (header : List ℕ) (verdict : Option Verdict) (bytes : List ℕ) →
     IsReadOn table asked side level old v header verdict → verdict ≡ None → new.cap ≡ old.cap → new.bytes ≡ bytes →
-    w.max_depth ≡ v.max_depth → w.asked_before ≡ v.asked_before →
+    rules_of words w ≡ rules_of words v → w.asked_before ≡ v.asked_before →
     (is_dm_head (head_in new.cap new.bytes) ≡ false → asked w.table ≡ asked v.table) →
     (drop 4 new.bytes ≡ [] → asked w.table ≡ asked v.table) →
-    Reads (inbound_of asked side level old v header verdict) bytes (inbound_of asked side level new w header verdict)
-reads_of table asked side level old new v w header verdict bytes h none same are depth base no_message bodiless =
+    Reads (inbound_of words asked side level old v header verdict) bytes
+    (inbound_of words asked side level new w header verdict)
+reads_of table words asked side level old new v w header verdict bytes h none same are rules base no_message bodiless =
     record {
       side = refl;
       cap = same;
-      max_depth = depth;
+      rules = rules;
       level = refl;
       held = are;
       unanswered = none;
@@ -205,14 +219,15 @@ reads_of table asked side level old new v w header verdict bytes h none same are
     }
 
 -- a message is judged by the grammar, and any other frame is relayed
-pub right_message : (max_depth : ℕ) (side : Side) (level : Level) (head : Head) (body : List ℕ) (v : Verdict) →
-    is_dm head.kind ≡ true → HasVerdict (IsMessage (side2_of side) level) max_depth (tokens_of body) v →
-    IsRight [] max_depth (question_of side level head body) v
-right_message max_depth side level head body v e h = rw e h
+pub right_message : (rules : Rules) (side : Side) (level : Level) (head : Head) (body : List ℕ) (v : Verdict) →
+    is_dm head.kind ≡ true →
+    HasVerdict (IsMessageOver rules.words (side2_of side) level) rules.max_depth (tokens_of body) v →
+    IsRight rules.words rules.max_depth (question_of side level head body) v
+right_message rules side level head body v e h = rw e h
 
-pub right_other : (max_depth : ℕ) (side : Side) (level : Level) (head : Head) (body : List ℕ) (v : Verdict) →
-    is_dm head.kind ≡ false → v ≡ Relay → IsRight [] max_depth (question_of side level head body) v
-right_other max_depth side level head body v e h = rw e h
+pub right_other : (rules : Rules) (side : Side) (level : Level) (head : Head) (body : List ℕ) (v : Verdict) →
+    is_dm head.kind ≡ false → v ≡ Relay → IsRight rules.words rules.max_depth (question_of side level head body) v
+right_other rules side level head body v e h = rw e h
 
 pub raised_most : (a b old new : ℕ) → a ≤ b → IsRaised a old new → IsRaised b old new
 raised_most a b old new le h = record { by = h.by; few = (let few = h.few in omega arith); sum = h.sum }
@@ -222,6 +237,7 @@ pub record IsJudged {T : Type 0} (table : Ghosts T) (asked : T → ℕ) (old : I
     (cut : Cut) (v : Reading T) (head : Head) (verdict : Verdict) : Type 0 where
   pub capped : cut.cap ≤ 65526
   pub place : IsPlaceIn (drop 4 cut.bytes) verdict
-  pub stands : StandsAfter table [] (opening_of (side2_of side) level) v.max_depth v (tokens_held cut.cap cut.bytes)
+  pub stands : StandsAfter table (table.words v.table) (opening_of (side2_of side) level) v.max_depth v
+      (tokens_held cut.cap cut.bytes)
   pub uncounted : is_dm_head (head_in cut.cap cut.bytes) ≡ false → v.asked_before ≡ asked v.table
-  pub right : IsRight [] old.max_depth (question_of old.side old.level head (drop 4 old.held)) verdict
+  pub right : IsRight old.rules.words old.rules.max_depth (question_of old.side old.level head (drop 4 old.held)) verdict

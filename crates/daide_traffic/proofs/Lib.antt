@@ -10,3 +10,4 @@ pub mod MarksLemmas
 pub mod PartsLemmas
 pub mod SidesLemmas
 pub mod WaitingLemmas
+pub mod WordedVerdicts

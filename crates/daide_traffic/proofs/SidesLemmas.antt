@@ -23,7 +23,7 @@ with_side f side x = record { sides = put f.sides side x; wires = f.wires }
 pub record IsSameSide (old new : Inbound) : Type 0 where
   pub side : new.side ≡ old.side
   pub cap : new.cap ≡ old.cap
-  pub max_depth : new.max_depth ≡ old.max_depth
+  pub rules : new.rules ≡ old.rules
 
 pub its_sides : (f : Fields) (side one : Side) (x : Inbound) → IsSound f → IsSameSide (at f.sides side) x →
     (at (put f.sides side x) one).side ≡ one
@@ -35,17 +35,17 @@ pub caps : (f : Fields) (side : Side) (x : Inbound) → IsSound f → IsSameSide
 caps f Bot x i e = i.same_cap ∙ sym e.cap
 caps f Server x i e = e.cap ∙ i.same_cap
 
-pub depths : (f : Fields) (side : Side) (x : Inbound) → IsSound f → IsSameSide (at f.sides side) x →
-    (put f.sides side x).server.max_depth ≡ (put f.sides side x).bot.max_depth
-depths f Bot x i e = i.same_depth ∙ sym e.max_depth
-depths f Server x i e = e.max_depth ∙ i.same_depth
+pub rules_alike : (f : Fields) (side : Side) (x : Inbound) → IsSound f → IsSameSide (at f.sides side) x →
+    (put f.sides side x).server.rules ≡ (put f.sides side x).bot.rules
+rules_alike f Bot x i e = i.same_rules ∙ sym e.rules
+rules_alike f Server x i e = e.rules ∙ i.same_rules
 
 pub sound_side : {f : Fields} {t : Traffic} {given side : Side} (x : Inbound) → IsSeenFree f t given side →
     IsSameSide (at f.sides side) x → x.verdict ≡ None → IsSound (with_side f side x)
 sound_side {f} {t} {given} {side} x h e none = record {
   its_side = λ one. its_sides f side one x i e;
   same_cap = caps f side x i e;
-  same_depth = depths f side x i e;
+  same_rules = rules_alike f side x i e;
   once = λ one. i.once one ∙ sym (ap presence (put_all (λ (s : Side) (y : Inbound). y.verdict ≡ (at f.sides s).verdict)
       f.sides side x (none ∙ sym h.free) (λ s. refl) one));
   ends = i.ends;
@@ -65,12 +65,12 @@ sound_side {f} {t} {given} {side} x h e none = record {
 pub begun_sound : {f : Fields} {t : Traffic} {given side : Side} {x : Inbound} {level : Level} {bytes : List ℕ} →
     IsSeenFree f t given side → Begins (at f.sides side) level bytes x → IsSound (with_side f side x)
 begun_sound {x = x} h b =
-    sound_side x h (record { side = b.side; cap = b.cap; max_depth = b.max_depth }) b.unanswered
+    sound_side x h (record { side = b.side; cap = b.cap; rules = b.rules }) b.unanswered
 
 pub read_sound : {f : Fields} {t : Traffic} {given side : Side} {x : Inbound} {bytes : List ℕ} →
     IsSeenFree f t given side → Reads (at f.sides side) bytes x → IsSound (with_side f side x)
 read_sound {x = x} h r =
-    sound_side x h (record { side = r.side; cap = r.cap; max_depth = r.max_depth }) r.unanswered
+    sound_side x h (record { side = r.side; cap = r.cap; rules = r.rules }) r.unanswered
 
 -- what there is room for
 pub fits_side : {f : Fields} {t : Traffic} {side one : Side} (n : ℕ) → IsSeenFree f t side one →

@@ -22,7 +22,7 @@ use Rattle.daide_traffic.proofs.FrontLemmas.{waits_at}
 use Rattle.daide_traffic.proofs.MarksLemmas.{agree_put, begun_pushed, count_pushed, same_begun, same_both}
 use Rattle.daide_traffic.proofs.MarksLemmas.{first_pushed}
 use Rattle.daide_traffic.proofs.MarksLemmas.{frames_pushed, least, length_marks, unended, unmarked_pushed}
-use Rattle.daide_traffic.proofs.SidesLemmas.{IsSameSide, caps, depths, its_sides}
+use Rattle.daide_traffic.proofs.SidesLemmas.{IsSameSide, caps, rules_alike, its_sides}
 
 -- ---- an answer
 
@@ -57,7 +57,7 @@ replied_sound : (f : Fields) (side to : Side) (x : Inbound) → IsSound f → (a
 replied_sound f side to x i free same one_more some = record {
   its_side = λ one. its_sides f side one x i same;
   same_cap = caps f side x i same;
-  same_depth = depths f side x i same;
+  same_rules = rules_alike f side x i same;
   once = λ one. count_pushed f.wires to (answer_mark one) (Answer side)
       ∙ ap (λ (n : ℕ). n + answer_mark one (Answer side)) (i.once one)
       ∙ sym (presence_put f.sides side one x free one_more);
@@ -93,7 +93,7 @@ pub post_sound : {f : Fields} {t : Traffic} {side one : Side} (to : Side) {head 
 post_sound {f} {t} {side} {one} to {head} {verdict} {x} h a wires =
     subst (λ (v : Both Queue). IsSound (record { sides = put f.sides one x; wires = v }))
     (sym (wires ∙ ap (λ (s : Side). put f.wires to (pushed (at f.wires to) (Answer s))) h.seen.its))
-    (replied_sound f one to x h.seen.sound h.free (record { side = a.side; cap = a.cap; max_depth = a.max_depth })
+    (replied_sound f one to x h.seen.sound h.free (record { side = a.side; cap = a.cap; rules = a.rules })
     (ap presence a.verdict_set) (answer_some (at f.sides one) x head verdict a))
 
 pub post_waiting : {f : Fields} {t : Traffic} {side one : Side} (to : Side) {head : Head} {verdict : Verdict} {x : Inbound}
@@ -118,12 +118,12 @@ post_waiting {f} {t} {side} {one} to {head} {verdict} {x} h a wires =
 
 -- the verdict is the grammar's of what the value t shows
 pub post_right : {f : Fields} {t : Traffic} {side one : Side} (head : Head) (verdict : Verdict) →
-    IsSeenFree f t side one → IsRight [] (at f.sides one).max_depth
+    IsSeenFree f t side one → IsRight (at f.sides one).rules.words (at f.sides one).rules.max_depth
     (question_of (at f.sides one).side (at f.sides one).level head (drop 4 (at f.sides one).held)) verdict →
-    IsRight [] t.max_depth (question_of side (noted t side) head (drop 4 (pending t side))) verdict
+    IsRight t.rules.words t.rules.max_depth (question_of side (noted t side) head (drop 4 (pending t side))) verdict
 post_right {f} {t} {side} {one} head verdict h right =
     let level : noted t side ≡ (at f.sides one).level = ap (λ (a : Arrival). a.coming.noted) h.seen.arrival in
-    rw (h.seen.max_depth, level, h.pending, h.seen.its ∙ sym (h.seen.sound.its_side one)) right
+    rw (h.seen.rules, level, h.pending, h.seen.its ∙ sym (h.seen.sound.its_side one)) right
 
 -- ---- an end
 
@@ -169,7 +169,7 @@ end_sound f t to code w is i none wires =
     subst (λ (v : Both Queue). IsSound (record { sides = f.sides; wires = v })) (sym wires) (record {
       its_side = i.its_side;
       same_cap = i.same_cap;
-      same_depth = i.same_depth;
+      same_rules = i.same_rules;
       once = λ one. (let unmarked = ending_mark one code in let once = i.once one in
           let count = count_pushed f.wires to (answer_mark one) (ending_of code) in omega arith);
       ends = λ one. first_pushed f.wires to one end_mark (ending_of code) (ending_once code)

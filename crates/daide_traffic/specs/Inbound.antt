@@ -9,6 +9,10 @@ use Rattle.daide_frame.specs.Head.{head_bytes}
 use Rattle.daide_grammar.specs.declared.level.Level.{Level}
 use Rattle.daide_grammar.specs.declared.predict.Predict.{Ghosts}
 use Rattle.daide_grammar.specs.Symbols.{opening_of}
+use Rattle.daide_grammar.specs.Words.{Words}
+use Rattle.daide_words.specs.declared.extended.Extended.{Extended}
+use Rattle.daide_words.specs.Extended.{spoken_words}
+use Rattle.daide_words.specs.OverWords.{spoken}
 use Rattle.daide_reader.specs.Reading.{Reading, StandsAfter}
 use Rattle.daide_reader.specs.declared.verdict.Verdict.{Verdict}
 use Rattle.daide_reader.specs.declared.verdict.Verdict.TheVariants.{Relay, Prn, Huh}
@@ -18,10 +22,15 @@ use Rattle.daide_machine.specs.Machine.{side2_of}
 use Rattle.daide_machine.specs.Weight.{tokens_held}
 use Rattle.daide_machine.specs.Wires.{is_dm_head}
 
+-- by what a message is judged: how many of its brackets may be open at once, and the operator's words
+pub record Rules : Type 0 where
+  pub max_depth : ℕ
+  pub words : Words
+
 pub record Inbound : Type 0 where
   pub side : Side
   pub cap : ℕ
-  pub max_depth : ℕ
+  pub rules : Rules
   -- the level at which the message is read
   pub level : Level
   -- the frame's bytes so far, also while the answer to it waits
@@ -64,11 +73,20 @@ front_after i gone = front_in (parts_by i.header (drop 4 i.held) i.verdict) gone
 
 -- ---- what the fields stand for
 
-abbrev pub inbound_of : {T : Type 0} → (T → ℕ) → Side → Level → Cut → Reading T → List ℕ → Option Verdict → Inbound
-inbound_of asked side level cut v header verdict = record {
+-- the words by which a table answers
+abbrev pub words_in : Extended → Words
+words_in table = spoken (spoken_words table)
+
+-- by what a reader judges, over a table with these words
+abbrev pub rules_of : {T : Type 0} → (T → Words) → Reading T → Rules
+rules_of words v = record { max_depth = v.max_depth; words = words v.table }
+
+abbrev pub inbound_of : {T : Type 0} → (T → Words) → (T → ℕ) → Side → Level → Cut → Reading T → List ℕ →
+    Option Verdict → Inbound
+inbound_of words asked side level cut v header verdict = record {
   side = side;
   cap = cut.cap;
-  max_depth = v.max_depth;
+  rules = rules_of words v;
   level = level;
   held = cut.bytes;
   header = header;
@@ -89,7 +107,8 @@ pub record IsReadOn {T : Type 0} (table : Ghosts T) (asked : T → ℕ) (side : 
   pub four : length header ≡ 4
   pub place : HasPlace cut.bytes verdict
   pub capped : cut.cap ≤ 65526
-  pub stands : StandsAfter table [] (opening_of (side2_of side) level) v.max_depth v (tokens_held cut.cap cut.bytes)
+  pub stands : StandsAfter table (table.words v.table) (opening_of (side2_of side) level) v.max_depth v
+      (tokens_held cut.cap cut.bytes)
   pub unfinished : verdict ≡ None → v.finished ≡ false
   -- the table was asked for a message alone
   pub uncounted : is_dm_head (head_in cut.cap cut.bytes) ≡ false → v.asked_before ≡ asked v.table
@@ -100,7 +119,7 @@ pub record IsReadOn {T : Type 0} (table : Ghosts T) (asked : T → ℕ) (side : 
 pub record Begins (old : Inbound) (level : Level) (bytes : List ℕ) (new : Inbound) : Type 0 where
   pub side : new.side ≡ old.side
   pub cap : new.cap ≡ old.cap
-  pub max_depth : new.max_depth ≡ old.max_depth
+  pub rules : new.rules ≡ old.rules
   pub level_set : new.level ≡ level
   pub held : new.held ≡ bytes
   pub unanswered : new.verdict ≡ None
@@ -111,7 +130,7 @@ pub record Begins (old : Inbound) (level : Level) (bytes : List ℕ) (new : Inbo
 pub record Reads (old : Inbound) (bytes : List ℕ) (new : Inbound) : Type 0 where
   pub side : new.side ≡ old.side
   pub cap : new.cap ≡ old.cap
-  pub max_depth : new.max_depth ≡ old.max_depth
+  pub rules : new.rules ≡ old.rules
   pub level : new.level ≡ old.level
   pub held : new.held ≡ bytes
   pub unanswered : new.verdict ≡ None
@@ -124,7 +143,7 @@ pub record Reads (old : Inbound) (bytes : List ℕ) (new : Inbound) : Type 0 whe
 pub record Answers (old : Inbound) (head : Head) (verdict : Verdict) (new : Inbound) : Type 0 where
   pub side : new.side ≡ old.side
   pub cap : new.cap ≡ old.cap
-  pub max_depth : new.max_depth ≡ old.max_depth
+  pub rules : new.rules ≡ old.rules
   pub level : new.level ≡ old.level
   pub held : new.held ≡ old.held
   pub header : new.header ≡ head_bytes (answer_head head verdict)

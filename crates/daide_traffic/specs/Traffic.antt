@@ -14,7 +14,7 @@ use Rattle.daide_machine.specs.Wires.{Holding, same_side, is_answer, is_awaited,
 use Rattle.daide_traffic.specs.declared.wire.Waiting.{Waiting}
 use Rattle.daide_traffic.specs.declared.wire.Waiting.TheVariants.{Answer, Fm, Em}
 use Rattle.daide_traffic.specs.Both.{Both, at, put}
-use Rattle.daide_traffic.specs.Inbound.{Inbound, Begins, answer_of, front_after}
+use Rattle.daide_traffic.specs.Inbound.{Inbound, Rules, Begins, answer_of, front_after}
 use Rattle.daide_traffic.specs.Wire.{Queue}
 
 -- what came of a side: the bytes since its last whole frame with the level noted at its last header, and what is
@@ -25,7 +25,7 @@ pub record Arrival : Type 0 where
 
 pub record Traffic : Type 0 where
   pub cap : ℕ
-  pub max_depth : ℕ
+  pub rules : Rules
   pub sides : Both Arrival
   -- the frames that wait for each wire, the first perhaps in part
   pub waiting : Both (List Sent)
@@ -44,9 +44,9 @@ holding t side = (at t.sides side).holding
 -- ---- what the calls do
 
 -- nothing came, and nothing waits
-pub record IsQuiet (cap max_depth : ℕ) (t : Traffic) : Type 0 where
+pub record IsQuiet (cap : ℕ) (rules : Rules) (t : Traffic) : Type 0 where
   pub cap_set : t.cap ≡ cap
-  pub depth_set : t.max_depth ≡ max_depth
+  pub rules_set : t.rules ≡ rules
   pub coming : (side : Side) → (at t.sides side).coming ≡ record { pending = []; noted = L0 }
   pub held : (side : Side) → (holding t side).held ≡ []
   pub unasked : (side : Side) → (holding t side).total ≡ 0
@@ -55,7 +55,7 @@ pub record IsQuiet (cap max_depth : ℕ) (t : Traffic) : Type 0 where
 -- the limits stay, and what came of the other side
 pub record Keeps (side : Side) (old new : Traffic) : Type 0 where
   pub cap : new.cap ≡ old.cap
-  pub max_depth : new.max_depth ≡ old.max_depth
+  pub rules : new.rules ≡ old.rules
   pub other_side : at new.sides (other side) ≡ at old.sides (other side)
 
 -- a side's frame has these bytes now, and its message was read on. A table is asked for the tokens of a message alone.
@@ -92,7 +92,7 @@ pub record IsCleared (old new : Arrival) : Type 0 where
 -- No table was asked.
 pub record LetsGo (old new : Traffic) : Type 0 where
   pub cap : new.cap ≡ old.cap
-  pub max_depth : new.max_depth ≡ old.max_depth
+  pub rules : new.rules ≡ old.rules
   pub coming : (side : Side) → (at new.sides side).coming ≡ (at old.sides side).coming
   pub total : (side : Side) → (holding new side).total ≡ (holding old side).total
   pub fewer : (side : Side) → is_awaited (at old.waiting) side ≡ false → is_awaited (at new.waiting) side ≡ false
@@ -186,7 +186,7 @@ arrival_of i = record {
 abbrev pub traffic_of : Fields → Traffic
 traffic_of f = record {
   cap = f.sides.bot.cap;
-  max_depth = f.sides.bot.max_depth;
+  rules = f.sides.bot.rules;
   sides = record { bot = arrival_of f.sides.bot; server = arrival_of f.sides.server };
   waiting = record { bot = frames_to f Bot; server = frames_to f Server };
   fronts = record { bot = front_to f Bot; server = front_to f Server };
@@ -221,7 +221,7 @@ IsBegun answers n (item ∷ items) = n < length (bytes_in answers item)
 pub record IsSound (f : Fields) : Type 0 where
   pub its_side : (side : Side) → (at f.sides side).side ≡ side
   pub same_cap : f.sides.server.cap ≡ f.sides.bot.cap
-  pub same_depth : f.sides.server.max_depth ≡ f.sides.bot.max_depth
+  pub same_rules : f.sides.server.rules ≡ f.sides.bot.rules
   pub once : (side : Side) → count_of (answer_mark side) (at f.wires Bot).items
       + count_of (answer_mark side) (at f.wires Server).items ≡ presence (at f.sides side).verdict
   pub ends : (to : Side) → count_of end_mark (at f.wires to).items ≤ 1

@@ -16,19 +16,24 @@ ghost use Rattle.daide_grammar.specs.declared.level.Level.{Level};
 ghost use Rattle.daide_machine.specs.Machine.{IsRight, question_of, is_dm};
 ghost use Rattle.daide_machine.specs.Weight.{tokens_held};
 ghost use Rattle.daide_machine.specs.Wires.{is_dm_head};
+ghost use Rattle.daide_machine.specs.Bounds.{deepest};
 ghost use Rattle.daide_reader.specs.Reading.{IsRaised};
+ghost use Rattle.daide_words.specs.Word.{grammar_words};
+ghost use Rattle.daide_words.specs.Words.{words_of};
 ghost use Rattle.daide_traffic.specs.Inbound.{Begins, Reads, Answers, answer_of, front_after, front_in, steps_in};
 
 use daide_frame::cutter::{Cutter, Step};
 use daide_frame::head::{Head, Kind, write_head};
 use daide_frame::side::Side;
-use daide_grammar::dense::Dense;
 use daide_grammar::level::Level;
 use daide_grammar::predict::Predict;
 use daide_machine::answers::{CLOSE_WORD, ERR_WORD, HUH_OPEN, PRN_OPEN, answer_head};
+use daide_machine::bounds::STACK_ENTRIES;
 use daide_machine::rules::side2_of;
 use daide_reader::reader::Reader;
 use daide_reader::verdict::Verdict;
+use daide_words::extended::Extended;
+use daide_words::words::Words;
 use std::alloc::{AllocError, Allocator, Global};
 use std::marker::Model;
 
@@ -36,7 +41,7 @@ use std::marker::Model;
 #[derive(Drop)]
 pub struct Inbound<A: Allocator = Global> {
     cutter: Cutter<A>,
-    reader: Reader<Dense, 512>,
+    reader: Reader<Extended, STACK_ENTRIES>,
     side: Side,
     level: Level,
     header: [u8; 4],
@@ -44,14 +49,15 @@ pub struct Inbound<A: Allocator = Global> {
 }
 
 impl<A: Allocator> Model for Inbound<A> {
-    ghost use Rattle.daide_traffic.specs.Inbound.{Inbound, inbound_of, IsReadOn};
+    ghost use Rattle.daide_traffic.specs.Inbound.{Inbound, inbound_of, words_in, IsReadOn};
 
     ghost Value = { Inbound };
 
-    ghost view = { λ i. inbound_of ⟦<Dense as Predict>⟧.asked i.side i.level i.cutter i.reader i.header i.verdict };
+    ghost view = { λ i. inbound_of words_in ⟦<Extended as Predict>⟧.asked i.side i.level i.cutter i.reader i.header
+        i.verdict };
 
-    ghost invariant = { λ i. IsReadOn ⟦<Dense as Predict>⟧ ⟦<Dense as Predict>⟧.asked i.side i.level i.cutter i.reader
-        i.header i.verdict };
+    ghost invariant = { λ i. IsReadOn ⟦<Extended as Predict>⟧ ⟦<Extended as Predict>⟧.asked i.side i.level i.cutter
+        i.reader i.header i.verdict };
 }
 
 /// Whether a header is whole, good and a message's.
@@ -104,17 +110,27 @@ fn front_of_parts<'a>(
 
 impl<A: Allocator> Inbound<A> {
     /// A side that nothing came of, at level 0. The room of the longest body is taken here, once.
-    pub fn new(alloc: A, side: Side, cap: u16, max_depth: u16) -> Result<Inbound<A>, AllocError>
+    pub fn new(
+        alloc: A,
+        side: Side,
+        cap: u16,
+        max_depth: u16,
+        words: Words,
+    ) -> Result<Inbound<A>, AllocError>
         requires cap { cap ≤ 65526 }
         requires low { 4 ≤ max_depth }
-        requires high { max_depth ≤ 62 }
+        requires high { max_depth ≤ deepest }
         ensures side { IfOk result (λ i. i.side ≡ side) }
-        ensures limits { IfOk result (λ i. (i.cap ≡ cap) × (i.max_depth ≡ max_depth) × (i.level ≡ Level.L0)) }
+        ensures limits { IfOk result (λ i. (i.cap ≡ cap) × (i.level ≡ Level.L0)) }
+        ensures rules { IfOk result (λ i. i.rules
+            ≡ record { max_depth = max_depth; words = grammar_words (words_of words) }) }
         ensures empty { IfOk result (λ i. (i.held ≡ []) × (i.verdict ≡ None)) }
         ensures unasked { IfOk result (λ i. i.total ≡ 0) }
     {
+        // Where a reader is made over words, the prover wants their codes' type among the function's own.
+        let _names = words.names();
         let cutter = Cutter::new(alloc, cap)?;
-        let mut reader = Reader::new(Dense::new(), max_depth);
+        let mut reader = Reader::new(Extended::new(words), max_depth);
         reader.start(side2_of(side), Level::L0);
         Ok(Inbound {
             cutter,
@@ -191,9 +207,8 @@ impl<A: Allocator> Inbound<A> {
     pub fn answer(&mut self, head: Head) -> Verdict
         requires free { self.old.verdict ≡ None }
         requires head { head_in self.old.cap self.old.held ≡ Some head }
-        ensures right { IsRight [] self.old.max_depth (question_of self.old.side self.old.level head
-            (drop 4 self.old.held))
-            result }
+        ensures right { IsRight self.old.rules.words self.old.rules.max_depth
+            (question_of self.old.side self.old.level head (drop 4 self.old.held)) result }
         ensures answers { Answers self.old head result self.new }
         ensures raised { IsRaised 4 self.old.total self.new.total }
         ensures no_message { is_dm head.kind ≡ false → self.new.total ≡ self.old.total }
@@ -267,7 +282,7 @@ impl<A: Allocator> Inbound<A> {
     pub fn entries(&self) -> usize
         ensures value { result ≡ self.now.entries }
         ensures few { result ≤ 8 * open_brackets (tokens_held self.now.cap self.now.held) + 16 }
-        ensures at_most { result ≤ 8 * self.now.max_depth + 16 }
+        ensures at_most { result ≤ 8 * self.now.rules.max_depth + 16 }
     {
         self.reader.entries()
     }

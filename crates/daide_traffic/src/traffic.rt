@@ -16,7 +16,10 @@ ghost use Rattle.daide_machine.specs.Machine.{IsRight, question_of, is_dm, answe
 ghost use Rattle.daide_machine.specs.Machine.{destination as destination_of};
 ghost use Rattle.daide_machine.specs.Weight.{tokens_held};
 ghost use Rattle.daide_machine.specs.Wires.{IsFrontOf, first_len, without, bytes_of, is_awaited, steps_of};
+ghost use Rattle.daide_machine.specs.Bounds.{deepest};
 ghost use Rattle.daide_reader.specs.Reading.{IsRaised};
+ghost use Rattle.daide_words.specs.Word.{grammar_words};
+ghost use Rattle.daide_words.specs.Words.{words_of};
 ghost use Rattle.daide_traffic.specs.Both.{at, both, put};
 ghost use Rattle.daide_traffic.specs.Inbound.{Answers};
 ghost use Rattle.daide_traffic.specs.Wire.{first_of, pushed, tail_of};
@@ -37,6 +40,7 @@ use daide_grammar::level::Level;
 use daide_machine::answers::{FM, em_word};
 use daide_machine::rules::destination;
 use daide_reader::verdict::Verdict;
+use daide_words::words::Words;
 use std::alloc::{AllocError, Allocator, Global};
 use std::marker::Model;
 
@@ -124,8 +128,8 @@ fn post<A: Allocator>(
     requires free { own.old.verdict ≡ None }
     requires head { head_in own.old.cap own.old.held ≡ Some head }
     requires room { (to : Side) → length (at (both to_bot.old to_server.old) to).items < 3 }
-    ensures right { IsRight [] own.old.max_depth (question_of own.old.side own.old.level head
-        (drop 4 own.old.held)) result }
+    ensures right { IsRight own.old.rules.words own.old.rules.max_depth
+        (question_of own.old.side own.old.level head (drop 4 own.old.held)) result }
     ensures answers { Answers own.old head result own.new }
     ensures raised { IsRaised 4 own.old.total own.new.total }
     ensures no_message { is_dm head.kind ≡ false → own.new.total ≡ own.old.total }
@@ -170,15 +174,16 @@ fn release<A: Allocator>(gone: Option<Waiting>, bot: &mut Inbound<A>, server: &m
 impl<A: Allocator + Copy> Traffic<A> {
     /// Nothing came, and nothing waits. The bodies of both sides are reserved here, of `cap` bytes each; these
     /// are the only two growths.
-    pub fn new(alloc: A, cap: u16, max_depth: u16) -> Result<Traffic<A>, AllocError>
+    pub fn new(alloc: A, cap: u16, max_depth: u16, words: Words) -> Result<Traffic<A>, AllocError>
         requires cap { cap ≤ 65526 }
         requires low { 4 ≤ max_depth }
-        requires high { max_depth ≤ 62 }
-        ensures { IfOk result (λ traffic. IsQuiet cap max_depth traffic) }
+        requires high { max_depth ≤ deepest }
+        ensures { IfOk result (λ traffic.
+            IsQuiet cap (record { max_depth = max_depth; words = grammar_words (words_of words) }) traffic) }
     {
         Ok(Traffic {
-            bot: Inbound::new(alloc, Side::Bot, cap, max_depth)?,
-            server: Inbound::new(alloc, Side::Server, cap, max_depth)?,
+            bot: Inbound::new(alloc, Side::Bot, cap, max_depth, words)?,
+            server: Inbound::new(alloc, Side::Server, cap, max_depth, words)?,
             to_bot: Wire::new(),
             to_server: Wire::new(),
         })
@@ -250,7 +255,7 @@ impl<A: Allocator> Traffic<A> {
     pub fn entries(&self, side: Side) -> usize
         ensures value { result ≡ (holding self.now side).entries }
         ensures few { result ≤ 8 * open_brackets (tokens_held self.now.cap (holding self.now side).held) + 16 }
-        ensures at_most { result ≤ 8 * self.now.max_depth + 16 }
+        ensures at_most { result ≤ 8 * self.now.rules.max_depth + 16 }
     {
         match side {
             Side::Bot => self.bot.entries(),
@@ -325,7 +330,7 @@ impl<A: Allocator> Traffic<A> {
     pub fn reply(&mut self, side: Side, head: Head) -> Verdict
         requires free { is_awaited (at self.old.waiting) side ≡ false }
         requires head { head_in self.old.cap (pending self.old side) ≡ Some head }
-        ensures right { IsRight [] self.old.max_depth
+        ensures right { IsRight self.old.rules.words self.old.rules.max_depth
             (question_of side (noted self.old side) head (drop 4 (pending self.old side))) result }
         ensures keeps { Keeps side self.old self.new }
         ensures waiting { self.new.waiting
@@ -368,7 +373,7 @@ impl<A: Allocator> Traffic<A> {
     /// Lets a final message wait for a wire, or the error message with a code.
     pub fn end(&mut self, to: Side, code: Option<Code>)
         requires { has_end (at self.old.waiting to) ≡ false }
-        ensures limits { (self.new.cap ≡ self.old.cap) × (self.new.max_depth ≡ self.old.max_depth) }
+        ensures limits { (self.new.cap ≡ self.old.cap) × (self.new.rules ≡ self.old.rules) }
         ensures sides { self.new.sides ≡ self.old.sides }
         ensures waiting { self.new.waiting ≡ posted self.old.waiting (end_to to code) }
         ensures fronts { KeepsFronts self.old self.new }
@@ -403,7 +408,7 @@ impl<A: Allocator> Traffic<A> {
     /// Notes that the next `n` bytes of the first frame for a wire are gone, which is not all of it.
     fn advance(&mut self, to: Side, n: usize)
         requires { n < first_len (at self.old.waiting to) }
-        ensures limits { (self.new.cap ≡ self.old.cap) × (self.new.max_depth ≡ self.old.max_depth) }
+        ensures limits { (self.new.cap ≡ self.old.cap) × (self.new.rules ≡ self.old.rules) }
         ensures sides { self.new.sides ≡ self.old.sides }
         ensures waiting { self.new.waiting ≡ put self.old.waiting to (behind n (at self.old.waiting to)) }
         ensures other_front { at self.new.fronts (other to) ≡ at self.old.fronts (other to) }

@@ -20,7 +20,7 @@ returns-clause-moves g c = failed c.args.traffic.now c.end.new.self c.close.new.
     c.close.new.stage c.args.side c.args.code
     (record {
       cap = c.close.ensures.keeps.cap ∙ c.end.ensures.limits.0;
-      max_depth = c.close.ensures.keeps.max_depth ∙ c.end.ensures.limits.1;
+      rules = c.close.ensures.keeps.rules ∙ c.end.ensures.limits.1;
       sides = c.close.ensures.keeps.sides ∙ c.end.ensures.sides;
     })
     c.end.ensures.waiting c.close.ensures.stage c.close.ensures.sent

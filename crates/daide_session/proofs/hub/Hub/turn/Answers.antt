@@ -1,5 +1,6 @@
 use Rattle.std.specs.Prelude.{vec_capacity}
-use Rattle.daide_session.specs.Session.{limits_of}
+use Rattle.daide_words.specs.Words.{words_of}
+use Rattle.daide_session.specs.Session.{limits_with}
 use Rattle.daide_session.proofs.HubLemmas.{place_inside, place_read, place_set, hosting_set}
 use Rattle.daide_session.proofs.hub.Hub.turn.Goals as goal
 
@@ -7,9 +8,9 @@ pub invariant_of-self : goal.invariant_of-self
 invariant_of-self g c =
     let s = c.self.inside in
     let place = c.index_mut-place.result.now in
-    let inside = place_inside (λ p. (p.session, p.ports)) (limits_of s.config) s.max s.places.items c.args.i
+    let inside = place_inside (λ p. (p.session, p.ports)) (limits_with s.config (words_of s.words)) s.max s.places.items c.args.i
     c.args.self.now c.self.view_is c.requires in
-    hosting_set (λ p. p.session) s.config s.max (vec_capacity s.places) s.places.items c.args.i place
+    hosting_set (λ p. p.session) s.config (words_of s.words) s.max (vec_capacity s.places) s.places.items c.args.i place
     (record { session = c.turn.new.session; ports = c.turn.new.ports }) inside c.index_mut-place.ensures.value
     c.turn.ensures.limits c.self.invariant
 
@@ -17,7 +18,7 @@ pub returns : goal.returns
 returns g c =
     let s = c.self.inside in
     let place = c.index_mut-place.result.now in
-    let limits = limits_of s.config in (
+    let limits = limits_with s.config (words_of s.words) in (
       (place.session, place.ports),
       (c.turn.new.session, c.turn.new.ports),
       place_read (λ p. (p.session, p.ports)) limits s.max s.places.items c.args.i place

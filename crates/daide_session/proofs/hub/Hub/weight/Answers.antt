@@ -2,21 +2,22 @@ use Rattle.std.proofs.Common.{◌≤◌, length, arith, refl, subst, sym, ap, �
 use Rattle.std.specs.Prelude.{vec_capacity, sum_by}
 use Rattle.std.proofs.lemmas.List.{take_all}
 use Rattle.std.proofs.lemmas.List.Sums.{sum_by_more}
+use Rattle.daide_words.specs.Words.{words_of}
 use Rattle.daide_machine.specs.Machine.{Limits}
 use Rattle.daide_machine.specs.Weight.{weight_of}
-use Rattle.daide_session.specs.Session.{limits_of}
+use Rattle.daide_session.specs.Session.{limits_with}
 use Rattle.daide_session.specs.Hub.{IsHosting, session_bound, weight_at}
 use Rattle.daide_session.proofs.HubLemmas.{place_small, config_small, one_more, sum_by-map}
 use Rattle.daide_session.proofs.hub.Hub.weight.Goals as goal
 
 -- what the place that comes next weighs
 next_weighs : (g : _) (c : goal.After-weight-total g) →
-    c.weight-total.result ≤ session_bound (limits_of c.self.inside.config)
+    c.weight-total.result ≤ session_bound (limits_with c.self.inside.config (words_of c.self.inside.words))
 next_weighs g c =
     let s = c.self.inside in
-    let hosting = subst (λ xs. IsHosting (λ p. p.session) s.config s.max (vec_capacity s.places) xs)
+    let hosting = subst (λ xs. IsHosting (λ p. p.session) s.config (words_of s.words) s.max (vec_capacity s.places) xs)
     (sym c.deref-place-items.ensures.value) c.self.invariant in
-    rw c.weight-total.ensures.value (place_small (λ p. p.session) s.config s.max (vec_capacity s.places)
+    rw c.weight-total.ensures.value (place_small (λ p. p.session) s.config (words_of s.words) s.max (vec_capacity s.places)
     c.deref-place-items.result.now c.loop-place.place-index c.place-item.result hosting c.loop-place-test.true
     c.place-item.is c.weight-total.ensures.directions c.weight-total.ensures.entries
     c.weight-total.ensures.at_most_three)
@@ -41,7 +42,7 @@ loop-place-preserved g c =
       sum = rw (sum_by_more (λ p. weight_of p.session) c.deref-place-items.result.now
           c.loop-place.place-index c.place-item.result c.loop-place-test.true)
           (rw (sym c.place-item.is) (rw (c.loop-place.invariant.sum, c.weight-total.ensures.value) refl));
-      small = one_more c.loop-place.place-index 132140 c.loop-place.total c.weight-total.result
+      small = one_more c.loop-place.place-index 135212 c.loop-place.total c.weight-total.result
           c.loop-place.invariant.small
           (omega (arith, config, next));
       bound = one_more c.loop-place.place-index (session_bound c.args.self.now.limits) c.loop-place.total

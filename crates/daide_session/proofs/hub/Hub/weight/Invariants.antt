@@ -8,6 +8,6 @@ use Rattle.daide_session.proofs.hub.Hub.weight.Given as goal
 abbrev pub invariant-loop-place : goal.invariant-loop-place
 invariant-loop-place g l = record {
   sum : l.total ≡ sum_by (λ p. weight_of p.session) (take l.place-index l.place-items);
-  small : l.total ≤ l.place-index * 132140;
+  small : l.total ≤ l.place-index * 135212;
   bound : l.total ≤ l.place-index * session_bound l.self.limits;
 }

@@ -2,18 +2,19 @@ use Rattle.std.proofs.Common.{◌≡◌, ℕ, List, [], true, false, drop, sym, 
 use Rattle.daide_token.specs.Token.{tokens_of}
 use Rattle.daide_frame.specs.Frames.{head_in}
 use Rattle.daide_frame.specs.Head.{head_bytes}
-use Rattle.daide_grammar.specs.SideMessages.{IsMessage}
+use Rattle.daide_grammar.specs.SideMessages.{IsMessageOver}
 use Rattle.daide_grammar.specs.Symbols.{opening_of}
-use Rattle.daide_grammar.specs.declared.dense.Dense.{Dense}
-use Rattle.daide_grammar.specs.contracts.dense.DensePredict.TheImpl.{ghosts}
+use Rattle.daide_words.specs.contracts.extended.ExtendedPredict.TheImpl.{ghosts}
+use Rattle.daide_words.specs.Extended.{answers_given, spoken_words}
+use Rattle.daide_words.specs.OverWords.{spoken}
 use Rattle.daide_machine.specs.Machine.{IsRight, question_of, is_dm, side2_of}
 use Rattle.daide_machine.specs.Weight.{tokens_held}
 use Rattle.daide_machine.specs.Wires.{is_dm_head}
 use Rattle.daide_reader.specs.Verdict.{HasVerdict}
 use Rattle.daide_reader.specs.declared.verdict.Verdict.TheVariants.{Relay}
 use Rattle.daide_reader.proofs.BodyLemmas.{place_in}
-use Rattle.daide_reader.proofs.PlainVerdicts.{plain_verdicts}
-use Rattle.daide_traffic.specs.Inbound.{Inbound}
+use Rattle.daide_traffic.specs.Inbound.{Inbound, rules_of, words_in}
+use Rattle.daide_traffic.proofs.WordedVerdicts.{spoken_verdicts}
 use Rattle.daide_traffic.proofs.HeadLemmas.{head_capped}
 use Rattle.daide_traffic.proofs.InboundLemmas.{IsJudged, all_held, right_message, right_other, stands_deep}
 use Rattle.daide_traffic.proofs.inbound.Inbound.answer.Given as given
@@ -31,7 +32,7 @@ answer_head-requires g c =
 
 -- what the verdict is, and what was read
 judged : (g : given.Over) (c : goal.After-self-2-1 g) →
-    IsJudged ghosts (λ (t : Dense). t.asked) c.args.self.now c.if-is_message.self-inside.side
+    IsJudged ghosts answers_given c.args.self.now c.if-is_message.self-inside.side
     c.if-is_message.self-inside.level c.if-is_message.self-inside.cutter c.if-is_message.self-inside.reader c.args.head
     c.if-is_message.verdict
 judged g c = elim c.if-is_message.branch [
@@ -39,29 +40,32 @@ judged g c = elim c.if-is_message.branch [
       let i = c.self.inside in
       let dm : is_dm c.args.head.kind ≡ true = sym c.is_message.ensures ∙ w.if-is_message.true in
       let tokens = tokens_held i.cutter.cap i.cutter.bytes in
+      let words = spoken (spoken_words i.reader.table) in
       let held : is_dm_head (head_in i.cutter.cap i.cutter.bytes) ≡ true =
       ap is_dm_head (ap (λ (v : Inbound). head_in v.cap v.held) c.self.view_is ∙ c.requires.head) ∙ dm in
-      let told = w.finish-verdict.ensures.verdict [] (opening_of (side2_of i.side) i.level) i.reader.max_depth tokens
+      let told = w.finish-verdict.ensures.verdict (spoken_words i.reader.table)
+      (opening_of (side2_of i.side) i.level) i.reader.max_depth tokens
       c.self.invariant.stands in
-      let right : HasVerdict (IsMessage (side2_of i.side) i.level) i.reader.max_depth
+      let right : HasVerdict (IsMessageOver words (side2_of i.side) i.level) i.reader.max_depth
       (tokens_of (drop 4 i.cutter.bytes))
       w.finish-verdict.result =
-      subst (λ (p : List ℕ). HasVerdict (IsMessage (side2_of i.side) i.level) i.reader.max_depth p
+      subst (λ (p : List ℕ). HasVerdict (IsMessageOver words (side2_of i.side) i.level) i.reader.max_depth p
       w.finish-verdict.result)
       (all_held i.cutter.cap i.cutter.bytes held)
-      ((plain_verdicts (side2_of i.side) i.level i.reader.max_depth tokens w.finish-verdict.result).0 told) in
+      (spoken_verdicts (spoken_words i.reader.table) (side2_of i.side) i.level i.reader.max_depth tokens
+      w.finish-verdict.result told) in
       record {
         capped = c.self.invariant.capped;
-        place = place_in (IsMessage (side2_of i.side) i.level) i.reader.max_depth (drop 4 i.cutter.bytes)
+        place = place_in (IsMessageOver words (side2_of i.side) i.level) i.reader.max_depth (drop 4 i.cutter.bytes)
             w.finish-verdict.result right;
         stands = stands_deep ghosts i.side i.level i.reader w.finish-verdict.new.self i.cutter
-            w.finish-verdict.ensures.depth
-            (w.finish-verdict.ensures.stands_after [] (opening_of (side2_of i.side) i.level) i.reader.max_depth tokens
-            c.self.invariant.stands);
+            w.finish-verdict.ensures.depth w.finish-verdict.ensures.words
+            (w.finish-verdict.ensures.stands_after (spoken_words i.reader.table)
+            (opening_of (side2_of i.side) i.level) i.reader.max_depth tokens c.self.invariant.stands);
         uncounted = λ no. absurd (cc);
-        right = subst (λ (v : Inbound). IsRight [] v.max_depth (question_of v.side v.level c.args.head (drop 4 v.held))
-            w.finish-verdict.result) c.self.view_is
-            (right_message i.reader.max_depth i.side i.level c.args.head
+        right = subst (λ (v : Inbound). IsRight v.rules.words v.rules.max_depth
+            (question_of v.side v.level c.args.head (drop 4 v.held)) w.finish-verdict.result) c.self.view_is
+            (right_message (rules_of words_in i.reader) i.side i.level c.args.head
             (drop 4 i.cutter.bytes) w.finish-verdict.result dm
             right);
       })
@@ -73,10 +77,10 @@ judged g c = elim c.if-is_message.branch [
         place = tt;
         stands = c.self.invariant.stands;
         uncounted = c.self.invariant.uncounted;
-        right = subst (λ (v : Inbound). IsRight [] v.max_depth
+        right = subst (λ (v : Inbound). IsRight v.rules.words v.rules.max_depth
             (question_of v.side v.level c.args.head (drop 4 v.held)) Relay)
             c.self.view_is
-            (right_other i.reader.max_depth i.side i.level c.args.head (drop 4 i.cutter.bytes) Relay dm refl);
+            (right_other (rules_of words_in i.reader) i.side i.level c.args.head (drop 4 i.cutter.bytes) Relay dm refl);
       })
 ]
 

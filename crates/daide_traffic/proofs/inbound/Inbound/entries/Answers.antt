@@ -1,8 +1,9 @@
-use Rattle.std.proofs.Common.{◌+◌, ◌*◌, ◌≤◌, [], subst}
+use Rattle.std.proofs.Common.{◌+◌, ◌*◌, ◌≤◌, subst}
 use Rattle.daide_grammar.specs.Depth.{open_brackets}
 use Rattle.daide_grammar.specs.Symbols.{opening_of}
 use Rattle.daide_machine.specs.Machine.{side2_of}
 use Rattle.daide_machine.specs.Weight.{tokens_held}
+use Rattle.daide_words.specs.Extended.{spoken_words}
 use Rattle.daide_traffic.specs.Inbound.{Inbound}
 use Rattle.daide_traffic.proofs.inbound.Inbound.entries.Goals as goal
 
@@ -10,5 +11,5 @@ pub returns-clause-few : goal.returns-clause-few
 returns-clause-few g c =
     let i = c.self.inside in
     subst (λ (v : Inbound). c.entries.result ≤ 8 * open_brackets (tokens_held v.cap v.held) + 16) c.self.view_is
-    (c.entries.ensures.entries [] (opening_of (side2_of i.side) i.level) i.reader.max_depth
+    (c.entries.ensures.entries (spoken_words i.reader.table) (opening_of (side2_of i.side) i.level) i.reader.max_depth
     (tokens_held i.cutter.cap i.cutter.bytes) c.self.invariant.stands)

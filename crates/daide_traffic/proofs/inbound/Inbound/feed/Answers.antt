@@ -3,14 +3,17 @@ use Rattle.std.proofs.Common.{refl, sym, ap, ◌∙◌, subst, arith}
 use Rattle.daide_token.specs.Token.{tokens_of}
 use Rattle.daide_frame.specs.Frames.{fed, head_in}
 use Rattle.daide_grammar.specs.Symbols.{opening_of}
-use Rattle.daide_grammar.specs.declared.dense.Dense.{Dense}
-use Rattle.daide_grammar.specs.contracts.dense.DensePredict.TheImpl.{ghosts}
+use Rattle.daide_words.specs.declared.extended.Extended.{Extended}
+use Rattle.daide_words.specs.contracts.extended.ExtendedPredict.TheImpl.{ghosts}
+use Rattle.daide_words.specs.Extended.{answers_given, spoken_words}
+use Rattle.daide_words.specs.OverWords.{spoken}
 use Rattle.daide_machine.specs.Machine.{side2_of}
 use Rattle.daide_machine.specs.Weight.{tokens_held}
 use Rattle.daide_machine.specs.Wires.{is_dm_head}
 use Rattle.daide_reader.specs.Reading.{Reading, IsRaised, StandsAfter, tokens_read}
-use Rattle.daide_traffic.specs.Inbound.{Inbound, Reads, inbound_of}
-use Rattle.daide_traffic.proofs.InboundLemmas.{fed_on, fed_past, none_held, read_along, reads_of, raised_most}
+use Rattle.daide_traffic.specs.Inbound.{Inbound, Reads, inbound_of, words_in}
+use Rattle.daide_traffic.proofs.InboundLemmas.{fed_on, fed_past, none_held, read_along, reads_of, rules_kept}
+use Rattle.daide_traffic.proofs.InboundLemmas.{raised_most}
 use Rattle.daide_traffic.proofs.inbound.Inbound.feed.Goals as goal
 
 pub read-requires : goal.read-requires
@@ -47,12 +50,12 @@ invariant_of-self g c =
     ∙ ap (λ (x : List ℕ). tokens_of (take (2 * length (tokens_held i.cutter.cap i.cutter.bytes)) x))
     c.body.ensures.value
     ∙ on.front in
-    let stands = c.read.ensures.stands_after [] first i.reader.max_depth
-    (subst (λ (p : List ℕ). StandsAfter ghosts [] first i.reader.max_depth i.reader p)
+    let stands = c.read.ensures.stands_after (spoken_words i.reader.table) first i.reader.max_depth
+    (subst (λ (p : List ℕ). StandsAfter ghosts (spoken_words i.reader.table) first i.reader.max_depth i.reader p)
     (sym seen) c.self.invariant.stands) in
-    read_along ghosts (λ (t : Dense). t.asked) i.side i.level i.cutter cut i.reader c.read.new.self i.header i.verdict
-    c.self.invariant none c.feed-step.ensures.cap c.read.ensures.depth c.read.ensures.unfinished
-    (subst (λ (p : List ℕ). StandsAfter ghosts [] first i.reader.max_depth c.read.new.self p)
+    read_along ghosts answers_given i.side i.level i.cutter cut i.reader c.read.new.self i.header i.verdict
+    c.self.invariant none c.feed-step.ensures.cap c.read.ensures.depth c.read.ensures.words c.read.ensures.unfinished
+    (subst (λ (p : List ℕ). StandsAfter ghosts (spoken_words i.reader.table) first i.reader.max_depth c.read.new.self p)
     (ap tokens_of c.body.ensures.value ∙ sym on.all) stands) (λ no. absurd (cc))
 
 pub invariant_of-self-else-is_message : goal.invariant_of-self-else-is_message
@@ -65,9 +68,9 @@ invariant_of-self-else-is_message g c =
     let past = fed_past i.cutter.cap i.cutter.bytes c.args.piece.now cut c.feed-step.ensures.cap
     c.feed-step.ensures.bytes dm in
     let none : i.verdict ≡ None = ap (λ (v : Inbound). v.verdict) c.self.view_is ∙ c.requires.free in
-    read_along ghosts (λ (t : Dense). t.asked) i.side i.level i.cutter cut i.reader i.reader i.header i.verdict
-    c.self.invariant none c.feed-step.ensures.cap refl (c.self.invariant.unfinished none)
-    (subst (λ (p : List ℕ). StandsAfter ghosts [] first i.reader.max_depth i.reader p)
+    read_along ghosts answers_given i.side i.level i.cutter cut i.reader i.reader i.header i.verdict
+    c.self.invariant none c.feed-step.ensures.cap refl refl (c.self.invariant.unfinished none)
+    (subst (λ (p : List ℕ). StandsAfter ghosts (spoken_words i.reader.table) first i.reader.max_depth i.reader p)
     (none_held i.cutter.cap i.cutter.bytes past ∙ sym (none_held cut.cap cut.bytes dm)) c.self.invariant.stands)
     (λ no. c.self.invariant.uncounted past)
 
@@ -83,13 +86,15 @@ returns-then-is_message-clause-reads g c =
     let within = on.within in
     let none : i.verdict ≡ None = ap (λ (v : Inbound). v.verdict) c.self.view_is ∙ c.requires.free in
     let value : length c.body.result.now ≡ length (drop 4 cut.bytes) = ap length c.body.ensures.value in
-    let new = inbound_of (λ (t : Dense). t.asked) i.side i.level cut c.read.new.self i.header i.verdict in
+    let new = inbound_of words_in answers_given i.side i.level cut c.read.new.self i.header i.verdict in
     subst (λ (v : Inbound). Reads v (fed v.cap v.held c.args.piece.now) new) c.self.view_is
-    (reads_of ghosts (λ (t : Dense). t.asked) i.side i.level i.cutter cut i.reader c.read.new.self i.header i.verdict
+    (reads_of ghosts words_in answers_given i.side i.level i.cutter cut i.reader c.read.new.self i.header i.verdict
     (fed i.cutter.cap i.cutter.bytes c.args.piece.now) c.self.invariant none c.feed-step.ensures.cap
-    c.feed-step.ensures.bytes c.read.ensures.depth c.read.ensures.base (λ no. absurd (cc))
+    c.feed-step.ensures.bytes
+    (rules_kept words_in i.reader c.read.new.self c.read.ensures.depth (ap spoken c.read.ensures.words))
+    c.read.ensures.base (λ no. absurd (cc))
     (λ empty. let z : length (drop 4 cut.bytes) ≡ 0 = ap length empty in
-    ap (λ (r : Reading Dense). r.table.asked) (c.read.ensures.unchanged (omega arith))))
+    ap (λ (r : Reading Extended). answers_given r.table) (c.read.ensures.unchanged (omega arith))))
 
 pub returns-then-is_message-clause-raised : goal.returns-then-is_message-clause-raised
 returns-then-is_message-clause-raised g c =
@@ -104,5 +109,5 @@ returns-then-is_message-clause-raised g c =
     let value : length c.body.result.now ≡ length (drop 4 cut.bytes) = ap length c.body.ensures.value in
     let le : 4 * (length c.body.result.now / 2 - tokens_read i.reader) ≤ 4 * (length c.args.piece.now / 2 + 1) = rw
     (value, read) (omega arith) in
-    subst (λ (v : Inbound). IsRaised (4 * (length c.args.piece.now / 2 + 1)) v.total c.read.new.self.table.asked)
+    subst (λ (v : Inbound). IsRaised (4 * (length c.args.piece.now / 2 + 1)) v.total (answers_given c.read.new.self.table))
     c.self.view_is (raised_most _ _ _ _ le c.read.ensures.raised)

@@ -2,13 +2,13 @@ use Rattle.std.proofs.Common.{Option, ap, ◌∙◌}
 use Rattle.std.specs.Option.{unwrap_or}
 use Rattle.daide_grammar.specs.declared.level.Level.{Level}
 use Rattle.daide_grammar.specs.declared.level.Level.TheVariants.{L0}
+use Rattle.daide_words.specs.Words.{words_of}
 use Rattle.daide_session.proofs.SessionLemmas.{new_of, standing_new}
-use Rattle.daide_session.proofs.session.Session.new.Goals as goal
+use Rattle.daide_session.proofs.session.Session.with_words.Goals as goal
 
 pub invariant_of-result : goal.invariant_of-result
-invariant_of-result g c = standing_new c.args.config.max_body c.args.config.max_depth c.in-Ok.traffic
-    c.unwrap_or.result c.in-Ok.ensures
+invariant_of-result g c = standing_new _ _ c.in-Ok.traffic c.unwrap_or.result c.in-Ok.ensures
 
 pub returns-clause-opening : goal.returns-clause-opening
-returns-clause-opening g c = new_of c.args.config c.in-Ok.traffic c.unwrap_or.result c.in-Ok.ensures
+returns-clause-opening g c = new_of c.args.config (words_of c.args.words) c.in-Ok.traffic c.unwrap_or.result c.in-Ok.ensures
     (c.unwrap_or.ensures ∙ ap (λ (o : Option Level). unwrap_or o L0) c.of.ensures)
