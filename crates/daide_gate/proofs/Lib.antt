@@ -2,7 +2,6 @@ pub mod Reading
 pub mod Outcomes
 pub mod Tokens
 pub mod AnswerTokens
-pub mod WordedVerdicts
 pub mod WordedRuns
 pub mod OneFrame
 pub mod OneWay

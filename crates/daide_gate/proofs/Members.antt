@@ -11,6 +11,7 @@ pub keys_only : (allowed : List ℕ → Bool) (entries : List (String Global × 
 keys_only allowed [] = refl
 keys_only allowed (entry ∷ others) = ap (λ rest. allowed (string_bytes entry.0) && rest) (keys_only allowed others)
 
-pub all_entries : (values : List Value) → list_all (λ value. is_entry (view value)) values ≡ are_entries (items_view values)
+pub all_entries : (values : List Value) →
+    list_all (λ value. is_entry (view value)) values ≡ are_entries (items_view values)
 all_entries [] = refl
 all_entries (value ∷ others) = ap (λ rest. is_entry (view value) && rest) (all_entries others)

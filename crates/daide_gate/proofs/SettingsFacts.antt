@@ -68,11 +68,11 @@ least_depth = refl
 depth_3 : is_in_range MaxDepth 3 ≡ false
 depth_3 = refl
 
-greatest_depth : is_in_range MaxDepth 62 ≡ true
+greatest_depth : is_in_range MaxDepth 254 ≡ true
 greatest_depth = refl
 
-depth_63 : is_in_range MaxDepth 63 ≡ false
-depth_63 = refl
+depth_255 : is_in_range MaxDepth 255 ≡ false
+depth_255 = refl
 
 no_second : is_in_range ImSeconds 0 ≡ false
 no_second = refl
@@ -148,7 +148,7 @@ defaults = refl
 
 -- a server that is missing is told before a depth that is out of range
 missing_before_a_later_range :
-    judged_members (both (member (codes "max_depth") (integer (pos 63)) no_members)) ≡ Err (Missing Server)
+    judged_members (both (member (codes "max_depth") (integer (pos 255)) no_members)) ≡ Err (Missing Server)
 unfolding judged_members
 missing_before_a_later_range = refl
 

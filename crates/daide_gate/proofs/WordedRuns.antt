@@ -1,5 +1,6 @@
 -- With an operator's words too, each event has a step from each state, and events have a run.
-use Rattle.std.proofs.Common.{◌≡◌, ℕ, true, List, [], ◌∷◌, ◌++◌, Option, Some, None, refl, sym, ◌∙◌, ap, subst, append-nil}
+use Rattle.std.proofs.Common.{◌≡◌, ℕ, true, List, [], ◌∷◌, ◌++◌, Option, Some, None, refl, sym, ◌∙◌, ap, subst}
+use Rattle.std.proofs.Common.{append-nil}
 use Rattle.daide_grammar.specs.LawfulStack.{opening}
 use Rattle.daide_grammar.specs.SideMessages.{dialect_of}
 use Rattle.daide_grammar.specs.Symbols.{may_end_of, opening_of}
@@ -13,7 +14,7 @@ use Rattle.daide_machine.specs.Events.{Event}
 use Rattle.daide_machine.specs.Machine.{Effect, Limits, Question, SessionState, Step, Runs, IsRight, event_outcome}
 use Rattle.daide_machine.specs.Machine.{question, side2_of}
 use Rattle.daide_machine.proofs.LimitsKept.{runs_limits}
-use Rattle.daide_gate.proofs.WordedVerdicts.{worded_verdicts}
+use Rattle.daide_traffic.proofs.WordedVerdicts.{worded_verdicts}
 
 module _ (words : Words) (free : are_free words ≡ true) where
   -- a message has a verdict, and where none is judged it is Relay
@@ -49,7 +50,7 @@ module _ (words : Words) (free : are_free words ≡ true) where
   run_over old (event ∷ events) same =
       let first = step_over old event same in
       let alone : Runs old (event ∷ []) first.0 first.1 =
-          (first.1, first.0, [], first.2, (refl, refl), sym (append-nil first.0)) in
+      (first.1, first.0, [], first.2, (refl, refl), sym (append-nil first.0)) in
       let kept = runs_limits (event ∷ []) old first.1 first.0 alone in
       let rest = run_over first.1 events (ap (λ (l : Limits). l.words) kept ∙ same) in
       (first.0 ++ rest.0, rest.1, (first.1, first.0, rest.0, first.2, rest.2, refl))

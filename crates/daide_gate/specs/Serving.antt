@@ -6,7 +6,8 @@ use Rattle.std.specs.List.{list_any}
 use Rattle.daide_machine.specs.Wires.{Gateway, is_closed}
 use Rattle.daide_session.specs.declared.hub.HubError.{HubError}
 use Rattle.daide_session.specs.declared.hub.HubError.TheVariants as HubErrors
-use Rattle.daide_session.specs.Session.{limits_of}
+use Rattle.daide_words.specs.Words.{words_of}
+use Rattle.daide_session.specs.Session.{limits_with}
 use Rattle.daide_session.specs.Record.{PortAnswer}
 use Rattle.daide_session.specs.Hub.{Hosting, with_places, Adds, IsHubCause}
 use Rattle.daide_session.specs.HubRuns.{HubCall, Turned, HubRuns}
@@ -197,7 +198,7 @@ Rounds {P} told (suc n) old answers new =
 -- a run that no bot came to
 abbrev pub opening : {P : Type 0} → Settings → Serving P
 opening settings = record {
-  hub = record { limits = limits_of settings.config; max = settings.max_sessions; places = [] };
+  hub = record { limits = limits_with settings.config (words_of settings.words); max = settings.max_sessions; places = [] };
   tally = record {
     max_sessions = settings.max_sessions;
     sessions = settings.sessions;

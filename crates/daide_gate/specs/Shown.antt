@@ -23,7 +23,7 @@ use Rattle.daide_words.specs.Word.{grammar_words, names_of}
 use Rattle.daide_reader.specs.Verdict.{HasVerdict}
 use Rattle.daide_reader.specs.declared.verdict.Verdict.{Verdict}
 use Rattle.daide_reader.specs.declared.verdict.Verdict.TheVariants.{Relay, Prn, Huh}
-use Rattle.daide_machine.specs.Bounds.{longest_body}
+use Rattle.daide_machine.specs.Bounds.{longest_body, deepest}
 use Rattle.daide_machine.specs.Machine.{side2_of}
 use Rattle.daide_log.specs.Report.{name_of_kind}
 use Rattle.daide_gate.specs.Input.{limit, bytes_of}
@@ -47,10 +47,6 @@ prn_answer m = prn ∷ bra ∷ (m ++ ket ∷ [])
 -- the tokens of `HUH ( m )`, with ERR before the token at a place, or last where there is none
 abbrev pub huh_answer : ℕ → List ℕ → List ℕ
 huh_answer place m = huh ∷ bra ∷ (take place m ++ err ∷ drop place m ++ ket ∷ [])
-
--- how deep a message may be that is shown as relayed: the most that the deepest settings let through
-abbrev pub deepest_shown : ℕ
-deepest_shown = 254
 
 -- tokens as they are printed, the operator's words by their own names
 abbrev pub printed : List Word → List ℕ → List ℕ
@@ -108,7 +104,7 @@ IsFrameShownAs words end level Im len body shown = shown ≡ im_shown len (im_of
 IsFrameShownAs words end level Rm len body shown = shown ≡ relayed_shown Rm len
 IsFrameShownAs words end level Dm len body shown =
     (verdict : Verdict)
-    × HasVerdict (IsMessageOver (grammar_words words) end level) deepest_shown (tokens_of body) verdict
+    × HasVerdict (IsMessageOver (grammar_words words) end level) deepest (tokens_of body) verdict
     × (shown ≡ message_shown words len (tokens_of body) verdict)
 IsFrameShownAs words end level Fm len body shown = shown ≡ relayed_shown Fm len
 IsFrameShownAs words end level Em len body shown = shown ≡ relayed_shown Em len

@@ -41,7 +41,8 @@ number_in field members = option_and_then as_integer (get_member field members)
 -- exactly the fields of a word, each of its type
 abbrev pub has_fields : Members → Bool
 has_fields members =
-    has_only is_field members && (is_some (text_in (codes "name") members) && (is_some (number_in (codes "code") members)
+    has_only is_field members
+    && (is_some (text_in (codes "name") members) && (is_some (number_in (codes "code") members)
     && (is_some (text_in (codes "slot") members) && (is_some (number_in (codes "level") members)
     && is_some (text_in (codes "operand") members)))))
 

@@ -191,7 +191,12 @@ impl<P: Ports, A: Allocator + Copy> Service<P, A> {
             × IsHubSize settings.now.max_sessions) }
         ensures refused { IfErr result (IsServeCause settings.now) }
     {
-        match Hub::new(alloc, settings.config, settings.max_sessions) {
+        match Hub::with_words(
+            alloc,
+            settings.config,
+            settings.max_sessions,
+            settings.words,
+        ) {
             Err(fault) => Err(fault_of(fault)),
             Ok(hub) => Ok(Service {
                 hub,

@@ -6,29 +6,23 @@ ghost use Rattle.daide_grammar.specs.SideMessages.{IsMessageOver};
 ghost use Rattle.daide_words.specs.Word.{grammar_words};
 ghost use Rattle.daide_words.specs.Words.{words_of};
 ghost use Rattle.daide_reader.specs.Verdict.{HasVerdict, IsPlaceIn};
-ghost use Rattle.daide_machine.specs.Bounds.{longest_body};
-ghost use Rattle.daide_gate.specs.Shown.{deepest_shown};
+ghost use Rattle.daide_machine.specs.Bounds.{longest_body, deepest};
 
 use daide_grammar::{Level, Side2};
+use daide_machine::{MAX_DEPTH, STACK_ENTRIES};
 use daide_reader::{Reader, Verdict};
 use daide_words::{Extended, Words};
-
-/// The most brackets of a message that may be open at once where it is shown as relayed.
-const DEEPEST_SHOWN: u16 = 254;
-
-/// The room of the reader's stack: eight entries for each open bracket, and sixteen.
-const ENTRIES: usize = 8 * DEEPEST_SHOWN as usize + 16;
 
 /// What becomes of the message of a body, with an operator's words.
 pub(super) fn verdict_of(words: &Words, end: Side2, level: Level, body: &[u8]) -> Verdict
     requires capped { length body.now ≤ longest_body }
-    ensures verdict { HasVerdict (IsMessageOver (grammar_words (words_of words.now)) end level) deepest_shown
+    ensures verdict { HasVerdict (IsMessageOver (grammar_words (words_of words.now)) end level) deepest
         (tokens_of body.now) result }
     ensures within { IsPlaceIn body.now result }
 {
     // Where a reader is made over words, the prover wants their codes' type among the function's own.
     let _names = words.names();
-    let mut reader: Reader<Extended, ENTRIES> = Reader::new(Extended::new(*words), DEEPEST_SHOWN);
+    let mut reader: Reader<Extended, STACK_ENTRIES> = Reader::new(Extended::new(*words), MAX_DEPTH);
     reader.start(end, level);
     reader.read_body(body)
 }

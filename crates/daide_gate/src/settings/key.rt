@@ -18,7 +18,7 @@ pub enum Key {
     TopLevel,
     /// The longest body that is taken, in bytes: even, 512 to 65,526; 65,526 by default.
     MaxBody,
-    /// How many brackets of a message may be open at once: 4 to 62; 62 by default.
+    /// How many brackets of a message may be open at once: 4 to 254; 62 by default.
     MaxDepth,
     /// How long a bot's IM is waited for, in seconds: 1 to 3,600; 30 by default.
     ImSeconds,
@@ -94,7 +94,7 @@ impl Key {
                 Err(_) => false,
             },
             Key::MaxBody => number % 2 == 0 && 512 <= number && number <= 65_526,
-            Key::MaxDepth => 4 <= number && number <= 62,
+            Key::MaxDepth => 4 <= number && number <= 254,
             Key::ImSeconds => 1 <= number && number <= 3_600,
             Key::MaxSessions => 1 <= number && number <= 256,
             Key::Sessions => 1 <= number && number <= 1_000_000,

@@ -85,6 +85,64 @@ fn unclosed_bracket_gets_prn_over_sockets(rt: HostRuntime) -> Result<(), Fail> {
     plays(&rt, "", GETS_PRN)
 }
 
+/// `HLO ( ENG ) ( 1234 ) ( ( LVL 20 ) )`.
+const HLO_20: &[u8] = b"\x02\x00\x00\x1a\x48\x04\x40\x00\x41\x01\x40\x01\x40\x00\x04\xd2\x40\x01\
+    \x40\x00\x40\x00\x49\x03\x00\x14\x40\x01\x40\x01";
+
+/// `SND ( FRA ) ( XYZ ( ENG ) )`, XYZ being 4A40.
+const XYZ: &[u8] =
+    b"\x02\x00\x00\x14\x48\x17\x40\x00\x41\x02\x40\x01\x40\x00\x4a\x40\x40\x00\x41\x01\
+    \x40\x01\x40\x01";
+
+/// `HUH ( SND ( FRA ) ( ERR XYZ ( ENG ) ) )`.
+const ITS_HUH: &[u8] =
+    b"\x02\x00\x00\x1c\x48\x06\x40\x00\x48\x17\x40\x00\x41\x02\x40\x01\x40\x00\x49\x02\
+    \x4a\x40\x40\x00\x41\x01\x40\x01\x40\x01\x40\x01";
+
+/// The settings of a press of a power from level 20 on.
+const WITH_XYZ: &str =
+    "words = [ { name = \"XYZ\", code = 0x4A40, slot = \"press\", level = 20, operand = \"power\" } ]";
+
+const WORD_GOES_ON: &[Act] = &[
+    Comes,
+    Meets,
+    Says(Bot(0), IM),
+    Hears(Server(0), IM),
+    Says(Server(0), RM),
+    Hears(Bot(0), RM),
+    Says(Server(0), HLO_20),
+    Hears(Bot(0), HLO_20),
+    Says(Bot(0), XYZ),
+    Hears(Server(0), XYZ),
+    Says(Bot(0), FM),
+    Hears(Server(0), FM),
+];
+
+#[test]
+fn word_of_the_settings_goes_on(rt: HostRuntime) -> Result<(), Fail> {
+    plays(&rt, WITH_XYZ, WORD_GOES_ON)
+}
+
+const WORD_IS_UNKNOWN: &[Act] = &[
+    Comes,
+    Meets,
+    Says(Bot(0), IM),
+    Hears(Server(0), IM),
+    Says(Server(0), RM),
+    Hears(Bot(0), RM),
+    Says(Server(0), HLO_20),
+    Hears(Bot(0), HLO_20),
+    Says(Bot(0), XYZ),
+    Hears(Bot(0), ITS_HUH),
+    Says(Bot(0), FM),
+    Hears(Server(0), FM),
+];
+
+#[test]
+fn word_that_no_settings_have_gets_huh(rt: HostRuntime) -> Result<(), Fail> {
+    plays(&rt, "", WORD_IS_UNKNOWN)
+}
+
 const NOBODY_SERVES: &[Act] = &[Comes, HearsEnd(Bot(0)), Comes, HearsEnd(Bot(1))];
 
 /// A bot that no server is there for counts as a served one.

@@ -12,8 +12,8 @@ use Rattle.daide_words.proofs.AcceptedCodes.{accepted_free}
 use Rattle.daide_reader.specs.ViablePrefix.{IsMessageOf}
 use Rattle.daide_reader.specs.Verdict.{HasVerdict}
 use Rattle.daide_reader.proofs.BodyLemmas.{place_in}
-use Rattle.daide_gate.specs.Shown.{deepest_shown}
-use Rattle.daide_gate.proofs.WordedVerdicts.{worded_verdicts}
+use Rattle.daide_machine.specs.Bounds.{deepest}
+use Rattle.daide_traffic.proofs.WordedVerdicts.{worded_verdicts}
 use Rattle.daide_gate.proofs.frame_view.verdict_of.verdict_of.Goals as goal
 
 pub returns-clause-verdict : goal.returns-clause-verdict
@@ -29,8 +29,8 @@ returns-clause-verdict c =
     ap (λ (t : Extended). spoken (spoken_words t)) c.new-reader.ensures.table ∙ ap spoken c.new.ensures.words
     ∙ c.new.ensures.all_spoken in
     worded_verdicts words (accepted_free (words_of c.args.words.now) c.args.words.now.accepted) c.args.end c.args.level
-    deepest_shown m v
-    (subst (λ (ws : Words). HasVerdict (IsMessageOf (SymbolMatchesIn (dialect_of ws) first)) deepest_shown m v) all
+    deepest m v
+    (subst (λ (ws : Words). HasVerdict (IsMessageOf (SymbolMatchesIn (dialect_of ws) first)) deepest m v) all
     (subst
     (λ (d : ℕ). HasVerdict (IsMessageOf (SymbolMatchesIn (dialect_of (spoken (spoken_words table))) first)) d m v)
     c.new-reader.ensures.stands_after.depth_kept read))

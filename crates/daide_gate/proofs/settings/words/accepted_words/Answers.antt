@@ -1,4 +1,5 @@
-use Rattle.std.proofs.Common.{◌≡◌, ◌+◌, ◌<◌, true, not, List, ◌∷◌, ◌++◌, [], drop, length, Some, Ok, Err, Result, sym, ap}
+use Rattle.std.proofs.Common.{◌≡◌, ◌+◌, ◌<◌, true, not, List, ◌∷◌, ◌++◌, [], drop, length, Some, Ok, Err, Result, sym}
+use Rattle.std.proofs.Common.{ap}
 use Rattle.std.proofs.Common.{◌∙◌, arith}
 use Rattle.std.proofs.lemmas.List.{drop_all}
 use Rattle.std.specs.Prelude.{OnOk, is_ok}
