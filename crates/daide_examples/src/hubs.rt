@@ -442,11 +442,11 @@ fn growth_in(rt: &(impl Abort + AllocGlobal), heap: &LocalHeap) -> Growth {
     }
 }
 
-/// Over heaps from empty to ample: want of memory and nothing else, and the hub as it was.
+/// Over heaps from empty to ample, 32 KB: want of memory and nothing else, and the hub as it was.
 #[test]
 fn growths_of_a_hub_refused_in_turn(rt: HostRuntime) -> Result<(), Fail> {
     let mut seen = [false; 3];
-    for step in 0..300 {
+    for step in 0..1000 {
         let heap = LocalHeap::new(rt.alloc(), 32 * step)?;
         match growth_in(&rt, &heap) {
             Growth::NoHub => seen[0] = true,
