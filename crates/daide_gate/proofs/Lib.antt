@@ -1,13 +1,2 @@
-pub mod Reading
-pub mod Outcomes
-pub mod Tokens
-pub mod AnswerTokens
 pub mod WordedRuns
-pub mod OneFrame
-pub mod OneWay
-pub mod Members
-pub mod WordEntries
-pub mod SettingsFacts
 pub mod RelayLemmas
-pub mod ServingLemmas
-pub mod RemovalLemmas

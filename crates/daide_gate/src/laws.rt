@@ -1,32 +1,11 @@
-//! What holds of the definitions by themselves.
+//! What holds of the session machine with words that are accepted.
 
-ghost use Rattle.std.specs.Prelude.{◌≡◌, ℕ, ◌%◌, ◌++◌, false, true, List, length, Result};
-ghost use Rattle.daide_token.specs.Token.{tokens_of};
-ghost use Rattle.daide_frame.specs.declared.side.Side.{Side};
-ghost use Rattle.daide_grammar.specs.declared.level.Level.{Level};
+ghost use Rattle.std.specs.Prelude.{◌≡◌, true, List};
 ghost use Rattle.daide_words.specs.declared.word.Word.{Word};
-ghost use Rattle.daide_reader.specs.declared.verdict.Verdict.{Verdict};
-ghost use Rattle.daide_reader.specs.Verdict.{IsPlaceIn};
 ghost use Rattle.daide_words.specs.Word.{grammar_words};
 ghost use Rattle.daide_words.specs.Accepted.{are_accepted};
-ghost use Rattle.daide_machine.specs.Answers.{answer_body};
 ghost use Rattle.daide_machine.specs.Events.{Event};
 ghost use Rattle.daide_machine.specs.Machine.{Effect, Runs, SessionState, Step};
-ghost use Rattle.daide_gate.specs.declared.frame_view.ShowFault.{ShowFault};
-ghost use Rattle.daide_gate.specs.Shown.{Shown, IsShownAs, is_relay, line, printed, verdict_lines, verdict_name};
-
-/// An input is shown in one way, or refused with one fault: so the clauses of `show` leave it no choice.
-pub fn input_is_shown_in_one_way()
-    ensures { (words : List Word) (side : Side) (level : Level) (input : List ℕ) (one other : Result Shown ShowFault) →
-        IsShownAs words side level input one → IsShownAs words side level input other → one ≡ other }
-{}
-
-/// The answer that is shown is the text of the body that a session sends back for that verdict.
-pub fn shown_answers_are_those_sent()
-    ensures { (words : List Word) (body : List ℕ) (verdict : Verdict) → length body % 2 ≡ 0 → IsPlaceIn body verdict →
-        is_relay verdict ≡ false → verdict_lines words verdict (tokens_of body)
-        ≡ line (verdict_name verdict) ++ line (printed words (tokens_of (answer_body body verdict))) }
-{}
 
 /// With words that are accepted too, each event has a step from each state: whatever happens, the machine goes on.
 pub fn each_event_has_a_step_with_words()

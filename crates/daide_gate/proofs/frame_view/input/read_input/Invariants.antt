@@ -1,7 +1,0 @@
-use Rattle.daide_gate.specs.Input.{IsPartlyRead}
-use Rattle.daide_gate.proofs.frame_view.input.read_input.Given as goal
-
--- the input so far is what the reader gave, and each turn gave some of it
-abbrev pub invariant-loop-turn : goal.invariant-loop-turn
-invariant-loop-turn g l =
-    IsPartlyRead (g.R.Read.remaining l.initial.reader) (g.R.Read.remaining l.reader) l.input.items l._turn

@@ -1,6 +1,0 @@
-use Rattle.std.proofs.Common.{◌∙◌}
-use Rattle.daide_gate.proofs.Members.{all_entries}
-use Rattle.daide_gate.proofs.settings.words.are_entries.Goals as goal
-
-pub returns : goal.returns
-returns c = c.each_is_entry.ensures ∙ all_entries c.args.entries.now

@@ -1,7 +1,0 @@
-use Rattle.std.proofs.Common.{◌∙◌}
-use Rattle.daide_gate.proofs.Members.{keys_only}
-use Rattle.daide_gate.specs.WordSettings.{is_field}
-use Rattle.daide_gate.proofs.settings.words.has_only_fields.Goals as goal
-
-pub returns : goal.returns
-returns c = c.keys_are_fields.ensures ∙ keys_only is_field c.args.table.now.entries

@@ -1,0 +1,194 @@
+-- Sessions that are over are taken out, from the last place to the first.
+use Rattle.std.proofs.Common.{◌≡◌, ℕ, zero, suc, ◌-◌, ◌<◌, ◌≤◌, Bool, true, false, List, [], ◌∷◌, ◌++◌, length}
+use Rattle.std.proofs.Common.{Option, Some, refl, sym, ap, ◌∙◌, subst, append_assoc, append-nil, arith}
+use Rattle.std.specs.Prelude.{◌||◌, IfSome, slice_get, remove, is_none, unwrap_or}
+use Rattle.std.specs.List.{list_any}
+use Rattle.std.proofs.lemmas.List.Folds.{list_any-append}
+use Rattle.daide_machine.specs.Wires.{Gateway, is_closed}
+use Rattle.daide_session.specs.Hub.{Hosting, with_places, Removes}
+use Rattle.daide_service.specs.Metered.{Meter}
+use Rattle.daide_service.specs.System.{SystemAnswer, Retires, Tells}
+use Rattle.daide_service.specs.Serving.{last_words, parting, farewell, farewell_where, farewells, remaining}
+use Rattle.daide_service.specs.Serving.{RemovesClosed, stirs, any_stirs}
+use Rattle.daide_service.proofs.ServingLemmas.{tells_nil, tells_then}
+
+-- ---- the last of a list
+
+last_apart : {X : Type 0} (n : ℕ) (xs : List X) → length xs ≡ suc n →
+    (ys : List X) × (x : X) × (xs ≡ ys ++ x ∷ []) × (length ys ≡ n)
+last_apart n [] e = absurd (let f = e in omega (arith, f))
+last_apart n (x ∷ []) e = ([], x, refl, let f = e in omega (arith, f))
+last_apart zero (x ∷ y ∷ xs) e = absurd (let f = e in omega (arith, f))
+last_apart (suc n) (x ∷ y ∷ xs) e =
+    let rest = last_apart n (y ∷ xs) (let f = e in omega (arith, f)) in
+    (x ∷ rest.0, rest.1, ap (λ zs. x ∷ zs) rest.2, ap suc rest.3)
+
+or_true : (b : Bool) → (b || true) ≡ true
+or_true true = refl
+or_true false = refl
+
+module _ {X : Type 0} where
+  read_behind : (ys : List X) (x : X) (zs : List X) → slice_get (ys ++ x ∷ zs) (length ys) ≡ Some x
+  read_behind [] x zs = refl
+  read_behind (y ∷ ys) x zs = read_behind ys x zs
+
+  removed_behind : (ys : List X) (x : X) (zs : List X) → remove (ys ++ x ∷ zs) (length ys) ≡ ys ++ zs
+  removed_behind [] x zs = refl
+  removed_behind (y ∷ ys) x zs = ap (λ (l : List X). y ∷ l) (removed_behind ys x zs)
+
+-- ---- places
+
+module _ {P : Type 0} where
+  kept_place : (x : Gateway × Meter P) (xs : List (Gateway × Meter P)) → is_closed x.0 ≡ false →
+      remaining (x ∷ xs) ≡ x ∷ remaining xs
+  kept_place x xs e = rw e refl
+
+  gone_place : (x : Gateway × Meter P) (xs : List (Gateway × Meter P)) → is_closed x.0 ≡ true →
+      remaining (x ∷ xs) ≡ remaining xs
+  gone_place x xs e = rw e refl
+
+  goes : (b : Bool) (meter : Meter P) → any_stirs (last_words b ++ Retires meter.ports ∷ []) ≡ true
+  goes true meter = refl
+  goes false meter = refl
+
+  fewer_by : (x : Gateway × Meter P) (xs : List (Gateway × Meter P)) (b : Bool) → is_closed x.0 ≡ b →
+      length (remaining xs) ≤ length xs → length (remaining (x ∷ xs)) ≤ length (x ∷ xs)
+  fewer_by x xs true e h = rw (gone_place x xs e) (omega (arith, h))
+  fewer_by x xs false e h = rw (kept_place x xs e) (omega (arith, h))
+
+  pub fewer_remain : (xs : List (Gateway × Meter P)) → length (remaining xs) ≤ length xs
+  fewer_remain [] = omega (arith)
+  fewer_remain (x ∷ xs) = fewer_by x xs (is_closed x.0) refl (fewer_remain xs)
+
+  -- the places from `left` on were looked at
+  pub record Removing (told_old : Option (List (SystemAnswer P))) (old : Hosting (Meter P)) (left : ℕ)
+      (hub : Hosting (Meter P)) (told_new : Option (List (SystemAnswer P))) (removed : Bool) : Type 0 where
+    pub before : List (Gateway × Meter P)
+    pub after : List (Gateway × Meter P)
+    pub split : old.places ≡ before ++ after
+    pub len : length before ≡ left
+    pub places : hub ≡ with_places old (before ++ remaining after)
+    pub told : Tells told_old (farewells after) told_new
+    pub stirred : removed ≡ any_stirs (farewells after)
+
+  pub none_removed : (s : Option (List (SystemAnswer P))) (old : Hosting (Meter P)) (n : ℕ) →
+      n ≡ length old.places → Removing s old n old s false
+  none_removed s old n e = record {
+    before = old.places;
+    after = [];
+    split = sym (append-nil old.places);
+    len = sym e;
+    places = ap (with_places old) (sym (append-nil old.places));
+    told = tells_nil s;
+    stirred = refl;
+  }
+
+  -- as the loop counts
+  pub one_left : (s t : Option (List (SystemAnswer P))) (old hub : Hosting (Meter P)) (b : Bool) (i : ℕ) → 0 < i →
+      Removing s old i hub t b → Removing s old (suc (i - 1)) hub t b
+  one_left s t old hub b i lt h =
+      let same : i ≡ suc (i - 1) = omega (arith, lt) in
+      subst (λ (n : ℕ). Removing s old n hub t b) same h
+
+  pub all_removed : (s t : Option (List (SystemAnswer P))) (old new : Hosting (Meter P)) (b : Bool) →
+      Removing s old 0 new t b →
+      (answers : List (SystemAnswer P)) × Tells s answers t × RemovesClosed old answers new × (b ≡ any_stirs answers)
+  all_removed s t old new b h =
+      let none : h.before ≡ [] = empty h.before h.len in
+      let all : old.places ≡ h.after = h.split ∙ ap (λ (l : List (Gateway × Meter P)). l ++ h.after) none in (
+        farewells h.after,
+        h.told,
+        (
+          ap farewells (sym all),
+          h.places
+              ∙ ap (λ (l : List (Gateway × Meter P)). with_places old (l ++ remaining h.after)) none
+              ∙ ap (λ (l : List (Gateway × Meter P)). with_places old (remaining l)) (sym all),
+        ),
+        h.stirred,
+      )
+    where
+      empty : (xs : List (Gateway × Meter P)) → length xs ≡ 0 → xs ≡ []
+      empty [] e = refl
+      empty (x ∷ xs) e = absurd (let f = e in omega (arith, f))
+
+  pub no_more : (s t : Option (List (SystemAnswer P))) (old new : Hosting (Meter P)) (b : Bool) (i : ℕ) → i ≤ 0 →
+      Removing s old i new t b → length new.places ≤ length old.places
+  no_more s t old new b i le h =
+      let none : i ≡ 0 = omega (arith, le) in
+      let all = all_removed s t old new b (subst (λ (n : ℕ). Removing s old n new t b) none h) in
+      rw (ap (λ (k : Hosting (Meter P)). k.places) all.2.1) (fewer_remain old.places)
+
+  -- what stands at the last place that is left
+  at_last : (s t : Option (List (SystemAnswer P))) (old hub : Hosting (Meter P)) (b : Bool) (n : ℕ) →
+      (h : Removing s old (suc n) hub t b) →
+      (ys : List (Gateway × Meter P)) × (x : Gateway × Meter P) × (length ys ≡ n)
+      × (old.places ≡ ys ++ x ∷ h.after) × (hub ≡ with_places old (ys ++ x ∷ remaining h.after))
+      × (slice_get hub.places n ≡ Some x)
+  at_last s t old hub b n h =
+      let parts = last_apart n h.before h.len in
+      let ys = parts.0 in
+      let x = parts.1 in
+      let along : (zs : List (Gateway × Meter P)) → h.before ++ zs ≡ ys ++ x ∷ zs =
+      λ zs. (ap (λ (l : List (Gateway × Meter P)). l ++ zs) parts.2 ∙ append_assoc ys (x ∷ []) zs) in
+      let same : hub ≡ with_places old (ys ++ x ∷ remaining h.after) =
+      h.places ∙ ap (with_places old) (along (remaining h.after)) in (
+        ys,
+        x,
+        parts.3,
+        h.split ∙ along h.after,
+        same,
+        ap (λ (k : Hosting (Meter P)). slice_get k.places n) same
+            ∙ ap (slice_get (ys ++ x ∷ remaining h.after)) (sym parts.3)
+            ∙ read_behind ys x (remaining h.after),
+      )
+
+  pub place_kept : (s t : Option (List (SystemAnswer P))) (old hub : Hosting (Meter P)) (b : Bool) (n : ℕ) →
+      Removing s old (suc n) hub t b → IfSome (slice_get hub.places n) (λ place. is_closed place.0 ≡ false) →
+      Removing s old n hub t b
+  place_kept s t old hub b n h unclosed =
+      let at = at_last s t old hub b n h in
+      let ys = at.0 in
+      let x = at.1 in
+      let stays : is_closed x.0 ≡ false =
+      subst (λ (o : Option (Gateway × Meter P)). IfSome o (λ place. is_closed place.0 ≡ false)) at.5 unclosed in
+      let silent : farewells (x ∷ h.after) ≡ farewells h.after =
+      ap (λ (c : Bool). farewells h.after ++ farewell_where c x.1) stays ∙ append-nil (farewells h.after) in
+      record {
+        before = ys;
+        after = x ∷ h.after;
+        split = at.3;
+        len = at.2;
+        places = at.4 ∙ ap (λ (l : List (Gateway × Meter P)). with_places old (ys ++ l)) (sym (kept_place x h.after stays));
+        told = subst (λ (l : List (SystemAnswer P)). Tells s l t) (sym silent) h.told;
+        stirred = h.stirred ∙ ap any_stirs (sym silent);
+      }
+
+  pub place_gone : (s t u : Option (List (SystemAnswer P))) (old hub new : Hosting (Meter P)) (b : Bool) (n : ℕ)
+      (ports : Meter P) → Removing s old (suc n) hub t b → Removes hub n ports new →
+      Tells t (parting ports) u → Removing s old n new u true
+  place_gone s t u old hub new b n ports h r k =
+      let at = at_last s t old hub b n h in
+      let ys = at.0 in
+      let x = at.1 in
+      let same : x ≡ (r.0, ports) =
+      ap (λ (o : Option (Gateway × Meter P)). unwrap_or o x) (sym at.5 ∙ r.1) in
+      let over : is_closed x.0 ≡ true = ap (λ (p : Gateway × Meter P). is_closed p.0) same ∙ r.2 in
+      let said : farewell x ≡ parting ports =
+      ap (λ (c : Bool). farewell_where c x.1) over
+      ∙ ap (λ (p : Gateway × Meter P). farewell_where true p.1) same in
+      record {
+        before = ys;
+        after = x ∷ h.after;
+        split = at.3;
+        len = at.2;
+        places = r.3
+            ∙ ap (λ (k : Hosting (Meter P)). with_places k (remove k.places n)) at.4
+            ∙ ap (λ (m : ℕ). with_places old (remove (ys ++ x ∷ remaining h.after) m)) (sym at.2)
+            ∙ ap (with_places old) (removed_behind ys x (remaining h.after))
+            ∙ ap (λ (l : List (Gateway × Meter P)). with_places old (ys ++ l)) (sym (gone_place x h.after over));
+        told = tells_then s t u (farewells h.after) (farewell x) h.told
+            (subst (λ (l : List (SystemAnswer P)). Tells t l u) (sym said) k);
+        stirred = sym (list_any-append stirs (farewells h.after) (farewell x)
+            ∙ ap (λ (c : Bool). any_stirs (farewells h.after) || c) (ap any_stirs said ∙ goes (is_none ports.left) ports)
+            ∙ or_true (any_stirs (farewells h.after)));
+      }

@@ -1,0 +1,48 @@
+use Rattle.std.proofs.Common.{ℕ, ◌++◌, ap, ◌∙◌, subst, arith}
+use Rattle.std.specs.Prelude.{◌||◌}
+use Rattle.daide_service.specs.Serving.{Serving, Admits, Round, wait_where, accepts}
+use Rattle.daide_service.proofs.ServingLemmas.{tells_then, waits_alike}
+use Rattle.daide_service.proofs.serving.Service.round.Goals as goal
+
+pub returns-clause-round : goal.returns-clause-round
+returns-clause-round g c =
+    let told = g.S.System.told in
+    let old = c.self.inside in
+    let admits = c.admit-came.ensures.admits in
+    let meets = c.in_ok-met.ensures.meets in
+    let removes = c.remove_closed-removed.ensures.removes in
+    let stirred = c.admit-came.result || c.in_ok-met.met || c.has_moved-moved.result || c.remove_closed-removed.result in
+    let asleep = waits_alike {P = g.row.P.Denot} _ _ _ _ _ _ _ _ _ _ admits.3 meets.3 c.has_moved-moved.ensures
+    removes.3 (c.accepts-more.ensures ∙ ap (accepts c.meet.new.tally) c.count-2.ensures) in
+    let step : Round g.P.Ports.told (record { hub = old.hub; tally = old.tally })
+    (admits.0 ++ meets.0 ++ removes.0 ++ wait_where stirred c.accepts-more.result)
+    (record { hub = c.remove_closed-removed.new.hub; tally = c.meet.new.tally }) = record {
+      admission = admits.0;
+      meeting = meets.0;
+      removal = removes.0;
+      came = c.admit-came.new.tally;
+      met = c.meet.new.hub;
+      turned = c.turn_all.new.hub;
+      admits = subst (λ (n : ℕ). Admits n old.tally admits.0 c.admit-came.new.tally) c.count.ensures admits.2;
+      meets = meets.2;
+      turns = c.turn_all.ensures.turns;
+      removes = removes.2;
+      within = record {
+        same_max = c.remove_closed-removed.ensures.max ∙ c.turn_all.ensures.max ∙ c.meet.ensures.within.same_max;
+        held =
+            let held = c.meet.ensures.within.held in
+            let count = c.turn_all.ensures.count in
+            let fewer = c.remove_closed-removed.ensures.fewer in
+            omega (arith, held, count, fewer);
+        accepted = c.meet.ensures.within.accepted;
+      };
+      asked = ap (λ w. admits.0 ++ meets.0 ++ removes.0 ++ w) asleep;
+    } in (
+      admits.0 ++ meets.0 ++ removes.0 ++ wait_where stirred c.accepts-more.result,
+      tells_then _ _ _ (admits.0 ++ meets.0 ++ removes.0) _
+          (tells_then _ _ _ (admits.0 ++ meets.0) removes.0 (tells_then _ _ _ admits.0 meets.0 admits.1 meets.1) removes.1)
+          c.rest.ensures,
+      subst (λ (a : Serving g.row.P.Denot). Round g.P.Ports.told a
+          (admits.0 ++ meets.0 ++ removes.0 ++ wait_where stirred c.accepts-more.result)
+          (record { hub = c.remove_closed-removed.new.hub; tally = c.meet.new.tally })) c.self.view_is step,
+    )

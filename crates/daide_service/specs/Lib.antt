@@ -1,0 +1,3 @@
+pub mod System
+pub mod Metered
+pub mod Serving

@@ -1,0 +1,236 @@
+-- The loop of a run: what each step of a round asks of the system and does to the sessions, what a round is, and
+-- what a whole run is. A step is stated with what the system answered in it, told or not.
+use Rattle.std.specs.Prelude.{◌≡◌, ℕ, zero, suc, ◌+◌, ◌-◌, ◌≤◌, nat_lt, Bool, true, false, not, ◌&&◌, ◌||◌, ◌==◌}
+use Rattle.std.specs.Prelude.{List, [], ◌∷◌, ◌++◌, length, filter, Option, Some, is_none}
+use Rattle.std.specs.List.{list_any}
+use Rattle.daide_machine.specs.Wires.{Gateway, is_closed}
+use Rattle.daide_session.specs.declared.hub.HubError.{HubError}
+use Rattle.daide_session.specs.declared.hub.HubError.TheVariants as HubErrors
+use Rattle.daide_words.specs.Words.{words_of}
+use Rattle.daide_session.specs.Session.{limits_with}
+use Rattle.daide_session.specs.Record.{PortAnswer}
+use Rattle.daide_session.specs.Hub.{Hosting, with_places, Adds, IsHubCause}
+use Rattle.daide_session.specs.HubRuns.{HubCall, Turned, HubRuns}
+use Rattle.daide_settings.specs.declared.settings.Settings.{Settings}
+use Rattle.daide_service.specs.declared.serving.ServeFault.{ServeFault}
+use Rattle.daide_service.specs.declared.serving.ServeFault.TheVariants as Faults
+use Rattle.daide_service.specs.declared.tally.Tally.{Tally}
+use Rattle.daide_service.specs.declared.system.Connect.{Connect}
+use Rattle.daide_service.specs.declared.system.Connect.TheVariants.{Ready, Failed, Pending}
+use Rattle.daide_service.specs.declared.system.Notice.TheVariants.{CannotReach, TurnsSpent}
+use Rattle.daide_service.specs.Metered.{Meter, told_while_left}
+use Rattle.daide_service.specs.System.{SystemAnswer, Accepts, Connects, Retires, Notifies, Waits}
+
+-- a run at work: the sessions, and the counts of bots
+pub record Serving (P : Type 0) : Type 0 where
+  pub hub : Hosting (Meter P)
+  pub tally : Tally
+
+-- ---- the counts
+
+-- one more bot may come, beside so many sessions; a connect that is under way takes a place too
+abbrev pub accepts : Tally → ℕ → Bool
+accepts tally count = nat_lt tally.accepted tally.sessions && nat_lt (count + tally.connecting) tally.max_sessions
+
+-- all bots came, and none is left, as a session or on its way to the server
+abbrev pub is_served : Tally → ℕ → Bool
+is_served tally count = (tally.accepted == tally.sessions) && ((tally.connecting == 0) && (count == 0))
+
+-- so many bots are on their way to the server, and so many came
+abbrev pub counting : Tally → ℕ → ℕ → Tally
+counting tally connecting accepted = record {
+  max_sessions = tally.max_sessions;
+  sessions = tally.sessions;
+  turns = tally.turns;
+  connecting = connecting;
+  accepted = accepted;
+}
+
+-- one more on its way, where one came
+abbrev pub come : Bool → Tally → Tally
+come true tally = counting tally (tally.connecting + 1) (tally.accepted + 1)
+come false tally = tally
+
+-- one fewer on its way
+abbrev pub arrived : Tally → Tally
+arrived tally = counting tally (tally.connecting - 1) tally.accepted
+
+-- no more are held than there may be at once, and no more came than there may be in all
+pub record IsWithin {P : Type 0} (hub : Hosting (Meter P)) (tally : Tally) : Type 0 where
+  pub same_max : hub.max ≡ tally.max_sessions
+  pub held : length hub.places + tally.connecting ≤ tally.max_sessions
+  pub accepted : tally.accepted ≤ tally.sessions
+
+-- ---- bots come
+
+-- where one more may come, the system is asked once; else not
+abbrev pub AdmitsWhere : {P : Type 0} → Bool → Tally → List (SystemAnswer P) → Tally → Type 0
+AdmitsWhere true old answers new = (came : Bool) × (answers ≡ Accepts came ∷ []) × (new ≡ come came old)
+AdmitsWhere false old answers new = (answers ≡ []) × (new ≡ old)
+
+abbrev pub Admits : {P : Type 0} → ℕ → Tally → List (SystemAnswer P) → Tally → Type 0
+Admits count old = AdmitsWhere (accepts old count) old
+
+-- ---- bots reach the server, or don't
+
+-- ports with all their turns to come
+abbrev pub fresh : {P : Type 0} → P → ℕ → Meter P
+fresh ports turns = record { ports = ports; left = Some turns; moved = false }
+
+-- one that is there becomes a session in its opening state, at the last place; one that failed is told, and let go
+abbrev pub MeetsBy : {P : Type 0} → Connect P → Hosting (Meter P) → Tally → List (SystemAnswer P) →
+    Hosting (Meter P) → Tally → Type 0
+MeetsBy (Ready ports) hub tally told new_hub new_tally =
+    (told ≡ []) × Adds hub (fresh ports tally.turns) new_hub × (new_tally ≡ arrived tally)
+MeetsBy Failed hub tally told new_hub new_tally =
+    (told ≡ Notifies CannotReach ∷ []) × (new_hub ≡ hub) × (new_tally ≡ arrived tally)
+MeetsBy Pending hub tally told new_hub new_tally = (told ≡ []) × (new_hub ≡ hub) × (new_tally ≡ tally)
+
+-- where none is on its way, the system isn't asked
+abbrev pub MeetsWhere : {P : Type 0} → Bool → Hosting (Meter P) → Tally → List (SystemAnswer P) →
+    Hosting (Meter P) → Tally → Type 0
+MeetsWhere true hub tally answers new_hub new_tally = (answers ≡ []) × (new_hub ≡ hub) × (new_tally ≡ tally)
+MeetsWhere {P} false hub tally answers new_hub new_tally =
+    (connect : Connect P) × (told : List (SystemAnswer P)) × (answers ≡ Connects connect ∷ told)
+    × MeetsBy connect hub tally told new_hub new_tally
+
+abbrev pub Meets : {P : Type 0} → Hosting (Meter P) → Tally → List (SystemAnswer P) →
+    Hosting (Meter P) → Tally → Type 0
+Meets hub tally = MeetsWhere (tally.connecting == 0) hub tally
+
+-- ---- each session has a turn
+
+-- the turns of the first n places, each once, in their order
+abbrev pub turns_below : {P : Type 0} → ℕ → List (HubCall P)
+turns_below zero = []
+turns_below (suc n) = turns_below n ++ Turned n ∷ []
+
+abbrev pub TurnsAll : {P : Type 0} → (P → Option (List PortAnswer)) → Hosting (Meter P) → Hosting (Meter P) → Type 0
+TurnsAll told old new = HubRuns (told_while_left told) old (turns_below (length old.places)) new
+
+abbrev pub any_moved : {P : Type 0} → List (Gateway × Meter P) → Bool
+any_moved places = list_any (λ place. place.1.moved) places
+
+-- ---- sessions that are over are taken out
+
+abbrev pub last_words : {P : Type 0} → Bool → List (SystemAnswer P)
+last_words true = Notifies TurnsSpent ∷ []
+last_words false = []
+
+-- that its turns are spent is told, if so, and its ports go
+abbrev pub parting : {P : Type 0} → Meter P → List (SystemAnswer P)
+parting meter = last_words (is_none meter.left) ++ Retires meter.ports ∷ []
+
+abbrev pub farewell_where : {P : Type 0} → Bool → Meter P → List (SystemAnswer P)
+farewell_where true meter = parting meter
+farewell_where false meter = []
+
+-- a session that is over and of which nothing waits is parted with
+abbrev pub farewell : {P : Type 0} → Gateway × Meter P → List (SystemAnswer P)
+farewell place = farewell_where (is_closed place.0) place.1
+
+-- from the last place to the first
+abbrev pub farewells : {P : Type 0} → List (Gateway × Meter P) → List (SystemAnswer P)
+farewells [] = []
+farewells (place ∷ places) = farewells places ++ farewell place
+
+-- the sessions that are not over, or of which something waits, in their order
+abbrev pub remaining : {P : Type 0} → List (Gateway × Meter P) → List (Gateway × Meter P)
+remaining places = filter (λ place. not (is_closed place.0)) places
+
+abbrev pub RemovesClosed : {P : Type 0} → Hosting (Meter P) → List (SystemAnswer P) → Hosting (Meter P) → Type 0
+RemovesClosed old answers new = (answers ≡ farewells old.places) × (new ≡ with_places old (remaining old.places))
+
+-- ---- a round
+
+-- whether the system gave the run something: a bot, a connect that came about or failed, or ports to take
+abbrev pub stirs : {P : Type 0} → SystemAnswer P → Bool
+stirs (Accepts came) = came
+stirs (Connects (Ready ports)) = true
+stirs (Connects Failed) = true
+stirs (Connects Pending) = false
+stirs (Retires ports) = true
+stirs (Notifies notice) = true
+stirs (Waits more) = false
+
+abbrev pub any_stirs : {P : Type 0} → List (SystemAnswer P) → Bool
+any_stirs answers = list_any stirs answers
+
+-- one wait where nothing moved
+abbrev pub wait_where : {P : Type 0} → Bool → Bool → List (SystemAnswer P)
+wait_where true more = []
+wait_where false more = Waits more ∷ []
+
+-- At most one bot is admitted; at most one connect is taken up; each session has one turn; those that are over are
+-- taken out; and there is one wait, exactly where nothing moved in all this.
+pub record Round {P : Type 0} (told : P → Option (List PortAnswer)) (old : Serving P)
+    (answers : List (SystemAnswer P)) (new : Serving P) : Type 0 where
+  pub admission : List (SystemAnswer P)
+  pub meeting : List (SystemAnswer P)
+  pub removal : List (SystemAnswer P)
+  pub came : Tally
+  pub met : Hosting (Meter P)
+  pub turned : Hosting (Meter P)
+  pub admits : Admits (length old.hub.places) old.tally admission came
+  pub meets : Meets old.hub came meeting met new.tally
+  pub turns : TurnsAll told met turned
+  pub removes : RemovesClosed turned removal new.hub
+  -- whatever came, no more are held than there may be at once, and no more came than there may be in all
+  pub within : IsWithin new.hub new.tally
+  pub asked : answers ≡ admission ++ meeting ++ removal ++ wait_where
+      (any_stirs admission || any_stirs meeting || any_moved turned.places || any_stirs removal)
+      (accepts new.tally (length new.hub.places))
+
+-- ---- a run
+
+-- whether all bots were served, and none is held
+abbrev pub is_done : {P : Type 0} → Serving P → Bool
+is_done run = is_served run.tally (length run.hub.places)
+
+-- n rounds, each of a run that isn't done
+abbrev pub Rounds : {P : Type 0} → (P → Option (List PortAnswer)) → ℕ → Serving P → List (SystemAnswer P) →
+    Serving P → Type 0
+Rounds told zero old answers new = (answers ≡ []) × (new ≡ old)
+Rounds {P} told (suc n) old answers new =
+    (mid : Serving P) × (first : List (SystemAnswer P)) × (second : List (SystemAnswer P))
+    × (answers ≡ first ++ second) × Rounds told n old first mid × (is_done mid ≡ false) × Round told mid second new
+
+-- a run that no bot came to
+abbrev pub opening : {P : Type 0} → Settings → Serving P
+opening settings = record {
+  hub = record { limits = limits_with settings.config (words_of settings.words); max = settings.max_sessions; places = [] };
+  tally = record {
+    max_sessions = settings.max_sessions;
+    sessions = settings.sessions;
+    turns = settings.turns;
+    connecting = 0;
+    accepted = 0;
+  };
+}
+
+-- rounds from the opening, until all bots were served and none is held
+abbrev pub Serves : {P : Type 0} → (P → Option (List PortAnswer)) → Settings → List (SystemAnswer P) → Type 0
+Serves {P} told settings answers =
+    (n : ℕ) × (end : Serving P) × Rounds told n (opening settings) answers end × (is_done end ≡ true)
+
+-- ---- refusals
+
+-- a refusal of the hub by the name that a run has for it
+abbrev pub fault_of : HubError → ServeFault
+fault_of (HubErrors.Config fault) = Faults.Config fault
+fault_of HubErrors.Sessions = Faults.Sessions
+fault_of HubErrors.Memory = Faults.Memory
+
+-- limits first, then the number of sessions; memory is wanted only where both are right
+abbrev pub IsServeCause : Settings → ServeFault → Type 0
+IsServeCause settings (Faults.Config fault) = IsHubCause settings.config settings.max_sessions (HubErrors.Config fault)
+IsServeCause settings Faults.Sessions = IsHubCause settings.config settings.max_sessions HubErrors.Sessions
+IsServeCause settings Faults.Memory = IsHubCause settings.config settings.max_sessions HubErrors.Memory
+IsServeCause settings Faults.RoundsSpent = IsHubCause settings.config settings.max_sessions HubErrors.Memory
+
+-- a fault of the settings, told before the system is asked anything
+abbrev pub IsOfSettings : ServeFault → Type 0
+IsOfSettings (Faults.Config fault) = Unit {0}
+IsOfSettings Faults.Sessions = Unit {0}
+IsOfSettings Faults.Memory = ⊥
+IsOfSettings Faults.RoundsSpent = ⊥

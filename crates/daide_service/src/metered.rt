@@ -1,0 +1,125 @@
+//! Ports with so many turns, which remember whether their last turn moved anything.
+
+ghost use Rattle.std.specs.Prelude.{◌≡◌, ◌||◌, length, take, false, Some, None, IfNone, is_none};
+ghost use Rattle.daide_session.specs.Record.{Pulled, Offered, Clock, Tells, IsPullWithin, IsPutWithin, pulled_len};
+ghost use Rattle.daide_service.specs.Metered.{told_while_left, one_less, is_gain, is_loss};
+
+use daide_frame::side::Side;
+use daide_session::ports::{Ports, Pull, Put};
+use std::marker::Model;
+
+/// Ports that may be asked so many turns. Each turn begins with a look at the clock; from the look on that is
+/// one too many, the ports are asked no more: both wires fail, and both sides have ended.
+#[derive(Drop)]
+pub struct Metered<P: Ports> {
+    ports: P,
+    /// How many turns are left; none of ports whose turns are spent.
+    left: Option<u64>,
+    moved: bool,
+}
+
+impl<P: Ports> Model for Metered<P> {
+    ghost use Rattle.daide_service.specs.Metered.{Meter};
+
+    ghost Value = { Meter P };
+
+    ghost view = { λ m. record { ports = m.ports; left = m.left; moved = m.moved } };
+}
+
+impl<P: Ports> Metered<P> {
+    /// Ports with so many turns to come.
+    pub fn new(ports: P, turns: u64) -> Metered<P>
+        ensures { result ≡ record { ports = ports; left = Some turns; moved = false } }
+    {
+        Metered {
+            ports,
+            left: Some(turns),
+            moved: false,
+        }
+    }
+
+    /// Whether more turns were begun than there are.
+    pub fn is_spent(&self) -> bool
+        ensures { result ≡ is_none self.now.left }
+    {
+        self.left.is_none()
+    }
+
+    /// Whether anything moved since the clock was last asked: it had popped, bytes came or went, a side ended,
+    /// or a wire failed.
+    pub fn has_moved(&self) -> bool
+        ensures { result ≡ self.now.moved }
+    {
+        self.moved
+    }
+
+    /// The ports themselves.
+    pub fn into_ports(self) -> P
+        ensures { result ≡ self.ports }
+    {
+        let Metered {
+            ports,
+            left: _,
+            moved: _,
+        } = self;
+        ports
+    }
+}
+
+impl<P: Ports> Ports for Metered<P> {
+    ghost use Rattle.daide_service.specs.Metered.{told_while_left};
+
+    ghost told = { told_while_left P.told };
+
+    fn pull(&mut self, side: Side, buffer: &mut [u8]) -> Pull
+        ensures within { IsPullWithin result (length buffer.old) }
+        ensures told { Tells (told_while_left P.told self.old) (Pulled side (length buffer.old) result
+            (take (pulled_len result) buffer.new)) (told_while_left P.told self.new) }
+        ensures moved { self.new.moved ≡ (self.old.moved || is_gain result) }
+        ensures left { self.new.left ≡ self.old.left }
+        ensures spent { IfNone self.old.left ((result ≡ Pull.Ended) × (self.new.ports ≡ self.old.ports)) }
+    {
+        let pull = match self.left {
+            Some(_turns) => self.ports.pull(side, buffer),
+            None => Pull::Ended,
+        };
+        self.moved = self.moved
+            || match pull {
+                Pull::Got(count) => count > 0,
+                Pull::Idle => false,
+                Pull::Ended => true,
+            };
+        pull
+    }
+
+    fn put(&mut self, side: Side, bytes: &[u8]) -> Put
+        ensures within { IsPutWithin result (length bytes.now) }
+        ensures told { Tells (told_while_left P.told self.old) (Offered side bytes.now result)
+            (told_while_left P.told self.new) }
+        ensures moved { self.new.moved ≡ (self.old.moved || is_loss result) }
+        ensures left { self.new.left ≡ self.old.left }
+        ensures spent { IfNone self.old.left ((result ≡ Put.Failed) × (self.new.ports ≡ self.old.ports)) }
+    {
+        let put = match self.left {
+            Some(_turns) => self.ports.put(side, bytes),
+            None => Put::Failed,
+        };
+        self.moved = self.moved
+            || match put {
+                Put::Took(count) => count > 0,
+                Put::Failed => true,
+            };
+        put
+    }
+
+    fn clock_popped(&mut self) -> bool
+        ensures told { Tells (told_while_left P.told self.old) (Clock result) (told_while_left P.told self.new) }
+        ensures moved { self.new.moved ≡ result }
+        ensures left { self.new.left ≡ one_less self.old.left }
+        ensures spent { IfNone self.new.left ((result ≡ false) × (self.new.ports ≡ self.old.ports)) }
+    {
+        self.left = self.left.and_then(|turns| turns.checked_sub(1));
+        self.moved = self.left.is_some() && self.ports.clock_popped();
+        self.moved
+    }
+}

@@ -1,0 +1,3 @@
+pub mod Members
+pub mod WordEntries
+pub mod SettingsFacts

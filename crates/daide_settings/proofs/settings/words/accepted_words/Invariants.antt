@@ -1,0 +1,12 @@
+use Rattle.std.proofs.Common.{◌≡◌, drop}
+use Rattle.toml.specs.View.{items_view}
+use Rattle.daide_words.specs.Words.{words_of}
+use Rattle.daide_settings.specs.WordSettings.{accepted_words, words_of_entries}
+use Rattle.daide_settings.proofs.WordEntries.{further}
+use Rattle.daide_settings.proofs.settings.words.accepted_words.Given as goal
+
+-- what is left to judge, after the words so far, is what there was to judge
+abbrev pub invariant-loop-entry : goal.invariant-loop-entry
+invariant-loop-entry l =
+    accepted_words (words_of_entries (items_view l.entries))
+    ≡ further (words_of l.words) (items_view (drop l.entry-index l.entries))

@@ -1,0 +1,18 @@
+-- What a value of `Settings` says.
+use Rattle.daide_settings.specs.declared.settings.Settings.{Settings}
+use Rattle.daide_words.specs.Words.{words_of}
+use Rattle.daide_settings.specs.Settings.{Given}
+
+abbrev pub given_of : Settings → Given
+given_of settings = record {
+  listen = settings.listen;
+  server = settings.server;
+  top_level = settings.config.top_level;
+  max_body = settings.config.max_body;
+  max_depth = settings.config.max_depth;
+  im_seconds = settings.im_seconds;
+  max_sessions = settings.max_sessions;
+  sessions = settings.sessions;
+  turns = settings.turns;
+  words = words_of settings.words;
+}

@@ -1,0 +1,3 @@
+pub mod WordSettings
+pub mod Settings
+pub mod Given

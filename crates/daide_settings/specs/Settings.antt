@@ -1,0 +1,151 @@
+-- Which settings a TOML document gives: docs/FORMATS.md, "Settings", as definitions. What a TOML document is, and which
+-- members it has, is the crate toml's. (own)
+use Rattle.std.specs.Prelude.{ℕ, ℤ, pos, negsuc, ◌&&◌, ◌||◌, nat_le, Bool, if◌then◌else◌}
+use Rattle.std.specs.Prelude.{List, length, codes, Option, Some, None, Result, Ok, Err}
+use Rattle.std.specs.Str.{bytes_eq}
+use Rattle.toml.specs.Data.{Data, as_str, as_integer, Members, get_member}
+use Rattle.daide_session.specs.Config.{is_level, is_body, is_depth}
+use Rattle.daide_settings.specs.declared.settings.key.Key.{Key}
+use Rattle.daide_settings.specs.declared.settings.key.Key.TheVariants.{Listen, Server, TopLevel, MaxBody, MaxDepth}
+use Rattle.daide_settings.specs.declared.settings.key.Key.TheVariants.{ImSeconds, MaxSessions, Sessions, Turns, Words}
+use Rattle.daide_settings.specs.declared.settings.SettingsError.{SettingsError}
+use Rattle.daide_settings.specs.declared.settings.SettingsError.TheVariants.{NotToml, Unknown, Missing}
+use Rattle.daide_settings.specs.declared.settings.SettingsError.TheVariants.{WrongType, Range}
+use Rattle.daide_words.specs.declared.word.Word.{Word}
+use Rattle.daide_settings.specs.WordSettings.{has_only, words_judged}
+
+-- ---- the table of keys
+
+-- a key as a document writes it
+abbrev pub key_text : Key → List ℕ
+key_text Listen = codes "listen"
+key_text Server = codes "server"
+key_text TopLevel = codes "top_level"
+key_text MaxBody = codes "max_body"
+key_text MaxDepth = codes "max_depth"
+key_text ImSeconds = codes "im_seconds"
+key_text MaxSessions = codes "max_sessions"
+key_text Sessions = codes "sessions"
+key_text Turns = codes "turns"
+key_text Words = codes "words"
+
+abbrev pub is_within : ℕ → ℕ → ℕ → Bool
+is_within low high n = nat_le low n && nat_le n high
+
+-- the range of a key's number; of an address, that of the number of its bytes, and of words, of their number
+abbrev pub is_in_range : Key → ℕ → Bool
+is_in_range Listen n = is_within 1 255 n
+is_in_range Server n = is_within 1 255 n
+is_in_range TopLevel n = is_level n
+is_in_range MaxBody n = is_body n
+is_in_range MaxDepth n = is_depth n
+is_in_range ImSeconds n = is_within 1 3600 n
+is_in_range MaxSessions n = is_within 1 256 n
+is_in_range Sessions n = is_within 1 1000000 n
+is_in_range Turns n = is_within 1 1000000000000 n
+is_in_range Words n = is_within 0 16 n
+
+-- the number of a key that a document doesn't have; the two addresses have none, and must stand, and words are none
+abbrev pub default_of : Key → Option ℕ
+default_of Listen = None
+default_of Server = None
+default_of TopLevel = Some 60
+default_of MaxBody = Some 65526
+default_of MaxDepth = Some 62
+default_of ImSeconds = Some 30
+default_of MaxSessions = Some 16
+default_of Sessions = Some 1
+default_of Turns = Some 1000000000
+default_of Words = None
+
+-- whether a document may have this key
+abbrev pub is_known : List ℕ → Bool
+is_known text =
+    bytes_eq text (key_text Listen) || bytes_eq text (key_text Server) || bytes_eq text (key_text TopLevel)
+    || bytes_eq text (key_text MaxBody) || bytes_eq text (key_text MaxDepth) || bytes_eq text (key_text ImSeconds)
+    || bytes_eq text (key_text MaxSessions) || bytes_eq text (key_text Sessions) || bytes_eq text (key_text Turns)
+    || bytes_eq text (key_text Words)
+
+abbrev pub has_only_known : Members → Bool
+has_only_known members = has_only is_known members
+
+-- ---- one key
+
+-- a text is in range by the number of its bytes
+abbrev pub text_judged : Key → Option (List ℕ) → Result (List ℕ) SettingsError
+text_judged key None = Err (WrongType key)
+text_judged key (Some text) = if is_in_range key (length text) then Ok text else Err (Range key)
+
+-- an address must stand, be a text, and be in range, in this order
+abbrev pub address_of : Key → Option Data → Result (List ℕ) SettingsError
+address_of key None = Err (Missing key)
+address_of key (Some value) = text_judged key (as_str value)
+
+abbrev pub integer_judged : Key → Option ℤ → Result ℕ SettingsError
+integer_judged key None = Err (WrongType key)
+integer_judged key (Some (pos n)) = if is_in_range key n then Ok n else Err (Range key)
+integer_judged key (Some (negsuc n)) = Err (Range key)
+
+abbrev pub absent_judged : Key → Option ℕ → Result ℕ SettingsError
+absent_judged key None = Err (Missing key)
+absent_judged key (Some n) = Ok n
+
+-- a number may be left out where it has a default; else it must be an integer, and in range, in this order
+abbrev pub number_of : Key → Option Data → Result ℕ SettingsError
+number_of key None = absent_judged key (default_of key)
+number_of key (Some value) = integer_judged key (as_integer value)
+
+-- ---- the document
+
+-- what the settings of a document say
+pub record Given : Type 0 where
+  pub listen : List ℕ
+  pub server : List ℕ
+  pub top_level : ℕ
+  pub max_body : ℕ
+  pub max_depth : ℕ
+  pub im_seconds : ℕ
+  pub max_sessions : ℕ
+  pub sessions : ℕ
+  pub turns : ℕ
+  pub words : List Word
+
+-- the next judgement, if the one before it passed
+abbrev pub then_with : {A B : Type 0} → Result A SettingsError → (A → Result B SettingsError) → Result B SettingsError
+then_with (Ok x) judged = judged x
+then_with (Err fault) judged = Err fault
+
+-- each key in its order
+abbrev pub keys_judged : Members → Result Given SettingsError
+keys_judged members =
+    then_with (address_of Listen (get_member (key_text Listen) members)) (λ listen.
+    then_with (address_of Server (get_member (key_text Server) members)) (λ server.
+    then_with (number_of TopLevel (get_member (key_text TopLevel) members)) (λ top_level.
+    then_with (number_of MaxBody (get_member (key_text MaxBody) members)) (λ max_body.
+    then_with (number_of MaxDepth (get_member (key_text MaxDepth) members)) (λ max_depth.
+    then_with (number_of ImSeconds (get_member (key_text ImSeconds) members)) (λ im_seconds.
+    then_with (number_of MaxSessions (get_member (key_text MaxSessions) members)) (λ max_sessions.
+    then_with (number_of Sessions (get_member (key_text Sessions) members)) (λ sessions.
+    then_with (number_of Turns (get_member (key_text Turns) members)) (λ turns.
+    then_with (words_judged (get_member (key_text Words) members)) (λ words.
+    Ok (record {
+      listen = listen;
+      server = server;
+      top_level = top_level;
+      max_body = max_body;
+      max_depth = max_depth;
+      im_seconds = im_seconds;
+      max_sessions = max_sessions;
+      sessions = sessions;
+      turns = turns;
+      words = words;
+    })))))))))))
+
+-- a key that no settings have is told before any key is judged
+unfoldable pub judged_members : Members → Result Given SettingsError
+judged_members members = if has_only_known members then keys_judged members else Err Unknown
+
+-- a text that is no TOML document has no members
+abbrev pub judged_settings : Option Members → Result Given SettingsError
+judged_settings None = Err NotToml
+judged_settings (Some members) = judged_members members

@@ -1,0 +1,185 @@
+//! The settings of a run, read from a TOML document.
+//!
+//! The crate `toml` says what a document is and which members it has; here they are judged, by one
+//! table of keys. Nothing is opened: the text is a parameter.
+
+mod address;
+mod key;
+mod words;
+
+ghost use Rattle.std.specs.Prelude.{◌≡◌, ◌≢◌, ◌≤◌, true, IfOk, IfErr, MatchResult, Ok, Err, option_map, string_bytes};
+ghost use Rattle.std.specs.List.{list_all};
+ghost use Rattle.std.specs.BTreeMap.{keys};
+ghost use Rattle.toml.specs.Data.{get_member};
+ghost use Rattle.toml.specs.View.{view, table_view};
+ghost use Rattle.toml.specs.Parse.{parse_document};
+ghost use Rattle.daide_settings.specs.Given.{given_of};
+ghost use Rattle.daide_settings.specs.Settings.{key_text, is_known as is_known_key, is_in_range};
+ghost use Rattle.daide_settings.specs.Settings.{address_of, number_of as judged_number, has_only_known as knows_all};
+ghost use Rattle.daide_settings.specs.Settings.{judged_members, judged_settings};
+
+pub use address::Address;
+use daide_session::config::Config;
+use daide_words::Words;
+pub use key::Key;
+use key::is_known;
+use std::alloc::Global;
+use thiserror::Error;
+use toml::{Table, Value};
+use words::words_at;
+
+/// Why a text gives no settings, in the order in which it is tested: of the whole text, of the whole
+/// document, then key by key in the order of `Key`. `Memory` comes at the growth that was refused.
+#[derive(Clone, Copy, Debug, PartialEq, Eq, Error)]
+pub enum SettingsError {
+    /// The text is no TOML document.
+    #[error("settings are not TOML")]
+    NotToml,
+    /// The document has a key that no settings have.
+    #[error("unknown key")]
+    Unknown,
+    /// A key that must stand does not.
+    #[error("missing {0}")]
+    Missing(Key),
+    /// The value of a key is not of its type.
+    #[error("wrong type for {0}")]
+    WrongType(Key),
+    /// The value of a key is not in its range.
+    #[error("{0} out of range")]
+    Range(Key),
+    /// A growth was refused.
+    #[error("out of memory")]
+    Memory,
+}
+
+/// What a gateway is run with.
+#[derive(Debug, Drop)]
+pub struct Settings {
+    /// The address at which bots are listened for.
+    pub listen: Address,
+    /// The address of the server.
+    pub server: Address,
+    /// The limits of each session.
+    pub config: Config,
+    /// How long a bot's IM is waited for, in seconds.
+    pub im_seconds: u32,
+    /// How many sessions are held at once.
+    pub max_sessions: usize,
+    /// How many bots are served in all.
+    pub sessions: u32,
+    /// How many turns a session has at most.
+    pub turns: u64,
+    /// The words of press that the operator adds.
+    pub words: Words,
+}
+
+/// Whether a table's keys are all known.
+fn keys_are_known(table: &Table) -> bool
+    ensures { result ≡ list_all (λ key. is_known_key (string_bytes key)) (keys table.now) }
+{
+    table.keys().all(|key| is_known(key.as_str()))
+}
+
+/// Whether a document has no other keys than those of settings.
+fn has_only_known(table: &Table) -> bool
+    ensures { result ≡ knows_all (table_view table.now) }
+{
+    keys_are_known(table)
+}
+
+/// The value at a key.
+fn found<'a>(table: &'a Table, key: Key) -> Option<&'a Value>
+    ensures { option_map (λ value. view value.now) result ≡ get_member (key_text key) (table_view table.now) }
+{
+    table.get(key.text())
+}
+
+/// The address at a key, which must stand.
+fn address_at<'a>(value: Option<&'a Value>, key: Key) -> Result<&'a str, SettingsError>
+    ensures { let judged = address_of key (option_map (λ value. view value.now) value.entry) in
+        MatchResult result (λ text. judged ≡ Ok text.now) (λ fault. judged ≡ Err fault) }
+{
+    let Some(value) = value else {
+        return Err(SettingsError::Missing(key));
+    };
+    let Some(text) = value.as_str() else {
+        return Err(SettingsError::WrongType(key));
+    };
+    if !key.is_in_range(text.len() as u64) {
+        return Err(SettingsError::Range(key));
+    }
+    Ok(text)
+}
+
+/// The number at a key, or the key's default.
+fn number_at(value: Option<&Value>, key: Key) -> Result<u64, SettingsError>
+    ensures judged { result ≡ judged_number key (option_map (λ value. view value.now) value.entry) }
+    ensures within { IfOk result (λ n. is_in_range key n ≡ true) }
+{
+    let Some(value) = value else {
+        return key.default_number().ok_or(SettingsError::Missing(key));
+    };
+    let Some(number) = value.as_integer() else {
+        return Err(SettingsError::WrongType(key));
+    };
+    match u64::try_from(number) {
+        Ok(number) if key.is_in_range(number) => Ok(number),
+        _ => Err(SettingsError::Range(key)),
+    }
+}
+
+/// The settings of a document.
+#[tactic(auto, unfolding(crate::specs::Settings::judged_members))]
+fn settings_of(alloc: Global, table: &Table) -> Result<Settings, SettingsError>
+    ensures judged { IfOk result (λ settings. judged_members (table_view table.now) ≡ Ok (given_of settings)) }
+    ensures refused { IfErr result (λ fault. fault ≢ SettingsError.Memory →
+        judged_members (table_view table.now) ≡ Err fault) }
+{
+    if !has_only_known(table) {
+        return Err(SettingsError::Unknown);
+    }
+    let listen = address_at(found(table, Key::Listen), Key::Listen)?;
+    let server = address_at(found(table, Key::Server), Key::Server)?;
+    let top_level = number_at(found(table, Key::TopLevel), Key::TopLevel)?;
+    let max_body = number_at(found(table, Key::MaxBody), Key::MaxBody)?;
+    let max_depth = number_at(found(table, Key::MaxDepth), Key::MaxDepth)?;
+    let im_seconds = number_at(found(table, Key::ImSeconds), Key::ImSeconds)?;
+    let max_sessions = number_at(found(table, Key::MaxSessions), Key::MaxSessions)?;
+    let sessions = number_at(found(table, Key::Sessions), Key::Sessions)?;
+    let turns = number_at(found(table, Key::Turns), Key::Turns)?;
+    let words = words_at(found(table, Key::Words))?;
+    let Ok(listen) = Address::new(alloc, listen) else {
+        return Err(SettingsError::Memory);
+    };
+    let Ok(server) = Address::new(alloc, server) else {
+        return Err(SettingsError::Memory);
+    };
+    Ok(Settings {
+        listen,
+        server,
+        config: Config {
+            top_level: top_level as u16,
+            max_body: max_body as u16,
+            max_depth: max_depth as u16,
+        },
+        im_seconds: im_seconds as u32,
+        max_sessions: max_sessions as usize,
+        sessions: sessions as u32,
+        turns,
+        words,
+    })
+}
+
+/// Reads the settings of a text: the first fault is told, of the whole text, then of the document's
+/// keys, then of each key in the order of `Key`; want of memory at the growth that was refused.
+pub fn read_settings(alloc: Global, text: &str) -> Result<Settings, SettingsError>
+    ensures judged { IfOk result (λ settings. judged_settings (parse_document text.now) ≡ Ok (given_of settings)) }
+    ensures refused { IfErr result (λ fault. fault ≢ SettingsError.Memory →
+        judged_settings (parse_document text.now) ≡ Err fault) }
+{
+    match toml::table_from_str(alloc, text) {
+        Ok(table) => settings_of(alloc, &table),
+        Err(fault) if fault.is_memory() => Err(SettingsError::Memory),
+        Err(_) => Err(SettingsError::NotToml),
+    }
+}

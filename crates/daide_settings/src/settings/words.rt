@@ -1,0 +1,205 @@
+//! The key `words`: an array of tables, one for each word that an operator adds.
+//!
+//! The shape of all entries is judged before the range of any, so that a fault of type is told first wherever it is.
+
+ghost use Rattle.std.specs.Prelude.{◌≡◌, Some, Ok, Err, MatchResult, option_copied, option_map};
+ghost use Rattle.std.specs.List.{list_all};
+ghost use Rattle.std.specs.BTreeMap.{keys};
+ghost use Rattle.std.specs.Prelude.{string_bytes};
+ghost use Rattle.toml.specs.Data.{get_member};
+ghost use Rattle.toml.specs.View.{items_view, table_view, view};
+ghost use Rattle.daide_words.specs.Words.{words_of};
+ghost use Rattle.daide_settings.specs.WordSettings.{accepted_words, are_entries, code_of, entries_judged, has_fields};
+ghost use Rattle.daide_settings.specs.WordSettings.{has_only, is_entry, is_field, level_of, number_in, text_in, three_of, word_of};
+ghost use Rattle.daide_settings.specs.WordSettings.{word_of_members, words_judged, words_of_entries};
+
+use super::SettingsError;
+use super::key::Key;
+use daide_grammar::level::Level;
+use daide_token::token::Token;
+use daide_words::{Operand, Slot, Word, Words};
+use toml::{Table, Value};
+
+/// Whether an entry may have this key.
+fn is_field(text: &str) -> bool
+    ensures { result ≡ is_field text.now }
+{
+    matches!(text, "name" | "code" | "slot" | "level" | "operand")
+}
+
+/// Whether a table's keys are all those of an entry.
+fn keys_are_fields(table: &Table) -> bool
+    ensures { result ≡ list_all (λ key. is_field (string_bytes key)) (keys table.now) }
+{
+    table.keys().all(|key| is_field(key.as_str()))
+}
+
+/// Whether an entry has no other keys than a word's.
+fn has_only_fields(table: &Table) -> bool
+    ensures { result ≡ has_only is_field (table_view table.now) }
+{
+    keys_are_fields(table)
+}
+
+/// The value at a key of an entry.
+fn field<'a>(table: &'a Table, name: &str) -> Option<&'a Value>
+    ensures { option_map (λ value. view value.now) result ≡ get_member name.now (table_view table.now) }
+{
+    table.get(name)
+}
+
+/// The text at a key of an entry.
+fn text_in<'a>(table: &'a Table, name: &str) -> Option<&'a str>
+    ensures { option_copied result ≡ text_in name.now (table_view table.now) }
+{
+    match field(table, name) {
+        Some(value) => value.as_str(),
+        None => None,
+    }
+}
+
+/// The number at a key of an entry.
+fn number_in(table: &Table, name: &str) -> Option<i64>
+    ensures { result ≡ number_in name.now (table_view table.now) }
+{
+    match field(table, name) {
+        Some(value) => value.as_integer(),
+        None => None,
+    }
+}
+
+/// Whether a table has exactly the fields of a word, each of its type.
+fn has_fields(table: &Table) -> bool
+    ensures { result ≡ has_fields (table_view table.now) }
+{
+    has_only_fields(table)
+        && text_in(table, "name").is_some()
+        && number_in(table, "code").is_some()
+        && text_in(table, "slot").is_some()
+        && number_in(table, "level").is_some()
+        && text_in(table, "operand").is_some()
+}
+
+/// Whether a value is a table with exactly the fields of a word, each of its type.
+fn is_entry(value: &Value) -> bool
+    ensures { result ≡ is_entry (view value.now) }
+{
+    match value.as_table() {
+        Some(table) => has_fields(table),
+        None => false,
+    }
+}
+
+/// A name of three bytes.
+fn three_of(name: &str) -> Option<[u8; 3]>
+    ensures { result ≡ three_of name.now }
+{
+    match name.as_bytes() {
+        [first, second, third] => Some([*first, *second, *third]),
+        _ => None,
+    }
+}
+
+/// The token of a number.
+fn code_of(number: i64) -> Option<Token>
+    ensures { result ≡ code_of number }
+{
+    match u16::try_from(number) {
+        Ok(code) => Some(Token::from_code(code)),
+        Err(_) => None,
+    }
+}
+
+/// The level of a number.
+fn level_of(number: i64) -> Option<Level>
+    ensures { result ≡ level_of number }
+{
+    match u16::try_from(number) {
+        Ok(number) => Level::of(number),
+        Err(_) => None,
+    }
+}
+
+/// The word of an entry's members, if each is in its range.
+fn word_of_members(table: &Table) -> Option<Word>
+    ensures { result ≡ word_of_members (table_view table.now) }
+{
+    let name = three_of(text_in(table, "name")?)?;
+    let code = code_of(number_in(table, "code")?)?;
+    let slot = Slot::by_name(text_in(table, "slot")?)?;
+    let level = level_of(number_in(table, "level")?)?;
+    let operand = Operand::by_name(text_in(table, "operand")?)?;
+    Some(Word {
+        name,
+        code,
+        slot,
+        level,
+        operand,
+    })
+}
+
+/// The word of an entry.
+fn word_of(entry: &Value) -> Option<Word>
+    ensures { result ≡ word_of (view entry.now) }
+{
+    match entry.as_table() {
+        Some(table) => word_of_members(table),
+        None => None,
+    }
+}
+
+/// Whether each value is an entry.
+fn each_is_entry(entries: &[Value]) -> bool
+    ensures { result ≡ list_all (λ entry. is_entry (view entry)) entries.now }
+{
+    entries.iter().all(|entry| is_entry(entry))
+}
+
+/// Whether all items of an array are entries.
+fn are_entries(entries: &[Value]) -> bool
+    ensures { result ≡ are_entries (items_view entries.now) }
+{
+    each_is_entry(entries)
+}
+
+/// The words of all entries, each accepted after the ones before it.
+fn accepted_words(entries: &[Value]) -> Result<Words, SettingsError>
+    ensures { let judged = accepted_words (words_of_entries (items_view entries.now)) in
+        MatchResult result (λ words. judged ≡ Ok (words_of words)) (λ fault. judged ≡ Err fault) }
+{
+    let mut words = Words::new();
+    for entry in entries {
+        let Some(word) = word_of(entry) else {
+            return Err(SettingsError::Range(Key::Words));
+        };
+        if words.add(word).is_err() {
+            return Err(SettingsError::Range(Key::Words));
+        }
+    }
+    Ok(words)
+}
+
+/// The words of entries: the shape of all is judged before the range of any.
+fn words_of_entries(entries: &[Value]) -> Result<Words, SettingsError>
+    ensures { let judged = entries_judged (Some (items_view entries.now)) in
+        MatchResult result (λ words. judged ≡ Ok (words_of words)) (λ fault. judged ≡ Err fault) }
+{
+    if !are_entries(entries) {
+        return Err(SettingsError::WrongType(Key::Words));
+    }
+    accepted_words(entries)
+}
+
+/// The words at the key; none without it.
+pub(super) fn words_at(value: Option<&Value>) -> Result<Words, SettingsError>
+    ensures { let judged = words_judged (option_map (λ value. view value.now) value.entry) in
+        MatchResult result (λ words. judged ≡ Ok (words_of words)) (λ fault. judged ≡ Err fault) }
+{
+    let Some(value) = value else {
+        return Ok(Words::new());
+    };
+    match value.as_array() {
+        Some(entries) => words_of_entries(entries.as_slice()),
+        None => Err(SettingsError::WrongType(Key::Words)),
+    }
+}

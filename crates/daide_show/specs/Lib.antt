@@ -1,0 +1,3 @@
+pub mod Input
+pub mod Shown
+pub mod Found

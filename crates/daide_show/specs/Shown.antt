@@ -1,0 +1,160 @@
+-- What `show` says of an input: the text of docs/FORMATS.md (own), and whether its frame would be relayed.
+use Rattle.std.specs.Prelude.{◌≡◌, ⊤, ℕ, ◌+◌, ◌==◌, nat_lt, Bool, true, false, if◌then◌else◌}
+use Rattle.std.specs.Prelude.{List, [], ◌∷◌, ◌++◌, take, drop, length, codes, Option, Result, Ok, Err, MatchResult}
+use Rattle.std.specs.Bool.{MatchBool}
+use Rattle.std.specs.Fmt.{decimal}
+use Rattle.std.specs.Io.KnownBytes.{Appends}
+use Rattle.hex.specs.Hex.{encode_upper}
+use Rattle.daide_token.specs.Token.{bra, ket, prn, huh, err, tokens_of}
+use Rattle.daide_token.specs.Text.{text_with}
+use Rattle.daide_frame.specs.declared.side.Side.{Side}
+use Rattle.daide_frame.specs.declared.code.Code.{Code}
+use Rattle.daide_frame.specs.declared.head.Head.{Head}
+use Rattle.daide_frame.specs.declared.head.Kind.{Kind}
+use Rattle.daide_frame.specs.declared.head.Kind.TheVariants.{Im, Rm, Dm, Fm, Em}
+use Rattle.daide_frame.specs.Code.{code_number}
+use Rattle.daide_frame.specs.InitialMessage.{im_of}
+use Rattle.daide_frame.specs.Frames.{Item, Begun, Whole, Wrong, first_items, items_of}
+use Rattle.daide_grammar.specs.declared.side.Side2.{Side2}
+use Rattle.daide_grammar.specs.declared.level.Level.{Level}
+use Rattle.daide_grammar.specs.SideMessages.{IsMessageOver}
+use Rattle.daide_words.specs.declared.word.Word.{Word}
+use Rattle.daide_words.specs.Word.{grammar_words, names_of}
+use Rattle.daide_reader.specs.Verdict.{HasVerdict}
+use Rattle.daide_reader.specs.declared.verdict.Verdict.{Verdict}
+use Rattle.daide_reader.specs.declared.verdict.Verdict.TheVariants.{Relay, Prn, Huh}
+use Rattle.daide_machine.specs.Bounds.{longest_body, deepest}
+use Rattle.daide_machine.specs.Machine.{side2_of}
+use Rattle.daide_log.specs.Report.{name_of_kind}
+use Rattle.daide_show.specs.Input.{limit, bytes_of}
+use Rattle.daide_show.specs.declared.frame_view.ShowFault.{ShowFault}
+use Rattle.daide_show.specs.declared.frame_view.ShowFault.TheVariants.{Read, TooLong, NotHex, NotOneFrame}
+use Rattle.daide_show.specs.declared.frame_view.ShowFault.TheVariants.{Memory, Write}
+
+-- what is written, and whether the frame would be relayed
+pub record Shown : Type 0 where
+  pub text : List ℕ
+  pub relayed : Bool
+
+-- a text on a line of its own
+abbrev pub line : List ℕ → List ℕ
+line text = text ++ 10 ∷ []
+
+-- the tokens of `PRN ( m )`
+abbrev pub prn_answer : List ℕ → List ℕ
+prn_answer m = prn ∷ bra ∷ (m ++ ket ∷ [])
+
+-- the tokens of `HUH ( m )`, with ERR before the token at a place, or last where there is none
+abbrev pub huh_answer : ℕ → List ℕ → List ℕ
+huh_answer place m = huh ∷ bra ∷ (take place m ++ err ∷ drop place m ++ ket ∷ [])
+
+-- tokens as they are printed, the operator's words by their own names
+abbrev pub printed : List Word → List ℕ → List ℕ
+printed words m = text_with (names_of words) m
+
+-- a verdict's name
+abbrev pub verdict_name : Verdict → List ℕ
+verdict_name Relay = codes "relay"
+verdict_name Prn = codes "PRN"
+verdict_name (Huh place) = codes "HUH at " ++ decimal place
+
+-- the lines of a verdict: its name, and the answer that the sender gets
+abbrev pub verdict_lines : List Word → Verdict → List ℕ → List ℕ
+verdict_lines words Relay m = line (verdict_name Relay)
+verdict_lines words Prn m = line (verdict_name Prn) ++ line (printed words (prn_answer m))
+verdict_lines words (Huh place) m = line (verdict_name (Huh place)) ++ line (printed words (huh_answer place m))
+
+-- whether a verdict passes its message on
+abbrev pub is_relay : Verdict → Bool
+is_relay Relay = true
+is_relay Prn = false
+is_relay (Huh place) = false
+
+-- the kind and the length of a body
+abbrev pub kind_line : Kind → ℕ → List ℕ
+kind_line kind len = line (name_of_kind kind ++ 32 ∷ decimal len)
+
+-- a frame at fault: its code in two digits, upper case
+abbrev pub fault_shown : Code → Shown
+fault_shown code = record { text = line (codes "fault " ++ encode_upper (code_number code ∷ [])); relayed = false }
+
+-- a frame that holds no message and is good
+abbrev pub relayed_shown : Kind → ℕ → Shown
+relayed_shown kind len = record { text = kind_line kind len ++ line (codes "relay"); relayed = true }
+
+-- an IM, by its check
+abbrev pub im_shown : ℕ → Result (Unit {0}) Code → Shown
+im_shown len (Ok good) = relayed_shown Im len
+im_shown len (Err code) = fault_shown code
+
+-- a message and its verdict
+abbrev pub message_shown : List Word → ℕ → List ℕ → Verdict → Shown
+message_shown words len m verdict = record {
+  text = kind_line Dm len ++ line (printed words m) ++ verdict_lines words verdict m;
+  relayed = is_relay verdict;
+}
+
+-- what was shown stands after what was there
+abbrev pub Adds : List ℕ → List ℕ → Bool → Shown → Type 0
+Adds old new relayed shown = (new ≡ old ++ shown.text) × (relayed ≡ shown.relayed)
+
+-- what is shown of a whole frame; a DM by the verdict that its end's grammar, with these words, has for its message
+abbrev pub IsFrameShownAs : List Word → Side2 → Level → Kind → ℕ → List ℕ → Shown → Type 0
+IsFrameShownAs words end level Im len body shown = shown ≡ im_shown len (im_of body)
+IsFrameShownAs words end level Rm len body shown = shown ≡ relayed_shown Rm len
+IsFrameShownAs words end level Dm len body shown =
+    (verdict : Verdict)
+    × HasVerdict (IsMessageOver (grammar_words words) end level) deepest (tokens_of body) verdict
+    × (shown ≡ message_shown words len (tokens_of body) verdict)
+IsFrameShownAs words end level Fm len body shown = shown ≡ relayed_shown Fm len
+IsFrameShownAs words end level Em len body shown = shown ≡ relayed_shown Em len
+
+-- what some bytes are as one frame
+pub data OneFrame : Type 0 where
+  faulty : Code → OneFrame
+  whole : Head → List ℕ → OneFrame
+  not_one : OneFrame
+
+-- by how many there are, and by the items of the frame that they begin with
+abbrev pub found_among : ℕ → List Item → OneFrame
+found_among count [] = not_one
+found_among count (Begun head ∷ items) = found_among count items
+found_among count (Wrong code ∷ items) = faulty code
+found_among count (Whole head body ∷ items) = if 4 + length body == count then whole head body else not_one
+
+-- what some bytes are under a cap
+unfoldable pub found_in : ℕ → List ℕ → OneFrame
+found_in cap bytes = found_among (length bytes) (items_of (first_items cap bytes))
+
+-- what is shown of a frame, or that there is not one
+abbrev pub IsOneShownAs : List Word → Side → Level → OneFrame → Result Shown ShowFault → Type 0
+IsOneShownAs words side level (faulty code) outcome = outcome ≡ Ok (fault_shown code)
+IsOneShownAs words side level (whole head body) outcome =
+    (shown : Shown) × (outcome ≡ Ok shown) × IsFrameShownAs words (side2_of side) level head.kind head.len body shown
+IsOneShownAs words side level not_one outcome = outcome ≡ Err NotOneFrame
+
+-- what is shown of some bytes
+abbrev pub AreShownAs : List Word → Side → Level → List ℕ → Result Shown ShowFault → Type 0
+AreShownAs words side level bytes outcome = IsOneShownAs words side level (found_in longest_body bytes) outcome
+
+-- what is shown of an input, or the input's fault
+abbrev pub IsShownAs : List Word → Side → Level → List ℕ → Result Shown ShowFault → Type 0
+IsShownAs words side level input outcome =
+    MatchBool (nat_lt limit (length input)) (outcome ≡ Err TooLong)
+    (MatchResult (bytes_of input) (λ bytes. AreShownAs words side level bytes outcome) (λ _. outcome ≡ Err NotHex))
+
+-- what is shown of the input was written, and the answer is whether its frame would be relayed
+abbrev pub Shows : List Word → Side → Level → List ℕ → Bool → Option (List ℕ) → Option (List ℕ) → Type 0
+Shows words side level input relayed old new =
+    (shown : Shown) × IsShownAs words side level input (Ok shown) × (relayed ≡ shown.relayed)
+    × Appends old new shown.text
+
+-- what an input has to do with a fault: those of the input are its own, a failed write comes only where
+-- there is something to show, and the reader's and memory's say nothing of it
+abbrev pub IsFaultAt : List Word → Side → Level → List ℕ → ShowFault → Type 0
+IsFaultAt words side level input Read = ⊤
+IsFaultAt words side level input TooLong = IsShownAs words side level input (Err TooLong)
+IsFaultAt words side level input NotHex = IsShownAs words side level input (Err NotHex)
+IsFaultAt words side level input NotOneFrame = IsShownAs words side level input (Err NotOneFrame)
+IsFaultAt words side level input Memory = ⊤
+IsFaultAt words side level input Write = (shown : Shown) × IsShownAs words side level input (Ok shown)

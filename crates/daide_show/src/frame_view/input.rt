@@ -1,0 +1,62 @@
+//! The input: its bytes up to the limit, without their blanks.
+
+ghost use Rattle.std.specs.Prelude.{◌≡◌, ◌≤◌, ◌<◌, ◌+◌, ◌⊎◌, ℕ, List, length, IfOk, IfErr, IfSome};
+ghost use Rattle.std.specs.Io.KnownBytes.{Consumes};
+ghost use Rattle.daide_show.specs.Input.{is_blank, digits_of, limit};
+
+use super::ShowFault;
+use std::alloc::Allocator;
+use std::io::Read;
+
+/// The most bytes that an input may have.
+const LIMIT: usize = 200_000;
+
+/// The most bytes that are asked for at once.
+const PIECE: usize = 4096;
+
+/// Reads all there is, if that is not too long. A failed read is a fault whatever its kind, so that
+/// a reader which is always interrupted ends the call too.
+pub(super) fn read_input<A: Allocator, R: Read>(
+    alloc: A,
+    reader: &mut R,
+) -> Result<Vec<u8, A>, ShowFault>
+    ensures fits { IfOk result (λ input. length input.items ≤ limit) }
+    ensures whole { IfOk result (λ input. IfSome (R.remaining reader.old) (λ all. input.items ≡ all)) }
+    ensures too_long { IfErr result (λ fault. fault ≡ ShowFault.TooLong
+        → IfSome (R.remaining reader.old) (λ all. limit < length all)) }
+    ensures faults { IfErr result (λ fault. (fault ≡ ShowFault.Read) ⊎ (fault ≡ ShowFault.TooLong)
+        ⊎ (fault ≡ ShowFault.Memory)) }
+    ensures read { (bytes : List ℕ) × Consumes (R.remaining reader.old) (R.remaining reader.new) bytes
+        × (length bytes ≤ limit + 1) }
+{
+    let mut input = Vec::new(alloc);
+    let mut piece = [0u8; PIECE];
+    for _turn in 0..=LIMIT {
+        let room = PIECE.min(LIMIT + 1 - input.len());
+        let count = match reader.read(&mut piece[..room]) {
+            Ok(0) => return Ok(input),
+            Ok(count) => count,
+            Err(_) => return Err(ShowFault::Read),
+        };
+        if count > LIMIT - input.len() {
+            return Err(ShowFault::TooLong);
+        }
+        if input.extend_from_slice(&piece[..count]).is_err() {
+            return Err(ShowFault::Memory);
+        }
+    }
+    unreachable!()
+}
+
+fn is_blank(byte: u8) -> bool
+    ensures { result ≡ is_blank byte }
+{
+    matches!(byte, b' ' | b'\t' | b'\r' | b'\n')
+}
+
+/// Leaves the digits alone.
+pub(super) fn drop_blanks<A: Allocator>(input: &mut Vec<u8, A>)
+    ensures { input.new.items ≡ digits_of input.old.items }
+{
+    input.retain(|byte| !is_blank(*byte));
+}

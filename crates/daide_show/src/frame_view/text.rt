@@ -1,0 +1,188 @@
+//! The text of a frame.
+
+ghost use Rattle.std.specs.Prelude.{◌≡◌, ◌≤◌, ◌*◌, ◌%◌, ◌++◌, length, true, IfOk, OnOk};
+ghost use Rattle.daide_token.specs.Token.{tokens_of};
+ghost use Rattle.daide_frame.specs.Head.{has_right_length};
+ghost use Rattle.daide_words.specs.Words.{words_of};
+ghost use Rattle.daide_show.specs.Shown.{Shown, Adds, IsFrameShownAs};
+ghost use Rattle.daide_reader.specs.Verdict.{IsPlaceIn};
+ghost use Rattle.daide_machine.specs.Bounds.{longest_body};
+ghost use Rattle.daide_log.specs.Report.{name_of_kind};
+ghost use Rattle.daide_show.specs.Shown.{line, printed, kind_line, fault_shown, relayed_shown, im_shown};
+ghost use Rattle.daide_show.specs.Shown.{verdict_lines, prn_answer, huh_answer, is_relay};
+ghost use Rattle.daide_frame.specs.InitialMessage.{im_of};
+
+use super::verdict_of::verdict_of;
+use daide_frame::{Code, Head, Kind, check_im};
+use daide_grammar::{Level, Side2};
+use daide_log::report::kind_name;
+use daide_machine::answers::{CLOSE_WORD, ERR_WORD, HUH_OPEN, PRN_OPEN};
+use daide_reader::Verdict;
+use daide_token::write_text_with;
+use daide_words::Words;
+use std::alloc::{AllocError, Allocator};
+use std::io;
+use std::io::Write;
+
+/// Writes a frame's kind, and the length of its body.
+fn write_kind<A: Allocator>(head: Head, text: &mut Vec<u8, A>) -> io::Result<()>
+    ensures { OnOk result (text.new.items ≡ text.old.items ++ kind_line head.kind head.len) }
+{
+    let kind = kind_name(head.kind);
+    let len = head.len;
+    writeln!(text, "{kind} {len}")
+}
+
+/// Writes the text form of tokens on a line, the operator's words by their own names.
+fn write_tokens<A: Allocator>(words: &Words, tokens: &[u8], text: &mut Vec<u8, A>) -> io::Result<()>
+    requires { length tokens.now % 2 ≡ 0 }
+    ensures { OnOk result (text.new.items ≡ text.old.items ++ line (printed (words_of words.now) (tokens_of tokens.now))) }
+{
+    write_text_with(words.names(), tokens, text)?;
+    text.write_all(b"\n")
+}
+
+/// The answer to a message that is not paired.
+fn answer_prn<A: Allocator>(alloc: A, body: &[u8]) -> Result<Vec<u8, A>, AllocError>
+    requires { length body.now % 2 ≡ 0 }
+    ensures even { IfOk result (λ answer. length answer.items % 2 ≡ 0) }
+    ensures tokens { IfOk result (λ answer. tokens_of answer.items ≡ prn_answer (tokens_of body.now)) }
+{
+    let mut answer = Vec::from_slice(alloc, &PRN_OPEN)?;
+    answer.extend_from_slice(body)?;
+    answer.extend_from_slice(&CLOSE_WORD)?;
+    Ok(answer)
+}
+
+/// The answer to a message that is wrong at a place.
+fn answer_huh<A: Allocator>(alloc: A, place: u16, body: &[u8]) -> Result<Vec<u8, A>, AllocError>
+    requires even { length body.now % 2 ≡ 0 }
+    requires within { 2 * place ≤ length body.now }
+    ensures even { IfOk result (λ answer. length answer.items % 2 ≡ 0) }
+    ensures tokens { IfOk result (λ answer. tokens_of answer.items ≡ huh_answer place (tokens_of body.now)) }
+{
+    let (before, after) = body.split_at(2 * place as usize);
+    let mut answer = Vec::from_slice(alloc, &HUH_OPEN)?;
+    answer.extend_from_slice(before)?;
+    answer.extend_from_slice(&ERR_WORD)?;
+    answer.extend_from_slice(after)?;
+    answer.extend_from_slice(&CLOSE_WORD)?;
+    Ok(answer)
+}
+
+/// Writes a verdict, and the answer that the sender gets.
+fn write_verdict<A: Allocator + Copy>(
+    alloc: A,
+    words: &Words,
+    verdict: Verdict,
+    body: &[u8],
+    text: &mut Vec<u8, A>,
+) -> io::Result<bool>
+    requires even { length body.now % 2 ≡ 0 }
+    requires within { IsPlaceIn body.now verdict }
+    ensures { IfOk result (λ relayed.
+        (text.new.items ≡ text.old.items ++ verdict_lines (words_of words.now) verdict (tokens_of body.now))
+        × (relayed ≡ is_relay verdict)) }
+{
+    match verdict {
+        Verdict::Relay => {
+            text.write_all(b"relay\n")?;
+            Ok(true)
+        }
+        Verdict::Prn => {
+            text.write_all(b"PRN\n")?;
+            write_tokens(words, answer_prn(alloc, body)?.as_slice(), text)?;
+            Ok(false)
+        }
+        Verdict::Huh(place) => {
+            writeln!(text, "HUH at {place}")?;
+            write_tokens(words, answer_huh(alloc, place, body)?.as_slice(), text)?;
+            Ok(false)
+        }
+    }
+}
+
+/// Writes that a frame is at fault.
+pub(super) fn write_fault<A: Allocator>(
+    alloc: A,
+    code: Code,
+    text: &mut Vec<u8, A>,
+) -> io::Result<bool>
+    ensures { IfOk result (λ relayed. Adds text.old.items text.new.items relayed (fault_shown code)) }
+{
+    let digits = hex::encode_upper(alloc, [code.number()])?;
+    writeln!(text, "fault {digits}")?;
+    Ok(false)
+}
+
+/// Writes what becomes of a frame that holds no message and is good.
+fn write_relayed<A: Allocator>(head: Head, text: &mut Vec<u8, A>) -> io::Result<bool>
+    ensures { IfOk result (λ relayed. Adds text.old.items text.new.items relayed (relayed_shown head.kind head.len)) }
+{
+    write_kind(head, text)?;
+    text.write_all(b"relay\n")?;
+    Ok(true)
+}
+
+/// Writes what becomes of an IM.
+fn write_im<A: Allocator>(
+    alloc: A,
+    head: Head,
+    body: &[u8],
+    text: &mut Vec<u8, A>,
+) -> io::Result<bool>
+    requires im { head.kind ≡ Kind.Im }
+    requires four { length body.now ≡ 4 }
+    ensures { IfOk result (λ relayed. Adds text.old.items text.new.items relayed (im_shown head.len (im_of body.now))) }
+{
+    match check_im([body[0], body[1], body[2], body[3]]) {
+        Ok(()) => write_relayed(head, text),
+        Err(code) => write_fault(alloc, code, text),
+    }
+}
+
+/// Writes a message and what becomes of it.
+fn write_message<A: Allocator + Copy>(
+    alloc: A,
+    words: &Words,
+    end: Side2,
+    level: Level,
+    head: Head,
+    body: &[u8],
+    text: &mut Vec<u8, A>,
+) -> io::Result<bool>
+    requires dm { head.kind ≡ Kind.Dm }
+    requires even { length body.now % 2 ≡ 0 }
+    requires capped { length body.now ≤ longest_body }
+    ensures { IfOk result (λ relayed. (shown : Shown)
+        × IsFrameShownAs (words_of words.now) end level Kind.Dm head.len body.now shown
+        × Adds text.old.items text.new.items relayed shown) }
+{
+    let verdict = verdict_of(words, end, level, body);
+    write_kind(head, text)?;
+    write_tokens(words, body, text)?;
+    write_verdict(alloc, words, verdict, body, text)
+}
+
+/// Writes a whole frame and what becomes of it; the answer is whether it would be relayed.
+pub(super) fn write_frame<A: Allocator + Copy>(
+    alloc: A,
+    words: &Words,
+    end: Side2,
+    level: Level,
+    head: Head,
+    body: &[u8],
+    text: &mut Vec<u8, A>,
+) -> io::Result<bool>
+    requires right { has_right_length head.kind (length body.now) ≡ true }
+    requires capped { length body.now ≤ longest_body }
+    ensures { IfOk result (λ relayed. (shown : Shown)
+        × IsFrameShownAs (words_of words.now) end level head.kind head.len body.now shown
+        × Adds text.old.items text.new.items relayed shown) }
+{
+    match head.kind {
+        Kind::Im => write_im(alloc, head, body, text),
+        Kind::Dm => write_message(alloc, words, end, level, head, body, text),
+        Kind::Rm | Kind::Fm | Kind::Em => write_relayed(head, text),
+    }
+}
