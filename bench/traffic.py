@@ -13,8 +13,8 @@ import re
 import sys
 
 TABLE = pathlib.Path(__file__).resolve().parent / "../crates/daide_token/src/names.rt"
-NAMED = re.findall(r'\(0x([0-9A-F]{4}), "([A-Z]{3})"\)', TABLE.read_text())
-NAMES = {"(": 0x4000, ")": 0x4001} | {name: int(code, 16) for code, name in NAMED}
+NAMED = re.findall(r'\("([A-Z]{3})", 0x([0-9A-F]{4})\)', TABLE.read_text())
+NAMES = {"(": 0x4000, ")": 0x4001} | {name: int(code, 16) for name, code in sorted(NAMED, key=lambda row: row[1])}
 
 
 def of_category(low, high):

@@ -1,9 +1,10 @@
 pub mod TableLemmas
 pub mod NameLaws
+pub mod NamePages
+pub mod NamesByLetter
 pub mod NumberText
 pub mod TokenLemmas
 pub mod WholeText
 pub mod ClassNumbers
-pub mod Searches
 mod StandardFacts
 mod SecondListing

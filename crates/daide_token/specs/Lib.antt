@@ -2,7 +2,8 @@ pub mod Token
 pub mod Class
 pub mod ClassLaws
 pub mod ClassNumbers
-pub mod Rising
 pub mod Names
+pub mod NamePages
+pub mod NamesByLetter
 pub mod Text
 pub mod TextSteps

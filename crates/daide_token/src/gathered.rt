@@ -56,15 +56,15 @@ impl Gathered {
         self.len += 1;
     }
 
-    /// Some bytes more.
+    /// Some bytes more, put at once.
     #[inline(always)]
-    pub(crate) fn extend(&mut self, bytes: &[u8])
-        requires { length self.old + length bytes.now ≤ 256 }
-        ensures { self.new ≡ self.old ++ bytes.now }
+    pub(crate) fn extend<const N: usize>(&mut self, bytes: [u8; N])
+        requires { length self.old + N ≤ 256 }
+        ensures { self.new ≡ self.old ++ bytes.entry }
     {
-        for byte in bytes {
-            self.push(*byte);
-        }
+        let all = &mut self.bytes[..];
+        all[self.len..self.len + N].copy_from_slice(&bytes);
+        self.len += N;
     }
 
     /// Gives all to a writer.

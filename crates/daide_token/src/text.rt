@@ -1,6 +1,6 @@
 //! The text form of tokens, in which a person reads them.
 
-ghost use Rattle.std.specs.Prelude.{IfOk, OnOk, None, [], ◌++◌, length, ◌%◌, ◌<◌, ◌≤◌, ◌≡◌};
+ghost use Rattle.std.specs.Prelude.{IfOk, OnOk, None, [], ◌++◌, length, ◌∷◌, ◌%◌, ◌<◌, ◌≤◌, ◌≡◌};
 ghost use Rattle.std.specs.Io.KnownBytes.{Appends};
 ghost use Rattle.std.specs.Prelude.{unwrap_or};
 ghost use Rattle.daide_token.specs.Text.{added_name_of, hex_digit_of, hex_text, is_quotable, text_of, text_with, word_with};
@@ -99,8 +99,7 @@ fn put_token(added: &[(Token, [u8; 3])], place: Place, token: Token, text: &mut 
     ensures room { length text.new ≤ 250 }
 {
     if !quotable(token) {
-        begin_item(place, text);
-        put_word(added, token, text);
+        put_word(added, place, token, text);
         return Place::Word;
     }
     if place != Place::Quote {
@@ -129,29 +128,63 @@ fn begin_item(place: Place, text: &mut Gathered)
     match place {
         Place::Start => {}
         Place::Word => text.push(b' '),
-        Place::Quote => {
-            text.push(b'\'');
-            text.push(b' ');
-        }
+        Place::Quote => text.extend(*b"' "),
     }
 }
 
-/// Gathers a token by itself that is no number.
+/// Gathers a token by itself that is no number, and what goes before it.
 #[inline(always)]
-fn put_word(added: &[(Token, [u8; 3])], token: Token, text: &mut Gathered)
-    requires room { length text.old ≤ 242 }
+fn put_word(added: &[(Token, [u8; 3])], place: Place, token: Token, text: &mut Gathered)
+    requires room { length text.old ≤ 240 }
     requires word { number_of token ≡ None }
-    ensures text { text.new ≡ text.old ++ word_with added.now token }
+    ensures text { text.new ≡ text.old ++ before_item place ++ word_with added.now token }
     ensures room { length text.new ≤ 250 }
 {
     match token.code() {
-        0x4000 => text.push(b'('),
-        0x4001 => text.push(b')'),
+        0x4000 => put_sign(place, b'(', text),
+        0x4001 => put_sign(place, b')', text),
         _ => match token.name() {
-            Some(name) => text.extend(name.as_bytes()),
-            None => put_unnamed(added, token, text),
+            Some(name) => put_name(place, name, text),
+            None => {
+                begin_item(place, text);
+                put_unnamed(added, token, text);
+            }
         },
     }
+}
+
+/// Gathers a bracket's sign, and what goes before it.
+#[inline(always)]
+fn put_sign(place: Place, sign: u8, text: &mut Gathered)
+    requires { length text.old ≤ 240 }
+    ensures text { text.new ≡ text.old ++ before_item place ++ sign ∷ [] }
+    ensures room { length text.new ≤ 250 }
+{
+    if place == Place::Word {
+        text.extend([b' ', sign]);
+        return;
+    }
+    begin_item(place, text);
+    text.push(sign);
+}
+
+/// Gathers a name of three letters, and what goes before it.
+#[inline(always)]
+fn put_name(place: Place, name: &str, text: &mut Gathered)
+    requires room { length text.old ≤ 240 }
+    requires three { length name.now ≡ 3 }
+    ensures text { text.new ≡ text.old ++ before_item place ++ name.now }
+    ensures room { length text.new ≤ 250 }
+{
+    let [a, b, c] = name.as_bytes() else {
+        unreachable!();
+    };
+    if place == Place::Word {
+        text.extend([b' ', *a, *b, *c]);
+        return;
+    }
+    begin_item(place, text);
+    text.extend([*a, *b, *c]);
 }
 
 /// Gathers a token that the protocol doesn't name: by its first entry among the added names, else as its digits.
@@ -161,7 +194,7 @@ fn put_unnamed(added: &[(Token, [u8; 3])], token: Token, text: &mut Gathered)
     ensures room { length text.new ≤ 250 }
 {
     match added_name_of(added, token) {
-        Some(name) => text.extend(&name),
+        Some(name) => text.extend(name),
         None => put_hex(token, text),
     }
 }
@@ -182,7 +215,7 @@ fn put_hex(token: Token, text: &mut Gathered)
     ensures { text.new ≡ text.old ++ hex_text token }
 {
     let code = token.code();
-    text.extend(&[
+    text.extend([
         b'#',
         hex_digit(code / 4096),
         hex_digit(code / 256 % 16),

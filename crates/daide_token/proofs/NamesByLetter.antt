@@ -1,0 +1,79 @@
+-- A name is found among those that begin with its letter.
+use Rattle.std.proofs.Common.{◌≡◌, ◌⊎◌, ℕ, ◌+◌, ◌<◌, ◌==◌, ◌&&◌, nat_le, Bool, true, false, bytes_eq, cond, List, [], ◌∷◌, get_or, map, Option, None, Some, option_map, refl, sym, ap, ◌∙◌, arith}
+use Rattle.std.proofs.Math.ListN.{get_or-map}
+use Rattle.std.proofs.lemmas.Bool.{and_parts}
+use Rattle.std.proofs.lemmas.Bool.Decides.{nat_tests}
+use Rattle.std.proofs.lemmas.Slice.Eq.{bytes_eq-Decides}
+use Rattle.std.proofs.lemmas.List.FromFn.{get_or-map-range_with_len}
+use Rattle.std.specs.List.{filter, find, list_all, range_with_len}
+use Rattle.daide_token.proofs.TableLemmas.{find_in_map}
+use Rattle.daide_token.specs.Names.{Named, names, token_named}
+use Rattle.daide_token.specs.NamesByLetter.{first_letter, named_with}
+
+-- one item more, by whether it is kept and whether it is found
+kept : {X : Type 0} (p q : X → Bool) (x : X) (xs : List X) (b c : Bool) → p x ≡ b → q x ≡ c
+    → (p x ≡ true → q x ≡ true) → find p (filter q xs) ≡ find p xs
+    → find p (cond c (x ∷ filter q xs) (filter q xs)) ≡ cond b (Some x) (find p xs)
+kept p q x xs true true at by implied e = ap (λ b. cond b (Some x) (find p (filter q xs))) at
+kept p q x xs false true at by implied e = ap (λ b. cond b (Some x) (find p (filter q xs))) at ∙ e
+kept p q x xs true false at by implied e = let also = implied at in absurd (cc)
+kept p q x xs false false at by implied e = e
+
+-- what is found passes its test, so it may be looked for among those that pass a weaker one
+find-filter : {X : Type 0} (p q : X → Bool) (xs : List X) → ((x : X) → p x ≡ true → q x ≡ true)
+    → find p (filter q xs) ≡ find p xs
+find-filter p q [] implied = refl
+find-filter p q (x ∷ xs) implied =
+    kept p q x xs (p x) (q x) refl refl (implied x) (find-filter p q xs implied)
+
+pub found_with : (name : List ℕ) →
+    find (λ row. bytes_eq row.1 name) (named_with (first_letter name)) ≡ find (λ row. bytes_eq row.1 name) names
+found_with name =
+    find-filter (λ row. bytes_eq row.1 name) (λ row. first_letter row.1 == first_letter name) names
+    (λ row same. let letters = (bytes_eq-Decides row.1 name).0 same in grind (arith, nat_tests, ap first_letter letters))
+
+-- each name begins with a letter from A to Z
+abbrev begins_well : Named → Bool
+begins_well row = nat_le 0x41 (first_letter row.1) && nat_le (first_letter row.1) 0x5A
+
+all_begin_well : list_all begins_well names ≡ true
+unfolding names
+all_begin_well = refl
+
+-- what no item passes keeps none
+none_kept : {X : Type 0} (q r : X → Bool) (xs : List X) → list_all r xs ≡ true
+    → ((x : X) → r x ≡ true → q x ≡ false) → filter q xs ≡ []
+none_kept q r [] all never = refl
+none_kept q r (x ∷ xs) all never =
+    let parts = and_parts (r x) (list_all r xs) all in
+    ap (λ b. cond b (x ∷ filter q xs) (filter q xs)) (never x parts.0) ∙ none_kept q r xs parts.1 never
+
+-- the names at each place of a list by letters
+pub at_letter : {R : Type 0} (seen : R → List Named) (rows : List R) (k letter : ℕ) (d : R) →
+    map seen rows ≡ map named_with (range_with_len 0x41 26) → k < 26 → 0x41 + k ≡ letter →
+    seen (get_or rows k d) ≡ named_with letter
+at_letter seen rows k letter d same less at =
+    sym (get_or-map seen rows k d)
+    ∙ ap (λ (xs : List (List Named)). get_or xs k (seen d)) same
+    ∙ get_or-map-range_with_len named_with 0x41 26 k letter (seen d) less at
+
+pub no_other_letter : (letter : ℕ) → (letter < 0x41) ⊎ (0x5A < letter) → named_with letter ≡ []
+no_other_letter letter out =
+    none_kept (λ row. first_letter row.1 == letter) begins_well names all_begin_well
+    (λ row well. grind (arith, nat_tests))
+
+twice : {X Y Z : Type 0} (f : Y → Z) (g : X → Y) (o : Option X) →
+    option_map (λ x. f (g x)) o ≡ option_map f (option_map g o)
+twice f g None = refl
+twice f g (Some x) = refl
+
+-- so the token of a name is the one beside it among those that begin as it does
+pub told_by_letter : {R : Type 0} (seen : R → Named) (rows : List R) (name : List ℕ) →
+    map seen rows ≡ named_with (first_letter name) →
+    option_map (λ row. (seen row).0) (find (λ row. bytes_eq (seen row).1 name) rows) ≡ token_named name
+unfolding token_named
+told_by_letter seen rows name same =
+    let test : Named → Bool = λ row. bytes_eq row.1 name in
+    twice (λ (row : Named). row.0) seen (find (λ row. test (seen row)) rows)
+    ∙ ap (option_map (λ (row : Named). row.0))
+    (sym (find_in_map seen test rows) ∙ ap (find test) same ∙ found_with name)
