@@ -41,7 +41,8 @@ The exit status is 0 where the frame would be relayed and 3 where not; 'daide-ga
 /// What a log is, and what the exit status says of it.
 const CHECK_NOTES: &str = "\
 A log's first line is 'daide-log 1', its second 'config LEVEL BODY DEPTH'; each further one is 'bot HEX',
-'server HEX', 'end bot', 'end server' or 'timer', or is empty, or begins with '#'. docs/FORMATS.md has the report.
+'server HEX', 'end bot', 'end server' or 'timer', or is empty, or begins with '#'. The log of a match begins with
+'daide-log 2', and names each line's session. docs/FORMATS.md has both, and the report.
 The exit status is 0 where no message got PRN or HUH and there was no fault, and else 3.";
 
 /// What a run says, and what its exit status says of it.

@@ -174,6 +174,7 @@ daide-log 1/config 60 1024 16/timer/ | 3 bot fault 01/relayed 0 prn 0 huh 0 faul
 daide-log 1/config 60 1024 16/bot 000000040001DA10/server 01000000/bot 02000000/ | 3 bot IM 4 relay/4 server RM 0 relay/5 bot DM 0 huh 0/relayed 2 prn 0 huh 1 faults 0/ | | 3
 daide-log 1/config 60 1024 16/bot 03000000/timer/ | 3 bot FM 0 drop/relayed 0 prn 0 huh 0 faults 0/ | | 0
 daide-log 1/config 060 1024 16/ | | line 2 is not a log line | 1
+daide-log 2/config 60 1024 16 2 1/word XYZ 4A40 press 20 power/1 bot 000000040001DA10/2 timer/1 server 01000000/1 bot 0200000448034000/ | 4 1 bot IM 4 relay/5 2 bot fault 01/6 1 server RM 0 relay/7 1 bot DM 4 prn/relayed 2 prn 1 huh 0 faults 1/ | | 3
  | | line 1 is not a log line | 1
 ";
 

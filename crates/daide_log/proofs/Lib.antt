@@ -2,6 +2,11 @@ pub mod PartedLemmas
 pub mod OneMove
 pub mod PageLemmas
 pub mod StandardFacts
+pub mod MatchFacts
 pub mod PlayLemmas
 pub mod LineLemmas
 pub mod LogLemmas
+pub mod HeadLemmas
+pub mod EventLemmas
+pub mod StepLemmas
+pub mod AloneLemmas

@@ -1,7 +1,7 @@
 -- How a session goes through the lines of a log.
 use Rattle.std.proofs.Common.{◌≡◌, ℕ, ◌<◌, ◌≤◌, Bool, true, false, List, [], ◌∷◌, ◌++◌, length, Option}
 use Rattle.std.proofs.Common.{Some, None, refl, sym, ap, ◌∙◌, subst, arith, length-append, append-nil, append_assoc}
-use Rattle.std.proofs.Common.{◌⊎◌, inl, inr, cond}
+use Rattle.std.proofs.Common.{◌⊎◌, inl, inr, cond, OnOk, Result, Ok, Err}
 use Rattle.std.specs.Prelude.{◌||◌}
 use Rattle.std.specs.Io.KnownBytes.{Appends}
 use Rattle.daide_frame.specs.declared.side.Side.{Side}
@@ -14,8 +14,9 @@ use Rattle.daide_machine.specs.Wires.{Gateway, Goes, waiting, bytes_of, IsFrontO
 use Rattle.daide_machine.proofs.OneRun.{runs_join}
 use Rattle.daide_machine.proofs.PieceRuns.{over_stays}
 use Rattle.daide_machine.proofs.WireLemmas.{bytes_come-append}
+use Rattle.daide_log.specs.declared.report.Source.{Source}
 use Rattle.daide_log.specs.declared.report.Summary.{Summary}
-use Rattle.daide_log.specs.Report.{move_line, lines_of, counted, counted_all}
+use Rattle.daide_log.specs.Report.{Entry, move_line, entries_of, lines_of, counted, counted_all}
 use Rattle.daide_log.specs.Told.{HasRoom, IsMoreBy, IsIdle, IsOneMove, Moves, Tells, told_lines}
 use Rattle.daide_log.proofs.OneMove.{one_move_a_piece, one_move_a_timer}
 
@@ -90,48 +91,53 @@ timer_moves old mid new told g e = (
 
 -- ---- what is told of it
 
-one_line : (number : ℕ) (side : Side) (told : Note) → (told ≡ Notes.Nothing → ⊥) →
-    told_lines number side told ≡ move_line number side told
-one_line number side Notes.Nothing h = absurd (h refl)
-one_line number side (Notes.Frame head deed) h = refl
-one_line number side (Notes.Fault code) h = refl
+one_line : (source : Source) (side : Side) (told : Note) → (told ≡ Notes.Nothing → ⊥) →
+    told_lines source side told ≡ move_line source side told
+one_line source side Notes.Nothing h = absurd (h refl)
+one_line source side (Notes.Frame head deed) h = refl
+one_line source side (Notes.Fault code) h = refl
 
 -- the lines of what was told are those of the moves
-pub lines_told : (number : ℕ) (side : Side) (moves : List Effect) (told : Note) → IsOneMove moves told →
-    told_lines number side told ≡ lines_of number side moves
-lines_told number side [] told h = ap (told_lines number side) h
-lines_told number side (move ∷ []) told h =
-    one_line number side told h.1 ∙ ap (move_line number side) (sym h.0) ∙ sym (append-nil (move_line number side move.told))
-lines_told number side (move ∷ another ∷ moves) told h = absurd h
+pub lines_told : (source : Source) (side : Side) (moves : List Effect) (told : Note) → IsOneMove moves told →
+    told_lines source side told ≡ lines_of (entries_of source side moves)
+lines_told source side [] told h = ap (told_lines source side) h
+lines_told source side (move ∷ []) told h =
+    one_line source side told h.1 ∙ ap (move_line source side) (sym h.0) ∙ sym (append-nil (move_line source side move.told))
+lines_told source side (move ∷ another ∷ moves) told h = absurd h
 
-pub counts_told : (moves : List Effect) (told : Note) (s : Summary) → IsOneMove moves told →
-    counted told s ≡ counted_all moves s
-counts_told [] told s h = ap (λ (n : Note). counted n s) h
-counts_told (move ∷ []) told s h = ap (λ (n : Note). counted n s) (sym h.0)
-counts_told (move ∷ another ∷ moves) told s h = absurd h
+pub counts_told : (source : Source) (side : Side) (moves : List Effect) (told : Note) (s : Summary) → IsOneMove moves told →
+    counted told s ≡ counted_all (entries_of source side moves) s
+counts_told source side [] told s h = ap (λ (n : Note). counted n s) h
+counts_told source side (move ∷ []) told s h = ap (λ (n : Note). counted n s) (sym h.0)
+counts_told source side (move ∷ another ∷ moves) told s h = absurd h
 
-pub tells_moves : (number : ℕ) (side : Side) (old : SessionState) (events : List Event) (new : SessionState) (told : Note)
+pub tells_moves : (source : Source) (side : Side) (old : SessionState) (events : List Event) (new : SessionState) (told : Note)
     (before after : Summary) (a b : Option (List ℕ)) → Moves old events told new → after ≡ counted told before →
-    Appends a b (told_lines number side told) → Tells number side old events new before after a b
-tells_moves number side old events new told before after a b m c w = (
+    Appends a b (told_lines source side told) → Tells source side old events new before after a b
+tells_moves source side old events new told before after a b m c w = (
   m.0,
   m.1,
-  c ∙ counts_told m.0 told before m.2,
-  subst (Appends a b) (lines_told number side m.0 told m.2) w,
+  c ∙ counts_told source side m.0 told before m.2,
+  subst (Appends a b) (lines_told source side m.0 told m.2) w,
 )
 
 -- ---- one after another
 
-pub lines_of-append : (number : ℕ) (side : Side) (a b : List Effect) →
-    lines_of number side (a ++ b) ≡ lines_of number side a ++ lines_of number side b
-lines_of-append number side [] b = refl
-lines_of-append number side (move ∷ a) b =
-    ap (λ (t : List ℕ). move_line number side move.told ++ t) (lines_of-append number side a b)
-    ∙ sym (append_assoc (move_line number side move.told) (lines_of number side a) (lines_of number side b))
+pub entries_of-append : (source : Source) (side : Side) (a b : List Effect) →
+    entries_of source side (a ++ b) ≡ entries_of source side a ++ entries_of source side b
+entries_of-append source side [] b = refl
+entries_of-append source side (move ∷ a) b =
+    ap (λ (t : List Entry). record { source = source; side = side; told = move.told } ∷ t) (entries_of-append source side a b)
 
-pub counted_all-append : (a b : List Effect) (s : Summary) → counted_all (a ++ b) s ≡ counted_all b (counted_all a s)
+pub lines_of-append : (a b : List Entry) → lines_of (a ++ b) ≡ lines_of a ++ lines_of b
+lines_of-append [] b = refl
+lines_of-append (entry ∷ a) b =
+    ap (λ (t : List ℕ). move_line entry.source entry.side entry.told ++ t) (lines_of-append a b)
+    ∙ sym (append_assoc (move_line entry.source entry.side entry.told) (lines_of a) (lines_of b))
+
+pub counted_all-append : (a b : List Entry) (s : Summary) → counted_all (a ++ b) s ≡ counted_all b (counted_all a s)
 counted_all-append [] b s = refl
-counted_all-append (move ∷ a) b s = counted_all-append a b (counted move.told s)
+counted_all-append (entry ∷ a) b s = counted_all-append a b (counted entry.told s)
 
 pub appends_more : (a b c : Option (List ℕ)) (x y : List ℕ) → Appends a b x → Appends b c y → Appends a c (x ++ y)
 appends_more None b c x y h k = tt
@@ -139,37 +145,46 @@ appends_more (Some p) None c x y h k = absurd h
 appends_more (Some p) (Some q) None x y h k = absurd k
 appends_more (Some p) (Some q) (Some r) x y h k = k ∙ ap (λ (t : List ℕ). t ++ y) h ∙ append_assoc p x y
 
+pub appends_then : {A E : Type 0} (r : Result A E) (a b c : Option (List ℕ)) (x y : List ℕ) → Appends a b x →
+    OnOk r (Appends b c y) → OnOk r (Appends a c (x ++ y))
+appends_then (Ok done) a b c x y h k = appends_more a b c x y h k
+appends_then (Err e) a b c x y h k = tt
+
 pub appends_none : (a : Option (List ℕ)) → Appends a a []
 appends_none None = tt
 appends_none (Some p) = sym (append-nil p)
 
-pub tells_more : (number : ℕ) (side : Side) (old mid new : SessionState) (events more : List Event) (r s t : Summary)
-    (a b c : Option (List ℕ)) → Tells number side old events mid r s a b → Tells number side mid more new s t b c →
-    Tells number side old (events ++ more) new r t a c
-tells_more number side old mid new events more r s t a b c h k = (
+pub tells_more : (source : Source) (side : Side) (old mid new : SessionState) (events more : List Event) (r s t : Summary)
+    (a b c : Option (List ℕ)) → Tells source side old events mid r s a b → Tells source side mid more new s t b c →
+    Tells source side old (events ++ more) new r t a c
+tells_more source side old mid new events more r s t a b c h k = (
   h.0 ++ k.0,
   runs_join events more old mid new h.0 k.0 h.1 k.1,
-  k.2 ∙ ap (counted_all k.0) h.2 ∙ sym (counted_all-append h.0 k.0 r),
-  subst (Appends a c) (sym (lines_of-append number side h.0 k.0))
-      (appends_more a b c (lines_of number side h.0) (lines_of number side k.0) h.3 k.3),
+  k.2 ∙ ap (counted_all (entries_of source side k.0)) h.2
+      ∙ sym (counted_all-append (entries_of source side h.0) (entries_of source side k.0) r)
+      ∙ ap (λ (entries : List Entry). counted_all entries r) (sym (entries_of-append source side h.0 k.0)),
+  subst (Appends a c)
+      (sym (ap lines_of (entries_of-append source side h.0 k.0)
+      ∙ lines_of-append (entries_of source side h.0) (entries_of source side k.0)))
+      (appends_more a b c (lines_of (entries_of source side h.0)) (lines_of (entries_of source side k.0)) h.3 k.3),
 )
 
 pub idle_free : (g : Gateway) (side : Side) → IsIdle g → is_awaited (waiting g) side ≡ false
 idle_free g side idle = rw (idle.bot, idle.server) refl
 
 -- the bytes so far were fed, and told of
-pub record HasFed (number : ℕ) (side : Side) (bytes rest : List ℕ) (old : SessionState) (new : Gateway)
+pub record HasFed (source : Source) (side : Side) (bytes rest : List ℕ) (old : SessionState) (new : Gateway)
     (before after : Summary) (a b : Option (List ℕ)) : Type 0 where
   pub done : List ℕ
   pub whole : done ++ rest ≡ bytes
   pub idle : IsIdle new
   pub room : HasRoom (length rest) after
   pub few : IsMoreBy (length done) before after
-  pub told : Tells number side old (bytes_come side done) new.state before after a b
+  pub told : Tells source side old (bytes_come side done) new.state before after a b
 
-pub nothing_fed : (number : ℕ) (side : Side) (bytes : List ℕ) (g : Gateway) (s : Summary) (a : Option (List ℕ)) →
-    IsIdle g → HasRoom (length bytes) s → HasFed number side bytes bytes g.state g s s a a
-nothing_fed number side bytes g s a idle room = record {
+pub nothing_fed : (source : Source) (side : Side) (bytes : List ℕ) (g : Gateway) (s : Summary) (a : Option (List ℕ)) →
+    IsIdle g → HasRoom (length bytes) s → HasFed source side bytes bytes g.state g s s a a
+nothing_fed source side bytes g s a idle room = record {
   done = [];
   whole = refl;
   idle = idle;
@@ -178,12 +193,12 @@ nothing_fed number side bytes g s a idle room = record {
   told = ([], (refl, refl), refl, appends_none a);
 }
 
-pub piece_fed : (number : ℕ) (side : Side) (bytes rest piece more : List ℕ) (old : SessionState) (mid new : Gateway)
-    (r s t : Summary) (a b c : Option (List ℕ)) (told : Note) → HasFed number side bytes rest old mid r s a b →
+pub piece_fed : (source : Source) (side : Side) (bytes rest piece more : List ℕ) (old : SessionState) (mid new : Gateway)
+    (r s t : Summary) (a b c : Option (List ℕ)) (told : Note) → HasFed source side bytes rest old mid r s a b →
     rest ≡ piece ++ more → 0 < length piece → Moves mid.state (bytes_come side piece) told new.state → IsIdle new →
-    t ≡ counted told s → IsMoreBy 1 s t → Appends b c (told_lines number side told) →
-    HasFed number side bytes more old new r t a c
-piece_fed number side bytes rest piece more old mid new r s t a b c told h split some moves idle counts one text =
+    t ≡ counted told s → IsMoreBy 1 s t → Appends b c (told_lines source side told) →
+    HasFed source side bytes more old new r t a c
+piece_fed source side bytes rest piece more old mid new r s t a b c told h split some moves idle counts one text =
     let size = ap length split ∙ length-append piece more in
     let room = h.room in
     let few = h.few in
@@ -194,27 +209,27 @@ piece_fed number side bytes rest piece more old mid new r s t a b c told h split
       idle = idle;
       room = record { relayed = omega arith; prn = omega arith; huh = omega arith; faults = omega arith };
       few = record { relayed = omega arith; prn = omega arith; huh = omega arith; faults = omega arith };
-      told = subst (λ (es : List Event). Tells number side old es new.state r t a c)
+      told = subst (λ (es : List Event). Tells source side old es new.state r t a c)
           (sym (bytes_come-append side h.done piece))
-          (tells_more number side old mid.state new.state (bytes_come side h.done) (bytes_come side piece) r s t a b c h.told
-          (tells_moves number side mid.state (bytes_come side piece) new.state told s t b c moves counts text));
+          (tells_more source side old mid.state new.state (bytes_come side h.done) (bytes_come side piece) r s t a b c h.told
+          (tells_moves source side mid.state (bytes_come side piece) new.state told s t b c moves counts text));
     }
 
-pub few_in_all : (number : ℕ) (side : Side) (bytes rest : List ℕ) (old : SessionState) (new : Gateway) (r s : Summary)
-    (a b : Option (List ℕ)) → HasFed number side bytes rest old new r s a b → IsMoreBy (length bytes) r s
-few_in_all number side bytes rest old new r s a b h =
+pub few_in_all : (source : Source) (side : Side) (bytes rest : List ℕ) (old : SessionState) (new : Gateway) (r s : Summary)
+    (a b : Option (List ℕ)) → HasFed source side bytes rest old new r s a b → IsMoreBy (length bytes) r s
+few_in_all source side bytes rest old new r s a b h =
     let few = h.few in
     let size = ap length (sym h.whole) ∙ length-append h.done rest in
     record { relayed = omega arith; prn = omega arith; huh = omega arith; faults = omega arith }
 
 -- all was fed, or the session is over, and what is left changes nothing
-pub all_fed : (number : ℕ) (side : Side) (bytes rest : List ℕ) (old : SessionState) (new : Gateway) (r s : Summary)
-    (a b : Option (List ℕ)) → HasFed number side bytes rest old new r s a b →
-    (length rest ≡ 0) ⊎ (is_over new.state.phase ≡ true) → Tells number side old (bytes_come side bytes) new.state r s a b
-all_fed number side bytes rest old new r s a b h end =
-    subst (λ (es : List Event). Tells number side old es new.state r s a b)
+pub all_fed : (source : Source) (side : Side) (bytes rest : List ℕ) (old : SessionState) (new : Gateway) (r s : Summary)
+    (a b : Option (List ℕ)) → HasFed source side bytes rest old new r s a b →
+    (length rest ≡ 0) ⊎ (is_over new.state.phase ≡ true) → Tells source side old (bytes_come side bytes) new.state r s a b
+all_fed source side bytes rest old new r s a b h end =
+    subst (λ (es : List Event). Tells source side old es new.state r s a b)
     (sym (bytes_come-append side h.done rest) ∙ ap (bytes_come side) h.whole)
-    (tells_more number side old new.state new.state (bytes_come side h.done) (bytes_come side rest) r s s a b b h.told
+    (tells_more source side old new.state new.state (bytes_come side h.done) (bytes_come side rest) r s s a b b h.told
     ([], left rest end, refl, appends_none b))
   where
     left : (l : List ℕ) → (length l ≡ 0) ⊎ (is_over new.state.phase ≡ true) → Runs new.state (bytes_come side l) [] new.state
@@ -225,24 +240,24 @@ all_fed number side bytes rest old new r s a b h end =
 -- ---- an end
 
 -- a side's end, told where the session was not over
-pub end_tells : (number : ℕ) (side : Side) (old mid : Gateway) (new : SessionState) (s : Summary) (a b : Option (List ℕ)) →
+pub end_tells : (source : Source) (side : Side) (old mid : Gateway) (new : SessionState) (s : Summary) (a b : Option (List ℕ)) →
     Goes old (Ends side ∷ []) Notes.Nothing mid → new ≡ mid.state → is_over old.state.phase ≡ false →
-    Appends a b (move_line number side Notes.Nothing) → Tells number side old.state (Ends side ∷ []) new s s a b
-end_tells number side old mid new s a b g e live text = (
+    Appends a b (move_line source side Notes.Nothing) → Tells source side old.state (Ends side ∷ []) new s s a b
+end_tells source side old mid new s a b g e live text = (
   g.effects,
   subst (λ (n : SessionState). Runs old.state (Ends side ∷ []) g.effects n) (sym e) g.run,
-  sym (ap (λ (m : List Effect). counted_all m s) made ∙ rw live refl),
-  subst (Appends a b) (sym (ap (lines_of number side) made ∙ rw live (append-nil (move_line number side Notes.Nothing)))) text,
+  sym (ap (λ (m : List Effect). counted_all (entries_of source side m) s) made ∙ rw live refl),
+  subst (Appends a b) (sym (ap (λ (m : List Effect). lines_of (entries_of source side m)) made ∙ rw live (append-nil (move_line source side Notes.Nothing)))) text,
 )
   where
     made : g.effects ≡ (event_outcome old.state (Ends side) g.run.3.verdict).effects
     made = g.run.5 ∙ ap (λ (m : List Effect). g.run.1 ++ m) g.run.4.0 ∙ append-nil g.run.1
         ∙ sym (ap (λ (o : Outcome). o.effects) g.run.3.outcome)
 
-pub end_silent : (number : ℕ) (side : Side) (old mid : Gateway) (new : SessionState) (s : Summary) (a : Option (List ℕ)) →
+pub end_silent : (source : Source) (side : Side) (old mid : Gateway) (new : SessionState) (s : Summary) (a : Option (List ℕ)) →
     Goes old (Ends side ∷ []) Notes.Nothing mid → new ≡ mid.state → is_over old.state.phase ≡ true →
-    Tells number side old.state (Ends side ∷ []) new s s a a
-end_silent number side old mid new s a g e over = (
+    Tells source side old.state (Ends side ∷ []) new s s a a
+end_silent source side old mid new s a g e over = (
   [],
   subst (λ (m : List Effect). Runs old.state (Ends side ∷ []) m new) made
       (subst (λ (n : SessionState). Runs old.state (Ends side ∷ []) g.effects n) (sym e) g.run),

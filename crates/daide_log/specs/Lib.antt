@@ -1,8 +1,12 @@
 pub mod LogLine
+pub mod MatchLine
+pub mod WordLine
+pub mod Heading
+pub mod Held
 pub mod Report
 pub mod Told
+pub mod MatchTold
 pub mod Log
 pub mod Lines
 pub mod Progress
-pub mod MatchLine
-pub mod MatchTold
+pub mod Laws

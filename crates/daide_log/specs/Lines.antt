@@ -49,6 +49,17 @@ IsFound old held count (Err (Faults.BadLine n)) text new rest = ⊥
 IsFound old held count (Err Faults.Write) text new rest = ⊤
 IsFound old held count (Err Faults.Memory) text new rest = ⊥
 
+-- whether the log ended, and whether its last line came
+abbrev pub is_end : Found → Bool
+is_end End = true
+is_end Line = false
+is_end Last = false
+
+abbrev pub is_last : Found → Bool
+is_last Last = true
+is_last Line = false
+is_last End = false
+
 -- the place of the first line feed, if there is one
 abbrev pub IsLineEnd : List ℕ → Option ℕ → Type 0
 IsLineEnd bytes None = IsUnbroken bytes

@@ -1,16 +1,20 @@
--- The report of a log: what is written for its lines, each judged by the session as the lines before it left it, with
--- each answer taken at once. docs/FORMATS.md, "The log". (own)
-use Rattle.std.specs.Prelude.{◌≡◌, ◌≢◌, ℕ, ◌+◌, ◌<◌, ◌≤◌, true, false, List, [], ◌∷◌, ◌++◌, length}
-use Rattle.std.specs.Prelude.{Some, None, Result, Ok, Err}
+-- The report of a log: what is written for its lines, each judged by its session as the lines before it left that, with
+-- each answer taken at once. docs/FORMATS.md, "The log" and "The log, version 2". (own)
+use Rattle.std.specs.Prelude.{◌≡◌, ◌≢◌, ⊤, ℕ, ◌+◌, ◌-◌, ◌<◌, ◌≤◌, if◌then◌else◌, List, [], ◌∷◌, ◌++◌, length}
+use Rattle.std.specs.Prelude.{replicate, slice_get, slice_set, Option, Some, None, option_map, Result, Ok, Err}
 use Rattle.std.specs.List.{AllByRecursion}
 use Rattle.daide_machine.specs.Machine.{SessionState, Effect, Runs, opening}
-use Rattle.daide_session.specs.declared.config.Config.{Config}
-use Rattle.daide_session.specs.Session.{limits_of}
+use Rattle.daide_session.specs.Session.{limits_with}
+use Rattle.daide_log.specs.declared.heading.Version.{Version}
+use Rattle.daide_log.specs.declared.heading.Version.TheVariants.{Single, Match}
+use Rattle.daide_log.specs.declared.report.Source.{Source}
 use Rattle.daide_log.specs.declared.report.Summary.{Summary}
 use Rattle.daide_log.specs.declared.fault.LogFault.{LogFault}
 use Rattle.daide_log.specs.declared.fault.LogFault.TheVariants.{BadLine, LineTooLong, TooManyLines}
-use Rattle.daide_log.specs.LogLine.{LogEvent, is_name, config_of_line, event_of_line, without_cr}
-use Rattle.daide_log.specs.Report.{events_of, side_of, lines_of, counted_all, nothing_counted, summary_line}
+use Rattle.daide_log.specs.LogLine.{event_of_line, without_cr}
+use Rattle.daide_log.specs.MatchLine.{MatchEvent, Of, Quiet, match_event_of_line}
+use Rattle.daide_log.specs.Heading.{Head, Heading, Unnamed, Named, Headed, heading_after, is_whole}
+use Rattle.daide_log.specs.Report.{Entry, events_of, side_of, entries_of, lines_of, counted_all, nothing_counted, summary_line}
 
 -- the most lines of a log
 abbrev pub most_lines : ℕ
@@ -24,79 +28,106 @@ longest_line = 2100
 abbrev pub IsUnbroken : List ℕ → Type 0
 IsUnbroken bytes = AllByRecursion (λ b. b ≢ 10) bytes
 
+-- ---- events
+
+-- what a line behind the head tells, where there are so many sessions; in version 1 it tells the one session
+abbrev pub event_in : Version → ℕ → List ℕ → Option MatchEvent
+event_in Single sessions line = option_map (Of 1) (event_of_line line)
+event_in Match sessions line = match_event_of_line sessions line
+
+-- what the report names of a move: the line, and in version 2 the session
+abbrev pub source_in : Version → ℕ → ℕ → Source
+source_in Single line session = record { line = line; session = None }
+source_in Match line session = record { line = line; session = Some session }
+
+-- by what the line of this number tells the session of that number goes on, and no other does; its moves are told
+abbrev pub IsPlayed : Version → ℕ → MatchEvent → List SessionState → List Entry → List SessionState → Type 0
+IsPlayed version line Quiet old told new = (told ≡ []) × (new ≡ old)
+IsPlayed version line (Of session event) old told new =
+    (before : SessionState) × (after : SessionState) × (moves : List Effect)
+    × (slice_get old (session - 1) ≡ Some before) × Runs before (events_of event) moves after
+    × (told ≡ entries_of (source_in version line session) (side_of event) moves)
+    × (new ≡ slice_set old (session - 1) after)
+
 -- ---- one line
 
 -- how far a log has come
 pub data Stage : Type 0 where
-  Unnamed : Stage  -- no line came
-  Named : Stage  -- the first
-  Playing : (state : SessionState) → Stage  -- the second, and what the session is after the lines since
+  Opening : (heading : Heading) → Stage  -- a line of the head is to come
+  Playing : (version : Version) → (sessions : List SessionState) → Stage  -- all did, and what the sessions are since
 
--- by the line of this number a log goes on, with these moves of its session and this text about them
-abbrev pub GoesOn : ℕ → Stage → List ℕ → List Effect → List ℕ → Stage → Type 0
-GoesOn number Unnamed line moves text new = (is_name line ≡ true) × (moves ≡ []) × (text ≡ []) × (new ≡ Named)
-GoesOn number Named line moves text new =
-    (config : Config) × (config_of_line line ≡ Some config)
-    × (moves ≡ []) × (text ≡ []) × (new ≡ Playing (opening (limits_of config)))
-GoesOn number (Playing old) line moves text new =
-    (event : LogEvent) × (event_of_line line ≡ Some event)
-    × (state : SessionState) × Runs old (events_of event) moves state
-    × (text ≡ lines_of number (side_of event) moves) × (new ≡ Playing state)
+-- the sessions begin where the head is whole
+abbrev pub begun : Head → Stage
+begun head =
+    Playing head.version (replicate head.limits.sessions (opening (limits_with head.limits.config head.words)))
+
+abbrev pub stage_at : Heading → Stage
+stage_at Unnamed = Opening Unnamed
+stage_at (Named version) = Opening (Named version)
+stage_at (Headed head) = if is_whole head then begun head else Opening (Headed head)
+
+-- by the line of this number a log goes on, with these moves told
+abbrev pub GoesOn : ℕ → Stage → List ℕ → List Entry → Stage → Type 0
+GoesOn number (Opening old) line told new =
+    (heading : Heading) × (heading_after old line ≡ Some heading) × (told ≡ []) × (new ≡ stage_at heading)
+GoesOn number (Playing version old) line told new =
+    (event : MatchEvent) × (event_in version (length old) line ≡ Some event)
+    × (sessions : List SessionState) × IsPlayed version number event old told sessions
+    × (new ≡ Playing version sessions)
 
 -- the line is not of a form that may stand here
 abbrev pub IsBad : Stage → List ℕ → Type 0
-IsBad Unnamed line = is_name line ≡ false
-IsBad Named line = config_of_line line ≡ None
-IsBad (Playing state) line = event_of_line line ≡ None
+IsBad (Opening heading) line = heading_after heading line ≡ None
+IsBad (Playing version sessions) line = event_in version (length sessions) line ≡ None
+
+-- a line of the head is still to come
+abbrev pub IsOpening : Stage → Type 0
+IsOpening (Opening heading) = ⊤
+IsOpening (Playing version sessions) = ⊥
 
 -- ---- the lines
 
--- These bytes are so many lines, each with its line feed; the session made these moves by them, and this is the
--- text about them.
-pub data Reports : List ℕ → ℕ → List Effect → List ℕ → Stage → Type 0 where
-  none : Reports [] 0 [] [] Unnamed
-  line : (bytes : List ℕ) (number : ℕ) (moves : List Effect) (text : List ℕ) (old : Stage) →
-      Reports bytes number moves text old →
-      (line : List ℕ) (more : List Effect) (words : List ℕ) (new : Stage) →
+-- These bytes are so many lines, each with its line feed, and these are the moves that are told of them.
+pub data Reports : List ℕ → ℕ → List Entry → Stage → Type 0 where
+  none : Reports [] 0 [] (Opening Unnamed)
+  line : (bytes : List ℕ) (number : ℕ) (told : List Entry) (old : Stage) → Reports bytes number told old →
+      (line : List ℕ) (more : List Entry) (new : Stage) →
       number < most_lines → IsUnbroken line → length line ≤ longest_line →
-      GoesOn (number + 1) old (without_cr line) more words new →
-      Reports (bytes ++ line ++ 10 ∷ []) (number + 1) (moves ++ more) (text ++ words) new
+      GoesOn (number + 1) old (without_cr line) more new →
+      Reports (bytes ++ line ++ 10 ∷ []) (number + 1) (told ++ more) new
 
 -- the same of all lines of a log, of which the last may lack its line feed
-pub data ReportsAll : List ℕ → ℕ → List Effect → List ℕ → Stage → Type 0 where
-  ended : (bytes : List ℕ) (number : ℕ) (moves : List Effect) (text : List ℕ) (stage : Stage) →
-      Reports bytes number moves text stage → ReportsAll bytes number moves text stage
-  unended : (bytes : List ℕ) (number : ℕ) (moves : List Effect) (text : List ℕ) (old : Stage) →
-      Reports bytes number moves text old →
-      (line : List ℕ) (more : List Effect) (words : List ℕ) (new : Stage) →
+pub data ReportsAll : List ℕ → ℕ → List Entry → Stage → Type 0 where
+  ended : (bytes : List ℕ) (number : ℕ) (told : List Entry) (stage : Stage) → Reports bytes number told stage →
+      ReportsAll bytes number told stage
+  unended : (bytes : List ℕ) (number : ℕ) (told : List Entry) (old : Stage) → Reports bytes number told old →
+      (line : List ℕ) (more : List Entry) (new : Stage) →
       number < most_lines → 0 < length line → IsUnbroken line → length line ≤ longest_line →
-      GoesOn (number + 1) old line more words new →
-      ReportsAll (bytes ++ line) (number + 1) (moves ++ more) (text ++ words) new
+      GoesOn (number + 1) old line more new → ReportsAll (bytes ++ line) (number + 1) (told ++ more) new
 
 -- ---- the whole log
 
 -- What is written for a log, and what it is answered: the counts, or the first fault, which comes after the report of
 -- the lines before it.
 pub data IsReport : List ℕ → List ℕ → Result Summary LogFault → Type 0 where
-  whole : (log : List ℕ) (number : ℕ) (moves : List Effect) (text : List ℕ) (state : SessionState) →
-      ReportsAll log number moves text (Playing state) →
-      IsReport log (text ++ summary_line (counted_all moves nothing_counted)) (Ok (counted_all moves nothing_counted))
-  -- the log ends before its second line
-  cut_short : (log : List ℕ) (number : ℕ) (moves : List Effect) (text : List ℕ) (stage : Stage) →
-      ReportsAll log number moves text stage → number < 2 → IsReport log text (Err (BadLine (number + 1)))
+  whole : (log : List ℕ) (number : ℕ) (told : List Entry) (version : Version) (sessions : List SessionState) →
+      ReportsAll log number told (Playing version sessions) →
+      IsReport log (lines_of told ++ summary_line (counted_all told nothing_counted))
+      (Ok (counted_all told nothing_counted))
+  -- the log ends before its head does
+  cut_short : (log : List ℕ) (number : ℕ) (told : List Entry) (stage : Stage) → ReportsAll log number told stage →
+      IsOpening stage → IsReport log (lines_of told) (Err (BadLine (number + 1)))
   -- a line of another form, with its line feed
-  bad : (bytes : List ℕ) (number : ℕ) (moves : List Effect) (text : List ℕ) (stage : Stage) →
-      Reports bytes number moves text stage → (line after : List ℕ) → number < most_lines → IsUnbroken line →
-      length line ≤ longest_line → IsBad stage (without_cr line) →
-      IsReport (bytes ++ line ++ 10 ∷ after) text (Err (BadLine (number + 1)))
+  bad : (bytes : List ℕ) (number : ℕ) (told : List Entry) (stage : Stage) → Reports bytes number told stage →
+      (line after : List ℕ) → number < most_lines → IsUnbroken line → length line ≤ longest_line →
+      IsBad stage (without_cr line) →
+      IsReport (bytes ++ line ++ 10 ∷ after) (lines_of told) (Err (BadLine (number + 1)))
   -- or without one
-  bad_last : (bytes : List ℕ) (number : ℕ) (moves : List Effect) (text : List ℕ) (stage : Stage) →
-      Reports bytes number moves text stage → (line : List ℕ) → number < most_lines → 0 < length line →
-      IsUnbroken line → length line ≤ longest_line → IsBad stage line →
-      IsReport (bytes ++ line) text (Err (BadLine (number + 1)))
-  too_long : (bytes : List ℕ) (number : ℕ) (moves : List Effect) (text : List ℕ) (stage : Stage) →
-      Reports bytes number moves text stage → (line after : List ℕ) → number < most_lines → IsUnbroken line →
-      longest_line < length line → IsReport (bytes ++ line ++ after) text (Err (LineTooLong (number + 1)))
-  too_many : (bytes : List ℕ) (moves : List Effect) (text : List ℕ) (stage : Stage) →
-      Reports bytes most_lines moves text stage → (after : List ℕ) → 0 < length after →
-      IsReport (bytes ++ after) text (Err TooManyLines)
+  bad_last : (bytes : List ℕ) (number : ℕ) (told : List Entry) (stage : Stage) → Reports bytes number told stage →
+      (line : List ℕ) → number < most_lines → 0 < length line → IsUnbroken line → length line ≤ longest_line →
+      IsBad stage line → IsReport (bytes ++ line) (lines_of told) (Err (BadLine (number + 1)))
+  too_long : (bytes : List ℕ) (number : ℕ) (told : List Entry) (stage : Stage) → Reports bytes number told stage →
+      (line after : List ℕ) → number < most_lines → IsUnbroken line → longest_line < length line →
+      IsReport (bytes ++ line ++ after) (lines_of told) (Err (LineTooLong (number + 1)))
+  too_many : (bytes : List ℕ) (told : List Entry) (stage : Stage) → Reports bytes most_lines told stage →
+      (after : List ℕ) → 0 < length after → IsReport (bytes ++ after) (lines_of told) (Err TooManyLines)

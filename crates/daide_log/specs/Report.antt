@@ -1,6 +1,6 @@
 -- The lines of a report: what the moves of a session are called, by the line of the log that made them.
 -- docs/FORMATS.md, "The log". (own)
-use Rattle.std.specs.Prelude.{ℕ, ◌+◌, List, [], ◌∷◌, ◌++◌, codes}
+use Rattle.std.specs.Prelude.{ℕ, ◌+◌, List, [], ◌∷◌, ◌++◌, codes, Option, Some, None}
 use Rattle.std.specs.Fmt.{decimal}
 use Rattle.hex.specs.Hex.{encode_upper}
 use Rattle.daide_frame.specs.declared.side.Side.{Side}
@@ -14,6 +14,7 @@ use Rattle.daide_machine.specs.declared.note.Note.{Note}
 use Rattle.daide_machine.specs.declared.note.Note.TheVariants.{Nothing, Frame, Fault}
 use Rattle.daide_machine.specs.Events.{Event, Ends, Pops, bytes_come}
 use Rattle.daide_machine.specs.Machine.{Effect}
+use Rattle.daide_log.specs.declared.report.Source.{Source}
 use Rattle.daide_log.specs.declared.report.Summary.{Summary}
 use Rattle.daide_log.specs.LogLine.{LogEvent, Traffic, EndOf, TimeOver, Silence}
 
@@ -62,14 +63,38 @@ move_text (Fault code) = codes "fault " ++ encode_upper (code_number code ∷ []
 
 -- ---- the lines
 
--- one move of a side, by the number of the log's line that made it
-unfoldable pub move_line : ℕ → Side → Note → List ℕ
-move_line number side told = decimal number ++ 32 ∷ name_of_side side ++ 32 ∷ move_text told ++ 10 ∷ []
+-- the session's number, which the report of a match names
+abbrev pub session_text : Option ℕ → List ℕ
+session_text None = []
+session_text (Some session) = decimal session ++ 32 ∷ []
 
--- all of them, in their order
-abbrev pub lines_of : ℕ → Side → List Effect → List ℕ
-lines_of number side [] = []
-lines_of number side (effect ∷ effects) = move_line number side effect.told ++ lines_of number side effects
+-- the number of the log's line that made a move, and the session's
+unfoldable pub source_text : Source → List ℕ
+source_text source = decimal source.line ++ 32 ∷ session_text source.session
+
+-- one move of a side, behind these numbers
+unfoldable pub told_text : Side → Note → List ℕ
+told_text side told = name_of_side side ++ 32 ∷ move_text told ++ 10 ∷ []
+
+unfoldable pub move_line : Source → Side → Note → List ℕ
+move_line source side told = source_text source ++ told_text side told
+
+-- a move that is told
+pub record Entry : Type 0 where
+  pub source : Source
+  pub side : Side
+  pub told : Note
+
+-- all moves that a line made of a side, in their order
+abbrev pub entries_of : Source → Side → List Effect → List Entry
+entries_of source side [] = []
+entries_of source side (effect ∷ effects) =
+    record { source = source; side = side; told = effect.told } ∷ entries_of source side effects
+
+-- the lines of these
+abbrev pub lines_of : List Entry → List ℕ
+lines_of [] = []
+lines_of (entry ∷ entries) = move_line entry.source entry.side entry.told ++ lines_of entries
 
 -- ---- the last line
 
@@ -85,9 +110,9 @@ counted (Frame head (Huh place)) s =
 counted (Fault code) s = record { relayed = s.relayed; prn = s.prn; huh = s.huh; faults = s.faults + 1 }
 
 -- with all of these
-abbrev pub counted_all : List Effect → Summary → Summary
+abbrev pub counted_all : List Entry → Summary → Summary
 counted_all [] s = s
-counted_all (effect ∷ effects) s = counted_all effects (counted effect.told s)
+counted_all (entry ∷ entries) s = counted_all entries (counted entry.told s)
 
 abbrev pub nothing_counted : Summary
 nothing_counted = record { relayed = 0; prn = 0; huh = 0; faults = 0 }

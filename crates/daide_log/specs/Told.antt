@@ -1,5 +1,5 @@
 -- What the code holds of a line's event: the bytes of traffic lie at the front of a buffer.
-use Rattle.std.specs.Prelude.{◌≡◌, ⊤, ◌≢◌, ℕ, ◌+◌, ◌<◌, ◌≤◌, ◌^◌, List, [], ◌∷◌, take, Option, Some}
+use Rattle.std.specs.Prelude.{◌≡◌, ⊤, ◌≢◌, ℕ, ◌+◌, ◌<◌, ◌≤◌, ◌^◌, List, [], ◌∷◌, take, Option}
 use Rattle.std.specs.Io.KnownBytes.{Appends}
 use Rattle.daide_log.specs.declared.event_line.Told.{Told}
 use Rattle.daide_log.specs.declared.event_line.Told.TheVariants as Variants
@@ -9,9 +9,10 @@ use Rattle.daide_machine.specs.declared.note.Note.TheVariants as Notes
 use Rattle.daide_machine.specs.Events.{Event}
 use Rattle.daide_machine.specs.Machine.{SessionState, Effect, Runs}
 use Rattle.daide_machine.specs.Wires.{Gateway}
+use Rattle.daide_log.specs.declared.report.Source.{Source}
 use Rattle.daide_log.specs.declared.report.Summary.{Summary}
-use Rattle.daide_log.specs.Report.{move_line, lines_of, counted_all, events_of, side_of}
-use Rattle.daide_log.specs.LogLine.{LogEvent, Traffic, EndOf, TimeOver, Silence, event_of_line}
+use Rattle.daide_log.specs.Report.{move_line, entries_of, lines_of, counted_all}
+use Rattle.daide_log.specs.LogLine.{LogEvent, Traffic, EndOf, TimeOver, Silence}
 
 abbrev pub event_told : List ℕ → Told → LogEvent
 event_told bytes (Variants.Traffic side count) = Traffic side (take count bytes)
@@ -60,21 +61,14 @@ abbrev pub Moves : SessionState → List Event → Note → SessionState → Typ
 Moves old events told new = (moves : List Effect) × Runs old events moves new × IsOneMove moves told
 
 -- the line of what was told, if anything was
-abbrev pub told_lines : ℕ → Side → Note → List ℕ
-told_lines number side Notes.Nothing = []
-told_lines number side (Notes.Frame head deed) = move_line number side (Notes.Frame head deed)
-told_lines number side (Notes.Fault code) = move_line number side (Notes.Fault code)
+abbrev pub told_lines : Source → Side → Note → List ℕ
+told_lines source side Notes.Nothing = []
+told_lines source side (Notes.Frame head deed) = move_line source side (Notes.Frame head deed)
+told_lines source side (Notes.Fault code) = move_line source side (Notes.Fault code)
 
 -- By these events the session goes on; its moves are counted, and their lines written.
-abbrev pub Tells : ℕ → Side → SessionState → List Event → SessionState → Summary → Summary → Option (List ℕ) →
+abbrev pub Tells : Source → Side → SessionState → List Event → SessionState → Summary → Summary → Option (List ℕ) →
     Option (List ℕ) → Type 0
-Tells number side old events new before after written_before written_after =
-    (moves : List Effect) × Runs old events moves new × (after ≡ counted_all moves before)
-    × Appends written_before written_after (lines_of number side moves)
-
--- A line tells an event, by which the session goes on; its moves are counted, and their lines written.
-abbrev pub Judges : ℕ → SessionState → List ℕ → SessionState → Summary → Summary → Option (List ℕ) → Option (List ℕ) →
-    Type 0
-Judges number old line new before after written_before written_after =
-    (event : LogEvent) × (event_of_line line ≡ Some event)
-    × Tells number (side_of event) old (events_of event) new before after written_before written_after
+Tells source side old events new before after written_before written_after =
+    (moves : List Effect) × Runs old events moves new × (after ≡ counted_all (entries_of source side moves) before)
+    × Appends written_before written_after (lines_of (entries_of source side moves))

@@ -1,15 +1,20 @@
-//! One line of a log from the third on, judged by the session.
+//! One line of a log behind its head, judged by its session.
 
-ghost use Rattle.std.specs.Prelude.{◌≡◌, ◌⊎◌, Ok, Err, None, OnOk, IfErr, MatchResult};
+ghost use Rattle.std.specs.Prelude.{◌≡◌, ◌⊎◌, ◌≤◌, All, length, Ok, Err, None, IfSome, OnOk, IfErr, MatchResult, option_map};
 ghost use Rattle.std.specs.Io.KnownBytes.{append_known};
-ghost use Rattle.daide_log.specs.LogLine.{event_of_line};
-ghost use Rattle.daide_log.specs.Told.{HasRoom, IsMoreBy, IsIdle, Judges};
+ghost use Rattle.daide_log.specs.Report.{events_of, side_of};
+ghost use Rattle.daide_log.specs.Log.{event_in, source_in};
+ghost use Rattle.daide_log.specs.Told.{HasRoom, IsMoreBy, IsIdle, IsWithin, Tells, event_told};
+ghost use Rattle.daide_log.specs.MatchTold.{IsMatchWithin, match_event_told};
+ghost use Rattle.daide_log.specs.Progress.{Judges, states_of};
 
 use crate::event_line::{MOST, Told, read_event};
 use crate::fault::LogFault;
+use crate::heading::Version;
+use crate::match_line::{MatchTold, read_match_event};
 use crate::page::Page;
 use crate::play::{end, feed_all, time_out};
-use crate::report::Summary;
+use crate::report::{Source, Summary};
 use daide_session::Session;
 use std::alloc::Allocator;
 use std::io;
@@ -25,10 +30,78 @@ fn or_write(told: io::Result<()>) -> Result<(), LogFault>
     }
 }
 
-/// Judges a line: its bytes are fed, its end or the timer told, and what the session makes of it is reported. The bytes
-/// of traffic are decoded into the buffer.
+/// Judges an event: its bytes, which lie at the front of the buffer, are fed, its end or the timer told, and what the
+/// session makes of it is reported.
 pub fn judge<A: Allocator, W: Write>(
     session: &mut Session<A>,
+    told: Told,
+    source: Source,
+    bytes: &[u8; MOST],
+    summary: &mut Summary,
+    page: &mut Page,
+    writer: &mut W,
+) -> Result<(), LogFault>
+    requires idle { IsIdle session.old }
+    requires within { IsWithin told }
+    requires room { HasRoom 1024 summary.old }
+    ensures idle { IsIdle session.new }
+    ensures few { IsMoreBy 1024 summary.old summary.new }
+    ensures judged { OnOk result (Tells source (side_of (event_told bytes.now told)) session.old.state
+        (events_of (event_told bytes.now told)) session.new.state
+        summary.old summary.new (append_known (W.contents writer.old) page.old.items)
+        (append_known (W.contents writer.new) page.new.items)) }
+    ensures refused { IfErr result (λ fault. fault ≡ LogFault.Write) }
+{
+    match told {
+        Told::Traffic(side, count) => {
+            or_write(feed_all(
+                session,
+                side,
+                &bytes[..count],
+                source,
+                summary,
+                page,
+                writer,
+            ))
+        }
+        Told::EndOf(side) => or_write(end(session, side, source, summary, page, writer)),
+        Told::TimeOver => or_write(time_out(session, source, summary, page, writer)),
+        Told::Silence => Ok(()),
+    }
+}
+
+/// What a line tells, in version 1 the one session.
+fn read_told(
+    version: Version,
+    line: &[u8],
+    sessions: u16,
+    bytes: &mut [u8; MOST],
+) -> Option<MatchTold>
+    requires { 1 ≤ sessions }
+    ensures told { option_map (match_event_told bytes.new) result ≡ event_in version sessions line.now }
+    ensures within { IfSome result (IsMatchWithin sessions) }
+{
+    match version {
+        Version::Single => Some(MatchTold::Of(1, read_event(line, bytes)?)),
+        Version::Match => read_match_event(line, sessions, bytes),
+    }
+}
+
+/// What the report names of a session's moves by a line.
+fn source_in(version: Version, line: u32, session: u16) -> Source
+    ensures { result ≡ source_in version line session }
+{
+    let session = match version {
+        Version::Single => None,
+        Version::Match => Some(session),
+    };
+    Source { line, session }
+}
+
+/// Judges a line by the session that it names. The bytes of traffic are decoded into the buffer.
+pub fn judge_line<A: Allocator, W: Write>(
+    version: Version,
+    sessions: &mut Vec<Session<A>, A>,
     line: &[u8],
     number: u32,
     bytes: &mut [u8; MOST],
@@ -36,32 +109,38 @@ pub fn judge<A: Allocator, W: Write>(
     page: &mut Page,
     writer: &mut W,
 ) -> Result<(), LogFault>
-    requires idle { IsIdle session.old }
+    requires some { 1 ≤ length sessions.old.items }
+    requires few { length sessions.old.items ≤ 256 }
+    requires idle { All IsIdle sessions.old.items }
     requires room { HasRoom 1024 summary.old }
-    ensures idle { IsIdle session.new }
+    ensures same { length sessions.new.items ≡ length sessions.old.items }
+    ensures idle { All IsIdle sessions.new.items }
     ensures few { IsMoreBy 1024 summary.old summary.new }
-    ensures judged { OnOk result (Judges number session.old.state line.now session.new.state
-        summary.old summary.new (append_known (W.contents writer.old) page.old.items)
+    ensures judged { OnOk result (Judges version number (states_of sessions.old.items) line.now
+        (states_of sessions.new.items) summary.old summary.new
+        (append_known (W.contents writer.old) page.old.items)
         (append_known (W.contents writer.new) page.new.items)) }
     ensures refused { IfErr result (λ fault. (fault ≡ LogFault.Write) ⊎ ((fault ≡ LogFault.BadLine number)
-        × (event_of_line line.now ≡ None) × (append_known (W.contents writer.new) page.new.items
+        × (event_in version (length sessions.old.items) line.now ≡ None)
+        × (append_known (W.contents writer.new) page.new.items
         ≡ append_known (W.contents writer.old) page.old.items))) }
 {
-    match read_event(line, bytes) {
+    let count = sessions.len() as u16;
+    match read_told(version, line, count, bytes) {
         None => Err(LogFault::BadLine(number)),
-        Some(Told::Traffic(side, count)) => {
-            or_write(feed_all(
-                session,
-                side,
-                &bytes[..count],
-                number,
+        Some(MatchTold::Quiet) => Ok(()),
+        Some(MatchTold::Of(session, told)) => {
+            let place = session as usize - 1;
+            let source = source_in(version, number, session);
+            judge(
+                &mut sessions[place],
+                told,
+                source,
+                bytes,
                 summary,
                 page,
                 writer,
-            ))
+            )
         }
-        Some(Told::EndOf(side)) => or_write(end(session, side, number, summary, page, writer)),
-        Some(Told::TimeOver) => or_write(time_out(session, number, summary, page, writer)),
-        Some(Told::Silence) => Ok(()),
     }
 }

@@ -10,14 +10,18 @@ pub mod check;
 pub mod config_line;
 pub mod event_line;
 pub mod fault;
+pub mod heading;
 pub mod judge;
+pub mod laws;
 pub mod lines;
 pub mod match_line;
+pub mod opening;
 pub mod page;
 pub mod play;
 pub mod report;
 #[cfg(test)]
 mod tests;
+pub mod word_line;
 
 pub use check::check_log;
 pub use fault::LogFault;

@@ -1,8 +1,9 @@
 //! The lines of the log of a match: its limits, and the events of its sessions.
 
-ghost use Rattle.std.specs.Prelude.{◌≡◌, IfSome, option_map};
+ghost use Rattle.std.specs.Prelude.{◌≡◌, ◌≤◌, IfSome, option_map};
 ghost use Rattle.daide_log.specs.LogLine.{plain_number, event_of_line};
 ghost use Rattle.daide_log.specs.MatchLine.{is_match_name as has_match_name, within, match_config_of_line};
+ghost use Rattle.daide_log.specs.Heading.{HasSessions};
 ghost use Rattle.daide_log.specs.MatchLine.{loud as loud_event, match_event_of_line};
 ghost use Rattle.daide_log.specs.MatchTold.{IsMatchWithin, match_event_told};
 ghost use Rattle.daide_log.specs.Told.{event_told, IsWithin};
@@ -40,7 +41,8 @@ pub fn is_match_name(line: &[u8]) -> bool
 
 /// A plain number from the least to the most.
 fn number_within(least: u16, most: u16, digits: &[u8]) -> Option<u16>
-    ensures { result ≡ within least most (plain_number digits.now) }
+    ensures value { result ≡ within least most (plain_number digits.now) }
+    ensures within { IfSome result (λ number. (least ≤ number) × (number ≤ most)) }
 {
     let number = plain_number(digits)?;
     if least <= number && number <= most {
@@ -53,7 +55,8 @@ fn number_within(least: u16, most: u16, digits: &[u8]) -> Option<u16>
 /// What a line sets, if it is a match's second.
 #[tactic(auto, unfolding(crate::specs::MatchLine::match_config_of_line))]
 pub fn read_match_config(line: &[u8]) -> Option<MatchConfig>
-    ensures { result ≡ match_config_of_line line.now }
+    ensures within { IfSome result HasSessions }
+    ensures limits { result ≡ match_config_of_line line.now }
 {
     let rest = line.strip_prefix(b"config ")?;
     let (level, rest) = parted_at_space(rest)?;
@@ -82,7 +85,7 @@ fn read_loud(line: &[u8], bytes: &mut [u8; MOST]) -> Option<Told>
 #[tactic(auto, unfolding(crate::specs::MatchLine::match_event_of_line))]
 pub fn read_match_event(line: &[u8], sessions: u16, bytes: &mut [u8; MOST]) -> Option<MatchTold>
     ensures told { option_map (match_event_told bytes.new) result ≡ match_event_of_line sessions line.now }
-    ensures within { IfSome result IsMatchWithin }
+    ensures within { IfSome result (IsMatchWithin sessions) }
 {
     if line.is_empty() || line[0] == b'#' {
         return Some(MatchTold::Quiet);

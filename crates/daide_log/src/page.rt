@@ -4,7 +4,7 @@ ghost use Rattle.std.specs.Prelude.{◌≡◌, [], OnOk};
 ghost use Rattle.std.specs.Io.KnownBytes.{Appends, Keeps, append_known};
 ghost use Rattle.daide_log.specs.Report.{move_line, summary_line};
 
-use crate::report::{Summary, write_move, write_summary};
+use crate::report::{Source, Summary, write_move, write_summary};
 use arrayvec::ArrayVec;
 use daide_frame::Side;
 use daide_machine::Note;
@@ -44,17 +44,17 @@ fn make_room<W: Write>(page: &mut Page, writer: &mut W) -> io::Result<()>
 
 /// Writes the line of a side's move behind what is held.
 pub fn put_move<W: Write>(
-    number: u32,
+    source: Source,
     side: Side,
     told: Note,
     page: &mut Page,
     writer: &mut W,
 ) -> io::Result<()>
     ensures { OnOk result (Appends (append_known (W.contents writer.old) page.old.items)
-        (append_known (W.contents writer.new) page.new.items) (move_line number side told)) }
+        (append_known (W.contents writer.new) page.new.items) (move_line source side told)) }
 {
     make_room(page, writer)?;
-    write_move(number, side, told, page)
+    write_move(source, side, told, page)
 }
 
 /// Writes the last line of a report behind what is held.

@@ -1,4 +1,4 @@
-//! The session of a log, by the lines from the third on.
+//! A session of a log, by the lines behind the head.
 
 ghost use Rattle.std.specs.Prelude.{◌≡◌, ◌≤◌, ℕ, List, [], ◌∷◌, length, OnOk, IfErr};
 ghost use Rattle.std.specs.Io.KnownBytes.{Appends, append_known};
@@ -6,11 +6,11 @@ ghost use Rattle.daide_frame.specs.declared.side.Side.{Side};
 ghost use Rattle.daide_machine.specs.Events.{Event, Ends, Pops, bytes_come, other as opposite};
 ghost use Rattle.daide_machine.specs.Machine.{Effect, Runs};
 ghost use Rattle.daide_machine.specs.Wires.{waiting, room_of};
-ghost use Rattle.daide_log.specs.Report.{counted, counted_all, lines_of};
+ghost use Rattle.daide_log.specs.Report.{counted};
 ghost use Rattle.daide_log.specs.Told.{HasRoom, IsMoreBy, IsIdle, Moves, Tells, told_lines};
 
 use crate::page::{Page, put_move};
-use crate::report::Summary;
+use crate::report::{Source, Summary};
 use daide_frame::Side;
 use daide_machine::Note;
 use daide_session::Session;
@@ -53,7 +53,7 @@ fn feed_piece<A: Allocator>(session: &mut Session<A>, side: Side, piece: &[u8]) 
 
 /// Counts what was told of a side, and writes its line, if it was anything.
 fn tell<W: Write>(
-    number: u32,
+    source: Source,
     side: Side,
     told: Note,
     summary: &mut Summary,
@@ -64,12 +64,12 @@ fn tell<W: Write>(
     ensures counted { summary.new ≡ counted told summary.old }
     ensures few { IsMoreBy 1 summary.old summary.new }
     ensures text { OnOk result (Appends (append_known (W.contents writer.old) page.old.items)
-        (append_known (W.contents writer.new) page.new.items) (told_lines number side told)) }
+        (append_known (W.contents writer.new) page.new.items) (told_lines source side told)) }
 {
     summary.count(told);
     match told {
         Note::Nothing => Ok(()),
-        Note::Frame(..) | Note::Fault(_) => put_move(number, side, told, page, writer),
+        Note::Frame(..) | Note::Fault(_) => put_move(source, side, told, page, writer),
     }
 }
 
@@ -78,7 +78,7 @@ pub fn feed_all<A: Allocator, W: Write>(
     session: &mut Session<A>,
     side: Side,
     bytes: &[u8],
-    number: u32,
+    source: Source,
     summary: &mut Summary,
     page: &mut Page,
     writer: &mut W,
@@ -87,7 +87,7 @@ pub fn feed_all<A: Allocator, W: Write>(
     requires room { HasRoom (length bytes.now) summary.old }
     ensures idle { IsIdle session.new }
     ensures few { IsMoreBy (length bytes.now) summary.old summary.new }
-    ensures told { OnOk result (Tells number side session.old.state (bytes_come side bytes.now) session.new.state
+    ensures told { OnOk result (Tells source side session.old.state (bytes_come side bytes.now) session.new.state
         summary.old summary.new (append_known (W.contents writer.old) page.old.items)
         (append_known (W.contents writer.new) page.new.items)) }
 {
@@ -95,7 +95,7 @@ pub fn feed_all<A: Allocator, W: Write>(
     while !rest.is_empty() && !session.is_over() {
         let (piece, more) = rest.split_at(rest.len().min(session.room(side)));
         let told = feed_piece(session, side, piece);
-        tell(number, side, told, summary, page, writer)?;
+        tell(source, side, told, summary, page, writer)?;
         rest = more;
     }
     Ok(())
@@ -105,7 +105,7 @@ pub fn feed_all<A: Allocator, W: Write>(
 pub fn end<A: Allocator, W: Write>(
     session: &mut Session<A>,
     side: Side,
-    number: u32,
+    source: Source,
     summary: &mut Summary,
     page: &mut Page,
     writer: &mut W,
@@ -113,7 +113,7 @@ pub fn end<A: Allocator, W: Write>(
     requires room { HasRoom 1 summary.old }
     ensures idle { IsIdle session.new }
     ensures few { IsMoreBy 1 summary.old summary.new }
-    ensures told { OnOk result (Tells number side session.old.state (Ends side ∷ []) session.new.state
+    ensures told { OnOk result (Tells source side session.old.state (Ends side ∷ []) session.new.state
         summary.old summary.new (append_known (W.contents writer.old) page.old.items)
         (append_known (W.contents writer.new) page.new.items)) }
 {
@@ -121,7 +121,7 @@ pub fn end<A: Allocator, W: Write>(
     take_answers(session);
     if ended {
         summary.count(Note::Nothing);
-        return put_move(number, side, Note::Nothing, page, writer);
+        return put_move(source, side, Note::Nothing, page, writer);
     }
     Ok(())
 }
@@ -129,7 +129,7 @@ pub fn end<A: Allocator, W: Write>(
 /// The time for the initial message is over.
 pub fn time_out<A: Allocator, W: Write>(
     session: &mut Session<A>,
-    number: u32,
+    source: Source,
     summary: &mut Summary,
     page: &mut Page,
     writer: &mut W,
@@ -137,11 +137,11 @@ pub fn time_out<A: Allocator, W: Write>(
     requires room { HasRoom 1 summary.old }
     ensures idle { IsIdle session.new }
     ensures few { IsMoreBy 1 summary.old summary.new }
-    ensures told { OnOk result (Tells number Side.Bot session.old.state (Pops ∷ []) session.new.state
+    ensures told { OnOk result (Tells source Side.Bot session.old.state (Pops ∷ []) session.new.state
         summary.old summary.new (append_known (W.contents writer.old) page.old.items)
         (append_known (W.contents writer.new) page.new.items)) }
 {
     let told = session.im_timeout();
     take_answers(session);
-    tell(number, Side::Bot, told, summary, page, writer)
+    tell(source, Side::Bot, told, summary, page, writer)
 }

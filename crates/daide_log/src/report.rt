@@ -4,7 +4,8 @@ ghost use Rattle.std.specs.Prelude.{◌≡◌, [], ◌∷◌, OnOk};
 ghost use Rattle.std.specs.Io.KnownBytes.{Appends};
 ghost use Rattle.hex.specs.Hex.{encode_upper};
 ghost use Rattle.daide_frame.specs.Code.{code_number};
-ghost use Rattle.daide_log.specs.Report.{name_of_side, name_of_kind, move_line, counted, nothing_counted};
+ghost use Rattle.daide_log.specs.Report.{name_of_side, name_of_kind, source_text, told_text, move_line};
+ghost use Rattle.daide_log.specs.Report.{counted, nothing_counted};
 ghost use Rattle.daide_log.specs.Report.{summary_line as last_line};
 ghost use Rattle.daide_log.specs.Told.{HasRoom, IsMoreBy};
 
@@ -12,6 +13,15 @@ use daide_frame::{Code, Head, Kind, Side};
 use daide_machine::{Deed, Note};
 use std::io;
 use std::io::Write;
+
+/// What made a move.
+#[derive(Clone, Copy, Debug, PartialEq, Eq)]
+pub struct Source {
+    /// The number of the line, counted from 1.
+    pub line: u32,
+    /// The number of the session in the log of a match.
+    pub session: Option<u16>,
+}
 
 /// How many frames were passed on, how many answered by PRN and by HUH, and how many faults there were.
 #[derive(Clone, Copy, Debug, PartialEq, Eq)]
@@ -48,26 +58,32 @@ pub fn kind_name(kind: Kind) -> &'static str
     }
 }
 
-/// Writes a frame's line.
-#[tactic(auto, unfolding(crate::specs::Report::move_line))]
-fn write_frame<W: Write>(
-    number: u32,
-    side: Side,
-    head: Head,
-    deed: Deed,
-    writer: &mut W,
-) -> io::Result<()>
+/// Writes the number of the line that made a move, and that of the session.
+#[tactic(auto, unfolding(crate::specs::Report::source_text))]
+fn write_source<W: Write>(source: Source, writer: &mut W) -> io::Result<()>
+    ensures { OnOk result (Appends (W.contents writer.old) (W.contents writer.new) (source_text source)) }
+{
+    let Source { line, session } = source;
+    match session {
+        None => write!(writer, "{line} "),
+        Some(session) => write!(writer, "{line} {session} "),
+    }
+}
+
+/// Writes what became of a side's frame.
+#[tactic(auto, unfolding(crate::specs::Report::told_text))]
+fn write_frame<W: Write>(side: Side, head: Head, deed: Deed, writer: &mut W) -> io::Result<()>
     ensures { OnOk result (Appends (W.contents writer.old) (W.contents writer.new)
-        (move_line number side (Note.Frame head deed))) }
+        (told_text side (Note.Frame head deed))) }
 {
     let side = side_name(side);
     let kind = kind_name(head.kind);
     let len = head.len;
     match deed {
-        Deed::Relayed => writeln!(writer, "{number} {side} {kind} {len} relay"),
-        Deed::Dropped => writeln!(writer, "{number} {side} {kind} {len} drop"),
-        Deed::Prn => writeln!(writer, "{number} {side} {kind} {len} prn"),
-        Deed::Huh(place) => writeln!(writer, "{number} {side} {kind} {len} huh {place}"),
+        Deed::Relayed => writeln!(writer, "{side} {kind} {len} relay"),
+        Deed::Dropped => writeln!(writer, "{side} {kind} {len} drop"),
+        Deed::Prn => writeln!(writer, "{side} {kind} {len} prn"),
+        Deed::Huh(place) => writeln!(writer, "{side} {kind} {len} huh {place}"),
     }
 }
 
@@ -94,23 +110,36 @@ fn code_digits(code: Code) -> &'static str
     }
 }
 
-/// Writes the line of a side's move, by the number of the log's line that made it.
-#[tactic(auto, unfolding(crate::specs::Report::move_line))]
-pub fn write_move<W: Write>(number: u32, side: Side, told: Note, writer: &mut W) -> io::Result<()>
-    ensures { OnOk result (Appends (W.contents writer.old) (W.contents writer.new) (move_line number side told)) }
+/// Writes what a side's move was.
+#[tactic(auto, unfolding(crate::specs::Report::told_text))]
+fn write_told<W: Write>(side: Side, told: Note, writer: &mut W) -> io::Result<()>
+    ensures { OnOk result (Appends (W.contents writer.old) (W.contents writer.new) (told_text side told)) }
 {
     match told {
         Note::Nothing => {
             let side = side_name(side);
-            writeln!(writer, "{number} {side} end")
+            writeln!(writer, "{side} end")
         }
-        Note::Frame(head, deed) => write_frame(number, side, head, deed, writer),
+        Note::Frame(head, deed) => write_frame(side, head, deed, writer),
         Note::Fault(code) => {
             let side = side_name(side);
             let code = code_digits(code);
-            writeln!(writer, "{number} {side} fault {code}")
+            writeln!(writer, "{side} fault {code}")
         }
     }
+}
+
+/// Writes the line of a side's move, behind the numbers of what made it.
+pub fn write_move<W: Write>(
+    source: Source,
+    side: Side,
+    told: Note,
+    writer: &mut W,
+) -> io::Result<()>
+    ensures { OnOk result (Appends (W.contents writer.old) (W.contents writer.new) (move_line source side told)) }
+{
+    write_source(source, writer)?;
+    write_told(side, told, writer)
 }
 
 impl Summary {

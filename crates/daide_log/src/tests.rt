@@ -7,6 +7,7 @@ use std::process::Abort;
 use std::test::Fail;
 
 mod match_lines;
+mod matches;
 mod streams;
 
 /// What a check answers, and what it writes.
@@ -23,7 +24,10 @@ fn checked<R: AllocGlobal + Abort>(
 /// Logs | their reports, with `/` for a line feed | the text of the fault, if any.
 const ROWS: &str = "\
  | | line 1 is not a log line
-daide-log 2/ | | line 1 is not a log line
+daide-log 3/ | | line 1 is not a log line
+daide-log 2/ | | line 2 is not a log line
+daide-log 2/config 60 1024 16/ | | line 2 is not a log line
+daide-log 1/config 60 1024 16 1 0/ | | line 2 is not a log line
 daide-log 1 | | line 2 is not a log line
 daide-log 1/ | | line 2 is not a log line
 daide-log 1/config 060 1024 16/ | | line 2 is not a log line

@@ -290,30 +290,65 @@ fn report_goes_out_in_blocks(rt: HostRuntime) -> Result<(), Fail> {
     Ok(())
 }
 
-/// A log that wants two bodies of 512 bytes, and has a bad line behind that.
+/// A log that wants room for a session and two bodies of 512 bytes, and has a bad line behind that.
 const SMALL: &[u8] = b"daide-log 1\nconfig 60 512 16\ntimer\nbad\n";
+
+/// The same of a match, with a word and two sessions.
+const SMALL_MATCH: &[u8] =
+    b"daide-log 2\nconfig 60 512 16 2 1\nword XYZ 4A40 press 20 power\n2 timer\nbad\n";
 
 #[test]
 fn growth_refused_in_turn(rt: HostRuntime) -> Result<(), Fail> {
-    for unit in 0..80usize {
-        let heap = LocalHeap::new(rt.alloc(), 16 * unit)?;
-        let mut log = SMALL;
-        let mut report = Vec::new(rt.alloc());
-        let answer = check_log(&heap, &mut log, &mut report);
-        if 16 * unit < 1024 {
-            assert!(rt; answer == Err(LogFault::Memory) && report.is_empty());
-        } else {
-            assert!(rt; answer == Err(LogFault::BadLine(4)));
-            assert!(rt; report.as_slice() == b"3 bot fault 01\n".as_slice());
+    for (log, fault, report_before) in [
+        (SMALL, LogFault::BadLine(4), b"3 bot fault 01\n".as_slice()),
+        (
+            SMALL_MATCH,
+            LogFault::BadLine(5),
+            b"4 2 bot fault 01\n".as_slice(),
+        ),
+    ] {
+        let mut refused = 0;
+        for unit in 0..=64usize {
+            let heap = LocalHeap::new(rt.alloc(), 256 * unit)?;
+            let mut bytes = log;
+            let mut report = Vec::new(rt.alloc());
+            let answer = check_log(&heap, &mut bytes, &mut report);
+            if answer == Err(LogFault::Memory) {
+                assert!(rt; report.is_empty() && refused == unit);
+                refused = unit + 1;
+            } else {
+                assert!(rt; answer == Err(fault));
+                assert!(rt; report.as_slice() == report_before);
+            }
+            assert!(rt; heap.used() == 0);
         }
-        assert!(rt; heap.used() == 0);
+        // room for the sessions alone is refused at less than that of their bodies
+        assert!(rt; 4 < refused && refused < 64);
     }
     Ok(())
 }
 
 #[test]
-fn memory_is_wanted_at_line_two_alone(rt: HostRuntime) -> Result<(), Fail> {
+fn memory_is_wanted_behind_the_head_alone(rt: HostRuntime) -> Result<(), Fail> {
     for (log, answer) in [
+        (b"daide-log 2\n".as_slice(), LogFault::BadLine(2)),
+        (
+            b"daide-log 2\nconfig 60 512 16 2 1\n".as_slice(),
+            LogFault::BadLine(3),
+        ),
+        (
+            b"daide-log 2\nconfig 60 512 16 2 1\nword GOF 4A40 press 20 power\n".as_slice(),
+            LogFault::BadLine(3),
+        ),
+        (
+            b"daide-log 2\nconfig 60 512 16 2 1\nword XYZ 4A40 press 20 power".as_slice(),
+            LogFault::Memory,
+        ),
+        (
+            b"daide-log 2\nconfig 60 512 16 2 0\n".as_slice(),
+            LogFault::Memory,
+        ),
+        (SMALL_MATCH, LogFault::Memory),
         (b"".as_slice(), LogFault::BadLine(1)),
         (b"daide-log 1\n".as_slice(), LogFault::BadLine(2)),
         (

@@ -1,96 +1,87 @@
-use Rattle.std.proofs.Common.{◌≡◌, ◌+◌, ap, ◌∙◌, subst, Ok, None, Result, List, ℕ, inl, inr, ◌⊎◌}
+use Rattle.std.proofs.Common.{◌≡◌, ◌+◌, sym, ◌∙◌, subst, Ok, None, List, ℕ, ◌⊎◌, length}
 use Rattle.std.specs.Io.KnownBytes.{append_known}
 use Rattle.daide_log.specs.declared.lines.Found.{Found}
-use Rattle.daide_log.specs.declared.fault.LogFault.{LogFault}
 use Rattle.daide_log.specs.declared.fault.LogFault.TheVariants.{BadLine, Write}
-use Rattle.daide_log.specs.LogLine.{event_of_line}
+use Rattle.daide_log.specs.Log.{event_in}
 use Rattle.daide_log.specs.Lines.{IsFound}
-use Rattle.daide_log.specs.Told.{Judges}
-use Rattle.daide_log.proofs.LogLemmas.{plays_more, plays_kept, finished_at_end, finished_at_last, fault_in_play, bad_in_play}
+use Rattle.daide_log.specs.Progress.{Judges, states_of}
+use Rattle.daide_log.proofs.EventLemmas.{plays_more, plays_kept, finished_at_end, finished_at_last, fault_in_play}
+use Rattle.daide_log.proofs.EventLemmas.{bad_in_play, at_end, at_last_line, at_line}
 use Rattle.daide_log.proofs.check.play.Goals as goal
 
 pub returns-in-Err-clause-refused : goal.returns-in-Err-clause-refused
 returns-in-Err-clause-refused g c =
-    fault_in_play _ _ (g.R.Read.remaining c.next_line.new.reader) _ c.next_line.new.block c.next_line.new.text.items _ _ _ _
-    _
+    fault_in_play _ (g.R.Read.remaining c.lines.reader) (g.R.Read.remaining c.next_line.new.reader) c.lines.block
+    c.next_line.new.block c.next_line.new.text.items c.lines.count c.args.version c.lines.sessions.items
+    (length c.args.sessions.now.items) c.lines.summary _
+    (append_known (g.W.Write.contents c.lines.writer) c.lines.page.items)
     (append_known (g.W.Write.contents c.next_line.new.writer) c.next_line.new.page.items) c.in-Err.fault c.lines.invariant
-    (subst (λ (r : Result Found LogFault). IsFound (g.R.Read.remaining c.lines.reader) c.lines.block c.lines.count r
-    c.next_line.new.text.items (g.R.Read.remaining c.next_line.new.reader) c.next_line.new.block)
-    c.in-Err.is c.next_line.ensures.found) c.in-Err.ensures.kept_at_fault
+    c.in-Err.ensures.found c.in-Err.ensures.kept_at_fault
 
-pub returns-in-Ok-End-clause-report : goal.returns-in-Ok-End-clause-report
-returns-in-Ok-End-clause-report g c =
-    finished_at_end _ _ (g.R.Read.remaining c.next_line.new.reader) _ c.next_line.new.block c.next_line.new.text.items _ _ _ _
+pub returns-then-is_end-clause-report : goal.returns-then-is_end-clause-report
+returns-then-is_end-clause-report g c =
+    finished_at_end _ (g.R.Read.remaining c.lines.reader) (g.R.Read.remaining c.next_line.new.reader) c.lines.block
+    c.next_line.new.block c.next_line.new.text.items c.lines.count c.args.version c.lines.sessions.items
+    (length c.args.sessions.now.items) c.lines.summary _
     (append_known (g.W.Write.contents c.next_line.new.writer) c.next_line.new.page.items)
     (append_known (g.W.Write.contents c.finish.new.writer) c.finish.new.page.items) c.finish.result
-    (plays_kept _ _ _ _ _ _ _ _ _ c.lines.invariant c.in-Ok-End.ensures.kept)
-    (subst (λ (r : Result Found LogFault). IsFound (g.R.Read.remaining c.lines.reader) c.lines.block c.lines.count r
+    (plays_kept _ _ _ _ _ _ _ _ _ _ _ c.lines.invariant c.in-Ok.ensures.kept)
+    (subst (λ (f : Found). IsFound (g.R.Read.remaining c.lines.reader) c.lines.block c.lines.count (Ok f)
     c.next_line.new.text.items (g.R.Read.remaining c.next_line.new.reader) c.next_line.new.block)
-    (c.in-Ok-End.is ∙ ap Ok c.in-Ok-End.field-0-is) c.next_line.ensures.found)
+    (at_end c.in-Ok.found (sym c.is_end.ensures ∙ c.if-is_end.true)) c.in-Ok.ensures.found)
     c.finish.ensures.written
 
-pub returns-in-Err-judge-clause-refused : goal.returns-in-Err-judge-clause-refused
-returns-in-Err-judge-clause-refused g c =
-    bad_in_play _ _ (g.R.Read.remaining c.next_line.new.reader) _ c.next_line.new.block c.next_line.new.text.items _ _ _ _
+pub returns-in-Err-judge_line-clause-refused : goal.returns-in-Err-judge_line-clause-refused
+returns-in-Err-judge_line-clause-refused g c =
+    bad_in_play _ (g.R.Read.remaining c.lines.reader) (g.R.Read.remaining c.next_line.new.reader) c.lines.block
+    c.next_line.new.block c.next_line.new.text.items c.lines.count c.args.version c.lines.sessions.items
+    (length c.args.sessions.now.items) c.lines.summary _
     (append_known (g.W.Write.contents c.next_line.new.writer) c.next_line.new.page.items)
-    (append_known (g.W.Write.contents c.judge.new.writer) c.judge.new.page.items) c.in-Err-judge.fault
-    (plays_kept _ _ _ _ _ _ _ _ _ c.lines.invariant c.in-Ok-Line.ensures.kept)
-    (inl (subst (λ (r : Result Found LogFault). IsFound (g.R.Read.remaining c.lines.reader) c.lines.block c.lines.count r
-    c.next_line.new.text.items (g.R.Read.remaining c.next_line.new.reader) c.next_line.new.block)
-    (c.in-Ok-Line.is ∙ ap Ok c.in-Ok-Line.field-0-is) c.next_line.ensures.found))
-    (subst (λ (l : List ℕ). (c.in-Err-judge.fault ≡ Write) ⊎ ((c.in-Err-judge.fault ≡ BadLine (c.lines.count + 1))
-    × (event_of_line l ≡ None) ×
-    (append_known (g.W.Write.contents c.judge.new.writer) c.judge.new.page.items
+    (append_known (g.W.Write.contents c.judge_line.new.writer) c.judge_line.new.page.items) c.in-Ok.found
+    c.in-Err-judge_line.fault
+    (plays_kept _ _ _ _ _ _ _ _ _ _ _ c.lines.invariant c.in-Ok.ensures.kept) c.in-Ok.ensures.found
+    (sym c.is_end.ensures ∙ c.if-is_end.false)
+    (subst (λ (l : List ℕ). (c.in-Err-judge_line.fault ≡ Write) ⊎ ((c.in-Err-judge_line.fault ≡ BadLine (c.lines.count + 1))
+    × (event_in c.args.version (length c.lines.sessions.items) l ≡ None) ×
+    (append_known (g.W.Write.contents c.judge_line.new.writer) c.judge_line.new.page.items
     ≡ append_known (g.W.Write.contents c.next_line.new.writer) c.next_line.new.page.items)))
-    c.as_slice.ensures.value c.in-Err-judge.ensures.refused)
+    c.as_slice.ensures.value c.in-Err-judge_line.ensures.refused)
 
-pub returns-in-Err-judge-2-clause-refused : goal.returns-in-Err-judge-2-clause-refused
-returns-in-Err-judge-2-clause-refused g c =
-    bad_in_play _ _ (g.R.Read.remaining c.next_line.new.reader) _ c.next_line.new.block c.next_line.new.text.items _ _ _ _
+pub returns-then-is_last-clause-report : goal.returns-then-is_last-clause-report
+returns-then-is_last-clause-report g c =
+    finished_at_last _ (g.R.Read.remaining c.lines.reader) (g.R.Read.remaining c.next_line.new.reader) c.lines.block
+    c.next_line.new.block c.next_line.new.text.items c.lines.count c.args.version c.lines.sessions.items
+    c.judge_line.new.sessions.items (length c.args.sessions.now.items) c.lines.summary c.judge_line.new.summary _
     (append_known (g.W.Write.contents c.next_line.new.writer) c.next_line.new.page.items)
-    (append_known (g.W.Write.contents c.judge-in-Ok-Last.new.writer) c.judge-in-Ok-Last.new.page.items) c.in-Err-judge-2.fault
-    (plays_kept _ _ _ _ _ _ _ _ _ c.lines.invariant c.in-Ok-Last.ensures.kept)
-    (inr (subst (λ (r : Result Found LogFault). IsFound (g.R.Read.remaining c.lines.reader) c.lines.block c.lines.count r
+    (append_known (g.W.Write.contents c.judge_line.new.writer) c.judge_line.new.page.items)
+    (append_known (g.W.Write.contents c.finish-then-is_last.new.writer) c.finish-then-is_last.new.page.items)
+    c.finish-then-is_last.result
+    (plays_kept _ _ _ _ _ _ _ _ _ _ _ c.lines.invariant c.in-Ok.ensures.kept)
+    (subst (λ (f : Found). IsFound (g.R.Read.remaining c.lines.reader) c.lines.block c.lines.count (Ok f)
     c.next_line.new.text.items (g.R.Read.remaining c.next_line.new.reader) c.next_line.new.block)
-    (c.in-Ok-Last.is ∙ ap Ok c.in-Ok-Last.field-0-is) c.next_line.ensures.found))
-    (subst (λ (l : List ℕ). (c.in-Err-judge-2.fault ≡ Write) ⊎ ((c.in-Err-judge-2.fault ≡ BadLine (c.lines.count + 1))
-    × (event_of_line l ≡ None) ×
-    (append_known (g.W.Write.contents c.judge-in-Ok-Last.new.writer) c.judge-in-Ok-Last.new.page.items
-    ≡ append_known (g.W.Write.contents c.next_line.new.writer) c.next_line.new.page.items)))
-    c.as_slice-in-Ok-Last.ensures.value c.in-Err-judge-2.ensures.refused)
+    (at_last_line c.in-Ok.found (sym c.is_last.ensures ∙ c.if-is_last.true)) c.in-Ok.ensures.found)
+    (subst (λ (l : List ℕ). Judges c.args.version (c.lines.count + 1) (states_of c.lines.sessions.items) l
+    (states_of c.judge_line.new.sessions.items) c.lines.summary c.judge_line.new.summary
+    (append_known (g.W.Write.contents c.next_line.new.writer) c.next_line.new.page.items)
+    (append_known (g.W.Write.contents c.judge_line.new.writer) c.judge_line.new.page.items))
+    c.as_slice.ensures.value c.in_default.ensures.judged)
+    c.finish-then-is_last.ensures.written
 
 pub lines-preserved : goal.lines-preserved
 lines-preserved g c =
-    plays_more _ _ (g.R.Read.remaining c.next_line.new.reader) _ c.next_line.new.block c.next_line.new.text.items _ _
-    c.judge.new.session _ c.judge.new.summary _
+    plays_more _ (g.R.Read.remaining c.lines.reader) (g.R.Read.remaining c.next_line.new.reader) c.lines.block
+    c.next_line.new.block c.next_line.new.text.items c.lines.count c.args.version c.lines.sessions.items
+    c.judge_line.new.sessions.items (length c.args.sessions.now.items) c.lines.summary c.judge_line.new.summary _
     (append_known (g.W.Write.contents c.next_line.new.writer) c.next_line.new.page.items)
-    (append_known (g.W.Write.contents c.judge.new.writer) c.judge.new.page.items)
-    (plays_kept _ _ _ _ _ _ _ _ _ c.lines.invariant c.in-Ok-Line.ensures.kept)
-    (subst (λ (r : Result Found LogFault). IsFound (g.R.Read.remaining c.lines.reader) c.lines.block c.lines.count r
+    (append_known (g.W.Write.contents c.judge_line.new.writer) c.judge_line.new.page.items)
+    (plays_kept _ _ _ _ _ _ _ _ _ _ _ c.lines.invariant c.in-Ok.ensures.kept)
+    (subst (λ (f : Found). IsFound (g.R.Read.remaining c.lines.reader) c.lines.block c.lines.count (Ok f)
     c.next_line.new.text.items (g.R.Read.remaining c.next_line.new.reader) c.next_line.new.block)
-    (c.in-Ok-Line.is ∙ ap Ok c.in-Ok-Line.field-0-is) c.next_line.ensures.found)
-    (subst (λ (l : List ℕ). Judges (c.lines.count + 1) c.lines.session.state l c.judge.new.session.state c.lines.summary
-    c.judge.new.summary
+    (at_line c.in-Ok.found (sym c.is_end.ensures ∙ c.if-is_end.false) (sym c.is_last.ensures ∙ c.if-is_last.false))
+    c.in-Ok.ensures.found)
+    (subst (λ (l : List ℕ). Judges c.args.version (c.lines.count + 1) (states_of c.lines.sessions.items) l
+    (states_of c.judge_line.new.sessions.items) c.lines.summary c.judge_line.new.summary
     (append_known (g.W.Write.contents c.next_line.new.writer) c.next_line.new.page.items)
-    (append_known (g.W.Write.contents c.judge.new.writer) c.judge.new.page.items))
+    (append_known (g.W.Write.contents c.judge_line.new.writer) c.judge_line.new.page.items))
     c.as_slice.ensures.value c.in_default.ensures.judged)
-    c.judge.ensures.few c.judge.ensures.idle
-
-pub returns-in-Ok-Last-clause-report : goal.returns-in-Ok-Last-clause-report
-returns-in-Ok-Last-clause-report g c =
-    finished_at_last _ _ (g.R.Read.remaining c.next_line.new.reader) _ c.next_line.new.block c.next_line.new.text.items _ _
-    c.judge-in-Ok-Last.new.session _ c.judge-in-Ok-Last.new.summary _
-    (append_known (g.W.Write.contents c.next_line.new.writer) c.next_line.new.page.items)
-    (append_known (g.W.Write.contents c.judge-in-Ok-Last.new.writer) c.judge-in-Ok-Last.new.page.items)
-    (append_known (g.W.Write.contents c.finish-in-Ok-Last.new.writer) c.finish-in-Ok-Last.new.page.items)
-    c.finish-in-Ok-Last.result
-    (plays_kept _ _ _ _ _ _ _ _ _ c.lines.invariant c.in-Ok-Last.ensures.kept)
-    (subst (λ (r : Result Found LogFault). IsFound (g.R.Read.remaining c.lines.reader) c.lines.block c.lines.count r
-    c.next_line.new.text.items (g.R.Read.remaining c.next_line.new.reader) c.next_line.new.block)
-    (c.in-Ok-Last.is ∙ ap Ok c.in-Ok-Last.field-0-is) c.next_line.ensures.found)
-    (subst (λ (l : List ℕ). Judges (c.lines.count + 1) c.lines.session.state l c.judge-in-Ok-Last.new.session.state
-    c.lines.summary c.judge-in-Ok-Last.new.summary
-    (append_known (g.W.Write.contents c.next_line.new.writer) c.next_line.new.page.items)
-    (append_known (g.W.Write.contents c.judge-in-Ok-Last.new.writer) c.judge-in-Ok-Last.new.page.items))
-    c.as_slice-in-Ok-Last.ensures.value c.in_default-judge.ensures.judged)
-    c.finish-in-Ok-Last.ensures.written
+    c.judge_line.ensures.few c.judge_line.ensures.idle c.judge_line.ensures.same

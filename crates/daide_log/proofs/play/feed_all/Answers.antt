@@ -9,7 +9,7 @@ pub loop-session-preserved : goal.loop-session-preserved
 loop-session-preserved g c =
     let live = sym c.is_over.ensures ∙ c.if-not-is_over.true in
     let room = c.room.ensures.waited_for live (idle_free c.loop-session.session c.args.side c.loop-session.invariant.idle) in
-    piece_fed c.args.number c.args.side c.args.bytes.now c.loop-session.rest.now c.split_at.result.0.now
+    piece_fed c.args.source c.args.side c.args.bytes.now c.loop-session.rest.now c.split_at.result.0.now
     c.split_at.result.1.now c.args.session.now.state c.loop-session.session c.feed_piece-told.new.session
     c.args.summary.now c.loop-session.summary c.tell.new.summary _
     (append_known (g.W.Write.contents c.loop-session.writer) c.loop-session.page.items) _
@@ -21,7 +21,7 @@ loop-session-preserved g c =
 
 pub returns-else-not-is_over-clause-told : goal.returns-else-not-is_over-clause-told
 returns-else-not-is_over-clause-told g c =
-    all_fed c.args.number c.args.side c.args.bytes.now c.loop-session.rest.now c.args.session.now.state
+    all_fed c.args.source c.args.side c.args.bytes.now c.loop-session.rest.now c.args.session.now.state
     c.loop-session.session c.args.summary.now c.loop-session.summary _
     (append_known (g.W.Write.contents c.loop-session.writer) c.loop-session.page.items)
     c.loop-session.invariant (inr (sym c.is_over.ensures ∙ c.if-not-is_over.false))

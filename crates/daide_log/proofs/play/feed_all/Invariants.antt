@@ -5,7 +5,7 @@ use Rattle.daide_log.proofs.play.feed_all.Given as goal
 
 abbrev pub invariant-loop-session : goal.invariant-loop-session
 invariant-loop-session g l =
-    HasFed l.number l.side l.fn.bytes l.rest l.fn.session.state l.session l.fn.summary l.summary
+    HasFed l.source l.side l.fn.bytes l.rest l.fn.session.state l.session l.fn.summary l.summary
     (append_known (g.W.Write.contents l.fn.writer) l.fn.page.items)
     (append_known (g.W.Write.contents l.writer) l.page.items)
 

@@ -1,0 +1,427 @@
+-- A session's own log tells what the log of a match tells of it.
+use Rattle.std.proofs.Common.{◌≡◌, ℕ, zero, suc, ◌+◌, ◌-◌, ◌<◌, Bool, true, false, cond, eqb, leb, ◌⊎◌, inl, inr, ◌≢◌}
+use Rattle.std.proofs.Common.{List, [], ◌∷◌, ◌++◌, length, map, set, replicate, codes, Option, Some, None, Ok, Result}
+use Rattle.std.proofs.Common.{refl, sym, ap, ◌∙◌, subst, arith}
+use Rattle.std.specs.Prelude.{◌&&◌, slice_get, option_map}
+use Rattle.std.proofs.lemmas.Bool.{leb-true}
+use Rattle.std.proofs.lemmas.Bool.Decides.{eqb_tells}
+use Rattle.std.proofs.lemmas.List.{length-map}
+use Rattle.std.proofs.lemmas.Option.{same_Some}
+use Rattle.daide_frame.specs.declared.side.Side.{Side}
+use Rattle.daide_frame.proofs.ListLemmas.{eqb_same}
+use Rattle.daide_machine.specs.Machine.{SessionState, Effect, Runs, opening}
+use Rattle.daide_session.specs.declared.config.Config.{Config}
+use Rattle.daide_session.specs.Session.{limits_with}
+use Rattle.daide_log.specs.declared.fault.LogFault.{LogFault}
+use Rattle.daide_log.specs.declared.heading.Version.{Version}
+use Rattle.daide_log.specs.declared.heading.Version.TheVariants.{Single, Match}
+use Rattle.daide_log.specs.declared.match_line.MatchConfig.{MatchConfig}
+use Rattle.daide_log.specs.declared.report.Summary.{Summary}
+use Rattle.daide_log.specs.LogLine.{LogEvent, Traffic, EndOf, TimeOver, Silence, Parted, is_comment, event_of_line}
+use Rattle.daide_log.specs.LogLine.{plain_number, parted_at_space, config_of_line}
+use Rattle.daide_log.specs.MatchLine.{MatchEvent, Of, Quiet, loud, within, event_of_session, match_event_of_parts}
+use Rattle.daide_log.specs.MatchLine.{match_event_of_line, match_config_of_line}
+use Rattle.daide_log.specs.Heading.{Head, Heading, Unnamed, Named, Headed, alone, heading_after}
+use Rattle.daide_log.specs.Report.{Entry, events_of, side_of, entries_of, lines_of, counted_all, nothing_counted, summary_line}
+use Rattle.daide_log.specs.Log.{Stage, Opening, Playing, begun, stage_at, source_in, IsPlayed, GoesOn, Reports, ReportsAll, IsReport}
+use Rattle.daide_log.specs.Laws.{is_number, own_of, own_line, unnumbered, own_told, SessionsAreAlone}
+use Rattle.daide_log.proofs.StepLemmas.{Steps, all_read, all_written}
+
+-- ---- what a line tells
+
+not_quiet : (session : Option ℕ) (event : Option LogEvent) → event_of_session session event ≡ Some Quiet → ⊥
+not_quiet None event e = absurd (cc)
+not_quiet (Some session) None e = absurd (cc)
+not_quiet (Some session) (Some event) e = absurd (cc)
+
+parts_not_quiet : (sessions : ℕ) (parted : Option Parted) → match_event_of_parts sessions parted ≡ Some Quiet → ⊥
+parts_not_quiet sessions None e = absurd (cc)
+parts_not_quiet sessions (Some parted) e =
+    not_quiet (within 1 sessions (plain_number parted.word)) (loud (event_of_line parted.rest)) e
+
+-- a line that tells no session anything is a comment
+quiet_is_comment : (sessions : ℕ) (line : List ℕ) → match_event_of_line sessions line ≡ Some Quiet → is_comment line ≡ true
+unfolding match_event_of_line
+quiet_is_comment sessions line e = go (is_comment line) e
+  where
+    go : (b : Bool) → cond b (Some Quiet) (match_event_of_parts sessions (parted_at_space line)) ≡ Some Quiet → b ≡ true
+    go true k = refl
+    go false k = absurd (parts_not_quiet sessions (parted_at_space line) k)
+
+-- and tells nothing in version 1, too
+hash_is_silent : (cs : List ℕ) → event_of_line (35 ∷ cs) ≡ Some Silence
+unfolding event_of_line
+hash_is_silent cs = refl
+
+comment_is_silent : (line : List ℕ) → is_comment line ≡ true → event_of_line line ≡ Some Silence
+unfolding event_of_line
+comment_is_silent [] h = refl
+comment_is_silent (c ∷ cs) h = go (eqb_tells c 35) h
+  where
+    go : ((eqb c 35 ≡ true) × (c ≡ 35)) ⊎ ((eqb c 35 ≡ false) × (c ≢ 35)) → eqb c 35 ≡ true →
+        event_of_line (c ∷ cs) ≡ Some Silence
+    go (inl t) k = subst (λ (n : ℕ). event_of_line (n ∷ cs) ≡ Some Silence) (sym t.1) (hash_is_silent cs)
+    go (inr t) k = let wrong : false ≡ true = sym t.0 ∙ k in absurd (cc)
+
+record IsTold (sessions : ℕ) (line : List ℕ) (session : ℕ) (event : LogEvent) : Type 0 where
+  spoken : is_comment line ≡ false
+  parted : Parted
+  parts : parted_at_space line ≡ Some parted
+  number : plain_number parted.word ≡ Some session
+  some : 0 < session
+  said : event_of_line parted.rest ≡ Some event
+
+loud_event : (o : Option LogEvent) (event : LogEvent) → loud o ≡ Some event → o ≡ Some event
+loud_event None event e = absurd (cc)
+loud_event (Some (Traffic side bytes)) event e = e
+loud_event (Some (EndOf side)) event e = e
+loud_event (Some TimeOver) event e = e
+loud_event (Some Silence) event e = absurd (cc)
+
+within_number : (most : ℕ) (o : Option ℕ) (n : ℕ) → within 1 most o ≡ Some n → (o ≡ Some n) × (0 < n)
+within_number most None n e = absurd (cc)
+within_number most (Some k) n e = go (leb 1 k) (leb k most) refl e
+  where
+    go : (a b : Bool) → leb 1 k ≡ a → cond (a && b) (Some k) None ≡ Some n → (Some k ≡ Some n) × (0 < n)
+    go true true h w = (w, omega (arith, leb-true 1 k h, same_Some k n w))
+    go true false h w = absurd (cc)
+    go false b h w = absurd (cc)
+
+both_told : (session : Option ℕ) (event : Option LogEvent) (n : ℕ) (said : LogEvent) →
+    event_of_session session event ≡ Some (Of n said) → (session ≡ Some n) × (event ≡ Some said)
+both_told None event n said h = absurd (cc)
+both_told (Some m) None n said h = absurd (cc)
+both_told (Some m) (Some x) n said h = (cc, cc)
+
+is_told : (sessions : ℕ) (line : List ℕ) (session : ℕ) (event : LogEvent) →
+    match_event_of_line sessions line ≡ Some (Of session event) → IsTold sessions line session event
+unfolding match_event_of_line
+is_told sessions line session event e = go (is_comment line) refl e
+  where
+    parts : is_comment line ≡ false → (o : Option Parted) → parted_at_space line ≡ o →
+        match_event_of_parts sessions o ≡ Some (Of session event) → IsTold sessions line session event
+    parts spoken None p k = absurd (cc)
+    parts spoken (Some parted) p k =
+        let both = both_told (within 1 sessions (plain_number parted.word)) (loud (event_of_line parted.rest)) session event k in
+        let number = within_number sessions (plain_number parted.word) session both.0 in
+        record {
+          spoken = spoken;
+          parted = parted;
+          parts = p;
+          number = number.0;
+          some = number.1;
+          said = loud_event (event_of_line parted.rest) event both.1;
+        }
+
+    go : (b : Bool) → is_comment line ≡ b →
+        cond b (Some Quiet) (match_event_of_parts sessions (parted_at_space line)) ≡ Some (Of session event) →
+        IsTold sessions line session event
+    go true spoken k = absurd (cc)
+    go false spoken k = parts spoken (parted_at_space line) refl k
+
+-- a session's line without its number, and `#` for another's
+own_is : (sessions : ℕ) (line : List ℕ) (k : ℕ) (event : LogEvent) (session : ℕ) (t : IsTold sessions line k event) →
+    own_line session line ≡ cond (eqb k session) t.parted.rest (codes "#")
+own_is sessions line k event session t =
+    ap (λ (b : Bool). cond b line (own_of session (parted_at_space line))) t.spoken
+    ∙ ap (own_of session) t.parts
+    ∙ ap (λ (o : Option ℕ). cond (is_number session o) t.parted.rest (codes "#")) t.number
+
+-- ---- what is told of a session
+
+own_told-append : (session : ℕ) (a b : List Entry) → own_told session (a ++ b) ≡ own_told session a ++ own_told session b
+own_told-append session [] b = refl
+own_told-append session (entry ∷ a) b = go (is_number session entry.source.session) (own_told-append session a b)
+  where
+    go : (k : Bool) → own_told session (a ++ b) ≡ own_told session a ++ own_told session b →
+        cond k (unnumbered entry ∷ own_told session (a ++ b)) (own_told session (a ++ b))
+        ≡ cond k (unnumbered entry ∷ own_told session a) (own_told session a) ++ own_told session b
+    go true later = ap (λ (l : List Entry). unnumbered entry ∷ l) later
+    go false later = later
+
+own_entries : (session line : ℕ) (side : Side) (moves : List Effect) →
+    own_told session (entries_of (source_in Match line session) side moves) ≡ entries_of (source_in Single line 1) side moves
+own_entries session line side [] = refl
+own_entries session line side (move ∷ moves) =
+    ap (λ (b : Bool). cond b (unnumbered here ∷ own_told session rest) (own_told session rest)) (eqb_same session)
+    ∙ ap (λ (l : List Entry). unnumbered here ∷ l) (own_entries session line side moves)
+  where
+    here : Entry
+    here = record { source = source_in Match line session; side = side; told = move.told }
+
+    rest : List Entry
+    rest = entries_of (source_in Match line session) side moves
+
+other_entries : (session k line : ℕ) (side : Side) (moves : List Effect) → eqb k session ≡ false →
+    own_told session (entries_of (source_in Match line k) side moves) ≡ []
+other_entries session k line side [] e = refl
+other_entries session k line side (move ∷ moves) e =
+    ap (λ (b : Bool). cond b (unnumbered here ∷ own_told session rest) (own_told session rest)) e
+    ∙ other_entries session k line side moves e
+  where
+    here : Entry
+    here = record { source = source_in Match line k; side = side; told = move.told }
+
+    rest : List Entry
+    rest = entries_of (source_in Match line k) side moves
+
+-- ---- a list of sessions
+
+get_set_same : (l : List SessionState) (i : ℕ) (x y : SessionState) → slice_get l i ≡ Some x → slice_get (set l i y) i ≡ Some y
+get_set_same [] i x y e = absurd (cc)
+get_set_same (z ∷ l) zero x y e = refl
+get_set_same (z ∷ l) (suc i) x y e = get_set_same l i x y e
+
+get_set_other : (l : List SessionState) (i j : ℕ) (y : SessionState) → i ≢ j → slice_get (set l i y) j ≡ slice_get l j
+get_set_other [] i j y h = refl
+get_set_other (z ∷ l) zero zero y h = absurd (h refl)
+get_set_other (z ∷ l) zero (suc j) y h = refl
+get_set_other (z ∷ l) (suc i) zero y h = refl
+get_set_other (z ∷ l) (suc i) (suc j) y h = get_set_other l i j y (λ e. h (ap (λ (n : ℕ). suc n) e))
+
+get_replicate : (n i : ℕ) (x : SessionState) → i < n → slice_get (replicate n x) i ≡ Some x
+get_replicate zero i x h = absurd (omega arith)
+get_replicate (suc n) zero x h = refl
+get_replicate (suc n) (suc i) x h = get_replicate n i x (omega arith)
+
+-- ---- one line
+
+-- by a line of the match the session goes on as by its own line
+record GoesAlone (session number : ℕ) (line : List ℕ) (told : List Entry) (new : Stage) (state : SessionState) : Type 0 where
+  sessions : List SessionState
+  next : SessionState
+  stage : new ≡ Playing Match sessions
+  place : slice_get sessions (session - 1) ≡ Some next
+  own : GoesOn number (Playing Single (state ∷ [])) (own_line session line) (own_told session told)
+      (Playing Single (next ∷ []))
+
+-- a line that tells nothing
+silent : (session number : ℕ) (line : List ℕ) (told : List Entry) (new : Stage) (states : List SessionState)
+    (state : SessionState) → new ≡ Playing Match states → slice_get states (session - 1) ≡ Some state →
+    event_of_line (own_line session line) ≡ Some Silence → own_told session told ≡ [] →
+    GoesAlone session number line told new state
+silent session number line told new states state e place is_silent none = record {
+  sessions = states;
+  next = state;
+  stage = e;
+  place = place;
+  own = (
+    Of 1 Silence,
+    ap (option_map (Of 1)) is_silent,
+    state ∷ [],
+    (state, state, [], refl, (refl, refl), none, refl),
+    refl,
+  );
+}
+
+one_line_alone : (session number : ℕ) (line : List ℕ) (told : List Entry) (states : List SessionState) (new : Stage)
+    (state : SessionState) → 0 < session → slice_get states (session - 1) ≡ Some state →
+    GoesOn number (Playing Match states) line told new → GoesAlone session number line told new state
+one_line_alone session number line told states new state some place on = by_event on.0 on.1 on.3
+  where
+    by_event : (event : MatchEvent) → match_event_of_line (length states) line ≡ Some event →
+        IsPlayed Match number event states told on.2 → GoesAlone session number line told new state
+    by_event Quiet e played =
+        let comment = quiet_is_comment (length states) line e in
+        silent session number line told new states state (on.4 ∙ ap (Playing Match) played.1) place
+        (ap event_of_line (ap (λ (b : Bool). cond b line (own_of session (parted_at_space line))) comment)
+        ∙ comment_is_silent line comment)
+        (ap (own_told session) played.0)
+    by_event (Of k event) e played = go (eqb_tells k session)
+      where
+        t : IsTold (length states) line k event
+        t = is_told (length states) line k event e
+
+        go : ((eqb k session ≡ true) × (k ≡ session)) ⊎ ((eqb k session ≡ false) × (k ≢ session)) →
+            GoesAlone session number line told new state
+        go (inl same) =
+            let own : own_line session line ≡ t.parted.rest =
+            own_is (length states) line k event session t
+            ∙ ap (λ (b : Bool). cond b t.parted.rest (codes "#")) same.0 in
+            let before : played.0 ≡ state =
+            same_Some played.0 state (sym played.3 ∙ ap (λ (n : ℕ). slice_get states (n - 1)) same.1 ∙ place) in
+            record {
+              sessions = on.2;
+              next = played.1;
+              stage = on.4;
+              place = ap (λ (l : List SessionState). slice_get l (session - 1)) played.6
+                  ∙ ap (λ (n : ℕ). slice_get (set states (n - 1) played.1) (session - 1)) same.1
+                  ∙ get_set_same states (session - 1) state played.1 place;
+              own = (
+                Of 1 event,
+                ap (option_map (Of 1)) (ap event_of_line own ∙ t.said),
+                played.1 ∷ [],
+                (
+                  state,
+                  played.1,
+                  played.2,
+                  refl,
+                  subst (λ (s : SessionState). Runs s (events_of event) played.2 played.1) before played.4,
+                  ap (own_told session) (played.5
+                      ∙ ap (λ (n : ℕ). entries_of (source_in Match number n) (side_of event) played.2) same.1)
+                      ∙ own_entries session number (side_of event) played.2,
+                  refl,
+                ),
+                refl,
+              );
+            }
+        go (inr other) =
+            silent session number line told new on.2 state on.4
+            (ap (λ (l : List SessionState). slice_get l (session - 1)) played.6
+            ∙ get_set_other states (k - 1) (session - 1) played.1
+            (λ w. other.1 (omega (arith, w, t.some, some))) ∙ place)
+            (ap event_of_line (own_is (length states) line k event session t
+            ∙ ap (λ (b : Bool). cond b t.parted.rest (codes "#")) other.0) ∙ hash_is_silent [])
+            (ap (own_told session) played.5 ∙ other_entries session k number (side_of event) played.2 other.0)
+
+-- ---- all lines
+
+record GoAlone (session number : ℕ) (lines : List (List ℕ)) (told : List Entry) (new : Stage) (state : SessionState) : Type 0
+  where
+    sessions : List SessionState
+    next : SessionState
+    stage : new ≡ Playing Match sessions
+    own : Steps number (Playing Single (state ∷ [])) (map (own_line session) lines) (own_told session told)
+        (Playing Single (next ∷ []))
+
+lines_alone : (lines : List (List ℕ)) (session number : ℕ) (told : List Entry) (states : List SessionState) (new : Stage)
+    (state : SessionState) → 0 < session → slice_get states (session - 1) ≡ Some state →
+    Steps number (Playing Match states) lines told new → GoAlone session number lines told new state
+lines_alone [] session number told states new state some place steps = record {
+  sessions = states;
+  next = state;
+  stage = steps.1;
+  own = (ap (own_told session) steps.0, refl);
+}
+lines_alone (line ∷ lines) session number told states new state some place steps =
+    let here = one_line_alone session (number + 1) line steps.1 states steps.0 state some place steps.3 in
+    let rest = lines_alone lines session (number + 1) steps.2 here.sessions new here.next some here.place
+    (subst (λ (s : Stage). Steps (number + 1) s lines steps.2 new) here.stage steps.4) in
+    record {
+      sessions = rest.sessions;
+      next = rest.next;
+      stage = rest.stage;
+      own = (
+        Playing Single (here.next ∷ []),
+        own_told session steps.1,
+        own_told session steps.2,
+        here.own,
+        rest.own,
+        ap (own_told session) steps.5 ∙ own_told-append session steps.1 steps.2,
+      );
+    }
+
+-- ---- the head
+
+-- the head with a line more
+opens : (number : ℕ) (old heading : Heading) (line : List ℕ) (told : List Entry) (new : Stage) →
+    GoesOn number (Opening old) line told new → heading_after old line ≡ Some heading →
+    (told ≡ []) × (new ≡ stage_at heading)
+opens number old heading line told new on e = (on.2, on.3 ∙ ap stage_at (same_Some on.0 heading (sym on.1 ∙ e)))
+
+-- what a match's second line sets, where there are no words
+match_head : MatchConfig → Head
+match_head limits = record { version = Match; limits = limits; words = [] }
+
+match_begins : (limits : MatchConfig) → limits.words ≡ 0 → stage_at (Headed (match_head limits)) ≡ begun (match_head limits)
+unfolding match_head
+match_begins limits none = ap (λ (n : ℕ). cond (eqb 0 n) (begun (match_head limits)) (Opening (Headed (match_head limits)))) none
+
+opening_of : MatchConfig → SessionState
+opening_of limits = opening (limits_with limits.config [])
+
+-- behind the first two lines of a match without words
+match_opened : (second : List ℕ) (lines : List (List ℕ)) (limits : MatchConfig) (told : List Entry) (new : Stage) →
+    match_config_of_line second ≡ Some limits → limits.words ≡ 0 →
+    Steps 0 (Opening Unnamed) (codes "daide-log 2" ∷ second ∷ lines) told new →
+    Steps 2 (Playing Match (replicate limits.sessions (opening_of limits))) lines told new
+unfolding match_head opening_of
+match_opened second lines limits told new e none steps =
+    let named = opens 1 Unnamed (Named Match) (codes "daide-log 2") steps.1 steps.0 steps.3 refl in
+    let later : Steps 1 (Opening (Named Match)) (second ∷ lines) steps.2 new =
+    subst (λ (s : Stage). Steps 1 s (second ∷ lines) steps.2 new) named.1 steps.4 in
+    let headed = opens 2 (Named Match) (Headed (match_head limits)) second later.1 later.0 later.3
+    (ap (option_map (λ (l : MatchConfig). Headed (record { version = Match; limits = l; words = [] }))) e) in
+    let events : Steps 2 (begun (match_head limits)) lines later.2 new =
+    subst (λ (s : Stage). Steps 2 s lines later.2 new) (headed.1 ∙ match_begins limits none) later.4 in
+    subst (λ (t : List Entry). Steps 2 (begun (match_head limits)) lines t new)
+    (sym (steps.5 ∙ ap (λ (t : List Entry). t ++ steps.2) named.0 ∙ later.5 ∙ ap (λ (t : List Entry). t ++ later.2) headed.0))
+    events
+
+-- the first two lines of the session's own log
+own_opened : (own_second : List ℕ) (lines : List (List ℕ)) (config : Config) (told : List Entry) (new : Stage) →
+    config_of_line own_second ≡ Some config →
+    Steps 2 (Playing Single (opening (limits_with config []) ∷ [])) lines told new →
+    Steps 0 (Opening Unnamed) (codes "daide-log 1" ∷ own_second ∷ lines) told new
+own_opened own_second lines config told new e steps = (
+  Opening (Named Single),
+  [],
+  told,
+  (Named Single, refl, refl, refl),
+  (
+    Playing Single (opening (limits_with config []) ∷ []),
+    [],
+    told,
+    (
+      Headed (record { version = Single; limits = alone config; words = [] }),
+      ap (λ (o : Option Config). option_map (λ (l : MatchConfig). Headed (record { version = Single; limits = l; words = [] }))
+          (option_map alone o)) e,
+      refl,
+      refl,
+    ),
+    steps,
+    refl,
+  ),
+  refl,
+)
+
+-- ---- the whole
+
+-- a report without a fault is of a log that was read to its end
+record IsWhole (log text : List ℕ) (summary : Summary) : Type 0 where
+  number : ℕ
+  told : List Entry
+  version : Version
+  sessions : List SessionState
+  reports : ReportsAll log number told (Playing version sessions)
+  counts : summary ≡ counted_all told nothing_counted
+  written : text ≡ lines_of told ++ summary_line summary
+
+is_whole_report : (log text : List ℕ) (answer : Result Summary LogFault) (summary : Summary) → IsReport log text answer →
+    answer ≡ Ok summary → IsWhole log text summary
+is_whole_report _ _ _ summary (IsReport.whole log number told version sessions reports) e =
+    let counts : counted_all told nothing_counted ≡ summary = cc in
+    record {
+      number = number;
+      told = told;
+      version = version;
+      sessions = sessions;
+      reports = reports;
+      counts = sym counts;
+      written = ap (λ (s : Summary). lines_of told ++ summary_line s) counts;
+    }
+is_whole_report _ _ _ summary (IsReport.cut_short log number told stage reports is_opening) e = absurd (cc)
+is_whole_report _ _ _ summary (IsReport.bad bytes number told stage reports line after few unbroken short wrong) e = absurd (cc)
+is_whole_report _ _ _ summary (IsReport.bad_last bytes number told stage reports line few some unbroken short wrong) e = absurd (cc)
+is_whole_report _ _ _ summary (IsReport.too_long bytes number told stage reports line after few unbroken long) e = absurd (cc)
+is_whole_report _ _ _ summary (IsReport.too_many bytes told stage reports after some) e = absurd (cc)
+
+pub sessions_alone : SessionsAreAlone
+unfolding opening_of
+sessions_alone log own second own_second lines limits session text summary h second_is none some few k own_is report =
+    let w = is_whole_report log text (Ok summary) summary report refl in
+    let read = all_read log w.number w.told (Playing w.version w.sessions) w.reports
+    (codes "daide-log 2" ∷ second ∷ lines) h in
+    let events = match_opened second lines limits w.told (Playing w.version w.sessions) second_is none read.0 in
+    let state : SessionState = opening_of limits in
+    let alone_steps = lines_alone lines session 2 w.told (replicate limits.sessions state) (Playing w.version w.sessions)
+    state some (get_replicate limits.sessions (session - 1) state (omega (arith, some, few))) events in
+    let own_steps = own_opened own_second (map (own_line session) lines) limits.config (own_told session w.told)
+    (Playing Single (alone_steps.next ∷ [])) own_is alone_steps.own in
+    let all = all_written (codes "daide-log 1" ∷ own_second ∷ map (own_line session) lines) own [] 0 []
+    (own_told session w.told) (Opening Unnamed) (Playing Single (alone_steps.next ∷ [])) k Reports.none own_steps
+    (omega (arith, read.1, length-map lines (own_line session))) in (
+      w.told,
+      w.written,
+      IsReport.whole own all.0 (own_told session w.told) Single (alone_steps.next ∷ []) all.1,
+    )

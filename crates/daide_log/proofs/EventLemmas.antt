@@ -1,0 +1,254 @@
+-- The lines of a log behind its head.
+use Rattle.std.proofs.Common.{◌≡◌, ℕ, ◌+◌, ◌-◌, ◌*◌, ◌<◌, ◌≤◌, List, [], ◌++◌, length, get_or, set, Option, Some, None}
+use Rattle.std.proofs.Common.{Result, Ok, Err, refl, sym, ap, ◌∙◌, subst, arith, ◌⊎◌, inl, inr, IfOk, OnOk, ◌≢◌, ◌∷◌, true, false}
+use Rattle.std.specs.Prelude.{All, option_map, replicate}
+use Rattle.std.proofs.lemmas.List.{length-map, map-set, map-append, replicate_more}
+use Rattle.std.proofs.lemmas.Option.{slice_get-map, slice_get_read}
+use Rattle.std.specs.Io.KnownBytes.{Keeps, Appends}
+use Rattle.daide_machine.specs.Machine.{Limits, SessionState, opening}
+use Rattle.daide_machine.specs.Wires.{Gateway, IsNew}
+use Rattle.daide_log.specs.declared.heading.Version.{Version}
+use Rattle.daide_log.specs.declared.report.Source.{Source}
+use Rattle.daide_log.specs.declared.report.Summary.{Summary}
+use Rattle.daide_log.specs.declared.lines.Found.{Found}
+use Rattle.daide_log.specs.declared.lines.Found.TheVariants.{Line, Last, End}
+use Rattle.daide_log.specs.declared.fault.LogFault.{LogFault}
+use Rattle.daide_log.specs.declared.fault.LogFault.TheVariants as Faults
+use Rattle.daide_log.specs.LogLine.{LogEvent}
+use Rattle.daide_log.specs.MatchLine.{Of, Quiet}
+use Rattle.daide_log.specs.Report.{Entry, events_of, side_of, entries_of, lines_of, counted_all, nothing_counted, summary_line}
+use Rattle.daide_log.specs.Log.{Playing, event_in, source_in, most_lines}
+use Rattle.daide_log.specs.Lines.{IsFound, is_end, is_last}
+use Rattle.daide_log.specs.Told.{HasRoom, IsMoreBy, IsIdle, Tells}
+use Rattle.daide_log.specs.Progress.{HasRead, IsFaultOf, IsFaultAfter, Reported, IsPlaying, Judges, states_of}
+use Rattle.daide_log.proofs.PageLemmas.{appends_and_keeps}
+use Rattle.daide_log.proofs.PlayLemmas.{appends_more, appends_none, lines_of-append, counted_all-append}
+use Rattle.daide_log.proofs.LogLemmas.{line_read, last_read, end_read, bad_line, bad_last, fault_found, fault_after, finished}
+
+-- ---- one line
+
+-- a session was told what a line tells it
+pub session_judged : (version : Version) (number session : ℕ) (event : LogEvent) (line : List ℕ) (items : List Gateway)
+    (old new : Gateway) (source : Source) (s t : Summary) (a b : Option (List ℕ)) →
+    event_in version (length items) line ≡ Some (Of session event) → 0 < session → session ≤ length items →
+    old ≡ get_or items (session - 1) old → source ≡ source_in version number session →
+    Tells source (side_of event) old.state (events_of event) new.state s t a b →
+    Judges version number (states_of items) line (states_of (set items (session - 1) new)) s t a b
+session_judged version number session event line items old new source s t a b is_event some few read is_source told = (
+  entries_of source (side_of event) told.0,
+  (
+    Of session event,
+    ap (λ (n : ℕ). event_in version n line) (length-map items (λ (g : Gateway). g.state)) ∙ is_event,
+    states_of (set items (session - 1) new),
+    (
+      old.state,
+      new.state,
+      told.0,
+      slice_get-map (λ (g : Gateway). g.state) items (session - 1)
+          ∙ ap (option_map (λ (g : Gateway). g.state))
+          (slice_get_read items (length items) (session - 1) old refl (omega arith) read),
+      told.1,
+      ap (λ (k : Source). entries_of k (side_of event) told.0) is_source,
+      map-set (λ (g : Gateway). g.state) items (session - 1) new,
+    ),
+    refl,
+  ),
+  told.2,
+  told.3,
+)
+
+-- a line tells nothing
+pub nothing_judged : (version : Version) (number : ℕ) (line : List ℕ) (items : List Gateway) (s : Summary)
+    (a : Option (List ℕ)) → event_in version (length items) line ≡ Some Quiet →
+    Judges version number (states_of items) line (states_of items) s s a a
+nothing_judged version number line items s a is_event = (
+  [],
+  (
+    Quiet,
+    ap (λ (n : ℕ). event_in version n line) (length-map items (λ (g : Gateway). g.state)) ∙ is_event,
+    states_of items,
+    (refl, refl),
+    refl,
+  ),
+  refl,
+  appends_none a,
+)
+
+pub on_ok : {A E : Type 0} (r : Result A E) (P Q : Type 0) → OnOk r P → (P → Q) → OnOk r Q
+on_ok (Ok x) P Q h f = f h
+on_ok (Err e) P Q h f = tt
+
+pub new_is_idle : (limits : Limits) (session : Gateway) → IsNew limits session → IsIdle session
+new_is_idle limits session new = record { bot = new.to_bot; server = new.to_server }
+
+-- one session more was made
+pub one_more_opened : (limits : Limits) (items : List Gateway) (n : ℕ) (session : Gateway) →
+    states_of items ≡ replicate n (opening limits) → IsNew limits session →
+    states_of (items ++ session ∷ []) ≡ replicate (n + 1) (opening limits)
+one_more_opened limits items n session h new =
+    map-append (λ (g : Gateway). g.state) items (session ∷ [])
+    ∙ ap (λ (l : List SessionState). l ++ session.state ∷ []) h
+    ∙ ap (λ (s : SessionState). replicate n (opening limits) ++ s ∷ []) new.state
+    ∙ replicate_more n (opening limits)
+
+-- ---- between two lines
+
+-- what is so whatever came before, and how far the log has come
+pub record Plays (start : Option (List ℕ) → Type 0) (now : Option (List ℕ)) (held : List ℕ) (number : ℕ) (version : Version)
+    (sessions : List Gateway) (count : ℕ) (summary : Summary) (before after : Option (List ℕ)) : Type 0 where
+  pub idle : All IsIdle sessions
+  pub size : length sessions ≡ count
+  pub few : IsMoreBy (1024 * number) nothing_counted summary
+  pub fits : number ≤ most_lines
+  pub playing : (origin : Option (List ℕ)) → start origin →
+      IsPlaying origin now held number version (states_of sessions) summary before after
+
+pub plays_first : (now : Option (List ℕ)) (held : List ℕ) (number : ℕ) (version : Version) (sessions : List Gateway)
+    (summary : Summary) (a : Option (List ℕ)) → All IsIdle sessions → number ≤ most_lines → summary ≡ nothing_counted →
+    Plays (λ origin. HasRead origin now held number [] (Playing version (states_of sessions))) now held number version
+    sessions (length sessions) summary a a
+plays_first now held number version sessions summary a idle fits e = record {
+  idle = idle;
+  size = refl;
+  few = subst (IsMoreBy (1024 * number) nothing_counted) (sym e)
+      (record { relayed = omega arith; prn = omega arith; huh = omega arith; faults = omega arith });
+  fits = fits;
+  playing = λ origin h. record { told = []; has_read = h; counts = e; written = appends_none a };
+}
+
+-- what is held back was handed over
+pub plays_kept : (start : Option (List ℕ) → Type 0) (now : Option (List ℕ)) (held : List ℕ) (n : ℕ) (version : Version)
+    (sessions : List Gateway) (count : ℕ) (s : Summary) (a b c : Option (List ℕ)) →
+    Plays start now held n version sessions count s a b → Keeps b c → Plays start now held n version sessions count s a c
+plays_kept start now held n version sessions count s a b c p k = record {
+  idle = p.idle;
+  size = p.size;
+  few = p.few;
+  fits = p.fits;
+  playing = λ origin h. let q = p.playing origin h in record {
+    told = q.told;
+    has_read = q.has_read;
+    counts = q.counts;
+    written = appends_and_keeps a b c (lines_of q.told) q.written k;
+  };
+}
+
+pub has_room : (n : ℕ) (s : Summary) → n ≤ most_lines → IsMoreBy (1024 * n) nothing_counted s → HasRoom 1024 s
+has_room n s h few = record { relayed = omega arith; prn = omega arith; huh = omega arith; faults = omega arith }
+
+more_few : (n : ℕ) (s t : Summary) → IsMoreBy (1024 * n) nothing_counted s → IsMoreBy 1024 s t →
+    IsMoreBy (1024 * (n + 1)) nothing_counted t
+more_few n s t h k = record { relayed = omega arith; prn = omega arith; huh = omega arith; faults = omega arith }
+
+-- what was told so far, with what a line told
+more_counts : (told more : List Entry) (s t : Summary) → s ≡ counted_all told nothing_counted → t ≡ counted_all more s →
+    t ≡ counted_all (told ++ more) nothing_counted
+more_counts told more s t h k = k ∙ ap (counted_all more) h ∙ sym (counted_all-append told more nothing_counted)
+
+more_text : (told more : List Entry) (a b c : Option (List ℕ)) → Appends a b (lines_of told) → Appends b c (lines_of more) →
+    Appends a c (lines_of (told ++ more))
+more_text told more a b c h k =
+    subst (Appends a c) (sym (lines_of-append told more)) (appends_more a b c (lines_of told) (lines_of more) h k)
+
+-- a line was judged
+pub plays_more : (start : Option (List ℕ) → Type 0) (now new : Option (List ℕ)) (held rest line : List ℕ) (n : ℕ)
+    (version : Version) (sessions next : List Gateway) (count : ℕ) (s t : Summary) (a b c : Option (List ℕ)) →
+    Plays start now held n version sessions count s a b → IsFound now held n (Ok Line) line new rest →
+    Judges version (n + 1) (states_of sessions) line (states_of next) s t b c → IsMoreBy 1024 s t → All IsIdle next →
+    length next ≡ length sessions → Plays start new rest (n + 1) version next count t a c
+plays_more start now new held rest line n version sessions next count s t a b c p f j few idle same = record {
+  idle = idle;
+  size = same ∙ p.size;
+  few = more_few n s t p.few few;
+  fits = omega (arith, f.4);
+  playing = λ origin h. let q = p.playing origin h in record {
+    told = q.told ++ j.0;
+    has_read = line_read origin now new held rest line n q.told j.0 (Playing version (states_of sessions))
+        (Playing version (states_of next)) q.has_read f j.1;
+    counts = more_counts q.told j.0 s t q.counts j.2;
+    written = more_text q.told j.0 a b c q.written j.3;
+  };
+}
+
+-- ---- what was found
+
+pub at_end : (found : Found) → is_end found ≡ true → found ≡ End
+at_end Line e = absurd (cc)
+at_end Last e = absurd (cc)
+at_end End e = refl
+
+pub at_last_line : (found : Found) → is_last found ≡ true → found ≡ Last
+at_last_line Line e = absurd (cc)
+at_last_line Last e = refl
+at_last_line End e = absurd (cc)
+
+pub at_line : (found : Found) → is_end found ≡ false → is_last found ≡ false → found ≡ Line
+at_line Line e k = refl
+at_line Last e k = absurd (cc)
+at_line End e k = absurd (cc)
+
+-- ---- the end
+
+pub finished_at_end : (start : Option (List ℕ) → Type 0) (now new : Option (List ℕ)) (held rest line : List ℕ) (n : ℕ)
+    (version : Version) (sessions : List Gateway) (count : ℕ) (s : Summary) (a b c : Option (List ℕ))
+    (result : Result Summary LogFault) → Plays start now held n version sessions count s a b →
+    IsFound now held n (Ok End) line new rest → IfOk result (λ answer. (answer ≡ s) × Appends b c (summary_line s)) →
+    (origin : Option (List ℕ)) → start origin → IfOk result (λ answer. Reported origin a c answer)
+finished_at_end start now new held rest line n version sessions count s a b c result p f r origin h =
+    let q = p.playing origin h in
+    finished origin new n q.told version (states_of sessions) s a b c result
+    (end_read origin now new held rest line n q.told (Playing version (states_of sessions)) q.has_read f) q.counts
+    q.written r
+
+pub finished_at_last : (start : Option (List ℕ) → Type 0) (now new : Option (List ℕ)) (held rest line : List ℕ) (n : ℕ)
+    (version : Version) (sessions next : List Gateway) (count : ℕ) (s t : Summary) (a b c d : Option (List ℕ))
+    (result : Result Summary LogFault) → Plays start now held n version sessions count s a b →
+    IsFound now held n (Ok Last) line new rest →
+    Judges version (n + 1) (states_of sessions) line (states_of next) s t b c →
+    IfOk result (λ answer. (answer ≡ t) × Appends c d (summary_line t)) →
+    (origin : Option (List ℕ)) → start origin → IfOk result (λ answer. Reported origin a d answer)
+finished_at_last start now new held rest line n version sessions next count s t a b c d result p f j r origin h =
+    let q = p.playing origin h in
+    finished origin new (n + 1) (q.told ++ j.0) version (states_of next) t a c d result
+    (last_read origin now new held rest line n q.told j.0 (Playing version (states_of sessions))
+    (Playing version (states_of next)) q.has_read f j.1)
+    (more_counts q.told j.0 s t q.counts j.2) (more_text q.told j.0 a b c q.written j.3) r
+
+-- ---- faults
+
+pub fault_in_play : (start : Option (List ℕ) → Type 0) (now new : Option (List ℕ)) (held rest line : List ℕ) (n : ℕ)
+    (version : Version) (sessions : List Gateway) (count : ℕ) (s : Summary) (a b c : Option (List ℕ)) (fault : LogFault) →
+    Plays start now held n version sessions count s a b → IsFound now held n (Err fault) line new rest →
+    (fault ≢ Faults.Write → Keeps b c) → (origin : Option (List ℕ)) → start origin → IsFaultAfter origin new a c fault
+fault_in_play start now new held rest line n version sessions count s a b c fault p f k origin h =
+    let q = p.playing origin h in
+    fault_after origin new q.told a c fault
+    (fault_found origin now new held rest line n q.told (Playing version (states_of sessions)) fault q.has_read f)
+    (λ other. appends_and_keeps a b c (lines_of q.told) q.written (k other))
+
+-- a line of another form, or a failed write
+pub bad_in_play : (start : Option (List ℕ) → Type 0) (now new : Option (List ℕ)) (held rest line : List ℕ) (n : ℕ)
+    (version : Version) (sessions : List Gateway) (count : ℕ) (s : Summary) (a b c : Option (List ℕ)) (found : Found)
+    (fault : LogFault) → Plays start now held n version sessions count s a b → IsFound now held n (Ok found) line new rest →
+    is_end found ≡ false →
+    (fault ≡ Faults.Write) ⊎ ((fault ≡ Faults.BadLine (n + 1)) × (event_in version (length sessions) line ≡ None)
+    × (c ≡ b)) → (origin : Option (List ℕ)) → start origin → IsFaultAfter origin new a c fault
+bad_in_play start now new held rest line n version sessions count s a b c found fault p f other (inl e) origin h =
+    subst (IsFaultAfter origin new a c) (sym e) tt
+bad_in_play start now new held rest line n version sessions count s a b c found fault p f other (inr r) origin h =
+    subst (IsFaultAfter origin new a c) (sym r.0)
+    (q.told, is_fault found f other, subst (λ (w : Option (List ℕ)). Appends a w (lines_of q.told)) (sym r.2) q.written)
+  where
+    q : IsPlaying origin now held n version (states_of sessions) s a b
+    q = p.playing origin h
+
+    is_bad : event_in version (length (states_of sessions)) line ≡ None
+    is_bad = ap (λ (k : ℕ). event_in version k line) (length-map sessions (λ (g : Gateway). g.state)) ∙ r.1
+
+    is_fault : (found : Found) → IsFound now held n (Ok found) line new rest → is_end found ≡ false →
+        IsFaultOf origin new q.told (Faults.BadLine (n + 1))
+    is_fault Line f other =
+        bad_line origin now new held rest line n q.told (Playing version (states_of sessions)) q.has_read f is_bad
+    is_fault Last f other =
+        bad_last origin now new held rest line n q.told (Playing version (states_of sessions)) q.has_read f is_bad
+    is_fault End f other = absurd (cc)

@@ -1,0 +1,159 @@
+-- The head of a log, line by line.
+use Rattle.std.proofs.Common.{◌≡◌, ℕ, ◌+◌, ◌≤◌, Bool, true, false, cond, List, [], Option, Some, None, Result, Ok, Err}
+use Rattle.std.proofs.Common.{refl, sym, ap, subst, arith, ◌≢◌, OnOk, IfErr, IfSome}
+use Rattle.std.specs.Prelude.{option_map, not}
+use Rattle.std.proofs.lemmas.Option.{same_Some}
+use Rattle.daide_log.specs.declared.lines.Found.{Found}
+use Rattle.daide_log.specs.declared.lines.Found.TheVariants.{Line, Last, End}
+use Rattle.daide_log.specs.declared.fault.LogFault.{LogFault}
+use Rattle.daide_log.specs.declared.fault.LogFault.TheVariants as Faults
+use Rattle.daide_log.specs.declared.opening.Opened.{Opened}
+use Rattle.daide_log.specs.declared.opening.Step.{Step}
+use Rattle.daide_log.specs.declared.opening.Step.TheVariants.{More}
+use Rattle.daide_log.specs.declared.heading.Head as heads
+use Rattle.daide_log.specs.declared.heading.Heading as headings
+use Rattle.daide_log.specs.declared.heading.Heading.TheVariants as Variants
+use Rattle.daide_log.specs.Heading.{Headed, HasSessions, heading_after, is_whole}
+use Rattle.daide_log.specs.Held.{head_of, heading_of, IsHeld, whole, further, at_last, after_line}
+use Rattle.std.specs.Io.KnownBytes.{Keeps}
+use Rattle.daide_log.specs.Log.{Opening, stage_at, begun, most_lines}
+use Rattle.daide_log.specs.Lines.{IsFound}
+use Rattle.daide_log.specs.Progress.{HasRead, HasReadAll, IsStep, IsOpened, IsOpenedBy, IsFaultAfter}
+use Rattle.daide_log.proofs.LogLemmas.{line_read, last_read, end_read, bad_line, bad_last, ends_early, fault_found}
+
+-- where a head is not whole a line of it is to come
+pub more_to_come : (heading : headings.Heading) → whole heading ≡ None →
+    stage_at (heading_of heading) ≡ Opening (heading_of heading)
+more_to_come Variants.Unnamed e = refl
+more_to_come (Variants.Named version) e = refl
+more_to_come (Variants.Headed head) e = go (is_whole (head_of head)) e
+  where
+    go : (b : Bool) → cond b (Some head) None ≡ None →
+        cond b (begun (head_of head)) (Opening (Headed (head_of head))) ≡ Opening (Headed (head_of head))
+    go true e = absurd (cc)
+    go false e = refl
+
+-- where it is the sessions begin
+pub whole_begun : (heading : headings.Heading) (head : heads.Head) → whole heading ≡ Some head →
+    stage_at (heading_of heading) ≡ begun (head_of head)
+whole_begun Variants.Unnamed head e = absurd (cc)
+whole_begun (Variants.Named version) head e = absurd (cc)
+whole_begun (Variants.Headed held) head e = go (is_whole (head_of held)) e
+  where
+    go : (b : Bool) → cond b (Some held) None ≡ Some head →
+        cond b (begun (head_of held)) (Opening (Headed (head_of held))) ≡ begun (head_of head)
+    go true e = ap (λ (h : heads.Head). begun (head_of h)) (same_Some held head e)
+    go false e = absurd (cc)
+
+pub whole_held : (heading : headings.Heading) (head : heads.Head) → IsHeld heading → whole heading ≡ Some head →
+    HasSessions head.limits
+whole_held Variants.Unnamed head h e = absurd (cc)
+whole_held (Variants.Named version) head h e = absurd (cc)
+whole_held (Variants.Headed held) head h e = go (is_whole (head_of held)) e
+  where
+    go : (b : Bool) → cond b (Some held) None ≡ Some head → HasSessions head.limits
+    go true e = subst (λ (k : heads.Head). HasSessions k.limits) (same_Some held head e) h
+    go false e = absurd (cc)
+
+-- so many lines of the head were read, and nothing was written
+pub record IsReading (old now : Option (List ℕ)) (held : List ℕ) (number : ℕ) (heading : headings.Heading)
+    (before after : Option (List ℕ)) : Type 0 where
+  pub has_read : HasRead old now held number [] (Opening (heading_of heading))
+  pub held_well : IsHeld heading
+  pub fits : number ≤ most_lines
+  pub kept : Keeps before after
+
+-- ---- what was kept, and what is held
+
+pub step_kept : (found : Result Found LogFault) (next : Option headings.Heading) (n : ℕ) (step : Step) (P : Type 0) →
+    after_line found next n ≡ Ok step → OnOk found P → P
+step_kept (Err fault) next n step P e h = absurd (cc)
+step_kept (Ok found) next n step P e h = h
+
+pub fault_keeps : (found : Result Found LogFault) (next : Option headings.Heading) (n : ℕ) (fault : LogFault) (P : Type 0) →
+    after_line found next n ≡ Err fault → OnOk found P → IfErr found (λ f. f ≢ Faults.Write → P) →
+    fault ≢ Faults.Write → P
+fault_keeps (Err f) next n fault P e h k other = k (λ w. other (cc))
+fault_keeps (Ok found) next n fault P e h k other = h
+
+pub next_is : (found : Result Found LogFault) (next : Option headings.Heading) (n : ℕ) (heading : headings.Heading) →
+    after_line found next n ≡ Ok (More heading) → next ≡ Some heading
+next_is (Err fault) next n heading e = absurd (cc)
+next_is (Ok Line) None n heading e = absurd (cc)
+next_is (Ok Line) (Some next) n heading e = go (whole next) e
+  where
+    go : (o : Option heads.Head) → ◌≡◌ {A = Result Step LogFault} (Ok (further next (n + 1) o)) (Ok (More heading)) →
+        Some next ≡ Some heading
+    go None w = cc
+    go (Some head) w = absurd (cc)
+next_is (Ok Last) None n heading e = absurd (cc)
+next_is (Ok Last) (Some next) n heading e = go (whole next) e
+  where
+    go : (o : Option heads.Head) → at_last (n + 1) o ≡ Ok (More heading) → Some next ≡ Some heading
+    go None w = absurd (cc)
+    go (Some head) w = absurd (cc)
+next_is (Ok End) next n heading e = absurd (cc)
+
+pub next_held : (next : Option headings.Heading) (heading : headings.Heading) → next ≡ Some heading →
+    IfSome next IsHeld → IsHeld heading
+next_held next heading e h = subst (λ (o : Option headings.Heading). IfSome o IsHeld) e h
+
+-- where the head ends
+
+pub opened_more : (opened : Opened) (old new : Option (List ℕ)) (held : List ℕ) → not opened.is_ended ≡ false →
+    IsOpened opened old new held → HasRead old new held opened.lines [] (begun (head_of opened.head))
+opened_more opened old new held e h = go opened.is_ended e h.0
+  where
+    go : (b : Bool) → not b ≡ false → IsOpenedBy b (head_of opened.head) opened.lines old new held →
+        HasRead old new held opened.lines [] (begun (head_of opened.head))
+    go true e k = k
+    go false e k = absurd (cc)
+
+pub opened_last : (opened : Opened) (old new : Option (List ℕ)) (held : List ℕ) → not opened.is_ended ≡ true →
+    IsOpened opened old new held → HasReadAll old new opened.lines [] (begun (head_of opened.head))
+opened_last opened old new held e h = go opened.is_ended e h.0
+  where
+    go : (b : Bool) → not b ≡ true → IsOpenedBy b (head_of opened.head) opened.lines old new held →
+        HasReadAll old new opened.lines [] (begun (head_of opened.head))
+    go true e k = absurd (cc)
+    go false e k = k
+
+pub memory_wanted : (opened : Opened) (old new : Option (List ℕ)) (held : List ℕ) (a b : Option (List ℕ))
+    (fault : LogFault) → fault ≡ Faults.Memory → IsOpened opened old new held → Keeps a b → IsFaultAfter old new a b fault
+memory_wanted opened old new held a b fault e h k = subst (IsFaultAfter old new a b) (sym e) (opened, held, h, k)
+
+-- ---- a line
+
+-- one line of the head more
+pub head_judged : (old now new : Option (List ℕ)) (held line rest : List ℕ) (n : ℕ) (found : Result Found LogFault)
+    (heading : headings.Heading) (next : Option headings.Heading) →
+    HasRead old now held n [] (Opening (heading_of heading)) → IsFound now held n found line new rest →
+    option_map heading_of next ≡ heading_after (heading_of heading) line → IsStep old new rest n (after_line found next n)
+head_judged old now new held line rest n (Err fault) heading next h f e =
+    fault_found old now new held rest line n [] (Opening (heading_of heading)) fault h f
+head_judged old now new held line rest n (Ok Line) heading None h f e =
+    bad_line old now new held rest line n [] (Opening (heading_of heading)) h f (sym e)
+head_judged old now new held line rest n (Ok Line) heading (Some next) h f e = go (whole next) refl
+  where
+    read : HasRead old new rest (n + 1) [] (stage_at (heading_of next))
+    read = line_read old now new held rest line n [] [] (Opening (heading_of heading)) (stage_at (heading_of next)) h f
+        (heading_of next, sym e, refl, refl)
+
+    go : (o : Option heads.Head) → whole next ≡ o → IsStep old new rest n (Ok (further next (n + 1) o))
+    go None w = (subst (HasRead old new rest (n + 1) []) (more_to_come next w) read, f.4)
+    go (Some head) w = (subst (HasRead old new rest (n + 1) []) (whole_begun next head w) read, omega (arith, f.4))
+head_judged old now new held line rest n (Ok Last) heading None h f e =
+    bad_last old now new held rest line n [] (Opening (heading_of heading)) h f (sym e)
+head_judged old now new held line rest n (Ok Last) heading (Some next) h f e = go (whole next) refl
+  where
+    read : HasReadAll old new (n + 1) [] (stage_at (heading_of next))
+    read = last_read old now new held rest line n [] [] (Opening (heading_of heading)) (stage_at (heading_of next)) h f
+        (heading_of next, sym e, refl, refl)
+
+    go : (o : Option heads.Head) → whole next ≡ o → IsStep old new rest n (at_last (n + 1) o)
+    go None w = ends_early old new (n + 1) [] (Opening (heading_of next))
+        (subst (HasReadAll old new (n + 1) []) (more_to_come next w) read) tt
+    go (Some head) w = (subst (HasReadAll old new (n + 1) []) (whole_begun next head w) read, omega (arith, f.6))
+head_judged old now new held line rest n (Ok End) heading next h f e =
+    ends_early old new n [] (Opening (heading_of heading))
+    (end_read old now new held rest line n [] (Opening (heading_of heading)) h f) tt

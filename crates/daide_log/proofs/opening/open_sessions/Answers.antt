@@ -1,0 +1,30 @@
+use Rattle.std.proofs.Common.{◌≡◌, ◌∙◌, ◌∷◌, sym, ap, subst, arith, ℕ, [], All, length, length-append, replicate}
+use Rattle.std.proofs.lemmas.List.Elements.{All-push}
+use Rattle.daide_machine.specs.Machine.{opening}
+use Rattle.daide_session.specs.Session.{limits_with}
+use Rattle.daide_words.specs.Words.{words_of}
+use Rattle.daide_log.specs.Progress.{states_of}
+use Rattle.daide_log.specs.Told.{IsIdle}
+use Rattle.daide_log.proofs.EventLemmas.{new_is_idle, one_more_opened}
+use Rattle.daide_log.proofs.opening.open_sessions.Goals as goal
+
+pub loop-session-preserved : goal.loop-session-preserved
+loop-session-preserved g c =
+    let limits = limits_with c.args.head.now.limits.config (words_of c.args.head.now.words) in
+    let items = c.loop-session.sessions.items in
+    let session = c.in-Ok-with_words.session in
+    let invariant = c.loop-session.invariant in
+    let added = c.push_reserved.ensures.items in (
+      ap states_of added ∙ one_more_opened limits items c.loop-session._session session invariant.0
+          c.in-Ok-with_words.ensures.opening,
+      subst (All IsIdle) (sym added)
+          (All-push IsIdle items session invariant.1 (new_is_idle limits session c.in-Ok-with_words.ensures.opening)),
+      omega (arith, ap length added, length-append items (session ∷ []), invariant.2),
+      omega (arith, c.push_reserved.ensures.capacity, invariant.3),
+    )
+
+pub returns-clause-begun : goal.returns-clause-begun
+returns-clause-begun g c =
+    let limits = limits_with c.args.head.now.limits.config (words_of c.args.head.now.words) in
+    subst (λ (n : ℕ). states_of c.loop-session.sessions.items ≡ replicate n (opening limits))
+    (omega (arith, c.loop-session-test.false, c.loop-session.auto._session-end)) c.loop-session.invariant.0

@@ -1,0 +1,64 @@
+-- The head of a log: the lines before its events. docs/FORMATS.md, "The log" and "The log, version 2". (own)
+use Rattle.std.specs.Prelude.{ℕ, ◌==◌, ◌<◌, ◌≤◌, Bool, if◌then◌else◌, List, [], ◌∷◌, ◌++◌, length, Option, Some, None}
+use Rattle.std.specs.Prelude.{option_map, is_ok}
+use Rattle.daide_words.specs.declared.word.Word.{Word}
+use Rattle.daide_words.specs.Word.{names_of}
+use Rattle.daide_words.specs.Accepted.{word_fault}
+use Rattle.daide_session.specs.declared.config.Config.{Config}
+use Rattle.daide_log.specs.declared.heading.Version.{Version}
+use Rattle.daide_log.specs.declared.heading.Version.TheVariants.{Single, Match}
+use Rattle.daide_log.specs.declared.match_line.MatchConfig.{MatchConfig}
+use Rattle.daide_log.specs.LogLine.{is_name, config_of_line}
+use Rattle.daide_log.specs.MatchLine.{is_match_name, match_config_of_line}
+use Rattle.daide_log.specs.WordLine.{word_of_line}
+
+-- ---- what a head sets
+
+-- of one session or of a match; the limits, with how many sessions and words there are; and the words
+pub record Head : Type 0 where
+  pub version : Version
+  pub limits : MatchConfig
+  pub words : List Word
+
+-- from 1 to 256 sessions
+abbrev pub HasSessions : MatchConfig → Type 0
+HasSessions limits = (0 < limits.sessions) × (limits.sessions ≤ 256)
+
+-- how far it has come
+pub data Heading : Type 0 where
+  Unnamed : Heading  -- no line came
+  Named : (version : Version) → Heading  -- the first
+  Headed : (head : Head) → Heading  -- the second, and words since
+
+-- ---- its lines
+
+-- the version that the first line names
+abbrev pub version_of : List ℕ → Option Version
+version_of line = if is_name line then Some Single else if is_match_name line then Some Match else None
+
+-- one session of these limits, and no words
+abbrev pub alone : Config → MatchConfig
+alone config = record { config = config; sessions = 1; words = 0 }
+
+-- what the second line sets
+abbrev pub limits_in : Version → List ℕ → Option MatchConfig
+limits_in Single line = option_map alone (config_of_line line)
+limits_in Match line = match_config_of_line line
+
+-- words with one more, if it is accepted after them
+abbrev pub with_word : List Word → Option Word → Option (List Word)
+with_word words None = None
+with_word words (Some word) = if is_ok (word_fault (names_of words) word) then Some (words ++ word ∷ []) else None
+
+-- the head with one line more, if the line may stand there
+abbrev pub heading_after : Heading → List ℕ → Option Heading
+heading_after Unnamed line = option_map Named (version_of line)
+heading_after (Named version) line =
+    option_map (λ limits. Headed (record { version = version; limits = limits; words = [] })) (limits_in version line)
+heading_after (Headed head) line =
+    option_map (λ words. Headed (record { version = head.version; limits = head.limits; words = words }))
+    (with_word head.words (word_of_line line))
+
+-- whether all words are there
+abbrev pub is_whole : Head → Bool
+is_whole head = length head.words == head.limits.words

@@ -1,0 +1,63 @@
+-- What the log of a match has of each session: its own log, as if it had been alone. (own)
+use Rattle.std.specs.Prelude.{◌≡◌, ◌⊎◌, ℕ, ◌<◌, ◌≤◌, ◌==◌, Bool, false, if◌then◌else◌, List, [], ◌∷◌, ◌++◌, length, map, codes}
+use Rattle.std.specs.Prelude.{Option, Some, None, Ok}
+use Rattle.daide_log.specs.declared.match_line.MatchConfig.{MatchConfig}
+use Rattle.daide_log.specs.declared.report.Summary.{Summary}
+use Rattle.daide_log.specs.LogLine.{Parted, config_of_line, is_comment, parted_at_space, plain_number, without_cr}
+use Rattle.daide_log.specs.MatchLine.{match_config_of_line}
+use Rattle.daide_log.specs.Report.{Entry, lines_of, counted_all, nothing_counted, summary_line}
+use Rattle.daide_log.specs.Log.{IsReport, IsUnbroken, longest_line}
+
+-- ---- the lines of a log
+
+-- These are a log's lines, each without its line end: none is too long, and the last may lack its line feed.
+abbrev pub IsLines : List ℕ → List (List ℕ) → Type 0
+IsLines log [] = log ≡ []
+IsLines log (line ∷ lines) =
+    ((lines ≡ []) × (log ≡ line) × (0 < length line) × IsUnbroken line × (length line ≤ longest_line))
+    ⊎ ((whole : List ℕ) × (rest : List ℕ) × (log ≡ whole ++ 10 ∷ rest) × IsUnbroken whole
+    × (length whole ≤ longest_line) × (line ≡ without_cr whole) × IsLines rest lines)
+
+-- ---- a session's own
+
+abbrev pub is_number : ℕ → Option ℕ → Bool
+is_number session None = false
+is_number session (Some number) = number == session
+
+abbrev pub own_of : ℕ → Option Parted → List ℕ
+own_of session None = codes "#"
+own_of session (Some parted) = if is_number session (plain_number parted.word) then parted.rest else codes "#"
+
+-- A line of the session without its number and the space behind it; for every other session's line `#`. A line that
+-- tells nothing is as it is.
+abbrev pub own_line : ℕ → List ℕ → List ℕ
+own_line session line = if is_comment line then line else own_of session (parted_at_space line)
+
+-- a move of the session, without its number
+abbrev pub unnumbered : Entry → Entry
+unnumbered entry =
+    record { source = record { line = entry.source.line; session = None }; side = entry.side; told = entry.told }
+
+-- what is told of the session
+abbrev pub own_told : ℕ → List Entry → List Entry
+own_told session [] = []
+own_told session (entry ∷ entries) =
+    if is_number session entry.source.session then unnumbered entry ∷ own_told session entries
+    else own_told session entries
+
+-- ---- the law
+
+-- Where the log of a match without words has no fault, its report is lines of moves and the last line; and the log of
+-- version 1 with the same limits, in which the session's lines stand without its number and `#` for every other's, has
+-- as its report the session's lines without its number, and their counts.
+abbrev pub SessionsAreAlone : Type 0
+SessionsAreAlone =
+    (log own : List ℕ) (second own_second : List ℕ) (lines : List (List ℕ)) (limits : MatchConfig) (session : ℕ)
+    (text : List ℕ) (summary : Summary) →
+    IsLines log (codes "daide-log 2" ∷ second ∷ lines) → match_config_of_line second ≡ Some limits → limits.words ≡ 0 →
+    0 < session → session ≤ limits.sessions →
+    IsLines own (codes "daide-log 1" ∷ own_second ∷ map (own_line session) lines) →
+    config_of_line own_second ≡ Some limits.config → IsReport log text (Ok summary) →
+    (told : List Entry) × (text ≡ lines_of told ++ summary_line summary)
+    × IsReport own (lines_of (own_told session told) ++ summary_line (counted_all (own_told session told) nothing_counted))
+    (Ok (counted_all (own_told session told) nothing_counted))

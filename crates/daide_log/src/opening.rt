@@ -1,0 +1,142 @@
+//! The opening of a log: its head is read, and then its sessions are made.
+
+ghost use Rattle.std.specs.Prelude.{◌≡◌, ◌≢◌, ◌+◌, ◌≤◌, [], All, replicate, IfOk, IfErr, OnOk};
+ghost use Rattle.std.specs.Io.KnownBytes.{Keeps, append_known};
+ghost use Rattle.daide_machine.specs.Machine.{opening};
+ghost use Rattle.daide_session.specs.Session.{limits_with};
+ghost use Rattle.daide_words.specs.Words.{words_of};
+ghost use Rattle.daide_log.specs.Heading.{HasSessions};
+ghost use Rattle.daide_log.specs.Log.{most_lines};
+ghost use Rattle.daide_log.specs.Held.{further, at_last, whole, after_line};
+ghost use Rattle.daide_log.specs.Progress.{AreOpened, states_of};
+ghost use Rattle.daide_log.specs.Told.{IsIdle};
+
+use crate::block::Block;
+use crate::fault::LogFault;
+use crate::heading::{Head, Heading};
+use crate::lines::{Found, Text, next_line};
+use crate::page::Page;
+use daide_session::Session;
+use std::alloc::Allocator;
+use std::io::{Read, Write};
+
+/// A head that was read.
+#[derive(Clone, Copy, Debug)]
+pub struct Opened {
+    /// What it sets.
+    pub head: Head,
+    /// How many lines it has.
+    pub lines: u32,
+    /// Whether a line feed ended the last of them.
+    pub is_ended: bool,
+}
+
+/// What is known behind a line of the head.
+#[derive(Clone, Copy, Debug)]
+pub enum Step {
+    /// There is a line more.
+    More(Heading),
+    /// All lines were read.
+    Done(Opened),
+}
+
+/// What is known behind so many lines, of which the last had its line feed.
+fn further(heading: Heading, lines: u32) -> Step
+    ensures { result ≡ further heading lines (whole heading) }
+{
+    match heading.whole() {
+        None => Step::More(heading),
+        Some(head) => Step::Done(Opened {
+            head,
+            lines,
+            is_ended: true,
+        }),
+    }
+}
+
+/// What is known behind so many lines, of which the last is the log's.
+fn at_last(heading: Heading, lines: u32) -> Result<Step, LogFault>
+    requires { lines ≤ most_lines + 1 }
+    ensures { result ≡ at_last lines (whole heading) }
+{
+    match heading.whole() {
+        None => Err(LogFault::BadLine(lines + 1)),
+        Some(head) => Ok(Step::Done(Opened {
+            head,
+            lines,
+            is_ended: false,
+        })),
+    }
+}
+
+/// What is known behind the line that was found after so many, by the head with that line.
+fn after_line(
+    found: Result<Found, LogFault>,
+    heading: Option<Heading>,
+    count: u32,
+) -> Result<Step, LogFault>
+    requires { count ≤ most_lines }
+    ensures { result ≡ after_line found heading count }
+{
+    match (found, heading) {
+        (Err(fault), _) => Err(fault),
+        (Ok(Found::Line), Some(heading)) => Ok(further(heading, count + 1)),
+        (Ok(Found::Last), Some(heading)) => at_last(heading, count + 1),
+        (Ok(_), _) => Err(LogFault::BadLine(count + 1)),
+    }
+}
+
+/// Reads the head of a log, line by line.
+pub fn read_head<R: Read, W: Write>(
+    block: &mut Block,
+    text: &mut Text,
+    page: &mut Page,
+    reader: &mut R,
+    writer: &mut W,
+) -> Result<Opened, LogFault>
+    requires { block.old ≡ [] }
+    ensures within { IfOk result (λ opened. HasSessions opened.head.limits) }
+    ensures opened { AreOpened (R.remaining reader.old) (R.remaining reader.new) block.new result }
+    ensures kept { OnOk result (Keeps (append_known (W.contents writer.old) page.old.items)
+        (append_known (W.contents writer.new) page.new.items)) }
+    ensures kept_at_fault { IfErr result (λ fault. fault ≢ LogFault.Write →
+        Keeps (append_known (W.contents writer.old) page.old.items)
+        (append_known (W.contents writer.new) page.new.items)) }
+{
+    let mut heading = Heading::Unnamed;
+    let mut count = 0;
+    'lines: loop {
+        let found = next_line(block, text, count, page, reader, writer);
+        let more = heading.with_line(text.as_slice());
+        match after_line(found, more, count) {
+            Err(fault) => return Err(fault),
+            Ok(Step::Done(opened)) => return Ok(opened),
+            Ok(Step::More(next)) => heading = next,
+        }
+        count += 1;
+    }
+}
+
+/// Makes the sessions of a log, with the words of its head. Their memory is taken here, and none later: room for all
+/// of them, and two growths for each.
+pub fn open_sessions<A: Allocator + Copy>(
+    alloc: A,
+    head: &Head,
+) -> Result<Vec<Session<A>, A>, LogFault>
+    ensures begun { IfOk result (λ sessions. states_of sessions.items ≡ replicate head.now.limits.sessions
+        (opening (limits_with head.now.limits.config (words_of head.now.words)))) }
+    ensures idle { IfOk result (λ sessions. All IsIdle sessions.items) }
+    ensures refused { IfErr result (λ fault. fault ≡ LogFault.Memory) }
+{
+    let count = head.limits.sessions as usize;
+    let Ok(mut sessions) = Vec::with_capacity(alloc, count) else {
+        return Err(LogFault::Memory);
+    };
+    for _session in 0..count {
+        let Ok(session) = Session::with_words(alloc, head.limits.config, head.words) else {
+            return Err(LogFault::Memory);
+        };
+        sessions.push_reserved(session);
+    }
+    Ok(sessions)
+}
