@@ -9,8 +9,6 @@ pub mod head;
 pub mod initial_message;
 pub mod laws;
 pub mod side;
-#[cfg(test)]
-mod tests;
 
 pub use code::Code;
 pub use cutter::{Cutter, Step};

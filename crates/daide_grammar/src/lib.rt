@@ -15,8 +15,6 @@ pub mod predict;
 pub mod side;
 pub mod symbol;
 mod table;
-#[cfg(test)]
-mod tests;
 
 pub use column::Column;
 pub use dense::Dense;

@@ -19,8 +19,6 @@ pub mod opening;
 pub mod page;
 pub mod play;
 pub mod report;
-#[cfg(test)]
-mod tests;
 pub mod word_line;
 
 pub use check::check_log;

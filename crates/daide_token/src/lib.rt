@@ -6,8 +6,6 @@ mod class_number;
 mod gathered;
 pub mod laws;
 mod names;
-#[cfg(test)]
-mod tests;
 pub mod text;
 pub mod token;
 

@@ -6,8 +6,6 @@ pub mod laws;
 pub mod operand;
 mod place;
 pub mod slot;
-#[cfg(test)]
-mod tests;
 pub mod word;
 pub mod words;
 

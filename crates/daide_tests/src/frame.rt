@@ -1,9 +1,9 @@
 //! Tables of headers, initial messages and frames, byte for byte as the protocol has them.
 
-use crate::code::Code;
-use crate::cutter::{Cutter, Step};
-use crate::head::{Head, Kind, read_head, write_head};
-use crate::initial_message::check_im;
+use daide_frame::code::Code;
+use daide_frame::cutter::{Cutter, Step};
+use daide_frame::head::{Head, Kind, read_head, write_head};
+use daide_frame::initial_message::check_im;
 use linked_list_allocator::LocalHeap;
 use std::alloc::Allocator;
 use std::process::Abort;

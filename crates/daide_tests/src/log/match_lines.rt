@@ -1,7 +1,7 @@
 //! Lines of the log of a match.
 
-use crate::event_line::{MOST, Told};
-use crate::match_line::{
+use daide_log::event_line::{MOST, Told};
+use daide_log::match_line::{
     MatchConfig, MatchTold, is_match_name, read_match_config, read_match_event,
 };
 use daide_frame::Side;

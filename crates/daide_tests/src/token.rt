@@ -1,8 +1,8 @@
 //! Tables of tokens, their classes, names and printed text, byte for byte as the protocol has them.
 
-use crate::class::Class;
-use crate::text::{write_text, write_text_with};
-use crate::token::Token;
+use daide_token::class::Class;
+use daide_token::text::{write_text, write_text_with};
+use daide_token::token::Token;
 use std::io;
 use std::io::{ErrorKind, Write};
 use std::test::Fail;

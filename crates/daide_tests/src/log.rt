@@ -1,8 +1,8 @@
 //! Logs worked out by hand, and their reports.
 
-use crate::check::check_log;
-use crate::fault::LogFault;
-use crate::report::Summary;
+use daide_log::check::check_log;
+use daide_log::fault::LogFault;
+use daide_log::report::Summary;
 use std::process::Abort;
 use std::test::Fail;
 

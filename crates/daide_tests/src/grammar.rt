@@ -1,13 +1,13 @@
 //! What no clause shows: numbers worked out by hand, each call once, and that answers are small.
 
-use crate::column::Column;
-use crate::dense::Dense;
-use crate::level::Level;
-use crate::meaning::Rest;
-use crate::plain::Plain;
-use crate::predict::{Move, Predict};
-use crate::side::Side2;
-use crate::symbol::{Sym, Symbol};
+use daide_grammar::column::Column;
+use daide_grammar::dense::Dense;
+use daide_grammar::level::Level;
+use daide_grammar::meaning::Rest;
+use daide_grammar::plain::Plain;
+use daide_grammar::predict::{Move, Predict};
+use daide_grammar::side::Side2;
+use daide_grammar::symbol::{Sym, Symbol};
 use daide_token::class::Class;
 use daide_token::token::Token;
 use std::mem::size_of;

@@ -1,8 +1,8 @@
 //! Logs of any length, and readers, writers and heaps that refuse.
 
-use crate::check::check_log;
-use crate::fault::LogFault;
-use crate::report::Summary;
+use daide_log::check::check_log;
+use daide_log::fault::LogFault;
+use daide_log::report::Summary;
 use linked_list_allocator::LocalHeap;
 use std::io;
 use std::io::{ErrorKind, Read, Write};

@@ -1,10 +1,10 @@
 //! What no clause shows: words and messages worked out by hand, and each call once.
 
-use crate::extended::Extended;
-use crate::operand::Operand;
-use crate::slot::Slot;
-use crate::word::{Word, WordError};
-use crate::words::Words;
+use daide_words::extended::Extended;
+use daide_words::operand::Operand;
+use daide_words::slot::Slot;
+use daide_words::word::{Word, WordError};
+use daide_words::words::Words;
 use daide_grammar::level::Level;
 use daide_grammar::predict::Predict;
 use daide_grammar::side::Side2;
