@@ -1,9 +1,9 @@
 -- The lines of a log, as they are read.
 use Rattle.std.proofs.Common.{◌≡◌, ℕ, zero, suc, ◌+◌, ◌-◌, ◌<◌, ◌≤◌, Bool, true, false, List, [], ◌∷◌, ◌++◌, length, take, drop}
 use Rattle.std.proofs.Common.{Option, Some, None, Result, Ok, Err, refl, sym, ap, ◌∙◌, subst, arith, ◌⊎◌, inl, inr, append-nil, append_assoc}
-use Rattle.std.proofs.Common.{length-append, length-drop, get_or, add-one}
+use Rattle.std.proofs.Common.{length-append, length-drop, length-take, get_or, add-one}
 use Rattle.std.proofs.lemmas.List.{drop-take, drop-drop, take-append-drop, length-take-le}
-use Rattle.std.proofs.Math.Seq.{take-length}
+use Rattle.std.proofs.Math.Seq.{take-append-add, take-length}
 use Rattle.std.specs.Io.KnownBytes.{Consumes, Keeps}
 use Rattle.daide_log.specs.Log.{IsUnbroken, longest_line}
 use Rattle.daide_log.specs.declared.fault.LogFault.{LogFault}
@@ -13,6 +13,14 @@ use Rattle.daide_log.specs.Lines.{Reads, Scans, HasMore, IsFound, block_size}
 pub unbroken_append : (a b : List ℕ) → IsUnbroken a → IsUnbroken b → IsUnbroken (a ++ b)
 unbroken_append [] b h k = k
 unbroken_append (x ∷ a) b h k = (h.0, unbroken_append a b h.1 k)
+
+-- so many items and so many more are the former and those behind them
+pub take-further : (xs : List ℕ) (n k : ℕ) → n ≤ length xs → take (n + k) xs ≡ take n xs ++ take k (drop n xs)
+take-further xs n k fits =
+    let size : length (take n xs) ≡ n = omega (arith, length-take n xs) in
+    ap (λ (l : List ℕ). take (n + k) l) (sym (take-append-drop n xs))
+    ∙ ap (λ (m : ℕ). take (m + k) (take n xs ++ drop n xs)) (sym size)
+    ∙ take-append-add (take n xs) (drop n xs) k
 
 pub consumes_more : (old now new : Option (List ℕ)) (a b : List ℕ) → Consumes old now a → Consumes now new b →
     Consumes old new (a ++ b)

@@ -1,8 +1,8 @@
 //! The lines of a log, one after the other.
 
-ghost use Rattle.std.specs.Prelude.{◌≡◌, ◌≢◌, ◌≤◌, [], OnOk, IfErr};
+ghost use Rattle.std.specs.Prelude.{◌≡◌, ◌≢◌, ◌+◌, ◌≤◌, [], drop, length, take, true, OnOk, IfErr};
 ghost use Rattle.std.specs.Io.KnownBytes.{Keeps, append_known};
-ghost use Rattle.daide_log.specs.Log.{most_lines};
+ghost use Rattle.daide_log.specs.Log.{IsUnbroken, most_lines};
 ghost use Rattle.daide_log.specs.LogLine.{without_cr};
 ghost use Rattle.daide_log.specs.Lines.{IsFound, IsLineEnd, Scans, HasMore, Reads};
 
@@ -18,6 +18,9 @@ const MOST_LINES: u32 = 1_000_000;
 /// One byte more than the most bytes of a line.
 const TOO_LONG: usize = 2101;
 
+/// How many bytes are looked at together.
+const TOGETHER: usize = 16;
+
 /// The bytes of a line.
 pub type Text = ArrayVec<u8, TOO_LONG>;
 
@@ -32,12 +35,41 @@ pub enum Found {
     End,
 }
 
+/// Whether none of the bytes from one on that are looked at together is a line feed. All are looked at, whatever the
+/// others are.
+fn are_unbroken(bytes: &[u8], first: usize) -> bool
+    requires { first + 16 ≤ length bytes.now }
+    ensures { result ≡ true → IsUnbroken (take 16 (drop first bytes.now)) }
+{
+    let mut unbroken = true;
+    for k in 0..TOGETHER {
+        unbroken &= bytes[first + k] != b'\n';
+    }
+    unbroken
+}
+
+/// How many bytes stand before the first line feed, at least: as many as were looked at together with no line feed
+/// among them.
+fn unbroken_front(bytes: &[u8]) -> usize
+    ensures within { result ≤ length bytes.now }
+    ensures unbroken { IsUnbroken (take result bytes.now) }
+{
+    let mut i = 0;
+    while bytes.len() - i >= TOGETHER {
+        if !are_unbroken(bytes, i) {
+            return i;
+        }
+        i += TOGETHER;
+    }
+    i
+}
+
 /// Where the first line feed of some bytes stands.
 fn line_end(bytes: &[u8]) -> Option<usize>
     ensures { IsLineEnd bytes.now result }
 {
-    for (i, b) in bytes.iter().enumerate() {
-        if *b == b'\n' {
+    for i in unbroken_front(bytes)..bytes.len() {
+        if bytes[i] == b'\n' {
             return Some(i);
         }
     }
