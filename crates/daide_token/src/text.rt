@@ -98,6 +98,22 @@ fn put_token(added: &[(Token, [u8; 3])], place: Place, token: Token, text: &mut 
     ensures text { text.new ≡ text.old ++ token_text added.now place token }
     ensures room { length text.new ≤ 250 }
 {
+    let [category, _code] = token.to_be();
+    if category == 0x4B {
+        return put_character(added, place, token, text);
+    }
+    put_word(added, place, token, text);
+    Place::Word
+}
+
+/// Gathers the text of one token that may be a character.
+fn put_character(added: &[(Token, [u8; 3])], place: Place, token: Token, text: &mut Gathered) -> Place
+    requires room { length text.old ≤ 240 }
+    requires word { number_of token ≡ None }
+    ensures place { result ≡ place_after token }
+    ensures text { text.new ≡ text.old ++ token_text added.now place token }
+    ensures room { length text.new ≤ 250 }
+{
     if !quotable(token) {
         put_word(added, place, token, text);
         return Place::Word;
