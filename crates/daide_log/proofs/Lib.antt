@@ -5,6 +5,7 @@ pub mod StandardFacts
 pub mod MatchFacts
 pub mod PlayLemmas
 pub mod LineLemmas
+pub mod DigitLemmas
 pub mod LogLemmas
 pub mod HeadLemmas
 pub mod EventLemmas

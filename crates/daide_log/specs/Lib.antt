@@ -1,4 +1,5 @@
 pub mod LogLine
+pub mod Digits
 pub mod MatchLine
 pub mod WordLine
 pub mod Heading

@@ -4,6 +4,7 @@ ghost use Rattle.std.specs.Prelude.{◌≡◌, IfSome, option_map};
 ghost use Rattle.daide_log.specs.LogLine.{event_of_line, traffic_of as told_traffic, event_of_word};
 ghost use Rattle.daide_log.specs.Told.{event_told, IsWithin};
 
+use crate::digits::read_digits;
 use daide_frame::Side;
 
 /// The most bytes that a line has.
@@ -31,10 +32,10 @@ fn read_traffic(side: Side, digits: &[u8], bytes: &mut [u8; MOST]) -> Option<Tol
     if count == 0 || digits.len() > 2 * MOST {
         return None;
     }
-    match hex::decode_to_slice(digits, &mut bytes[..count]) {
-        Ok(()) => Some(Told::Traffic(side, count)),
-        Err(_) => None,
+    if digits.len() % 2 == 0 && read_digits(digits, &mut bytes[..count]) {
+        return Some(Told::Traffic(side, count));
     }
+    None
 }
 
 /// A line that has no bytes of a side.

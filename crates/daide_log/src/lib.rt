@@ -8,6 +8,7 @@
 pub mod block;
 pub mod check;
 pub mod config_line;
+mod digits;
 pub mod event_line;
 pub mod fault;
 pub mod heading;
