@@ -3,7 +3,7 @@
 
 use crate::messages::{Example, assert_verdicts};
 use crate::script::Act::Says;
-use crate::script::{Scene, Script, WIDEST, assert_scenes, bytes_of, script_of};
+use crate::script::{Scene, Script, WIDEST, assert_scenes, script_of, with_gofs};
 use daide_frame::side::Side::{Bot, Server};
 use daide_grammar::level::Level::L0;
 use daide_grammar::side::Side2::Client;
@@ -112,21 +112,6 @@ const KET_FIRST: &[Scene] = &[(
 #[test]
 fn ket_before_bra_gets_prn(rt: HostRuntime) -> Result<(), Fail> {
     assert_answers(&rt, &[(Client, L0, "GOF ) (", Prn)], KET_FIRST)
-}
-
-/// This frame, and then so many times GOF, and then these words.
-fn with_gofs(
-    rt: &impl AllocGlobal,
-    front: &str,
-    count: usize,
-    last: &[u8],
-) -> Result<Vec<u8>, Fail> {
-    let mut bytes = bytes_of(rt, front)?;
-    for _token in 0..count {
-        bytes.extend_from_slice(&[0x48, 0x03])?;
-    }
-    bytes.extend_from_slice(last)?;
-    Ok(bytes)
 }
 
 /// In an open session a frame of the bot gets this answer, in pieces of so many bytes.

@@ -176,7 +176,7 @@ fn assert_sent_well(
     let calls = ports.ports.calls().unwrap_or(&[]);
     let bytes = sent(rt, calls, side)?;
     let failed = ports.at.is_put && ports.at.side == side;
-    assert!(rt; are_sent(bytes.as_slice(), frames, failed), "{side:?}");
+    assert!(rt; are_sent(bytes.as_slice(), frames, failed), "whole frames");
     assert!(rt; all.is_none_or(|len| bytes.len() == len), "all was sent");
     Ok(())
 }

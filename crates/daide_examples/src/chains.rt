@@ -1,7 +1,7 @@
 //! Two sessions in a row, as two gateways stand between a bot and a server, and the deepest messages through one.
 
 use crate::script::Act::Says;
-use crate::script::{IM, RM, Scene, Script, WIDEST, assert_scenes, bytes_of, script_of};
+use crate::script::{IM, RM, Scene, Script, WIDEST, add_words, assert_scenes, bytes_of, script_of};
 use daide_frame::side::Side::{self, Bot, Server};
 use daide_machine::rules::other;
 use daide_session::config::Config;
@@ -194,40 +194,43 @@ fn prn_to_a_server_is_relayed_by_the_next_and_not_answered(rt: HostRuntime) -> R
     assert_scenes(&rt, true, PRNS_TO_A_SERVER)
 }
 
-/// These words over and over.
-fn add_words(bytes: &mut Vec<u8>, word: [u8; 2], count: usize) -> Result<(), Fail> {
-    for _word in 0..count {
-        bytes.extend_from_slice(&word)?;
-    }
-    Ok(())
-}
-
 const BRA: [u8; 2] = [0x40, 0x00];
 
 const KET: [u8; 2] = [0x40, 0x01];
 
-/// HUH and 62 brackets: 125 tokens, 250 bytes.
-fn sixty_two_brackets(rt: &impl AllocGlobal) -> Result<Vec<u8>, Fail> {
-    let mut frame = bytes_of(rt, "02 00 00 FA  48 06")?;
-    add_words(&mut frame, BRA, 62)?;
-    add_words(&mut frame, KET, 62)?;
+/// A depth; the start of HUH with as many brackets, of HUH with one more, and of the answer to that.
+type Depth = (u16, &'static str, &'static str, &'static str);
+
+/// 62 brackets make 125 tokens, and 254 make 509; one bracket more makes two tokens more, and its answer four beside.
+const DEPTHS: [Depth; 2] = [
+    (
+        62,
+        "02 00 00 FA  48 06",
+        "02 00 00 FE  48 06",
+        "02 00 01 06  48 06 40 00  48 06",
+    ),
+    (
+        254,
+        "02 00 03 FA  48 06",
+        "02 00 03 FE  48 06",
+        "02 00 04 06  48 06 40 00  48 06",
+    ),
+];
+
+/// A frame that starts so, and then has so many brackets.
+fn bracketed(rt: &impl AllocGlobal, start: &str, brackets: u16) -> Result<Vec<u8>, Fail> {
+    let mut frame = bytes_of(rt, start)?;
+    add_words(&mut frame, BRA, usize::from(brackets))?;
+    add_words(&mut frame, KET, usize::from(brackets))?;
     Ok(frame)
 }
 
-/// HUH and 63 brackets: 127 tokens, 254 bytes.
-fn sixty_three_brackets(rt: &impl AllocGlobal) -> Result<Vec<u8>, Fail> {
-    let mut frame = bytes_of(rt, "02 00 00 FE  48 06")?;
-    add_words(&mut frame, BRA, 63)?;
-    add_words(&mut frame, KET, 63)?;
-    Ok(frame)
-}
-
-/// The answer to these has four tokens more; ERR comes before the last BRA.
-fn answer_to_sixty_three(rt: &impl AllocGlobal) -> Result<Vec<u8>, Fail> {
-    let mut frame = bytes_of(rt, "02 00 01 06  48 06 40 00  48 06")?;
-    add_words(&mut frame, BRA, 62)?;
+/// An answer that starts so, to one bracket more than these: ERR comes before the last BRA.
+fn answer_to_one_more(rt: &impl AllocGlobal, start: &str, brackets: u16) -> Result<Vec<u8>, Fail> {
+    let mut frame = bytes_of(rt, start)?;
+    add_words(&mut frame, BRA, usize::from(brackets))?;
     frame.extend_from_slice(&[0x49, 0x02, 0x40, 0x00])?;
-    add_words(&mut frame, KET, 63 + 1)?;
+    add_words(&mut frame, KET, usize::from(brackets) + 2)?;
     Ok(frame)
 }
 
@@ -250,31 +253,44 @@ impl Script {
         Ok(())
     }
 
-    /// Of a side: 62 brackets go on, and 63 get HUH.
+    /// Of a side: as many brackets as may be open go on, and one more gets HUH.
     fn assert_depths(
         &mut self,
         rt: &(impl Abort + AllocGlobal),
         side: Side,
         piece: usize,
+        depth: &Depth,
     ) -> Result<(), Fail> {
-        let deep = sixty_two_brackets(rt)?;
+        let (most, start, start_of_more, start_of_answer) = depth;
+        let deep = bracketed(rt, start, *most)?;
         self.assert_frame(rt, side, deep.as_slice(), piece, &[], deep.as_slice())?;
-        let deeper = sixty_three_brackets(rt)?;
-        let answer = answer_to_sixty_three(rt)?;
+        let deeper = bracketed(rt, start_of_more, most.saturating_add(1))?;
+        let answer = answer_to_one_more(rt, start_of_answer, *most)?;
         self.assert_frame(rt, side, deeper.as_slice(), piece, answer.as_slice(), &[])
     }
 }
 
-/// Of either side, in pieces of so many bytes.
-fn assert_both_depths(rt: &(impl Abort + AllocGlobal), piece: usize) -> Result<(), Fail> {
-    let mut script = script_of(rt, WIDEST)?;
+/// Of either side, in pieces of so many bytes, in a session of that depth.
+fn assert_both_depths(
+    rt: &(impl Abort + AllocGlobal),
+    piece: usize,
+    depth: &Depth,
+) -> Result<(), Fail> {
+    let config = Config {
+        max_depth: depth.0,
+        ..WIDEST
+    };
+    let mut script = script_of(rt, config)?;
     script.open(rt, piece)?;
-    script.assert_depths(rt, Bot, piece)?;
-    script.assert_depths(rt, Server, piece)
+    script.assert_depths(rt, Bot, piece, depth)?;
+    script.assert_depths(rt, Server, piece, depth)
 }
 
 #[test]
-fn sixty_two_brackets_go_on_and_sixty_three_get_huh(rt: HostRuntime) -> Result<(), Fail> {
-    assert_both_depths(&rt, 65_530)?;
-    assert_both_depths(&rt, 1)
+fn brackets_go_on_to_the_depth_and_one_more_gets_huh(rt: HostRuntime) -> Result<(), Fail> {
+    for depth in &DEPTHS {
+        assert_both_depths(&rt, 65_530, depth)?;
+        assert_both_depths(&rt, 1, depth)?;
+    }
+    Ok(())
 }

@@ -1,8 +1,9 @@
 //! How often a session takes memory, and how much: twice, in `new`, a body each.
 
 use crate::script::Act::{self, Ends, Says, Sees};
-use crate::script::{IM, Look, RM, Script, bytes_of, script_over};
-use daide_frame::side::Side::{Bot, Server};
+use crate::script::{IM, Look, RM, Script, script_over, with_gofs};
+use crate::words::two_words;
+use daide_frame::side::Side::{self, Bot, Server};
 use daide_session::config::Config;
 use daide_session::session::{Phase, Session, SessionError};
 use linked_list_allocator::LocalHeap;
@@ -32,7 +33,9 @@ fn holes_of<'a>(
 }
 
 /// The sizes of two holes, and whether a session finds room in them.
-const HOLES: [(u16, u16, bool); 7] = [
+const HOLES: [(u16, u16, bool); 9] = [
+    (0, 0, false),
+    (512, 0, false),
     (512, 512, true),
     (496, 512, false),
     (512, 496, false),
@@ -42,10 +45,18 @@ const HOLES: [(u16, u16, bool); 7] = [
     (496, 1024, true),
 ];
 
+/// A session in a heap, with an operator's words or without.
+fn session_in(heap: &LocalHeap, has_words: bool) -> Result<Session<&LocalHeap>, SessionError> {
+    if has_words {
+        return Session::with_words(heap, CONFIG, two_words());
+    }
+    Session::new(heap, CONFIG)
+}
+
 /// Beside two walls of 16 bytes a session takes 1,024 bytes, or none where it is refused.
-fn assert_taken(rt: &impl Abort, heap: &LocalHeap, is_enough: bool) {
+fn assert_taken(rt: &impl Abort, heap: &LocalHeap, has_words: bool, is_enough: bool) {
     assert!(rt; heap.used() == 32, "two walls");
-    match Session::new(heap, CONFIG) {
+    match session_in(heap, has_words) {
         Ok(session) => {
             assert!(rt; is_enough && session.phase() == Phase::WaitIm, "not enough");
             assert!(rt; heap.used() == 32 + 1024, "two bodies");
@@ -64,7 +75,8 @@ fn new_takes_two_bodies_and_no_byte_more(rt: HostRuntime) -> Result<(), Fail> {
         let second = usize::from(*second);
         let heap = LocalHeap::new(rt.alloc(), first + 16 + second + 16)?;
         let walls = holes_of(&heap, first, second)?;
-        assert_taken(&rt, &heap, *is_enough);
+        assert_taken(&rt, &heap, false, *is_enough);
+        assert_taken(&rt, &heap, true, *is_enough);
         drop(walls);
     }
     Ok(())
@@ -93,15 +105,6 @@ const ACTS: &[Act] = &[
 
 const END: &[Act] = &[Ends(Bot), Sees(Look::Phase(Phase::Over))];
 
-/// A message of 512 bytes: HUH and 255 times GOF, and so a word too many after its first.
-fn longest_message(rt: &impl AllocGlobal) -> Result<Vec<u8>, Fail> {
-    let mut frame = bytes_of(rt, "02 00 02 00  48 06")?;
-    for _token in 0..255 {
-        frame.extend_from_slice(&[0x48, 0x03])?;
-    }
-    Ok(frame)
-}
-
 /// After each act, the longest body of either side, and the end, the heap is as full as before.
 fn assert_takes_nothing<A: Allocator>(
     rt: &(impl Abort + AllocGlobal),
@@ -114,7 +117,8 @@ fn assert_takes_nothing<A: Allocator>(
         script.play(rt, *act, piece)?;
         assert!(rt; heap.used() == used, "after an act");
     }
-    let longest = longest_message(rt)?;
+    // a message of 512 bytes: HUH and 255 times GOF, and so a word too many after its first
+    let longest = with_gofs(rt, "02 00 02 00  48 06", 255, &[])?;
     script.say(Bot, longest.as_slice(), piece)?;
     assert!(rt; heap.used() == used, "after the bot's longest body");
     script.say(Server, longest.as_slice(), piece)?;
@@ -145,5 +149,53 @@ fn nothing_is_taken_after_new(rt: HostRuntime) -> Result<(), Fail> {
         // the frames of the acts, 512 + 8 + 4 bytes of HUH for each longest message, and an FM
         assert!(rt; sent.len() == 8 + 4 + 18 + 14 + 14 + 14 + 30 + 32 + 2 * 524 + 4);
     }
+    Ok(())
+}
+
+/// The IM, the RM, the bot's `GOF (`, and what the bot gets: the RM, and PRN ( GOF ( )
+const SAID: [(Side, &[u8]); 3] = [
+    (Bot, &[0, 0, 0, 4, 0, 1, 0xDA, 0x10]),
+    (Server, &[1, 0, 0, 0]),
+    (Bot, &[2, 0, 0, 4, 0x48, 0x03, 0x40, 0]),
+];
+
+const ANSWERED: [u8; 18] = [
+    1, 0, 0, 0, 2, 0, 0, 10, 0x48, 0x13, 0x40, 0, 0x48, 0x03, 0x40, 0, 0x40, 1,
+];
+
+/// Takes what waits for both wires, which stores none of it. The bot gets the start of this; what is left is answered.
+fn take_fronts<'a>(rt: &impl Abort, session: &mut Session, want: &'a [u8]) -> &'a [u8] {
+    let mut left = want;
+    for _front in 0..4 {
+        let front = session.front(Bot);
+        let count = front.len();
+        let (start, rest) = left.split_at(count.min(left.len()));
+        assert!(rt; front == start, "what the bot gets");
+        left = rest;
+        session.wrote(Bot, count);
+        let count = session.front(Server).len();
+        session.wrote(Server, count);
+    }
+    left
+}
+
+/// Under `rt try --test --fail-alloc N` the Nth growth of this test is refused. The first and the second are the
+/// session's own; the third is the test's, after all that was said, so no growth of the session stands before or
+/// between them, even one that is let go at once. `scripts/refused-growths` runs it so.
+#[test]
+fn third_growth_is_not_the_sessions(rt: HostRuntime) -> Result<(), Fail> {
+    let mut session = Session::new(rt.alloc(), CONFIG)?;
+    let mut left = ANSWERED.as_slice();
+    for (side, bytes) in &SAID {
+        for byte in *bytes {
+            if session.room(*side) > 0 {
+                session.feed(*side, &[*byte]);
+            }
+            left = take_fronts(&rt, &mut session, left);
+        }
+    }
+    assert!(rt; left.is_empty(), "the bot gets all of it");
+    let own = Vec::<u8>::with_capacity(rt.alloc(), 16);
+    assert!(rt; own.is_ok(), "the test's own growth");
     Ok(())
 }

@@ -1,7 +1,8 @@
 //! Many sessions in one loop: places, refusals, and that none hears of another.
 
 use crate::relays::{NEVER, OPENS, QUIET, assert_sent, sent};
-use crate::script::{WIDEST, bytes_of};
+use crate::script::{WIDEST, with_gofs};
+use crate::words::two_words;
 use daide_frame::side::Side::{self, Bot, Server};
 use daide_session::config::{Config, ConfigError};
 use daide_session::hub::{AddFault, Hub, HubError};
@@ -219,6 +220,8 @@ enum Act {
     Keeps(usize, bool),
     /// The wires of the session at this place were sent these bytes.
     Sent(usize, &'static str, &'static str),
+    /// So many rounds of turns, after which all sessions together weigh at most so much.
+    Rounds(usize, usize),
     /// There are so many sessions.
     Counts(usize),
 }
@@ -275,6 +278,17 @@ fn assert_kept(rt: &impl Abort, hub: &mut Hub<Feeding>, place: usize, is_over: b
     assert!(rt; hub.remove_over(place).is_none());
 }
 
+/// Turns all sessions of a hub, round by round.
+fn turn_all(hub: &mut Hub<Feeding>, rounds: usize) {
+    for _round in 0..rounds {
+        for place in 0..hub.count() {
+            if place < hub.count() {
+                hub.turn(place);
+            }
+        }
+    }
+}
+
 /// One call of a hub.
 fn play(rt: &(impl Abort + AllocGlobal), hub: &mut Hub<Feeding>, act: Act) -> Result<(), Fail> {
     match act {
@@ -290,18 +304,26 @@ fn play(rt: &(impl Abort + AllocGlobal), hub: &mut Hub<Feeding>, act: Act) -> Re
             assert!(rt; place < hub.count());
             assert_both_sent(rt, hub.ports(place), to_bot, to_server)?;
         }
+        Act::Rounds(rounds, most) => {
+            turn_all(hub, rounds);
+            assert!(rt; hub.weight() <= most);
+        }
         Act::Counts(count) => assert!(rt; hub.count() == count),
     }
     Ok(())
 }
 
-/// Calls of a fresh hub of at most so many sessions.
-fn assert_acts(rt: &(impl Abort + AllocGlobal), max: usize, acts: &[Act]) -> Result<(), Fail> {
+/// A hub of at most so many sessions after these calls, each of which came out as it is to.
+fn hub_after(
+    rt: &(impl Abort + AllocGlobal),
+    max: usize,
+    acts: &[Act],
+) -> Result<Hub<Feeding>, Fail> {
     let mut hub = Hub::new(rt.alloc(), WIDEST, max)?;
     for act in acts {
         play(rt, &mut hub, *act)?;
     }
-    Ok(())
+    Ok(hub)
 }
 
 /// A full hub hands the very ports back; a session that is over gives its ports, and the one behind it moves
@@ -324,7 +346,8 @@ const MOVES_DOWN: &[Act] = &[
 
 #[test]
 fn hub_places_move_down(rt: HostRuntime) -> Result<(), Fail> {
-    assert_acts(&rt, 2, MOVES_DOWN)
+    drop(hub_after(&rt, 2, MOVES_DOWN)?);
+    Ok(())
 }
 
 /// A session that is over is kept while a byte of it waits.
@@ -344,10 +367,11 @@ const KEEPS_WHAT_WAITS: &[Act] = &[
 
 #[test]
 fn session_with_a_byte_waiting_is_kept(rt: HostRuntime) -> Result<(), Fail> {
-    assert_acts(&rt, 1, KEEPS_WHAT_WAITS)
+    drop(hub_after(&rt, 1, KEEPS_WHAT_WAITS)?);
+    Ok(())
 }
 
-/// Takes out the first session, whose wires were sent these bytes.
+/// Takes out the first session, whose bot was sent these bytes, and whose server an IM and an FM.
 fn was_sent(
     rt: &(impl Abort + AllocGlobal),
     hub: &mut Hub<Feeding>,
@@ -364,50 +388,28 @@ fn was_sent(
     )
 }
 
-/// What the longest body of GOF gets: the RM, and HUH ( GOF ERR GOF .. GOF )
-fn answer_to_the_longest(rt: &impl AllocGlobal) -> Result<Vec<u8>, Fail> {
-    let mut bytes = bytes_of(rt, "01 00 00 00  02 00 FF FE  48 06 40 00 48 03 49 02")?;
-    for _token in 0..32_762 {
-        bytes.extend_from_slice(&[0x48, 0x03])?;
-    }
-    bytes.extend_from_slice(&[0x40, 0x01])?;
-    Ok(bytes)
-}
-
-/// One session that gets `GOF (` in single bytes, and one that gets the longest body; then both bots end.
-const SIDE_BY_SIDE: &[Act] = &[Act::Adds(SPELLING, 0), Act::Adds(POURING, 1)];
-
-/// Turns all sessions of a hub, round by round.
-fn turn_all(hub: &mut Hub<Feeding>, rounds: usize) {
-    for _round in 0..rounds {
-        for place in 0..hub.count() {
-            if place < hub.count() {
-                hub.turn(place);
-            }
-        }
-    }
-}
+/// One session gets `GOF (` in single bytes, one the longest body; then both bots end. The first was sent the RM and
+/// PRN ( GOF ( ).
+const SIDE_BY_SIDE: &[Act] = &[
+    Act::Adds(SPELLING, 0),
+    Act::Adds(POURING, 1),
+    Act::Rounds(400, 2 * (2 * 65_526 + 16 * 62 + 96)),
+    Act::Removes(
+        0,
+        "01 00 00 00  02 00 00 0A 48 13 40 00 48 03 40 00 40 01",
+        "00 00 00 04 00 01 DA 10  03 00 00 00",
+    ),
+];
 
 /// While one session reads the longest body, another gets a message in single bytes, and then both bots end: the
 /// ports of each, handed back, were sent exactly its own answers.
 #[test]
 fn sessions_hear_nothing_of_each_other(rt: HostRuntime) -> Result<(), Fail> {
-    let longest = answer_to_the_longest(&rt)?;
-    let mut hub = Hub::new(rt.alloc(), WIDEST, 2)?;
-    for act in SIDE_BY_SIDE {
-        play(&rt, &mut hub, *act)?;
-    }
-    turn_all(&mut hub, 400);
-    assert!(rt; hub.weight() <= 2 * (2 * 65_526 + 16 * 62 + 96));
-
-    // the RM, and PRN ( GOF ( )
-    let open_bracket = [
-        1, 0, 0, 0, 2, 0, 0, 0x0A, 0x48, 0x13, 0x40, 0, 0x48, 0x03, 0x40, 0, 0x40, 1,
-    ];
-    was_sent(&rt, &mut hub, &open_bracket)?;
-    was_sent(&rt, &mut hub, longest.as_slice())?;
-    assert!(rt; hub.count() == 0);
-    Ok(())
+    let mut hub = hub_after(&rt, 2, SIDE_BY_SIDE)?;
+    // the RM, and HUH ( GOF ERR GOF .. GOF )
+    let front = "01 00 00 00  02 00 FF FE  48 06 40 00 48 03 49 02";
+    let longest = with_gofs(&rt, front, 32_762, &[0x40, 0x01])?;
+    was_sent(&rt, &mut hub, longest.as_slice())
 }
 
 /// What became of a hub of two sessions whose memory lies in this heap, and of a session added to it.
@@ -418,12 +420,23 @@ enum Growth {
     Whole,
 }
 
-fn growth_in(rt: &(impl Abort + AllocGlobal), heap: &LocalHeap) -> Growth {
+/// A hub of two sessions in a heap, with an operator's words or without.
+fn hub_in<'a>(
+    heap: &'a LocalHeap,
+    has_words: bool,
+) -> Result<Hub<MemoryPorts<'static>, &'a LocalHeap>, HubError> {
     let config = Config {
         max_body: 512,
         ..WIDEST
     };
-    match Hub::new(heap, config, 2) {
+    if has_words {
+        return Hub::with_words(heap, config, 2, two_words());
+    }
+    Hub::new(heap, config, 2)
+}
+
+fn growth_in(rt: &(impl Abort + AllocGlobal), heap: &LocalHeap, has_words: bool) -> Growth {
+    match hub_in(heap, has_words) {
         Err(fault) => {
             assert!(rt; fault == HubError::Memory);
             Growth::NoHub
@@ -443,12 +456,11 @@ fn growth_in(rt: &(impl Abort + AllocGlobal), heap: &LocalHeap) -> Growth {
 }
 
 /// Over heaps from empty to ample, 32 KB: want of memory and nothing else, and the hub as it was.
-#[test]
-fn growths_of_a_hub_refused_in_turn(rt: HostRuntime) -> Result<(), Fail> {
+fn assert_growths(rt: &(impl Abort + AllocGlobal), has_words: bool) -> Result<(), Fail> {
     let mut seen = [false; 3];
     for step in 0..1000 {
         let heap = LocalHeap::new(rt.alloc(), 32 * step)?;
-        match growth_in(&rt, &heap) {
+        match growth_in(rt, &heap, has_words) {
             Growth::NoHub => seen[0] = true,
             Growth::NoSession => seen[1] = true,
             Growth::Whole => seen[2] = true,
@@ -456,4 +468,10 @@ fn growths_of_a_hub_refused_in_turn(rt: HostRuntime) -> Result<(), Fail> {
     }
     assert!(rt; seen == [true; 3], "each was seen");
     Ok(())
+}
+
+#[test]
+fn growths_of_a_hub_refused_in_turn(rt: HostRuntime) -> Result<(), Fail> {
+    assert_growths(&rt, false)?;
+    assert_growths(&rt, true)
 }

@@ -33,4 +33,6 @@ mod settings;
 #[cfg(test)]
 mod verdicts;
 #[cfg(test)]
+mod worded_sessions;
+#[cfg(test)]
 mod words;

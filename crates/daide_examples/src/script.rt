@@ -78,10 +78,31 @@ pub fn bytes_of(rt: &impl AllocGlobal, text: &str) -> Result<Vec<u8>, Fail> {
     Ok(hex::decode(rt.alloc(), digits.as_slice())?)
 }
 
+/// A word of two bytes over and over, at the end of these bytes.
+pub fn add_words(bytes: &mut Vec<u8>, word: [u8; 2], count: usize) -> Result<(), Fail> {
+    for _word in 0..count {
+        bytes.extend_from_slice(&word)?;
+    }
+    Ok(())
+}
+
+/// These bytes, then so many times GOF, and then these words.
+pub fn with_gofs(
+    rt: &impl AllocGlobal,
+    front: &str,
+    count: usize,
+    last: &[u8],
+) -> Result<Vec<u8>, Fail> {
+    let mut bytes = bytes_of(rt, front)?;
+    add_words(&mut bytes, [0x48, 0x03], count)?;
+    bytes.extend_from_slice(last)?;
+    Ok(bytes)
+}
+
 /// These bytes were sent.
 pub fn assert_bytes(rt: &(impl Abort + AllocGlobal), sent: &[u8], want: &str) -> Result<(), Fail> {
-    let want = bytes_of(rt, want)?;
-    assert_eq!(rt; sent, want.as_slice());
+    let bytes = bytes_of(rt, want)?;
+    assert!(rt; sent == bytes.as_slice(), "not {want}");
     Ok(())
 }
 
@@ -234,7 +255,7 @@ impl<A: Allocator> Script<A> {
     ) -> Result<(), Fail> {
         let bytes = bytes_of(rt, text)?;
         let told = self.note_of(rt, side, bytes.as_slice())?;
-        assert_eq!(rt; told, want);
+        assert!(rt; told == want, "another note of {text}");
         Ok(())
     }
 
@@ -269,28 +290,46 @@ impl<A: Allocator> Script<A> {
         assert!(rt; self.session.total(side) == self.asked);
     }
 
-    /// What is seen of the session's state.
-    fn look(&mut self, rt: &impl Abort, look: Look) {
+    /// Whether this is seen of the session's state.
+    fn holds(&self, look: Look) -> bool {
         let session = &self.session;
         match look {
-            Look::Phase(want) => assert_eq!(rt; session.phase(), want),
-            Look::Level(want) => assert_eq!(rt; session.level(), want),
-            Look::Room(side, want) => assert_eq!(rt; session.room(side), want),
-            Look::Front(side, want) => assert_eq!(rt; session.front(side).len(), want),
-            Look::Weight(least, most) => {
-                let weight = session.weight();
-                assert!(rt; least <= weight && weight <= most);
-            }
-            Look::NoSteps(side) => {
-                assert!(rt; session.steps(side) == 0 && session.total(side) == 0);
-            }
-            Look::Steps(side, most) => self.assert_steps(rt, side, most),
-            Look::Sent(_, _) => {}
+            Look::Phase(want) => session.phase() == want,
+            Look::Level(want) => session.level() == want,
+            Look::Room(side, want) => session.room(side) == want,
+            Look::Front(side, want) => session.front(side).len() == want,
+            Look::Weight(least, most) => (least..=most).contains(&session.weight()),
+            Look::NoSteps(side) => session.steps(side) == 0 && session.total(side) == 0,
+            Look::Steps(_, _) | Look::Sent(_, _) => false,
         }
     }
 
-    /// An event that is no bytes.
-    fn hear(&mut self, act: Act) {
+    /// This is seen.
+    fn look(&mut self, rt: &(impl Abort + AllocGlobal), look: Look) -> Result<(), Fail> {
+        match look {
+            Look::Sent(side, want) => return self.assert_sent(rt, side, want),
+            Look::Steps(side, most) => self.assert_steps(rt, side, most),
+            _ => assert!(rt; self.holds(look), "seen"),
+        }
+        Ok(())
+    }
+
+    /// The wire toward a side takes so many bytes, at most three at once.
+    fn take(&mut self, side: Side, most: usize) -> Result<(), Fail> {
+        match side {
+            Bot => take(&mut self.session, Bot, &mut self.to_bot, most),
+            Server => take(&mut self.session, Server, &mut self.to_server, most),
+        }
+    }
+
+    /// A side's stream ends, which is told.
+    fn stop(&mut self, rt: &impl Abort, side: Side) -> Result<(), Fail> {
+        assert!(rt; self.session.ended(side), "an end is told once");
+        Ok(())
+    }
+
+    /// An event that is no bytes; all that waits is taken.
+    fn hear(&mut self, act: Act) -> Result<(), Fail> {
         match act {
             Act::Ends(side) => {
                 self.session.ended(side);
@@ -301,6 +340,7 @@ impl<A: Allocator> Script<A> {
             }
             _ => {}
         }
+        self.deliver()
     }
 
     /// One act.
@@ -314,21 +354,10 @@ impl<A: Allocator> Script<A> {
             Act::Says(side, text) => self.say_text(rt, side, text, piece),
             Act::Sends(side, text) => self.send(rt, side, text),
             Act::Tells(side, text, note) => self.tell(rt, side, text, note),
-            Act::Takes(Bot, most) => take(&mut self.session, Bot, &mut self.to_bot, most),
-            Act::Takes(Server, most) => take(&mut self.session, Server, &mut self.to_server, most),
-            Act::Ends(_) | Act::Loses(_) | Act::Pops => {
-                self.hear(act);
-                self.deliver()
-            }
-            Act::Stops(side) => {
-                assert!(rt; self.session.ended(side), "an end is told once");
-                Ok(())
-            }
-            Act::Sees(Look::Sent(side, want)) => self.assert_sent(rt, side, want),
-            Act::Sees(look) => {
-                self.look(rt, look);
-                Ok(())
-            }
+            Act::Takes(side, most) => self.take(side, most),
+            Act::Ends(_) | Act::Loses(_) | Act::Pops => self.hear(act),
+            Act::Stops(side) => self.stop(rt, side),
+            Act::Sees(look) => self.look(rt, look),
         }
     }
 

@@ -13,7 +13,7 @@ use std::process::Abort;
 use std::test::Fail;
 
 /// What became of a connect, in a script.
-#[derive(Clone, Copy, Debug)]
+#[derive(Clone, Copy)]
 enum Fate {
     Ready,
     Failed,
@@ -21,7 +21,7 @@ enum Fate {
 }
 
 /// What the system was asked, and answered.
-#[derive(Clone, Copy, Debug, PartialEq, Eq)]
+#[derive(Clone, Copy, PartialEq, Eq)]
 enum Event {
     Came,
     NoneCame,
@@ -34,7 +34,7 @@ enum Event {
 }
 
 /// What happens in a run. After the last accept each one brings a bot; after the last fate each connect is there.
-#[derive(Clone, Copy, Debug)]
+#[derive(Clone, Copy)]
 struct Scene {
     accepts: &'static [bool],
     fates: &'static [Fate],
@@ -147,6 +147,13 @@ const ENDS_LATER: Script<'static> = Script {
 const OPENS_ALONE: Script<'static> = Script {
     pulls: &[Arrival::Bytes(&[0, 0, 0, 4, 0, 1, 0xDA, 0x10])],
     puts: &[],
+};
+
+/// One bot that comes and ends, and whose server is there.
+const ENDING: Scene = Scene {
+    accepts: &[],
+    fates: &[],
+    bot: ENDS,
 };
 
 fn settings(
@@ -279,26 +286,31 @@ const RUNS: &[(Scene, usize, u32, u64, &[Event])] = &[
     ),
 ];
 
-/// In a whole run by these settings the system is asked just that.
-fn assert_asked(
-    rt: &(impl Abort + AllocGlobal),
-    settings: &Settings,
-    scene: Scene,
-    want: &[Event],
-) {
+/// The stage after a whole run by these settings.
+fn stage_after(rt: &(impl Abort + AllocGlobal), settings: &Settings, scene: Scene) -> Stage {
     let mut stage = Stage::new(rt.alloc(), scene);
     assert!(rt; serve(rt.alloc(), settings, &mut stage).is_ok());
-    assert!(rt; stage.events.as_slice() == want, "{} events", want.len());
+    stage
 }
 
 #[test]
 fn system_is_asked_round_by_round(rt: HostRuntime) -> Result<(), Fail> {
     for (scene, max_sessions, sessions, turns, want) in RUNS {
         let settings = settings(rt.alloc(), *max_sessions, *sessions, *turns)?;
-        assert_asked(&rt, &settings, *scene, want);
+        let stage = stage_after(&rt, &settings, *scene);
+        assert!(rt; stage.events.as_slice() == *want, "{} events", want.len());
     }
     Ok(())
 }
+
+/// What the system is asked where one bot's turns are spent while it is open.
+const SPENT: [Event; 5] = [
+    Event::Came,
+    Event::Ready,
+    Event::Waited(false),
+    Event::Told(Notice::TurnsSpent),
+    Event::Retired,
+];
 
 /// A bot's IM is read in two turns and written in two. When its turns are spent an FM waits for the server; the wire
 /// fails then, so the server gets no more than the IM.
@@ -306,25 +318,13 @@ fn system_is_asked_round_by_round(rt: HostRuntime) -> Result<(), Fail> {
 fn spent_turns_end_an_open_wire(rt: HostRuntime) -> Result<(), Fail> {
     let settings = settings(rt.alloc(), 1, 1, 5)?;
     let scene = Scene {
-        accepts: &[],
-        fates: &[],
         bot: OPENS_ALONE,
+        ..ENDING
     };
-    let mut stage = Stage::new(rt.alloc(), scene);
-    assert!(rt; serve(rt.alloc(), &settings, &mut stage).is_ok());
-    let want = [
-        Event::Came,
-        Event::Ready,
-        Event::Waited(false),
-        Event::Told(Notice::TurnsSpent),
-        Event::Retired,
-    ];
-    assert!(rt; stage.events.as_slice() == want.as_slice());
-    let Some(ports) = stage.retired.first() else {
-        assert!(rt; false, "its ports were taken");
-        return Ok(());
-    };
-    assert_sent(&rt, ports.calls(), Server, "00 00 00 04 00 01 DA 10")
+    let stage = stage_after(&rt, &settings, scene);
+    assert!(rt; stage.events.as_slice() == SPENT.as_slice());
+    let calls = stage.retired.first().and_then(MemoryPorts::calls);
+    assert_sent(&rt, calls, Server, "00 00 00 04 00 01 DA 10")
 }
 
 #[test]
@@ -335,58 +335,64 @@ fn hundred_bots_sixteen_at_once(rt: HostRuntime) -> Result<(), Fail> {
         fates: &[Fate::Failed, Fate::Pending, Fate::Failed],
         bot: QUIET,
     };
-    let mut stage = Stage::new(rt.alloc(), scene);
-    assert!(rt; serve(rt.alloc(), &settings, &mut stage).is_ok());
-    assert!(rt; stage.held == 0 && stage.most == 16 && stage.retired.len() == 98);
+    let stage = stage_after(&rt, &settings, scene);
+    assert!(rt; [stage.held, stage.most, stage.retired.len()] == [0, 16, 98]);
     Ok(())
+}
+
+/// What became of a run whose memory lies in a heap.
+#[derive(Clone, Copy)]
+enum Growth {
+    NoHub,
+    NoSession,
+    Whole,
+}
+
+fn growth_in(rt: &(impl Abort + AllocGlobal), heap: &LocalHeap, settings: &Settings) -> Growth {
+    let mut stage = Stage::new(rt.alloc(), ENDING);
+    let Err(fault) = serve(heap, settings, &mut stage) else {
+        return Growth::Whole;
+    };
+    assert!(rt; fault == ServeFault::Memory);
+    if stage.events.is_empty() {
+        return Growth::NoHub;
+    }
+    Growth::NoSession
 }
 
 /// Over heaps from empty to ample: want of memory by its name, and nothing else.
 #[test]
 fn want_of_memory_ends_a_run(rt: HostRuntime) -> Result<(), Fail> {
     let settings = settings(rt.alloc(), 1, 1, 9)?;
-    let scene = Scene {
-        accepts: &[],
-        fates: &[],
-        bot: ENDS,
-    };
-    let mut without_hub = 0u32;
-    let mut without_session = 0u32;
-    let mut whole = 0u32;
+    let mut seen = [false; 3];
     for step in 0..300 {
         let heap = LocalHeap::new(rt.alloc(), 32 * step)?;
-        let mut stage = Stage::new(rt.alloc(), scene);
-        match serve(&heap, &settings, &mut stage) {
-            Ok(()) => whole = whole.saturating_add(1),
-            Err(fault) => {
-                assert!(rt; fault == ServeFault::Memory);
-                if stage.events.is_empty() {
-                    without_hub = without_hub.saturating_add(1);
-                } else {
-                    without_session = without_session.saturating_add(1);
-                }
-            }
+        match growth_in(&rt, &heap, &settings) {
+            Growth::NoHub => seen[0] = true,
+            Growth::NoSession => seen[1] = true,
+            Growth::Whole => seen[2] = true,
         }
     }
-    assert!(rt; without_hub > 0 && without_session > 0 && whole > 0);
+    assert!(rt; seen == [true; 3], "each was seen");
     Ok(())
+}
+
+/// The fault of a run by these settings, before which nobody was asked.
+fn fault_of(rt: &(impl Abort + AllocGlobal), settings: &Settings) -> Option<ServeFault> {
+    let mut stage = Stage::new(rt.alloc(), ENDING);
+    let fault = serve(rt.alloc(), settings, &mut stage).err();
+    assert!(rt; stage.events.is_empty());
+    fault
 }
 
 #[test]
 fn faults_of_a_run_before_anybody_is_asked(rt: HostRuntime) -> Result<(), Fail> {
-    let scene = Scene {
-        accepts: &[],
-        fates: &[],
-        bot: ENDS,
-    };
     let mut wrong = settings(rt.alloc(), 0, 1, 9)?;
-    let mut stage = Stage::new(rt.alloc(), scene);
-    let fault = serve(rt.alloc(), &wrong, &mut stage).err();
-    assert!(rt; fault == Some(ServeFault::Sessions));
+    let sessions = fault_of(&rt, &wrong);
     wrong.config.max_depth = 255;
-    let fault = serve(rt.alloc(), &wrong, &mut stage).err();
-    assert!(rt; fault == Some(ServeFault::Config(ConfigError::Depth)));
-    assert!(rt; stage.events.is_empty());
+    let faults = [sessions, fault_of(&rt, &wrong)];
+    let want = [ServeFault::Sessions, ServeFault::Config(ConfigError::Depth)];
+    assert!(rt; faults == want.map(Some));
     Ok(())
 }
 

@@ -2,7 +2,7 @@
 
 use crate::script::Act::{Ends, Loses, Pops, Says, Sees, Sends, Stops, Takes, Tells};
 use crate::script::{
-    Act, IM, Look, RM, Scene, WIDEST, assert_acts, assert_scenes, assert_scenes_within, script_over,
+    Act, IM, Look, RM, Scene, WIDEST, assert_acts, assert_scenes, assert_scenes_within,
 };
 use daide_frame::code::Code;
 use daide_frame::head::{Head, Kind};
@@ -10,8 +10,6 @@ use daide_frame::side::Side::{Bot, Server};
 use daide_grammar::level::Level;
 use daide_session::config::{Config, ConfigError};
 use daide_session::session::{Deed, Note, Phase, Session, SessionError};
-use linked_list_allocator::LocalHeap;
-use std::alloc::Allocator;
 use std::process::Abort;
 use std::test::Fail;
 
@@ -529,12 +527,10 @@ fn ends_and_timeouts(rt: HostRuntime) -> Result<(), Fail> {
 #[test]
 fn timer_faults_once(rt: HostRuntime) -> Result<(), Fail> {
     let mut session = Session::new(rt.alloc(), WIDEST)?;
-    assert!(rt; session.im_timeout() == Note::Fault(Code::ImTimeout));
-    assert!(rt; session.im_timeout() == Note::Nothing);
-    assert!(rt; session.is_over());
-    assert!(rt; !session.ended(Bot));
-    assert!(rt; session.room(Bot) == 0 && session.room(Server) == 0);
-    assert!(rt; session.feed(Bot, &[]) == Note::Nothing);
+    let notes = [session.im_timeout(), session.im_timeout()];
+    assert!(rt; notes == [Note::Fault(Code::ImTimeout), Note::Nothing]);
+    let rooms = [session.room(Bot), session.room(Server)];
+    assert!(rt; session.is_over() && !session.ended(Bot) && rooms == [0, 0]);
     Ok(())
 }
 
@@ -650,57 +646,4 @@ const HEAVY: &[Act] = &[
 #[test]
 fn weight_is_bounded(rt: HostRuntime) -> Result<(), Fail> {
     assert_acts(&rt, WIDEST, HEAVY)
-}
-
-/// A session opens, and answers an unclosed bracket with PRN.
-const ANSWERS_ONCE: &[Act] = &[
-    Sends(Bot, IM),
-    Takes(Server, 8),
-    Sends(Server, RM),
-    Takes(Bot, 4),
-    Sends(Bot, "02 00 00 04  48 03 40 00"),
-    Takes(Bot, 14),
-    Sees(Look::Sent(
-        Bot,
-        "01 00 00 00  02 00 00 0A  48 13 40 00 48 03 40 00 40 01",
-    )),
-    Sees(Look::Sent(Server, IM)),
-];
-
-/// A session from its opening goes through it.
-fn assert_answers_once<A: Allocator>(
-    rt: &(impl Abort + AllocGlobal),
-    session: Session<A>,
-) -> Result<(), Fail> {
-    let mut script = script_over(rt, session);
-    script.play_all(rt, ANSWERS_ONCE, 1)
-}
-
-/// Over a heap that is swept from empty to ample, a session is refused for want of memory and for nothing
-/// else, until there is room for its two bodies. In the first heap that has it, where a further growth
-/// would be refused, a whole session goes through.
-#[test]
-fn session_makes_two_growths(rt: HostRuntime) -> Result<(), Fail> {
-    let config = Config {
-        max_body: 512,
-        ..WIDEST
-    };
-    let mut made = false;
-    for step in 0..120 {
-        let heap = LocalHeap::new(rt.alloc(), 16 * step)?;
-        match Session::new(&heap, config) {
-            Ok(session) => {
-                if !made {
-                    assert_answers_once(&rt, session)?;
-                }
-                made = true;
-            }
-            Err(fault) => {
-                assert!(rt; fault == SessionError::Memory, "want of memory");
-                assert!(rt; !made, "ample memory is never refused");
-            }
-        }
-    }
-    assert!(rt; made);
-    Ok(())
 }

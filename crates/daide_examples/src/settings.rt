@@ -2,10 +2,10 @@
 //!
 //! The expected lines were worked out by hand from docs/FORMATS.md, "Settings".
 
-use daide_gate::settings::{SettingsError, read_settings};
+use daide_gate::settings::{Settings, SettingsError, read_settings};
 use daide_grammar::level::Level;
 use daide_token::token::Token;
-use daide_words::{Operand, Slot};
+use daide_words::{Operand, Slot, Word};
 use std::fmt::Write;
 use std::process::Abort;
 use std::test::Fail;
@@ -162,7 +162,10 @@ fn assert_faults(
 ) -> Result<(), Fail> {
     for (text, fault) in rows {
         let whole = format!(in rt.alloc(); "{front}{text}\n")?;
-        assert_eq!(rt; fault_of(rt, whole.as_str())?.as_str(), *fault, "at {text}");
+        assert!(rt;
+            fault_of(rt, whole.as_str())?.as_str() == *fault,
+            "at {text}"
+        );
     }
     Ok(())
 }
@@ -189,53 +192,61 @@ fn addresses_of_255_bytes_and_one_more(rt: HostRuntime) -> Result<(), Fail> {
         address.push('a')?;
     }
     let longest = format!(in rt.alloc(); "listen = \"a\"\nserver = \"{address}\"")?;
-    assert_eq!(rt; fault_of(&rt, longest.as_str())?.as_str(), "");
     let longer = format!(in rt.alloc(); "listen = \"a\"\nserver = \"b{address}\"")?;
-    assert_eq!(rt;
-        fault_of(&rt, longer.as_str())?.as_str(),
-        "server out of range"
-    );
-    Ok(())
+    let rows = [
+        (longest.as_str(), ""),
+        (longer.as_str(), "server out of range"),
+    ];
+    assert_faults(&rt, "", &rows)
+}
+
+/// What the keys that are numbers stand at, in the order of docs/FORMATS.md, and how many words there are.
+fn numbers_of(settings: &Settings) -> [u64; 8] {
+    [
+        u64::from(settings.config.top_level),
+        u64::from(settings.config.max_body),
+        u64::from(settings.config.max_depth),
+        u64::from(settings.im_seconds),
+        settings.max_sessions as u64,
+        u64::from(settings.sessions),
+        settings.turns,
+        settings.words.names().len() as u64,
+    ]
+}
+
+/// The addresses and the numbers of settings are these.
+fn assert_settings(rt: &impl Abort, settings: &Settings, addresses: [&str; 2], numbers: [u64; 8]) {
+    let are_there = [settings.listen.as_str(), settings.server.as_str()] == addresses;
+    assert!(rt; are_there && numbers_of(settings) == numbers);
 }
 
 #[test]
 fn two_addresses_give_the_defaults(rt: HostRuntime) -> Result<(), Fail> {
     let settings = read_settings(rt.alloc(), ADDRESSES)?;
-    assert!(rt; settings.listen.as_str() == "127.0.0.1:16713");
-    assert!(rt; settings.server.as_str() == "127.0.0.1:16714");
-    assert!(rt; settings.config.top_level == 60);
-    assert!(rt; settings.config.max_body == 65_526);
-    assert!(rt; settings.config.max_depth == 62);
-    assert!(rt; settings.im_seconds == 30);
-    assert!(rt; settings.max_sessions == 16);
-    assert!(rt; settings.sessions == 1);
-    assert!(rt; settings.turns == 1_000_000_000);
-    assert!(rt; settings.words.names().len() == 0);
+    let addresses = ["127.0.0.1:16713", "127.0.0.1:16714"];
+    let numbers = [60, 65_526, 62, 30, 16, 1, 1_000_000_000, 0];
+    assert_settings(&rt, &settings, addresses, numbers);
     Ok(())
 }
 
+/// Each key with a value of its own, the last one first.
+const EACH_KEY: &str =
+    "words = [ { name = \"XYZ\", code = 0x4A40, slot = \"press\", level = 20, operand = \"power\" } ]\n\
+    turns = 7\nsessions = 6\nmax_sessions = 5\nim_seconds = 4\nmax_depth = 13\nmax_body = 1024\n\
+    top_level = 20\nserver = \"s\"\nlisten = \"l\"\n";
+
 #[test]
 fn each_key_sets_its_own_field(rt: HostRuntime) -> Result<(), Fail> {
-    let text =
-        "words = [ { name = \"XYZ\", code = 0x4A40, slot = \"press\", level = 20, operand = \"power\" } ]\n\
-        turns = 7\nsessions = 6\nmax_sessions = 5\nim_seconds = 4\nmax_depth = 13\nmax_body = 1024\n\
-        top_level = 20\nserver = \"s\"\nlisten = \"l\"\n";
-    let settings = read_settings(rt.alloc(), text)?;
-    assert!(rt; settings.listen.as_str() == "l");
-    assert!(rt; settings.server.as_str() == "s");
-    assert!(rt; settings.config.top_level == 20);
-    assert!(rt; settings.config.max_body == 1_024);
-    assert!(rt; settings.config.max_depth == 13);
-    assert!(rt; settings.im_seconds == 4);
-    assert!(rt; settings.max_sessions == 5);
-    assert!(rt; settings.sessions == 6);
-    assert!(rt; settings.turns == 7);
-    let word = settings.words.get(0).ok_or("a word")?;
-    assert!(rt; word.name == *b"XYZ");
-    assert!(rt; word.code == Token::from_code(0x4A40));
-    assert!(rt; word.slot == Slot::Press);
-    assert!(rt; word.level == Level::L20);
-    assert!(rt; word.operand == Operand::Power);
+    let settings = read_settings(rt.alloc(), EACH_KEY)?;
+    assert_settings(&rt, &settings, ["l", "s"], [20, 1_024, 13, 4, 5, 6, 7, 1]);
+    let word = Word {
+        name: *b"XYZ",
+        code: Token::from_code(0x4A40),
+        slot: Slot::Press,
+        level: Level::L20,
+        operand: Operand::Power,
+    };
+    assert!(rt; settings.words.get(0) == Some(word));
     Ok(())
 }
 

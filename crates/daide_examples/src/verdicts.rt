@@ -1,6 +1,6 @@
 //! The worked examples of verdicts, by their names in docs/EXAMPLES.md.
 
-use crate::messages::{Example, assert_verdicts, tokens_of_text, verdict_on};
+use crate::messages::{Example, assert_verdicts, nested, verdict_on};
 use daide_grammar::level::Level::{L0, L10, L20, L30, L50, L60};
 use daide_grammar::side::Side2::{Client, ServerEnd};
 use daide_reader::verdict::Verdict::{Huh, Relay};
@@ -118,18 +118,6 @@ const FACTS: [Example; 4] = [
 #[test]
 fn facts_by_level(rt: HostRuntime) -> Result<(), Fail> {
     assert_verdicts(&rt, &FACTS)
-}
-
-/// HUH and that many opening and closing brackets.
-fn nested(rt: &(impl Abort + AllocGlobal), brackets: usize) -> Result<Vec<Token>, Fail> {
-    let mut message = tokens_of_text(rt, "HUH")?;
-    for _ in 0..brackets {
-        message.push(Token::from_code(0x4000))?;
-    }
-    for _ in 0..brackets {
-        message.push(Token::from_code(0x4001))?;
-    }
-    Ok(message)
 }
 
 #[test]

@@ -4,7 +4,7 @@
 
 ghost use Rattle.std.specs.Prelude.{◌≤◌};
 
-use crate::messages::tokens_of_text;
+use crate::messages::{nested, tokens_of_text};
 use daide_frame::side::Side;
 use daide_gate::frame_view::{ShowFault, show, show_with};
 use daide_grammar::level::Level;
@@ -20,7 +20,7 @@ use std::process::Abort;
 use std::test::Fail;
 
 /// The two words.
-fn two_words() -> Words {
+pub fn two_words() -> Words {
     let mut words = Words::new();
     let _ = words.add(Word {
         name: *b"XYZ",
@@ -88,40 +88,36 @@ fn words_stand_from_their_level(rt: HostRuntime) -> Result<(), Fail> {
     for (text, level, with, without) in MESSAGES {
         let tokens = tokens_of_text(&rt, text)?;
         let message = tokens.as_slice();
-        assert_eq!(rt; verdict_on_512(two_words(), level, message), with, "{text}");
-        assert_eq!(rt; verdict_on_512(Words::new(), level, message), without);
-        assert_eq!(rt; verdict_on_2048(two_words(), 254, level, message), with);
-        assert_eq!(rt; verdict_on_2048(Words::new(), 254, level, message), without);
+        let verdicts = [
+            verdict_on_512(two_words(), level, message),
+            verdict_on_512(Words::new(), level, message),
+            verdict_on_2048(two_words(), 254, level, message),
+            verdict_on_2048(Words::new(), 254, level, message),
+        ];
+        assert!(rt; verdicts == [with, without, with, without], "{text}");
     }
     Ok(())
 }
 
-/// HUH and that many opening and closing brackets.
-fn nested(rt: &(impl Abort + AllocGlobal), brackets: usize) -> Result<Vec<Token>, Fail> {
-    let mut message = tokens_of_text(rt, "HUH")?;
-    for _ in 0..brackets {
-        message.push(Token::from_code(0x4000))?;
-    }
-    for _ in 0..brackets {
-        message.push(Token::from_code(0x4001))?;
-    }
-    Ok(message)
-}
+/// How many brackets HUH has, and the verdict where 62 may be open, and where 254 may be.
+const DEPTHS: [(usize, Verdict, Verdict); 4] = [
+    (62, Relay, Relay),
+    (63, Huh(63), Relay),
+    (254, Huh(63), Relay),
+    (255, Huh(63), Huh(255)),
+];
 
 #[test]
 fn as_deep_as_is_said_whatever_the_room(rt: HostRuntime) -> Result<(), Fail> {
-    for (brackets, want) in [(62, Relay), (63, Huh(63))] {
+    for (brackets, shallow, deep) in DEPTHS {
         let tokens = nested(&rt, brackets)?;
         let message = tokens.as_slice();
-        assert_eq!(rt; verdict_on_512(Words::new(), L10, message), want);
-        assert_eq!(rt; verdict_on_2048(Words::new(), 62, L10, message), want);
-    }
-    for (brackets, want) in [(254, Relay), (255, Huh(255))] {
-        let tokens = nested(&rt, brackets)?;
-        assert_eq!(rt;
-            verdict_on_2048(Words::new(), 254, L10, tokens.as_slice()),
-            want
-        );
+        let verdicts = [
+            verdict_on_512(Words::new(), L10, message),
+            verdict_on_2048(Words::new(), 62, L10, message),
+            verdict_on_2048(Words::new(), 254, L10, message),
+        ];
+        assert!(rt; verdicts == [shallow, shallow, deep], "{brackets}");
     }
     Ok(())
 }
@@ -129,41 +125,48 @@ fn as_deep_as_is_said_whatever_the_room(rt: HostRuntime) -> Result<(), Fail> {
 /// A bot's `SND ( FRA ) ( XYZ ( ENG ) )` as a frame.
 const SENT: &[u8] = b"02000014 48174000 41024001 4000 4A40 4000 4101 4001 4001";
 
-// its level, and what is shown with the words
-const SHOWN: [(Level, &str); 2] = [
-    (L20, "DM 20\nSND ( FRA ) ( XYZ ( ENG ) )\nrelay\n"),
+// its level, whether there are words, and what is shown
+const SHOWN: [(Level, bool, &str); 3] = [
+    (L20, true, "DM 20\nSND ( FRA ) ( XYZ ( ENG ) )\nrelay\n"),
     (
         L10,
+        true,
         "DM 20\nSND ( FRA ) ( XYZ ( ENG ) )\nHUH at 5\nHUH ( SND ( FRA ) ( ERR XYZ ( ENG ) ) )\n",
+    ),
+    (
+        L20,
+        false,
+        "DM 20\nSND ( FRA ) ( #4a40 ( ENG ) )\nHUH at 5\nHUH ( SND ( FRA ) ( ERR #4a40 ( ENG ) ) )\n",
     ),
 ];
 
-#[test]
-fn words_are_shown_by_their_names(rt: HostRuntime) -> Result<(), Fail> {
-    for (level, want) in SHOWN {
-        let mut input = SENT;
-        let mut output = Vec::new(rt.alloc());
-        let words = two_words();
-        let shown = show_with(
-            rt.alloc(),
+/// What is shown of the frame at a level, with the words or without, and whether it is relayed.
+fn shown_at(rt: &impl AllocGlobal, level: Level, has_words: bool) -> Result<(bool, Vec<u8>), Fail> {
+    let alloc = rt.alloc();
+    let mut input = SENT;
+    let mut output = Vec::new(alloc);
+    let shown = if has_words {
+        show_with(
+            alloc,
             Side::Bot,
             level,
-            &words,
+            &two_words(),
             &mut input,
             &mut output,
-        );
-        assert_eq!(rt; shown, Ok(level == L20));
-        assert_eq!(rt; String::from_utf8(output)?.as_str(), want);
+        )
+    } else {
+        show(alloc, Side::Bot, level, &mut input, &mut output)
+    };
+    Ok((shown == Ok(true), output))
+}
+
+#[test]
+fn words_are_shown_by_their_names(rt: HostRuntime) -> Result<(), Fail> {
+    for (level, has_words, want) in SHOWN {
+        let (is_relay, output) = shown_at(&rt, level, has_words)?;
+        let is_right = output.as_slice() == want.as_bytes();
+        assert!(rt; is_right && is_relay == want.ends_with("relay\n"), "{want}");
     }
-    let mut input = SENT;
-    let mut output = Vec::new(rt.alloc());
-    assert_eq!(rt;
-        show(rt.alloc(), Side::Bot, L20, &mut input, &mut output),
-        Ok(false)
-    );
-    let want =
-        "DM 20\nSND ( FRA ) ( #4a40 ( ENG ) )\nHUH at 5\nHUH ( SND ( FRA ) ( ERR #4a40 ( ENG ) ) )\n";
-    assert_eq!(rt; String::from_utf8(output)?.as_str(), want);
     Ok(())
 }
 
@@ -174,13 +177,10 @@ fn shows_on_heap(rt: &(impl Abort + AllocGlobal), size: usize) -> Result<bool, F
     let mut output = Vec::new(rt.alloc());
     let words = two_words();
     let shown = show_with(&heap, Side::Bot, L20, &words, &mut input, &mut output);
-    assert_eq!(rt; heap.used(), 0, "at {size}");
-    if shown == Err(ShowFault::Memory) {
-        assert!(rt; output.is_empty(), "at {size}");
-        return Ok(false);
-    }
-    assert_eq!(rt; shown, Ok(true), "at {size}");
-    Ok(true)
+    let is_refused = shown == Err(ShowFault::Memory);
+    let is_right = shown == Ok(true) || (is_refused && output.is_empty());
+    assert!(rt; is_right && heap.used() == 0, "at {size}");
+    Ok(!is_refused)
 }
 
 #[test]

@@ -1,0 +1,85 @@
+//! Sessions whose messages may hold an operator's words: what one relays that one without them answers with HUH.
+//!
+//! XYZ is a press of a power from level 20 on.
+
+use crate::script::Act::Says;
+use crate::script::{WIDEST, script_over};
+use crate::words::two_words;
+use daide_frame::side::Side::{self, Bot, Server};
+use daide_session::session::Session;
+use daide_words::Words;
+use std::process::Abort;
+use std::test::Fail;
+
+/// `HLO ( ENG ) ( 1234 ) ( ( LVL 10 ) )`, and the same of level 20.
+const HLO_10: &str =
+    "02 00 00 1A  48 04 40 00 41 01 40 01 40 00 04 D2 40 01 40 00 40 00 49 03 00 0A 40 01 40 01";
+
+const HLO_20: &str =
+    "02 00 00 1A  48 04 40 00 41 01 40 01 40 00 04 D2 40 01 40 00 40 00 49 03 00 14 40 01 40 01";
+
+/// `SND ( FRA ) ( XYZ ( ENG ) )`, and the HUH that it gets where XYZ doesn't stand: ERR comes before XYZ.
+const SENT: &str = "02 00 00 14  48 17 40 00 41 02 40 01 40 00 4A 40 40 00 41 01 40 01 40 01";
+
+const HUH_OF_SENT: &str =
+    "02 00 00 1C  48 06 40 00 48 17 40 00 41 02 40 01 40 00 49 02 4A 40 40 00 41 01 40 01 40 01 40 01";
+
+/// `SND ( FRA ) ( TRY ( XYZ ) )`, which lists a word whatever it means.
+const TRIED: &str = "02 00 00 14  48 17 40 00 41 02 40 01 40 00 4A 1A 40 00 4A 40 40 01 40 01";
+
+/// `FRM ( ENG ) ( FRA ) ( XYZ ( ENG ) )`, and the HUH that it gets where XYZ doesn't stand.
+const HANDED_ON: &str =
+    "02 00 00 1A  48 02 40 00 41 01 40 01 40 00 41 02 40 01 40 00 4A 40 40 00 41 01 40 01 40 01";
+
+const HUH_OF_HANDED_ON: &str =
+    "02 00 00 22  48 06 40 00 48 02 40 00 41 01 40 01 40 00 41 02 40 01 40 00 49 02 4A 40 40 00 41 01 40 01 40 01 40 01";
+
+/// Whether the session has the words; what the server opens press with, which the bot gets; what a side says then; and
+/// what reaches the bot and the server of that.
+type Row = (
+    bool,
+    &'static str,
+    Side,
+    &'static str,
+    &'static str,
+    &'static str,
+);
+
+#[rattlefmt::skip]
+const ROWS: [Row; 8] = [
+    (true, HLO_20, Bot, SENT, "", SENT),
+    (true, HLO_10, Bot, SENT, HUH_OF_SENT, ""),
+    (true, HLO_10, Bot, TRIED, "", TRIED),
+    (true, HLO_20, Server, HANDED_ON, HANDED_ON, ""),
+    (true, HLO_10, Server, HANDED_ON, "", HUH_OF_HANDED_ON),
+    (false, HLO_20, Bot, SENT, HUH_OF_SENT, ""),
+    (false, HLO_10, Bot, TRIED, "", TRIED),
+    (false, HLO_20, Server, HANDED_ON, "", HUH_OF_HANDED_ON),
+];
+
+/// Plays a row in an open session, in pieces of so many bytes.
+fn assert_row(rt: &(impl Abort + AllocGlobal), row: &Row, piece: usize) -> Result<(), Fail> {
+    let (has_words, hlo, side, frame, to_bot, to_server) = row;
+    let words = if *has_words {
+        two_words()
+    } else {
+        Words::new()
+    };
+    let session = Session::with_words(rt.alloc(), WIDEST, words)?;
+    let mut script = script_over(rt, session);
+    script.open(rt, piece)?;
+    script.play(rt, Says(Server, hlo), piece)?;
+    script.assert_sent(rt, Bot, hlo)?;
+    script.play(rt, Says(*side, frame), piece)?;
+    script.assert_sent(rt, Bot, to_bot)?;
+    script.assert_sent(rt, Server, to_server)
+}
+
+#[test]
+fn session_with_words_relays_what_one_without_answers(rt: HostRuntime) -> Result<(), Fail> {
+    for row in &ROWS {
+        assert_row(&rt, row, 65_530)?;
+        assert_row(&rt, row, 1)?;
+    }
+    Ok(())
+}
