@@ -1,63 +1,51 @@
--- The table of classes is that of the definition.
-use Rattle.std.proofs.Common.{◌≡◌, ℕ, ◌/◌, ◌%◌, ◌<◌, nat_lt, ltb-true, true, List, [], ◌∷◌, map, get_or, refl, ap, sym, ◌∙◌, subst, arith}
-use Rattle.std.specs.List.{list_all, range_with_len}
+-- The list of classes is that of the definition.
+use Rattle.std.proofs.Common.{◌≡◌, ℕ, zero, suc, ◌+◌, ◌*◌, ◌/◌, ◌%◌, ◌<◌, Bool, true, ◌&&◌, nat_eq, List, [], ◌∷◌, length, get_or, refl, ap, sym, ◌∙◌, subst, arith}
+use Rattle.std.proofs.lemmas.Bool.{and_parts, eqb-true}
 use Rattle.daide_token.specs.Class.{class_in, class_of}
-use Rattle.daide_token.specs.declared.class.Class.{Class}
-use Rattle.daide_grammar.specs.declared.table.classes.TheConstants.{PAGES}
-use Rattle.daide_grammar.specs.Cells.{page_at, code_at, column_at}
+use Rattle.daide_grammar.specs.declared.table.rows.TheConstants.{TABLE}
+use Rattle.daide_grammar.specs.Cells.{class_cell, column_at}
 use Rattle.daide_grammar.specs.Classes.{class_number}
 use Rattle.daide_grammar.specs.Numbers.{class_at}
-use Rattle.daide_grammar.proofs.Alike.{alike, passes_at}
 use Rattle.daide_grammar.proofs.WordColumns.{class_told, own_class}
 
--- every category has a page
-few_pages : list_all (λ page. nat_lt page 15) PAGES ≡ true
-few_pages = refl
+-- A test that computes: each number from a place of the list on is that of the class of its code and category.
+abbrev agrees : ℕ → ℕ → Bool
+agrees place n = nat_eq n (class_number (class_in (place % 256) (place / 256)))
 
-pub page_small : (category : ℕ) → page_at category < 15
-unfolding page_at
-page_small category =
-    ltb-true (page_at category) 15 (passes_at (λ page. nat_lt page 15) PAGES category 0 few_pages refl)
+abbrev all_agree : ℕ → List ℕ → Bool
+all_agree place [] = true
+all_agree place (n ∷ ns) = agrees place n && all_agree (suc place) ns
 
--- a category of each page, in the order of the pages
-abbrev first_on : ℕ → ℕ
-first_on page =
-    get_or
-    (0x00 ∷ 0x40 ∷ 0x41 ∷ 0x42 ∷ 0x43 ∷ 0x44 ∷ 0x45 ∷ 0x46 ∷ 0x47 ∷ 0x48 ∷ 0x49 ∷ 0x4A ∷ 0x4B ∷ 0x50 ∷ 0x4C ∷ [])
-    page 0
+agree : all_agree 0 TABLE.classes ≡ true
+agree = refl
 
--- a category has the classes of that one, code by code
-as_first : ℕ → ℕ → Class
-as_first category = class_in (first_on (page_at category))
+many : length TABLE.classes ≡ 65536
+many = refl
 
-categories : map class_in (range_with_len 0 256) ≡ map as_first (range_with_len 0 256)
-unfolding page_at as_first
-categories = refl
-
--- the numbers of the classes of a page's codes, by the table and by the definition
-told : ℕ → List ℕ
-told page = map (code_at page) (range_with_len 0 256)
-
-meant : ℕ → List ℕ
-meant page = map (λ code. class_number (class_in (first_on page) code)) (range_with_len 0 256)
-
-pages : map told (range_with_len 0 15) ≡ map meant (range_with_len 0 15)
-unfolding told meant code_at
-pages = refl
-
-number : (category code : ℕ) → category < 256 → code < 256 →
-    column_at category code ≡ class_number (class_in category code)
-unfolding told meant as_first
-number category code high low =
-    let page = page_at category in
-    let own : ℕ → ℕ = λ code. class_number (class_in (first_on page) code) in
-    let codes = alike told meant 15 pages page (page_small category) in
-    let same : class_in category ≡ class_in (first_on page) = alike class_in as_first 256 categories category high in
-    alike (code_at page) own 256 codes code low ∙ sym (ap (λ (f : ℕ → Class). class_number (f code)) same)
+at_place : (place k : ℕ) (ns : List ℕ) → all_agree place ns ≡ true → k < length ns →
+    agrees (place + k) (get_or ns k 0) ≡ true
+at_place place k [] h less = absurd (omega arith)
+at_place place zero (n ∷ ns) h less =
+    let here : place ≡ place + 0 = omega arith in
+    ap (λ (p : ℕ). agrees p n) (sym here) ∙ (and_parts (agrees place n) (all_agree (suc place) ns) h).0
+at_place place (suc k) (n ∷ ns) h less =
+    let there : place + suc k ≡ suc place + k = omega arith in
+    ap (λ (p : ℕ). agrees p (get_or ns k 0)) there
+    ∙ at_place (suc place) k ns (and_parts (agrees place n) (all_agree (suc place) ns) h).1 (omega arith)
 
 pub number_told : (t : ℕ) → t < 65536 → column_at (t / 256) (t % 256) ≡ class_number (class_of t)
-unfolding class_of
-number_told t word = number (t / 256) (t % 256) (omega (arith, word)) (omega arith)
+unfolding class_cell class_of
+number_told t word =
+    let place : ℕ = t % 256 * 256 + t / 256 in
+    let from : 0 + place ≡ place = omega arith in
+    let category : place % 256 ≡ t / 256 = omega arith in
+    let code : place / 256 ≡ t % 256 = omega arith in
+    let here : agrees place (get_or TABLE.classes place 0) ≡ true =
+    ap (λ (p : ℕ). agrees p (get_or TABLE.classes place 0)) (sym from) ∙ at_place 0 place TABLE.classes agree (rw many (omega arith))
+    in
+    eqb-true (get_or TABLE.classes place 0) (class_number (class_in (place % 256) (place / 256))) here
+    ∙ ap (λ (p : ℕ). class_number (class_in p (place / 256))) category
+    ∙ ap (λ (p : ℕ). class_number (class_in (t / 256) p)) code
 
 pub class_found : (t : ℕ) → t < 65536 → class_at (column_at (t / 256) (t % 256)) ≡ class_of t
 class_found t word = ap class_at (number_told t word) ∙ class_told (class_of t) (own_class t)

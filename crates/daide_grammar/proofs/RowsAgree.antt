@@ -8,7 +8,7 @@ use Rattle.daide_token.specs.declared.class.Class.TheVariants.{Num}
 use Rattle.daide_grammar.specs.declared.level.Level.TheVariants.{L60}
 use Rattle.daide_grammar.specs.declared.symbol.Sym.{Sym}
 use Rattle.daide_grammar.specs.declared.symbol.Sym.TheVariants.{ArrangementGroup, Arrangement, FactGroup, Fact, OperandGroup, Operands, Operand, PressGroup, Press, SendGroup, MaybeSendGroup, Send, SendTail, SendFirst, Client, RequestGroup, Request, Server}
-use Rattle.daide_grammar.specs.declared.table.rows.TheConstants.{ROWS}
+use Rattle.daide_grammar.specs.declared.table.rows.TheConstants.{TABLE}
 use Rattle.daide_grammar.specs.Answers.{Answer}
 use Rattle.daide_grammar.specs.Cells.{rule_at}
 use Rattle.daide_grammar.specs.Classes.{class_number}
@@ -20,7 +20,7 @@ use Rattle.daide_grammar.proofs.WordColumns.{class_told}
 
 -- a symbol's rules, class by class
 abbrev rules_of : Sym → List ℕ
-rules_of s = map (λ column. slice_index column (symbol_number s)) ROWS
+rules_of s = map (λ column. slice_index column (symbol_number s)) TABLE.rows
 
 -- A test that computes: each rule of a symbol does what its entries say. A wrong cell is refused by its symbol's name.
 rows_agree : (s : Sym) → map deed (rules_of s) ≡ map (table_answer s) classes
@@ -53,20 +53,20 @@ pub looked_up : (s : Sym) (n : ℕ) → n < 95 → deed (rule_at n (symbol_numbe
 unfolding rule_at
 looked_up s n less =
     let rule : List ℕ → ℕ = λ column. slice_index column (symbol_number s) in
-    ap deed (sym (get_or-map rule ROWS n [])) ∙ sym (get_or-map deed (rules_of s) n (rule []))
+    ap deed (sym (get_or-map rule TABLE.rows n [])) ∙ sym (get_or-map deed (rules_of s) n (rule []))
     ∙ ap (λ (xs : List Answer). get_or xs n (deed (rule []))) (rows_agree s)
     ∙ any_default n (map (table_answer s) classes) (deed (rule [])) (table_answer s Num) (rw (every_class s) less)
     ∙ get_or-map (table_answer s) classes n Num
 
 -- each rule has a number of one byte
-in_a_byte : list_all (list_all (λ rule. nat_lt rule 256)) ROWS ≡ true
+in_a_byte : list_all (list_all (λ rule. nat_lt rule 256)) TABLE.rows ≡ true
 in_a_byte = refl
 
 small_rule : (c s : ℕ) → rule_at c s < 256
 unfolding rule_at
 small_rule c s =
-    let column = passes_at (list_all (λ rule. nat_lt rule 256)) ROWS c [] in_a_byte refl in
-    ltb-true (rule_at c s) 256 (passes_at (λ rule. nat_lt rule 256) (slice_index_or ROWS c []) s 0 column refl)
+    let column = passes_at (list_all (λ rule. nat_lt rule 256)) TABLE.rows c [] in_a_byte refl in
+    ltb-true (rule_at c s) 256 (passes_at (λ rule. nat_lt rule 256) (slice_index_or TABLE.rows c []) s 0 column refl)
 
 -- whatever the entries say is said by a rule
 pub has_rule : (s : Sym) (c : Class) → class_number c < 95 → HasRule (table_answer s c)

@@ -4,7 +4,7 @@ use Rattle.std.proofs.lemmas.Bool.Decides.{nat_tests}
 use Rattle.std.specs.Prelude.{slice_index_or}
 use Rattle.std.specs.List.{list_all, range_with_len}
 use Rattle.daide_grammar.specs.declared.symbol.Sym.{Sym}
-use Rattle.daide_grammar.specs.declared.table.rules.TheConstants.{RESTS}
+use Rattle.daide_grammar.specs.declared.table.rows.TheConstants.{TABLE}
 use Rattle.daide_grammar.specs.Cells.{cell_at, length_at}
 use Rattle.daide_grammar.specs.Numbers.{symbol_at}
 use Rattle.daide_grammar.specs.Rules.{deed, rest_at, rest_of, is_take, is_stop}
@@ -55,14 +55,14 @@ unfolding front turned
 cells_hold n less = alike front turned 256 fronts n less
 
 -- a cell's number is a symbol's
-few : list_all (list_all (λ n. nat_lt n 202)) RESTS ≡ true
+few : list_all (list_all (λ n. nat_lt n 202)) TABLE.rests ≡ true
 few = refl
 
 pub cell_small : (n place : ℕ) → cell_at n place < 202
 unfolding cell_at
 cell_small n place =
-    let row = passes_at (list_all (λ n. nat_lt n 202)) RESTS n [] few refl in
-    ltb-true (cell_at n place) 202 (passes_at (λ n. nat_lt n 202) (slice_index_or RESTS n []) place 0 row refl)
+    let row = passes_at (list_all (λ n. nat_lt n 202)) TABLE.rests n [] few refl in
+    ltb-true (cell_at n place) 202 (passes_at (λ n. nat_lt n 202) (slice_index_or TABLE.rests n []) place 0 row refl)
 
 pub take_told : (n : ℕ) → nat_le 2 n ≡ is_take (deed n)
 unfolding deed

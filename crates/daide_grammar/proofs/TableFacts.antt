@@ -7,7 +7,7 @@ use Rattle.daide_grammar.specs.declared.level.Level.TheVariants.{L0, L10, L20, L
 use Rattle.daide_grammar.specs.declared.symbol.Sym.{Sym}
 use Rattle.daide_grammar.specs.declared.symbol.Sym.TheVariants.{Closing, Texts, PowerGroup, PowersGroup, MaybeNumberGroup, OneUnit, OrderTail, Orders, SubmitFirst, OrderGroup, NoteGroup, Arrangement, ArrangementGroup, OperandGroup, Operands, Operand, Fact, FactGroup, PressGroup, SendTail, Client, Server, Any}
 use Rattle.daide_grammar.specs.Answers.{Answer, Take, Skip, Stop}
-use Rattle.daide_grammar.specs.Cells.{rule_at, code_at, page_at, column_at}
+use Rattle.daide_grammar.specs.Cells.{class_cell, rule_at, column_at}
 use Rattle.daide_grammar.specs.Classes.{class_number}
 use Rattle.daide_grammar.specs.Numbers.{class_at, symbol_number}
 use Rattle.daide_grammar.specs.Rules.{deed, rest_at}
@@ -115,17 +115,17 @@ prn = refl
 
 -- classes by category and code: THX, a power that no map lists, a press code without a token, a character
 thx-class : class_at (column_at 0x48 0x1A) ≡ Thx
-unfolding page_at code_at
+unfolding class_cell
 thx-class = refl
 
 power-class : class_at (column_at 0x41 0xFF) ≡ Power
-unfolding page_at code_at
+unfolding class_cell
 power-class = refl
 
 press-class : class_at (column_at 0x4A 0x04) ≡ Other
-unfolding page_at code_at
+unfolding class_cell
 press-class = refl
 
 text-class : class_at (column_at 0x4B 0x61) ≡ Text
-unfolding page_at code_at
+unfolding class_cell
 text-class = refl

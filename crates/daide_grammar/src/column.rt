@@ -10,10 +10,11 @@ use daide_token::class::Class;
 use std::marker::Model;
 
 /// A class, by its number, which is its column of the constant table. A contract sees the class. The brackets come
-/// first, and the sixteen words that an operator may add last.
+/// first, and the sixteen words that an operator may add last. It is held as wide as an index: where two ways of
+/// finding it meet, a byte would be widened at every token.
 #[derive(Clone, Copy)]
 pub struct Column {
-    number: u8,
+    number: usize,
 }
 
 impl Model for Column {
@@ -42,7 +43,9 @@ impl Column {
         requires { number < 95 }
         ensures { result ≡ class_at number }
     {
-        Column { number }
+        Column {
+            number: number as usize,
+        }
     }
 
     /// The class of a name.
@@ -52,7 +55,7 @@ impl Column {
         ensures { result ≡ class }
     {
         Column {
-            number: class.number() as u8,
+            number: class.number() as usize,
         }
     }
 
@@ -63,7 +66,9 @@ impl Column {
         requires { place < 16 }
         ensures { result ≡ Word place }
     {
-        Column { number: 79 + place }
+        Column {
+            number: 79 + place as usize,
+        }
     }
 
     /// The class by its name.
@@ -76,7 +81,7 @@ impl Column {
 
     /// The class's number.
     #[inline(always)]
-    pub fn number(self) -> u8
+    pub fn number(self) -> usize
         ensures number { result ≡ class_number self }
         ensures class { class_at result ≡ self }
         ensures below { result < 95 }
@@ -98,16 +103,16 @@ impl Column {
         ensures { result ≡ word_number self }
     {
         if self.number >= 79 {
-            return Some(self.number - 79);
+            return Some((self.number - 79) as u8);
         }
         None
     }
 }
 
 /// The class at a place of the list of classes.
-fn listed(number: u8) -> Class
+fn listed(number: usize) -> Class
     requires { number < 95 }
     ensures { result ≡ class_at number }
 {
-    CLASSES[number as usize]
+    CLASSES[number]
 }

@@ -7,15 +7,14 @@ ghost use Rattle.std.specs.Prelude.{◌≡◌, ◌<◌, ◌+◌, ◌%◌, ◌/�
 ghost use Rattle.daide_token.specs.Class.{class_of};
 ghost use Rattle.daide_grammar.specs.Symbols.{may_end_of, opening_of, table_answer};
 ghost use Rattle.daide_grammar.specs.AnswersGiven.{look_ups};
-ghost use Rattle.daide_grammar.specs.Cells.{code_at, page_at, rule_at};
+ghost use Rattle.daide_grammar.specs.Cells.{class_cell, rule_at};
 
 use crate::column::Column;
 use crate::level::Level;
 use crate::predict::{Move, Predict};
 use crate::side::Side2;
 use crate::symbol::{Symbol, level_place};
-use crate::table::classes::{CODES, PAGES};
-use crate::table::rows::ROWS;
+use crate::table::rows::TABLE;
 use daide_token::token::Token;
 
 /// Predicts by a table, and counts its answers. It knows the protocol's own grammar, at every level.
@@ -44,12 +43,12 @@ fn move_of(sym: Symbol, class: Column) -> Move
 /// A rule of the table.
 #[inline(always)]
 #[tactic(auto, unfolding(crate::specs::Cells::rule_at))]
-fn rule_at(class: u8, symbol: u8) -> u8
+fn rule_at(class: usize, symbol: u8) -> u8
     requires class { class < 95 }
     requires symbol { symbol < 202 }
     ensures { result ≡ rule_at class symbol }
 {
-    ROWS[class as usize][symbol as usize]
+    TABLE.rows[class][symbol as usize]
 }
 
 /// The class of a token.
@@ -58,26 +57,16 @@ fn class_of(token: Token) -> Column
     ensures { result ≡ class_of token }
 {
     let bits = token.code();
-    Column::of(code_at(page_at((bits / 256) as u8), (bits % 256) as u8))
+    Column::of(class_cell(bits % 256 * 256 + bits / 256))
 }
 
-/// The page of a category.
+/// The number of the class at a place of the list of classes.
 #[inline(always)]
-#[tactic(auto, unfolding(crate::specs::Cells::page_at))]
-fn page_at(category: u8) -> u8
-    ensures { result ≡ page_at category }
+#[tactic(auto, unfolding(crate::specs::Cells::class_cell))]
+fn class_cell(place: u16) -> u8
+    ensures { result ≡ class_cell place }
 {
-    PAGES[category as usize]
-}
-
-/// The number of the class of a code on a page.
-#[inline(always)]
-#[tactic(auto, unfolding(crate::specs::Cells::code_at))]
-fn code_at(page: u8, code: u8) -> u8
-    requires { page < 15 }
-    ensures { result ≡ code_at page code }
-{
-    CODES[page as usize][code as usize]
+    TABLE.classes[place as usize]
 }
 
 /// Whether a symbol may be empty: whether a closing bracket skips it.

@@ -21,23 +21,27 @@ use crate::column::Column;
 use crate::level::Level;
 use crate::side::Side2;
 use crate::symbol::Symbol;
-use crate::table::rules::{LENGTHS, RESTS};
+use crate::table::rows::TABLE;
 use daide_token::token::Token;
 use std::marker::Model;
 
-/// What a token means to the symbol that is expected, by the number of a rule. A contract sees the answer.
+/// What a token means to the symbol that is expected, by the number of a rule, as wide as an index. A contract sees the
+/// answer.
 #[derive(Drop)]
 pub struct Move {
-    rule: u8,
+    rule: usize,
 }
 
 impl Model for Move {
     ghost use Rattle.daide_grammar.specs.Answers.{Answer};
     ghost use Rattle.daide_grammar.specs.Rules.{deed};
+    ghost use Rattle.std.specs.Prelude.{◌<◌};
 
     ghost Value = { Answer };
 
     ghost view = { λ m. deed m.rule };
+
+    ghost invariant = { λ m. m.rule < 256 };
 }
 
 impl Move {
@@ -46,7 +50,9 @@ impl Move {
     pub fn of(rule: u8) -> Move
         ensures { result ≡ deed rule }
     {
-        Move { rule }
+        Move {
+            rule: rule as usize,
+        }
     }
 
     /// Whether the token begins the symbol.
@@ -94,8 +100,9 @@ impl Move {
 
 /// A symbol of a rule's row.
 #[inline(always)]
-fn cell_of(rule: u8, place: usize) -> Symbol
-    requires { place < 8 }
+fn cell_of(rule: usize, place: usize) -> Symbol
+    requires rule { rule < 256 }
+    requires place { place < 8 }
     ensures { result ≡ symbol_at (cell_at rule place) }
 {
     Symbol::of(cell_at(rule, place))
@@ -104,20 +111,22 @@ fn cell_of(rule: u8, place: usize) -> Symbol
 /// A number of a rule's row.
 #[inline(always)]
 #[tactic(auto, unfolding(crate::specs::Cells::cell_at))]
-fn cell_at(rule: u8, place: usize) -> u8
-    requires { place < 8 }
+fn cell_at(rule: usize, place: usize) -> u8
+    requires rule { rule < 256 }
+    requires place { place < 8 }
     ensures { result ≡ cell_at rule place }
 {
-    RESTS[rule as usize][place]
+    TABLE.rests[rule][place]
 }
 
 /// How many symbols a rule leaves.
 #[inline(always)]
 #[tactic(auto, unfolding(crate::specs::Cells::length_at))]
-fn length_at(rule: u8) -> u8
+fn length_at(rule: usize) -> u8
+    requires { rule < 256 }
     ensures { result ≡ length_at rule }
 {
-    LENGTHS[rule as usize]
+    TABLE.lengths[rule]
 }
 
 /// A table that answers one question at a time, and counts its answers.

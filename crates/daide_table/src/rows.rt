@@ -18,6 +18,12 @@ const HEAD: &str =
 //! means. A symbol with a level has a row for all levels and, where more may stand from a level on, a row with that
 //! level in its name, which adds to the one before; its rules that name a level are those of level 0, and the level's
 //! place among the levels is added.
+
+use crate::table::classes::{
+    bracket_class, by_code, class, classes, command_class, order_class, parameter_class, press_class,
+    unit_class,
+};
+use crate::table::rules::{LENGTHS, RESTS};
 ";
 
 /// What stands before the cells of a column.
@@ -33,9 +39,24 @@ const ROWS: &str = "        ]
     };
 }
 
-/// The rule of each symbol at each class. An operator's word means what a token without a meaning does.
+/// The constant table in one piece, so that one address reaches all of it.
+pub(crate) struct Table {
+    /// The rule of each symbol at each class. An operator's word means what a token without a meaning does.
+    pub(crate) rows: [[u8; 202]; 95],
+    /// The symbols that each rule leaves, as they are put on a stack.
+    pub(crate) rests: [[u8; 8]; 256],
+    /// How many symbols each rule leaves.
+    pub(crate) lengths: [u8; 256],
+    /// The number of the class of each token, code by code.
+    pub(crate) classes: [u8; 65536],
+}
+
 #[rattlefmt::skip]
-pub(crate) static ROWS: [[u8; 202]; 95] = [
+pub(crate) static TABLE: Table = Table {
+    rests: RESTS,
+    lengths: LENGTHS,
+    classes: classes!(),
+    rows: [
 ";
 
 /// A symbol's rules, by class.
@@ -174,7 +195,7 @@ fn write_levels(
 
 /// The columns of the classes, and of the words.
 fn columns(alloc: Global) -> Result<String, AllocError> {
-    let mut lines = Lines::new(alloc, "    ");
+    let mut lines = Lines::new(alloc, "        ");
     for number in 0..79 {
         let class = class_name(alloc, Column::of(number).class())?;
         let mut column = String::new(alloc);
@@ -222,6 +243,6 @@ pub fn text(alloc: Global) -> Result<String, AllocError> {
     text.push_str(cells.text()?.as_str())?;
     text.push_str(ROWS)?;
     text.push_str(columns(alloc)?.as_str())?;
-    text.push_str("];\n")?;
+    text.push_str("    ],\n};\n")?;
     Ok(text)
 }

@@ -57,10 +57,10 @@ const TAIL: &str = "        ]
 }
 
 /// The symbols that each rule leaves, as they are put on a stack.
-pub(crate) static RESTS: [[u8; 8]; 256] = rules!(cells);
+pub(crate) const RESTS: [[u8; 8]; 256] = rules!(cells);
 
 /// How many symbols each rule leaves.
-pub(crate) static LENGTHS: [u8; 256] = rules!(length);
+pub(crate) const LENGTHS: [u8; 256] = rules!(length);
 ";
 
 /// The symbols of a rest, a comma between them; those with a level at the level's place.

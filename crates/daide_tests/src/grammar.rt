@@ -111,6 +111,6 @@ fn rests_tell_their_symbols(rt: HostRuntime) {
 #[test]
 fn answers_are_small(rt: HostRuntime) {
     assert_eq!(rt; size_of::<Symbol>(), 1);
-    assert_eq!(rt; size_of::<Column>(), 1);
-    assert_eq!(rt; size_of::<Move>(), 1);
+    assert_eq!(rt; size_of::<Column>(), size_of::<usize>());
+    assert_eq!(rt; size_of::<Move>(), size_of::<usize>());
 }

@@ -23,7 +23,7 @@ use daide_grammar::symbol::Symbol;
 use daide_token::token::Token;
 
 /// The number of the class of tokens without a meaning, as which the protocol's table knows an operator's word.
-const OTHER: u8 = 77;
+const OTHER: usize = 77;
 
 /// Predicts by the constant table and the words of an operator, and counts its answers.
 #[derive(Debug, Drop)]

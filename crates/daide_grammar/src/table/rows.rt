@@ -5,6 +5,12 @@
 //! level in its name, which adds to the one before; its rules that name a level are those of level 0, and the level's
 //! place among the levels is added.
 
+use crate::table::classes::{
+    bracket_class, by_code, class, classes, command_class, order_class, parameter_class,
+    press_class, unit_class,
+};
+use crate::table::rules::{LENGTHS, RESTS};
+
 macro_rules! closing {
     (KET) => { 2 };
     ($other:ident) => { 0 };
@@ -733,22 +739,39 @@ macro_rules! column {
     };
 }
 
-/// The rule of each symbol at each class. An operator's word means what a token without a meaning does.
+/// The constant table in one piece, so that one address reaches all of it.
+pub(crate) struct Table {
+    /// The rule of each symbol at each class. An operator's word means what a token without a meaning does.
+    pub(crate) rows: [[u8; 202]; 95],
+    /// The symbols that each rule leaves, as they are put on a stack.
+    pub(crate) rests: [[u8; 8]; 256],
+    /// How many symbols each rule leaves.
+    pub(crate) lengths: [u8; 256],
+    /// The number of the class of each token, code by code.
+    pub(crate) classes: [u8; 65536],
+}
+
 #[rattlefmt::skip]
-pub(crate) static ROWS: [[u8; 202]; 95] = [
-    column!(BRA), column!(KET), column!(NUM), column!(POWER), column!(NOTE), column!(OUTCOME), column!(COAST),
-    column!(SEASON), column!(TEXT), column!(PROVINCE), column!(AMY), column!(FLT), column!(CTO), column!(CVY),
-    column!(HLD), column!(MTO), column!(SUP), column!(VIA), column!(DSB), column!(RTO), column!(BLD), column!(REM),
-    column!(WVE), column!(CCD), column!(DRW), column!(FRM), column!(GOF), column!(HLO), column!(HST), column!(HUH),
-    column!(IAM), column!(LOD), column!(MAP), column!(MDF), column!(MIS), column!(NME), column!(NOT), column!(NOW),
-    column!(OBS), column!(OFF), column!(ORD), column!(OUT), column!(PRN), column!(REJ), column!(SCO), column!(SLO),
-    column!(SND), column!(SUB), column!(SVE), column!(THX), column!(TME), column!(YES), column!(ADM), column!(SMR),
-    column!(ALY), column!(AND), column!(BWX), column!(DMZ), column!(FCT), column!(IDK), column!(INS), column!(OCC),
-    column!(ORR), column!(PCE), column!(PRP), column!(QRY), column!(SCD), column!(SRY), column!(SUG), column!(THK),
-    column!(TRY), column!(VSS), column!(XDO), column!(LVL), column!(MRT), column!(UNO), column!(PARAM),
-    column!(OTHER), column!(ALIEN),
-    // sixteen words
-    column!(OTHER), column!(OTHER), column!(OTHER), column!(OTHER), column!(OTHER), column!(OTHER), column!(OTHER),
-    column!(OTHER), column!(OTHER), column!(OTHER), column!(OTHER), column!(OTHER), column!(OTHER), column!(OTHER),
-    column!(OTHER), column!(OTHER),
-];
+pub(crate) static TABLE: Table = Table {
+    rests: RESTS,
+    lengths: LENGTHS,
+    classes: classes!(),
+    rows: [
+        column!(BRA), column!(KET), column!(NUM), column!(POWER), column!(NOTE), column!(OUTCOME), column!(COAST),
+        column!(SEASON), column!(TEXT), column!(PROVINCE), column!(AMY), column!(FLT), column!(CTO), column!(CVY),
+        column!(HLD), column!(MTO), column!(SUP), column!(VIA), column!(DSB), column!(RTO), column!(BLD),
+        column!(REM), column!(WVE), column!(CCD), column!(DRW), column!(FRM), column!(GOF), column!(HLO),
+        column!(HST), column!(HUH), column!(IAM), column!(LOD), column!(MAP), column!(MDF), column!(MIS),
+        column!(NME), column!(NOT), column!(NOW), column!(OBS), column!(OFF), column!(ORD), column!(OUT),
+        column!(PRN), column!(REJ), column!(SCO), column!(SLO), column!(SND), column!(SUB), column!(SVE),
+        column!(THX), column!(TME), column!(YES), column!(ADM), column!(SMR), column!(ALY), column!(AND),
+        column!(BWX), column!(DMZ), column!(FCT), column!(IDK), column!(INS), column!(OCC), column!(ORR),
+        column!(PCE), column!(PRP), column!(QRY), column!(SCD), column!(SRY), column!(SUG), column!(THK),
+        column!(TRY), column!(VSS), column!(XDO), column!(LVL), column!(MRT), column!(UNO), column!(PARAM),
+        column!(OTHER), column!(ALIEN),
+        // sixteen words
+        column!(OTHER), column!(OTHER), column!(OTHER), column!(OTHER), column!(OTHER), column!(OTHER),
+        column!(OTHER), column!(OTHER), column!(OTHER), column!(OTHER), column!(OTHER), column!(OTHER),
+        column!(OTHER), column!(OTHER), column!(OTHER), column!(OTHER),
+    ],
+};

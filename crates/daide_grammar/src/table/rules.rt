@@ -382,7 +382,7 @@ macro_rules! rules {
 }
 
 /// The symbols that each rule leaves, as they are put on a stack.
-pub(crate) static RESTS: [[u8; 8]; 256] = rules!(cells);
+pub(crate) const RESTS: [[u8; 8]; 256] = rules!(cells);
 
 /// How many symbols each rule leaves.
-pub(crate) static LENGTHS: [u8; 256] = rules!(length);
+pub(crate) const LENGTHS: [u8; 256] = rules!(length);
