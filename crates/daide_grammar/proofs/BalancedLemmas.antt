@@ -1,5 +1,6 @@
 -- Every message's brackets balance, and `any` is every list whose brackets balance.
-use Rattle.std.proofs.Common.{◌≡◌, ◌≢◌, ℕ, Bool, true, false, not, ◌&&◌, List, [], ◌∷◌, ◌++◌, ◌↔◌, refl, sym, ◌∙◌, ap, subst, append_assoc, append-nil}
+use Rattle.std.proofs.Common.{◌≡◌, ◌≢◌, ℕ, Bool, true, false, not, ◌&&◌, List, [], ◌∷◌, ◌++◌, ◌↔◌, refl, sym, ◌∙◌, ap}
+use Rattle.std.proofs.Common.{subst, append_assoc, append-nil}
 use Rattle.std.proofs.lemmas.Bool.{eqb-true, eq-eqb}
 use Rattle.daide_token.specs.declared.class.Class.{Class}
 use Rattle.daide_token.specs.declared.class.Class.TheVariants.{Bra, Ket}
@@ -9,9 +10,12 @@ use Rattle.daide_grammar.specs.declared.level.Level.TheVariants.{L60}
 use Rattle.daide_grammar.specs.declared.side.Side2.{Side2}
 use Rattle.daide_grammar.specs.declared.side.Side2.TheVariants.{Client, ServerEnd}
 use Rattle.daide_grammar.specs.Classes.{class_number, same_class}
-use Rattle.daide_grammar.specs.Forms.{is, any_word, accepts, Slot, Name, Request_name, Send_name, Press_name, Arrangement_name, Flat_name, Fact_name, Added, Form, one, never, empty, ◌·◌, ◌∣◌, many, group, named, Dialect}
+use Rattle.daide_grammar.specs.Forms.{is, any_word, accepts, Slot, Name, Request_name, Send_name, Press_name}
+use Rattle.daide_grammar.specs.Forms.{Arrangement_name, Flat_name, Fact_name, Added, Form, one, never, empty, ◌·◌, ◌∣◌}
+use Rattle.daide_grammar.specs.Forms.{many, group, named, Dialect}
 use Rattle.daide_grammar.specs.Message.Lists.{any, anything}
-use Rattle.daide_grammar.specs.Matches.{rule, Matches, token, nothing, both, first, second, no_more, one_more, bracketed, by_name}
+use Rattle.daide_grammar.specs.Matches.{rule, Matches, token, nothing, both, first, second, no_more, one_more}
+use Rattle.daide_grammar.specs.Matches.{bracketed, by_name}
 use Rattle.daide_grammar.specs.Balanced.{IsBalanced}
 use Rattle.daide_grammar.specs.Balanced as Rules
 use Rattle.daide_grammar.specs.SideMessages.{message_form}
@@ -44,7 +48,8 @@ no-bracket d keeps t h =
   where
     differs : (c : Class) → not (same_class c (d.class_of t)) ≡ true → d.class_of t ≡ c → ⊥
     differs c p e =
-        not-both (same_class c (d.class_of t)) (eq-eqb (class_number c) (class_number (d.class_of t)) (ap class_number (sym e))) p
+        not-both (same_class c (d.class_of t))
+            (eq-eqb (class_number c) (class_number (d.class_of t)) (ap class_number (sym e))) p
 
 -- so it is a balanced list by itself
 word-balanced : (d : Dialect) → KeepsBrackets d → (t : ℕ) → accepts any_word (d.class_of t) ≡ true → IsBalanced (t ∷ [])
@@ -61,21 +66,27 @@ the-ket d keeps t h = (keeps.kets t).0 (number-Ket (d.class_of t) (sym (eqb-true
 -- a balanced list between two tokens that are the brackets
 in-brackets : (b k : ℕ) (u : List ℕ) → b ≡ bra → k ≡ ket → IsBalanced u → IsBalanced (b ∷ (u ++ k ∷ []))
 in-brackets b k u e f h =
-    subst (λ (x : ℕ). IsBalanced (x ∷ (u ++ k ∷ []))) (sym e) (subst (λ (x : ℕ). IsBalanced (bra ∷ (u ++ x ∷ []))) (sym f) (Rules.bracketed u h))
+    subst (λ (x : ℕ). IsBalanced (x ∷ (u ++ k ∷ []))) (sym e)
+        (subst (λ (x : ℕ). IsBalanced (bra ∷ (u ++ x ∷ []))) (sym f) (Rules.bracketed u h))
 
 -- what matches a form whose brackets stand in pairs balances
-pub matches-balance : (d : Dialect) → KeepsBrackets d → ((n : Name) → paired (rule d n) ≡ true) → (f : Form) (w : List ℕ) →
+pub matches-balance : (d : Dialect) → KeepsBrackets d → ((n : Name) → paired (rule d n) ≡ true) →
+    (f : Form) (w : List ℕ) →
     paired f ≡ true → Matches d f w → IsBalanced w
 unfolding paired
 matches-balance d keeps all (one (is c)) w e (token {t = t} h) =
-    word-balanced d keeps t (sym (accepts-like any_word c (d.class_of t) (eqb-true (class_number c) (class_number (d.class_of t)) h)) ∙ e)
+    word-balanced d keeps t (sym (accepts-like any_word c (d.class_of t)
+        (eqb-true (class_number c) (class_number (d.class_of t)) h)) ∙ e)
 matches-balance d keeps all (one any_word) w e (token {t = t} h) = word-balanced d keeps t h
 matches-balance d keeps all never w e m = elim m [ ]
 matches-balance d keeps all empty w e nothing = Rules.empty
 matches-balance d keeps all (f · g) w e (both {u = u} {v = v} m n) =
-    let p = both-pass (paired f) (paired g) e in Rules.joined u v (matches-balance d keeps all f u p.0 m) (matches-balance d keeps all g v p.1 n)
-matches-balance d keeps all (f ∣ g) w e (first m) = matches-balance d keeps all f w (both-pass (paired f) (paired g) e).0 m
-matches-balance d keeps all (f ∣ g) w e (second m) = matches-balance d keeps all g w (both-pass (paired f) (paired g) e).1 m
+    let p = both-pass (paired f) (paired g) e in
+        Rules.joined u v (matches-balance d keeps all f u p.0 m) (matches-balance d keeps all g v p.1 n)
+matches-balance d keeps all (f ∣ g) w e (first m) =
+    matches-balance d keeps all f w (both-pass (paired f) (paired g) e).0 m
+matches-balance d keeps all (f ∣ g) w e (second m) =
+    matches-balance d keeps all g w (both-pass (paired f) (paired g) e).1 m
 matches-balance d keeps all (many f) w e no_more = Rules.empty
 matches-balance d keeps all (many f) w e (one_more {u = u} {v = v} m n) =
     Rules.joined u v (matches-balance d keeps all f u e m) (matches-balance d keeps all (many f) v e n)
@@ -84,7 +95,8 @@ matches-balance d keeps all (group f) w e (bracketed {u = u} b k h m i) =
 matches-balance d keeps all (named n) w e (by_name m) = matches-balance d keeps all (rule d n) w (all n) m
 
 -- every rule's brackets stand in pairs, where those of the added words do
-pub rules_paired : (d : Dialect) → ((s : Slot) (l : Level) → paired (d.added s l) ≡ true) → (n : Name) → paired (rule d n) ≡ true
+pub rules_paired : (d : Dialect) → ((s : Slot) (l : Level) → paired (d.added s l) ≡ true) → (n : Name) →
+    paired (rule d n) ≡ true
 unfolding paired
 rules_paired d h (Added s l) = h s l
 rules_paired d h (Arrangement_name L60) = refl
@@ -105,12 +117,14 @@ messages_paired _ _ = refl
 -- the brackets of a message other than PRN's report balance
 pub message-balanced : (d : Dialect) → KeepsBrackets d → ((s : Slot) (l : Level) → paired (d.added s l) ≡ true) →
     (side : Side2) (l : Level) (w : List ℕ) → Matches d (message_form side l) w → IsBalanced w
-message-balanced d keeps h side l w m = matches-balance d keeps (rules_paired d h) (message_form side l) w (messages_paired side l) m
+message-balanced d keeps h side l w m =
+    matches-balance d keeps (rules_paired d h) (message_form side l) w (messages_paired side l) m
 
 -- ---- `any` is every list whose brackets balance
 
 -- two lists of a repetition, one after the other, are one of it
-many-join : (d : Dialect) (f : Form) (u v : List ℕ) → Matches d (many f) u → Matches d (many f) v → Matches d (many f) (u ++ v)
+many-join : (d : Dialect) (f : Form) (u v : List ℕ) → Matches d (many f) u → Matches d (many f) v →
+    Matches d (many f) (u ++ v)
 many-join d f u v no_more n = n
 many-join d f u v (one_more {u = a} {v = b} m r) n =
     subst (Matches d (many f)) (sym (append_assoc a b v)) (one_more m (many-join d f b v r n))
@@ -122,7 +136,8 @@ some-one d f u m = subst (Matches d (many f)) (append-nil u) (one_more m no_more
 -- a token that is no bracket is a word
 any-word : (d : Dialect) → KeepsBrackets d → (t : ℕ) → t ≢ bra → t ≢ ket → accepts any_word (d.class_of t) ≡ true
 any-word d keeps t b k =
-    neither (same_class Bra (d.class_of t)) (same_class Ket (d.class_of t)) (λ e. b (the-bra d keeps t e)) (λ e. k (the-ket d keeps t e))
+    neither (same_class Bra (d.class_of t)) (same_class Ket (d.class_of t)) (λ e. b (the-bra d keeps t e))
+        (λ e. k (the-ket d keeps t e))
   where
     neither : (x y : Bool) → (x ≡ true → ⊥) → (y ≡ true → ⊥) → (not x && not y) ≡ true
     neither true y f g = absurd (f refl)
@@ -140,14 +155,19 @@ ket-accepted d keeps = ap (accepts (is Ket)) ((keeps.kets ket).1 refl)
 -- a balanced list is words, and lists in brackets, in some order
 balanced-anything : (d : Dialect) → KeepsBrackets d → {w : List ℕ} → IsBalanced w → Matches d anything w
 balanced-anything d keeps Rules.empty = no_more
-balanced-anything d keeps (Rules.plain t b k) = some-one d (one any_word ∣ group any) (t ∷ []) (first (token (any-word d keeps t b k)))
+balanced-anything d keeps (Rules.plain t b k) =
+    some-one d (one any_word ∣ group any) (t ∷ []) (first (token (any-word d keeps t b k)))
 balanced-anything d keeps (Rules.joined u v x y) =
     many-join d (one any_word ∣ group any) u v (balanced-anything d keeps x) (balanced-anything d keeps y)
 balanced-anything d keeps (Rules.bracketed u x) =
-    some-one d (one any_word ∣ group any) _ (second (bracketed bra ket (bra-accepted d keeps) (by_name (balanced-anything d keeps x)) (ket-accepted d keeps)))
+    some-one d (one any_word ∣ group any) _
+        (second (bracketed bra ket (bra-accepted d keeps) (by_name (balanced-anything d keeps x))
+            (ket-accepted d keeps)))
 
 -- `any` is exactly the lists whose brackets balance
-pub any-balanced : (d : Dialect) → KeepsBrackets d → ((s : Slot) (l : Level) → paired (d.added s l) ≡ true) → (w : List ℕ) →
+pub any-balanced : (d : Dialect) → KeepsBrackets d → ((s : Slot) (l : Level) → paired (d.added s l) ≡ true) →
+    (w : List ℕ) →
     Matches d any w ↔ IsBalanced w
 unfolding paired
-any-balanced d keeps h w = (λ m. matches-balance d keeps (rules_paired d h) any w refl m, λ b. by_name (balanced-anything d keeps b))
+any-balanced d keeps h w = (λ m. matches-balance d keeps (rules_paired d h) any w refl m, λ b. by_name
+    (balanced-anything d keeps b))

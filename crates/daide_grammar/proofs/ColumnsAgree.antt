@@ -1,5 +1,6 @@
 -- The list of classes is that of the definition.
-use Rattle.std.proofs.Common.{◌≡◌, ℕ, zero, suc, ◌+◌, ◌*◌, ◌/◌, ◌%◌, ◌<◌, Bool, true, ◌&&◌, nat_eq, List, [], ◌∷◌, length, get_or, refl, ap, sym, ◌∙◌, subst, arith}
+use Rattle.std.proofs.Common.{◌≡◌, ℕ, zero, suc, ◌+◌, ◌*◌, ◌/◌, ◌%◌, ◌<◌, Bool, true, ◌&&◌, nat_eq, List, [], ◌∷◌}
+use Rattle.std.proofs.Common.{length, get_or, refl, ap, sym, ◌∙◌, subst, arith}
 use Rattle.std.proofs.lemmas.Bool.{and_parts, eqb-true}
 use Rattle.daide_token.specs.Class.{class_in, class_of}
 use Rattle.daide_grammar.specs.declared.table.rows.TheConstants.{TABLE}
@@ -41,7 +42,8 @@ number_told t word =
     let category : place % 256 ≡ t / 256 = omega arith in
     let code : place / 256 ≡ t % 256 = omega arith in
     let here : agrees place (get_or TABLE.classes place 0) ≡ true =
-    ap (λ (p : ℕ). agrees p (get_or TABLE.classes place 0)) (sym from) ∙ at_place 0 place TABLE.classes agree (rw many (omega arith))
+    ap (λ (p : ℕ). agrees p (get_or TABLE.classes place 0)) (sym from)
+        ∙ at_place 0 place TABLE.classes agree (rw many (omega arith))
     in
     eqb-true (get_or TABLE.classes place 0) (class_number (class_in (place % 256) (place / 256))) here
     ∙ ap (λ (p : ℕ). class_number (class_in p (place / 256))) category

@@ -1,11 +1,13 @@
 -- How deep a bracketed list is.
-use Rattle.std.proofs.Common.{◌≡◌, ℕ, ◌+◌, max, Bool, true, false, ◌||◌, ◌==◌, cond, List, [], ◌∷◌, ◌++◌, map, Option, None, Some, refl, sym, ◌∙◌, ap, arith, if◌then◌else◌}
+use Rattle.std.proofs.Common.{◌≡◌, ℕ, ◌+◌, max, Bool, true, false, ◌||◌, ◌==◌, cond, List, [], ◌∷◌, ◌++◌, map, Option}
+use Rattle.std.proofs.Common.{None, Some, refl, sym, ◌∙◌, ap, arith, if◌then◌else◌}
 use Rattle.std.proofs.lemmas.List.Sums.{sum_by-cons}
 use Rattle.daide_token.specs.Token.{bra, ket, huh}
 use Rattle.daide_grammar.specs.Balanced.{IsBalanced}
 use Rattle.daide_grammar.specs.Paired.{begins_with_prn}
 use Rattle.daide_grammar.specs.Depth.{bras, kets, excess, prefixes, closes_early, greatest, depth_of}
-use Rattle.daide_grammar.proofs.Counting.{from_the_end, greatest_prefixes-snoc, closes_early-snoc, kets_le_bras, bras-snoc, kets-snoc, balanced_counted}
+use Rattle.daide_grammar.proofs.Counting.{from_the_end, greatest_prefixes-snoc, closes_early-snoc, kets_le_bras}
+use Rattle.daide_grammar.proofs.Counting.{bras-snoc, kets-snoc, balanced_counted}
 
 -- the greatest excess of all fronts
 abbrev pub peak : List ℕ → ℕ
@@ -33,27 +35,35 @@ kets-bra p = refl
 
 -- a BRA in front makes every front one deeper
 pub peak-bra : (p : List ℕ) → closes_early p ≡ false → peak (bra ∷ p) ≡ peak p + 1
-peak-bra p = from_the_end (λ p. closes_early p ≡ false → peak (bra ∷ p) ≡ peak p + 1) (λ e. refl) (λ p t ih e. more p t ih e) p
+peak-bra p = from_the_end (λ p. closes_early p ≡ false →
+    peak (bra ∷ p) ≡ peak p + 1) (λ e. refl) (λ p t ih e. more p t ih e) p
   where
-    more : (p : List ℕ) (t : ℕ) → (closes_early p ≡ false → peak (bra ∷ p) ≡ peak p + 1) → closes_early (p ++ t ∷ []) ≡ false →
+    more : (p : List ℕ) (t : ℕ) → (closes_early p ≡ false → peak (bra ∷ p) ≡ peak p + 1) →
+        closes_early (p ++ t ∷ []) ≡ false →
         peak (bra ∷ (p ++ t ∷ [])) ≡ peak (p ++ t ∷ []) + 1
     more p t ih e =
         let before = not-early (closes_early p) _ (sym (closes_early-snoc p t) ∙ e) in
-        omega (arith, greatest_prefixes-snoc (bra ∷ p) t, greatest_prefixes-snoc p t, ih before, bras-bra (p ++ t ∷ []), kets-bra (p ++ t ∷ []), kets_le_bras (p ++ t ∷ []) e)
+        omega (arith, greatest_prefixes-snoc (bra ∷ p) t, greatest_prefixes-snoc p t, ih before, bras-bra (p ++ t ∷ []),
+            kets-bra (p ++ t ∷ []), kets_le_bras (p ++ t ∷ []) e)
 
 -- HUH in front changes no depth
 pub peak-huh : (p : List ℕ) → peak (huh ∷ p) ≡ peak p
 peak-huh p =
-    from_the_end (λ p. peak (huh ∷ p) ≡ peak p) refl (λ p t ih. greatest_prefixes-snoc (huh ∷ p) t ∙ (ap (λ n. max n (excess (p ++ t ∷ []))) ih ∙ sym (greatest_prefixes-snoc p t))) p
+    from_the_end (λ p. peak (huh ∷ p) ≡ peak p) refl (λ p t ih. greatest_prefixes-snoc (huh ∷ p) t
+        ∙ (ap (λ n. max n (excess (p ++ t ∷ []))) ih ∙ sym (greatest_prefixes-snoc p t))) p
 
 -- a balanced list in brackets is one deeper
 pub peak-bracketed : (a : List ℕ) → IsBalanced a → peak (bra ∷ (a ++ ket ∷ [])) ≡ peak a + 1
 peak-bracketed a h =
     let b = balanced-closes a h in
-    let after : excess (bra ∷ (a ++ ket ∷ [])) ≡ 0 = omega (arith, bras-snoc (bra ∷ a) ket, kets-snoc (bra ∷ a) ket, bras-bra a, kets-bra a, b.1, kets_le_bras a b.0) in
+    let after : excess (bra ∷ (a ++ ket ∷ [])) ≡ 0 =
+        omega (arith, bras-snoc (bra ∷ a) ket, kets-snoc (bra ∷ a) ket, bras-bra a, kets-bra a, b.1, kets_le_bras a b.0)
+            in
     omega (arith, greatest_prefixes-snoc (bra ∷ a) ket, peak-bra a b.0, after)
 
 -- HUH round a balanced list that has a depth is one deeper
-pub huh_depth : (a : List ℕ) → IsBalanced a → begins_with_prn a ≡ false → depth_of (huh ∷ bra ∷ (a ++ ket ∷ [])) ≡ depth_of a + 1
+pub huh_depth : (a : List ℕ) → IsBalanced a → begins_with_prn a ≡ false →
+    depth_of (huh ∷ bra ∷ (a ++ ket ∷ [])) ≡ depth_of a + 1
 huh_depth a h n =
-    peak-huh (bra ∷ (a ++ ket ∷ [])) ∙ (peak-bracketed a h ∙ ap (λ k. k + 1) (sym (ap (λ (b : Bool). if b then 0 else peak a) n)))
+    peak-huh (bra ∷ (a ++ ket ∷ []))
+        ∙ (peak-bracketed a h ∙ ap (λ k. k + 1) (sym (ap (λ (b : Bool). if b then 0 else peak a) n)))

@@ -1,5 +1,6 @@
 -- What an opening symbol stands for, and the messages by which a gateway answers.
-use Rattle.std.proofs.Common.{◌≡◌, ℕ, Bool, true, false, ◌==◌, List, [], ◌∷◌, ◌++◌, inl, inr, ◌↔◌, refl, sym, ◌∙◌, ap, subst, append-nil}
+use Rattle.std.proofs.Common.{◌≡◌, ℕ, Bool, true, false, ◌==◌, List, [], ◌∷◌, ◌++◌, inl, inr, ◌↔◌, refl, sym, ◌∙◌, ap}
+use Rattle.std.proofs.Common.{subst, append-nil}
 use Rattle.std.proofs.lemmas.Bool.{eqb-true}
 use Rattle.daide_token.specs.declared.class.Class.TheVariants.{Prn, Huh}
 use Rattle.daide_token.specs.Token.{bra, ket, prn, huh}
@@ -19,7 +20,8 @@ use Rattle.daide_grammar.specs.Answers.{Take, Stop}
 use Rattle.daide_grammar.specs.Symbols.{form_of, entries, may_end_of, table_answer, opening_of}
 use Rattle.daide_grammar.specs.SideMessages.{standard, message_form, IsMessage, SymbolMatches}
 use Rattle.daide_grammar.specs.Proved.PlainLaws.{only_bra, only_ket, plain_laws}
-use Rattle.daide_grammar.proofs.BalancedLemmas.{KeepsBrackets, message-balanced, any-balanced, paired, bra-accepted, ket-accepted}
+use Rattle.daide_grammar.proofs.BalancedLemmas.{KeepsBrackets, message-balanced, any-balanced, paired, bra-accepted}
+use Rattle.daide_grammar.proofs.BalancedLemmas.{ket-accepted}
 
 -- the standard's brackets are the only tokens of their classes
 pub standard-brackets : KeepsBrackets standard
@@ -51,13 +53,16 @@ begins-false false f = refl
 form-not-prn : (side : Side2) (l : Level) (m : List ℕ) → SymbolMatches (opening_of side l) m → begins_with_prn m ≡ false
 form-not-prn side l [] h = refl
 form-not-prn side l (t ∷ m) h =
-    begins-false (t == prn) (λ e. plain_laws.stops_none (opening_of side l) t (ap (table_answer (opening_of side l)) (class-prn t e) ∙ opening-stops side l) m h)
+    begins-false (t == prn) (λ e. plain_laws.stops_none (opening_of side l) t
+        (ap (table_answer (opening_of side l)) (class-prn t e) ∙ opening-stops side l) m h)
 
 -- a list of an opening symbol matches its side's form, and the other way round
-to-form : (side : Side2) (l : Level) (m : List ℕ) → SymbolMatches (opening_of side l) m → Matches standard (message_form side l) m
+to-form : (side : Side2) (l : Level) (m : List ℕ) → SymbolMatches (opening_of side l) m →
+    Matches standard (message_form side l) m
 to-form side l m h = subst (λ (f : Form). Matches standard f m) (opening-form side l) h
 
-from-form : (side : Side2) (l : Level) (m : List ℕ) → Matches standard (message_form side l) m → SymbolMatches (opening_of side l) m
+from-form : (side : Side2) (l : Level) (m : List ℕ) → Matches standard (message_form side l) m →
+    SymbolMatches (opening_of side l) m
 from-form side l m h = subst (λ (f : Form). Matches standard f m) (sym (opening-form side l)) h
 
 -- a report PRN begins with PRN
@@ -80,7 +85,8 @@ pub message-paired : (side : Side2) (l : Level) (m : List ℕ) → IsMessage sid
 unfolding paired
 message-paired side l m (inl r) = inl r
 message-paired side l m (inr f) =
-    inr (form-not-prn side l m (from-form side l m f), message-balanced standard standard-brackets (λ s k. refl) side l m f)
+    inr (form-not-prn side l m (from-form side l m f), message-balanced standard standard-brackets (λ s k. refl) side l
+        m f)
 
 -- `any` is every list whose brackets balance
 pub any-is-balanced : (m : List ℕ) → Matches standard any m ↔ IsBalanced m
@@ -98,7 +104,8 @@ huh-taken _ _ = refl
 any-grouped : (a : List ℕ) → IsBalanced a → SymbolMatches AnyGroup (bra ∷ (a ++ ket ∷ []))
 unfolding form_of
 any-grouped a h =
-    bracketed bra ket (bra-accepted standard standard-brackets) ((any-is-balanced a).1 h) (ket-accepted standard standard-brackets)
+    bracketed bra ket (bra-accepted standard standard-brackets) ((any-is-balanced a).1 h)
+        (ket-accepted standard standard-brackets)
 
 -- the token HUH has the class HUH
 class-huh : class_of huh ≡ Huh

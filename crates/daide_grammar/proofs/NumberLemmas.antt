@@ -2,7 +2,10 @@
 use Rattle.std.proofs.Common.{◌≡◌, ◌<◌, refl, arith}
 use Rattle.daide_grammar.specs.declared.level.Level.TheVariants.{L60}
 use Rattle.daide_grammar.specs.declared.symbol.Sym.{Sym}
-use Rattle.daide_grammar.specs.declared.symbol.Sym.TheVariants.{ArrangementGroup, Arrangement, FactGroup, Fact, OperandGroup, Operands, Operand, PressGroup, Press, SendGroup, MaybeSendGroup, Send, SendTail, SendFirst, Client, RequestGroup, Request, Server}
+use Rattle.daide_grammar.specs.declared.symbol.Sym.TheVariants.{ArrangementGroup, Arrangement, FactGroup, Fact}
+use Rattle.daide_grammar.specs.declared.symbol.Sym.TheVariants.{OperandGroup, Operands, Operand, PressGroup, Press}
+use Rattle.daide_grammar.specs.declared.symbol.Sym.TheVariants.{SendGroup, MaybeSendGroup, Send, SendTail, SendFirst}
+use Rattle.daide_grammar.specs.declared.symbol.Sym.TheVariants.{Client, RequestGroup, Request, Server}
 use Rattle.daide_grammar.specs.Numbers.{symbol_number, symbol_at}
 
 pub symbol_back : (s : Sym) → symbol_at (symbol_number s) ≡ s

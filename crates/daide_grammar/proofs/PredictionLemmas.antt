@@ -1,5 +1,6 @@
 -- The laws of prediction that the trait does not state, of the protocol's own grammar.
-use Rattle.std.proofs.Common.{◌≡◌, ℕ, ◌+◌, ◌≤◌, Bool, true, false, nat_le, cond, List, [], ◌∷◌, ◌++◌, length, Option, None, Some, refl, sym, ◌∙◌, ap, subst, arith}
+use Rattle.std.proofs.Common.{◌≡◌, ℕ, ◌+◌, ◌≤◌, Bool, true, false, nat_le, cond, List, [], ◌∷◌, ◌++◌, length, Option}
+use Rattle.std.proofs.Common.{None, Some, refl, sym, ◌∙◌, ap, subst, arith}
 use Rattle.std.specs.List.{list_all, count_by}
 use Rattle.std.proofs.lemmas.List.Sums.{sum_by-cons}
 use Rattle.std.proofs.lemmas.Bool.{leb-true}
@@ -7,7 +8,8 @@ use Rattle.daide_token.specs.declared.class.Class.{Class}
 use Rattle.daide_token.specs.Class.{class_of}
 use Rattle.daide_grammar.specs.declared.level.Level.TheVariants.{L60}
 use Rattle.daide_grammar.specs.declared.symbol.Sym.{Sym}
-use Rattle.daide_grammar.specs.declared.symbol.Sym.TheVariants.{Request, Client, MaybeSendGroup, Server, Press, Arrangement, Operand, Fact}
+use Rattle.daide_grammar.specs.declared.symbol.Sym.TheVariants.{Request, Client, MaybeSendGroup, Server, Press}
+use Rattle.daide_grammar.specs.declared.symbol.Sym.TheVariants.{Arrangement, Operand, Fact}
 use Rattle.daide_grammar.specs.Forms.{accepts}
 use Rattle.daide_grammar.specs.Answers.{Answer, Take, Skip, Stop}
 use Rattle.daide_grammar.specs.Symbols.{Entry, entries, entry_at, may_end_of, table_answer}
@@ -30,12 +32,14 @@ taking-cons : (c : Class) (e : Entry) (es : List Entry) → taking c (e ∷ es) 
 taking-cons c e es = sum_by-cons (λ (x : Entry). cond (accepts x.kind c) 1 0) e es
 
 -- where one entry takes the class, none that is apart from it does
-others-none : (c : Class) (e : Entry) (es : List Entry) → accepts e.kind c ≡ true → list_all (λ f. apart e.kind f.kind) es ≡ true →
+others-none : (c : Class) (e : Entry) (es : List Entry) → accepts e.kind c ≡ true →
+    list_all (λ f. apart e.kind f.kind) es ≡ true →
     taking c es ≡ 0
 others-none c e [] h a = refl
 others-none c e (f ∷ es) h a =
     let p = both-pass (apart e.kind f.kind) (list_all (λ g. apart e.kind g.kind) es) a in
-    taking-cons c f es ∙ (ap (λ n. cond (accepts f.kind c) 1 0 + n) (others-none c e es h p.1) ∙ none (accepts f.kind c) (λ i. apart-sound e.kind f.kind c p.0 h i))
+    taking-cons c f es ∙ (ap (λ n. cond (accepts f.kind c) 1 0 + n) (others-none c e es h p.1)
+        ∙ none (accepts f.kind c) (λ i. apart-sound e.kind f.kind c p.0 h i))
   where
     none : (b : Bool) → (b ≡ true → ⊥) → cond b 1 0 + 0 ≡ 0
     none true k = absurd (k refl)
@@ -52,9 +56,11 @@ at-most-one c (e ∷ es) a =
     one-or-none : (b : Bool) → accepts e.kind c ≡ b → taking c es ≤ 1 → list_all (λ f. apart e.kind f.kind) es ≡ true →
         taking c (e ∷ es) ≤ 1
     one-or-none true h few a =
-        subst (λ (n : ℕ). n ≤ 1) (sym (taking-cons c e es ∙ ap (λ (b : Bool). cond b 1 0 + taking c es) h)) (omega (arith, others-none c e es h a))
+        subst (λ (n : ℕ). n ≤ 1) (sym (taking-cons c e es ∙ ap (λ (b : Bool). cond b 1 0 + taking c es) h))
+            (omega (arith, others-none c e es h a))
     one-or-none false h few a =
-        subst (λ (n : ℕ). n ≤ 1) (sym (taking-cons c e es ∙ ap (λ (b : Bool). cond b 1 0 + taking c es) h)) (omega (arith, few))
+        subst (λ (n : ℕ). n ≤ 1) (sym (taking-cons c e es ∙ ap (λ (b : Bool). cond b 1 0 + taking c es) h))
+            (omega (arith, few))
 
 -- at most one alternative of a symbol begins with a class
 pub alternatives-differ : (s : Sym) (c : Class) → taking c (entries s) ≤ 1
@@ -80,28 +86,37 @@ pub short-rest : (s : Sym) (c : Class) (rest : List Sym) → table_answer s c �
 unfolding table_answer
 short-rest s c rest a =
     let t = take-entry (entry_at c (entries s)) (may_end_of s) rest a in
-    subst (λ (r : List Sym). length r ≤ 12) t.2 (leb-true (length t.0.rest) 12 (find-passes (λ e. nat_le (length e.rest) 12) c (entries s) t.0 (rests-short s) t.1))
+    subst (λ (r : List Sym). length r ≤ 12) t.2
+        (leb-true (length t.0.rest) 12 (find-passes (λ e. nat_le (length e.rest) 12) c (entries s) t.0 (rests-short s)
+            t.1))
 
 -- ---- neighbours never begin with the same token
 
 -- where no symbol of the stack takes the token, no list of the stack begins with it
-pub none-begins : (stack : List Sym) (t : ℕ) (m : List ℕ) → ◌≡◌ {A = Option (List Sym)} (stack_after table_answer (class_of t) stack) None →
+pub none-begins : (stack : List Sym) (t : ℕ) (m : List ℕ) →
+    ◌≡◌ {A = Option (List Sym)} (stack_after table_answer (class_of t) stack) None →
     StackMatches SymbolMatches stack (t ∷ m) → ⊥
 none-begins [] t m e h = cc
-none-begins (s ∷ stack) t m e h = by_answer (λ k x. none-begins stack t m k x) (table_answer s (class_of t)) refl e h.0 h.2 h.3 h.4
+none-begins (s ∷ stack) t m e h =
+    by_answer (λ k x. none-begins stack t m k x) (table_answer s (class_of t)) refl e h.0 h.2 h.3 h.4
   where
-    by_answer : (◌≡◌ {A = Option (List Sym)} (stack_after table_answer (class_of t) stack) None → StackMatches SymbolMatches stack (t ∷ m) → ⊥) →
+    by_answer : (◌≡◌ {A = Option (List Sym)} (stack_after table_answer (class_of t) stack) None →
+        StackMatches SymbolMatches stack (t ∷ m) → ⊥) →
         (a : Answer) → table_answer s (class_of t) ≡ a →
-        ◌≡◌ {A = Option (List Sym)} (elim a [ Take rest ↦ Some (rest ++ stack) | Skip ↦ stack_after table_answer (class_of t) stack | Stop ↦ None ]) None →
+        ◌≡◌ {A = Option (List Sym)} (elim a [ Take rest ↦ Some (rest ++ stack)
+            | Skip ↦ stack_after table_answer (class_of t) stack | Stop ↦ None ]) None →
         (u : List ℕ) → t ∷ m ≡ u ++ h.1 → SymbolMatches s u → StackMatches SymbolMatches stack h.1 → ⊥
     by_answer go (Take rest) a e u q x y = cc
     by_answer go Skip a e [] q x y = go e (subst (StackMatches SymbolMatches stack) (sym q) y)
-    by_answer go Skip a e (v ∷ u) q x y = plain_laws.skips_none s t a u (subst (λ (z : ℕ). SymbolMatches s (z ∷ u)) (cc) x)
+    by_answer go Skip a e (v ∷ u) q x y =
+        plain_laws.skips_none s t a u (subst (λ (z : ℕ). SymbolMatches s (z ∷ u)) (cc) x)
     by_answer go Stop a e [] q x y = plain_laws.stops_empty s t a x
-    by_answer go Stop a e (v ∷ u) q x y = plain_laws.stops_none s t a u (subst (λ (z : ℕ). SymbolMatches s (z ∷ u)) (cc) x)
+    by_answer go Stop a e (v ∷ u) q x y =
+        plain_laws.stops_none s t a u (subst (λ (z : ℕ). SymbolMatches s (z ∷ u)) (cc) x)
 
 -- on a lawful stack no token begins both a symbol that may be empty and what follows it
-pub neighbours-differ : (s : Sym) (below : List Sym) (k t : ℕ) (m n : List ℕ) → IsLawful table_answer (s ∷ below) k → may_end_of s ≡ true →
+pub neighbours-differ : (s : Sym) (below : List Sym) (k t : ℕ) (m n : List ℕ) → IsLawful table_answer (s ∷ below) k →
+    may_end_of s ≡ true →
     SymbolMatches s (t ∷ m) → StackMatches SymbolMatches below (t ∷ n) → ⊥
 neighbours-differ s below k t m n l e x = by_answer (table_answer s (class_of t)) refl
   where

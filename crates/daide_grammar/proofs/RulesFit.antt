@@ -1,5 +1,6 @@
 -- Each rule's row of the table holds its rest, the last symbol first.
-use Rattle.std.proofs.Common.{◌≡◌, ℕ, zero, suc, ◌<◌, ◌≤◌, Bool, true, false, nat_eq, nat_le, nat_lt, leb-true, ltb-true, List, [], ◌∷◌, length, map, take, reverse, refl, arith}
+use Rattle.std.proofs.Common.{◌≡◌, ℕ, zero, suc, ◌<◌, ◌≤◌, Bool, true, false, nat_eq, nat_le, nat_lt, leb-true}
+use Rattle.std.proofs.Common.{ltb-true, List, [], ◌∷◌, length, map, take, reverse, refl, arith}
 use Rattle.std.proofs.lemmas.Bool.Decides.{nat_tests}
 use Rattle.std.specs.Prelude.{slice_index_or}
 use Rattle.std.specs.List.{list_all, range_with_len}

@@ -2,10 +2,15 @@
 -- where the entries have the same mistake: a level's row and the one before, a row that levels share, and whole rests.
 use Rattle.std.proofs.Common.{◌≡◌, [], ◌∷◌, refl}
 use Rattle.daide_token.specs.declared.class.Class.{Class}
-use Rattle.daide_token.specs.declared.class.Class.TheVariants.{Bra, Ket, Power, Text, And, Thx, Tme, Frm, Snd, Qry, Not, Prn, Other, Word}
+use Rattle.daide_token.specs.declared.class.Class.TheVariants.{Bra, Ket, Power, Text, And, Thx, Tme, Frm, Snd, Qry, Not}
+use Rattle.daide_token.specs.declared.class.Class.TheVariants.{Prn, Other, Word}
 use Rattle.daide_grammar.specs.declared.level.Level.TheVariants.{L0, L10, L20, L30, L50, L60}
 use Rattle.daide_grammar.specs.declared.symbol.Sym.{Sym}
-use Rattle.daide_grammar.specs.declared.symbol.Sym.TheVariants.{Closing, Texts, PowerGroup, PowersGroup, MaybeNumberGroup, OneUnit, OrderTail, Orders, SubmitFirst, OrderGroup, NoteGroup, Arrangement, ArrangementGroup, OperandGroup, Operands, Operand, Fact, FactGroup, PressGroup, SendTail, Client, Server, Any}
+use Rattle.daide_grammar.specs.declared.symbol.Sym.TheVariants.{Closing, Texts, PowerGroup, PowersGroup}
+use Rattle.daide_grammar.specs.declared.symbol.Sym.TheVariants.{MaybeNumberGroup, OneUnit, OrderTail, Orders}
+use Rattle.daide_grammar.specs.declared.symbol.Sym.TheVariants.{SubmitFirst, OrderGroup, NoteGroup, Arrangement}
+use Rattle.daide_grammar.specs.declared.symbol.Sym.TheVariants.{ArrangementGroup, OperandGroup, Operands, Operand, Fact}
+use Rattle.daide_grammar.specs.declared.symbol.Sym.TheVariants.{FactGroup, PressGroup, SendTail, Client, Server, Any}
 use Rattle.daide_grammar.specs.Answers.{Answer, Take, Skip, Stop}
 use Rattle.daide_grammar.specs.Cells.{class_cell, rule_at, column_at}
 use Rattle.daide_grammar.specs.Classes.{class_number}

@@ -1,5 +1,7 @@
--- Whether a list of tokens is one of a side's messages, computed by following the table: what the definitions say of one list.
-use Rattle.std.proofs.Common.{◌≡◌, ◌≢◌, ℕ, ◌+◌, Bool, true, false, ◌&&◌, List, [], ◌∷◌, ◌++◌, Option, None, Some, ◌↔◌, refl, sym, ◌∙◌, ap, subst, append_assoc}
+-- Whether a list of tokens is one of a side's messages, computed by following the table: what the definitions say of
+-- one list.
+use Rattle.std.proofs.Common.{◌≡◌, ◌≢◌, ℕ, ◌+◌, Bool, true, false, ◌&&◌, List, [], ◌∷◌, ◌++◌, Option, None, Some, ◌↔◌}
+use Rattle.std.proofs.Common.{refl, sym, ◌∙◌, ap, subst, append_assoc}
 use Rattle.std.proofs.lemmas.Bool.{eqb-true}
 use Rattle.daide_token.specs.declared.class.Class.{Class}
 use Rattle.daide_token.specs.declared.class.Class.TheVariants.{Bra, Ket}
@@ -26,10 +28,12 @@ follows stack (t ∷ m) = elim (stack_after table_answer (class_of t) stack) [ N
 -- ---- a stack's language is that of two stacks, one after the other
 
 -- lists of two stacks, one after the other, are a list of the one stack on top of the other
-joined : (rest stack : List Sym) (u v : List ℕ) → StackMatches SymbolMatches rest u → StackMatches SymbolMatches stack v →
+joined : (rest stack : List Sym) (u v : List ℕ) → StackMatches SymbolMatches rest u →
+    StackMatches SymbolMatches stack v →
     StackMatches SymbolMatches (rest ++ stack) (u ++ v)
 joined [] stack u v e h = subst (λ (x : List ℕ). StackMatches SymbolMatches stack (x ++ v)) (sym e) h
-joined (s ∷ rest) stack u v h k = (h.0, h.1 ++ v, ap (λ x. x ++ v) h.2 ∙ append_assoc h.0 h.1 v, h.3, joined rest stack h.1 v h.4 k)
+joined (s ∷ rest) stack u v h k =
+    (h.0, h.1 ++ v, ap (λ x. x ++ v) h.2 ∙ append_assoc h.0 h.1 v, h.3, joined rest stack h.1 v h.4 k)
 
 -- and a list of the whole is in two such parts
 divided : (rest stack : List Sym) (m : List ℕ) → StackMatches SymbolMatches (rest ++ stack) m →
@@ -55,20 +59,24 @@ sort_of c = go (same_class Bra c) (same_class Ket c) refl refl
     go true b x y = opens (number-Bra c (sym (eqb-true 0 (class_number c) x)))
     go false true x y = closes (number-Ket c (sym (eqb-true 1 (class_number c) y)))
     go false false x y =
-        neither (λ e. no-yes (same_class Bra c) (ap (same_class Bra) e) x) (λ e. no-yes (same_class Ket c) (ap (same_class Ket) e) y)
+        neither (λ e. no-yes (same_class Bra c) (ap (same_class Bra) e) x)
+            (λ e. no-yes (same_class Ket c) (ap (same_class Ket) e) y)
 
 -- a lawful stack with some number of open brackets
 abbrev Arises : List Sym → Type 0
 Arises stack = (k : ℕ) × IsLawful table_answer stack k
 
 -- a Take leaves a lawful stack lawful, whatever the class
-arises-taken : (s : Sym) (c : Class) (rest stack : List Sym) → Arises (s ∷ stack) → table_answer s c ≡ Take rest → Arises (rest ++ stack)
+arises-taken : (s : Sym) (c : Class) (rest stack : List Sym) → Arises (s ∷ stack) → table_answer s c ≡ Take rest →
+    Arises (rest ++ stack)
 arises-taken s c rest stack l a = by_sort (sort_of c)
   where
     by_sort : Sort c → Arises (rest ++ stack)
-    by_sort (opens e) = (l.0 + 1, plain_laws.lawful_open s rest stack l.0 l.1 (subst (λ (x : Class). table_answer s x ≡ Take rest) e a))
+    by_sort (opens e) = (l.0 + 1, plain_laws.lawful_open s rest stack l.0 l.1
+        (subst (λ (x : Class). table_answer s x ≡ Take rest) e a))
     by_sort (closes e) =
-        let k = plain_laws.lawful_close s rest stack l.0 l.1 (subst (λ (x : Class). table_answer s x ≡ Take rest) e a) in (k.0, k.2)
+        let k = plain_laws.lawful_close s rest stack l.0 l.1 (subst (λ (x : Class). table_answer s x ≡ Take rest) e a)
+            in (k.0, k.2)
     by_sort (neither b k) = (l.0, plain_laws.lawful_take s c rest stack l.0 l.1 a b k)
 
 -- so does a token that skips some symbols first
@@ -77,9 +85,11 @@ arises-after : (c : Class) (stack next : List Sym) → Arises stack →
 arises-after c [] next l e = cc
 arises-after c (s ∷ stack) next l e = by_answer (λ h. arises-after c stack next h) (table_answer s c) refl e
   where
-    by_answer : (Arises stack → ◌≡◌ {A = Option (List Sym)} (stack_after table_answer c stack) (Some next) → Arises next) → (a : Answer) →
+    by_answer : (Arises stack → ◌≡◌ {A = Option (List Sym)} (stack_after table_answer c stack) (Some next) →
+        Arises next) → (a : Answer) →
         table_answer s c ≡ a →
-        ◌≡◌ {A = Option (List Sym)} (elim a [ Take rest ↦ Some (rest ++ stack) | Skip ↦ stack_after table_answer c stack | Stop ↦ None ]) (Some next) → Arises next
+        ◌≡◌ {A = Option (List Sym)} (elim a [ Take rest ↦ Some (rest ++ stack) | Skip ↦ stack_after table_answer c stack
+            | Stop ↦ None ]) (Some next) → Arises next
     by_answer go (Take rest) a e = let q : rest ++ stack ≡ next = cc in subst Arises q (arises-taken s c rest stack l a)
     by_answer go Skip a e = go (l.0, plain_laws.lawful_skip s c stack l.0 l.1 a) e
     by_answer go Stop a e = cc
@@ -93,26 +103,32 @@ first-same : (t v : ℕ) (m u b : List ℕ) → t ∷ m ≡ (v ∷ u) ++ b → (
 first-same t v m u b e = ((cc), (cc))
 
 -- where the first symbol takes the token
-goes-on-taken : (s : Sym) (rest stack : List Sym) (t : ℕ) (m : List ℕ) → Arises (s ∷ stack) → table_answer s (class_of t) ≡ Take rest →
+goes-on-taken : (s : Sym) (rest stack : List Sym) (t : ℕ) (m : List ℕ) → Arises (s ∷ stack) →
+    table_answer s (class_of t) ≡ Take rest →
     GoesOn (s ∷ stack) (rest ++ stack) t m
 goes-on-taken s rest stack t m l a = (
   λ h. by_front h.0 h.1 h.2 h.3 h.4,
-  λ h. let k = divided rest stack m h in (t ∷ k.0, k.1, ap (λ x. t ∷ x) k.2, (plain_laws.takes s t rest a k.0).1 k.3, k.4),
+  λ h. let k = divided rest stack m h in
+      (t ∷ k.0, k.1, ap (λ x. t ∷ x) k.2, (plain_laws.takes s t rest a k.0).1 k.3, k.4),
 )
   where
     by_front : (u v : List ℕ) → t ∷ m ≡ u ++ v → SymbolMatches s u → StackMatches SymbolMatches stack v →
         StackMatches SymbolMatches (rest ++ stack) m
     by_front [] v e x y =
-        absurd (none-begins stack t m (plain_laws.neighbours_differ s (class_of t) rest stack l.0 l.1 ((plain_laws.ends s).1 x) a)
+        absurd (none-begins stack t m (plain_laws.neighbours_differ s (class_of t) rest stack l.0 l.1
+            ((plain_laws.ends s).1 x) a)
         (subst (StackMatches SymbolMatches stack) (sym e) y))
     by_front (z ∷ u) v e x y =
         let q = first-same t z m u v e in
-        subst (StackMatches SymbolMatches (rest ++ stack)) (sym q.1) (joined rest stack u v ((plain_laws.takes s t rest a u).0 (subst (λ (n : ℕ). SymbolMatches s (n ∷ u)) q.0 x)) y)
+        subst (StackMatches SymbolMatches (rest ++ stack)) (sym q.1)
+            (joined rest stack u v ((plain_laws.takes s t rest a u).0
+                (subst (λ (n : ℕ). SymbolMatches s (n ∷ u)) q.0 x)) y)
 
 -- where the first symbol is skipped
 goes-on-skipped : (s : Sym) (stack : List Sym) (t : ℕ) (m : List ℕ) → table_answer s (class_of t) ≡ Skip →
     StackMatches SymbolMatches (s ∷ stack) (t ∷ m) ↔ StackMatches SymbolMatches stack (t ∷ m)
-goes-on-skipped s stack t m a = (λ h. by_front h.0 h.1 h.2 h.3 h.4, λ h. ([], t ∷ m, refl, plain_laws.skips_empty s t a, h))
+goes-on-skipped s stack t m a =
+    (λ h. by_front h.0 h.1 h.2 h.3 h.4, λ h. ([], t ∷ m, refl, plain_laws.skips_empty s t a, h))
   where
     by_front : (u v : List ℕ) → t ∷ m ≡ u ++ v → SymbolMatches s u → StackMatches SymbolMatches stack v →
         StackMatches SymbolMatches stack (t ∷ m)
@@ -126,11 +142,15 @@ goes-on : (stack next : List Sym) (t : ℕ) (m : List ℕ) → Arises stack →
 goes-on [] next t m l e = cc
 goes-on (s ∷ stack) next t m l e = by_answer (λ h. goes-on stack next t m h) (table_answer s (class_of t)) refl e
   where
-    by_answer : (Arises stack → ◌≡◌ {A = Option (List Sym)} (stack_after table_answer (class_of t) stack) (Some next) → GoesOn stack next t m) →
+    by_answer : (Arises stack → ◌≡◌ {A = Option (List Sym)} (stack_after table_answer (class_of t) stack) (Some next) →
+        GoesOn stack next t m) →
         (a : Answer) → table_answer s (class_of t) ≡ a →
-        ◌≡◌ {A = Option (List Sym)} (elim a [ Take rest ↦ Some (rest ++ stack) | Skip ↦ stack_after table_answer (class_of t) stack | Stop ↦ None ]) (Some next) → GoesOn (s ∷ stack) next t m
+        ◌≡◌ {A = Option (List Sym)} (elim a [ Take rest ↦ Some (rest ++ stack)
+            | Skip ↦ stack_after table_answer (class_of t) stack | Stop ↦ None ]) (Some next) →
+                GoesOn (s ∷ stack) next t m
     by_answer go (Take rest) a e =
-        let q : rest ++ stack ≡ next = cc in subst (λ (x : List Sym). GoesOn (s ∷ stack) x t m) q (goes-on-taken s rest stack t m l a)
+        let q : rest ++ stack ≡ next = cc in
+            subst (λ (x : List Sym). GoesOn (s ∷ stack) x t m) q (goes-on-taken s rest stack t m l a)
     by_answer go Skip a e =
         let k = go (l.0, plain_laws.lawful_skip s (class_of t) stack l.0 l.1 a) e in
         let p = goes-on-skipped s stack t m a in
@@ -151,15 +171,19 @@ nothing-left (s ∷ stack) =
     by_front : (u v : List ℕ) → [] ≡ u ++ v → SymbolMatches s u → StackMatches SymbolMatches stack v →
         (StackMatches SymbolMatches stack [] → follows stack [] ≡ true) → (may_end_of s && follows stack []) ≡ true
     by_front [] v e x y go =
-        ap (λ (b : Bool). b && follows stack []) ((plain_laws.ends s).1 x) ∙ go (subst (StackMatches SymbolMatches stack) (sym e) y)
+        ap (λ (b : Bool). b && follows stack []) ((plain_laws.ends s).1 x)
+            ∙ go (subst (StackMatches SymbolMatches stack) (sym e) y)
     by_front (z ∷ u) v e x y go = cc
 
 -- the table follows exactly the lists that the stack stands for
-pub follows-exactly : (m : List ℕ) (stack : List Sym) → Arises stack → (follows stack m ≡ true) ↔ StackMatches SymbolMatches stack m
+pub follows-exactly : (m : List ℕ) (stack : List Sym) → Arises stack →
+    (follows stack m ≡ true) ↔ StackMatches SymbolMatches stack m
 follows-exactly [] stack l = nothing-left stack
-follows-exactly (t ∷ m) stack l = by_next (λ next h. follows-exactly m next h) (stack_after table_answer (class_of t) stack) refl
+follows-exactly (t ∷ m) stack l =
+    by_next (λ next h. follows-exactly m next h) (stack_after table_answer (class_of t) stack) refl
   where
-    by_next : ((next : List Sym) → Arises next → (follows next m ≡ true) ↔ StackMatches SymbolMatches next m) → (o : Option (List Sym)) →
+    by_next : ((next : List Sym) → Arises next → (follows next m ≡ true) ↔ StackMatches SymbolMatches next m) →
+        (o : Option (List Sym)) →
         ◌≡◌ {A = Option (List Sym)} (stack_after table_answer (class_of t) stack) o →
         ((elim o [ None ↦ false | Some next ↦ follows next m ]) ≡ true) ↔ StackMatches SymbolMatches stack (t ∷ m)
     by_next go None e = (λ h. (cc), λ h. absurd (none-begins stack t m e h))

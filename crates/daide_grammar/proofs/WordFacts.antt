@@ -12,7 +12,8 @@ use Rattle.daide_grammar.specs.Forms.{Arrangement_name, Flat_name, Send_name, Re
 use Rattle.daide_grammar.specs.Message.Lists.{power, words}
 use Rattle.daide_grammar.specs.Message.Arrangements.{arrangement, flat_arrangement}
 use Rattle.daide_grammar.specs.Message.Press.{press, send}
-use Rattle.daide_grammar.specs.Matches.{Matches, token, nothing, both, first, second, no_more, one_more, bracketed, by_name}
+use Rattle.daide_grammar.specs.Matches.{Matches, token, nothing, both, first, second, no_more, one_more, bracketed}
+use Rattle.daide_grammar.specs.Matches.{by_name}
 use Rattle.daide_grammar.specs.Words.{Words, press_word, arrangement_word, one_power, an_arrangement}
 use Rattle.daide_grammar.specs.SideMessages.{standard, dialect_of, IsMessage, IsMessageOver}
 
@@ -92,7 +93,8 @@ reached a l f w e m = rw (e, from) m
 request_of : (l : Level) (p : List ℕ) → nat_le 10 (level_number l) ≡ true → Matches d (press l) p →
     IsMessageOver added Client l (sent p)
 request_of l p e m = inr (first (by_name {n = Request_name l}
-    (second (second (second (second (second (second (second (second (second (second (second (second (second (second (second (second (second
+    (second (second (second (second
+        (second (second (second (second (second (second (second (second (second (second (second (second (second
     (reached L10 l (send l) (sent p) e (send_of l p m)))))))))))))))))))))
 
 -- ---- the word of a press

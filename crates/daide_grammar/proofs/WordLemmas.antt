@@ -11,12 +11,15 @@ use Rattle.daide_token.specs.ClassLaws.{standard_class}
 use Rattle.daide_grammar.specs.declared.level.Level.{Level}
 use Rattle.daide_grammar.specs.declared.side.Side2.{Side2}
 use Rattle.daide_grammar.specs.Level.{level_number}
-use Rattle.daide_grammar.specs.Forms.{Slot, Press_slot, Arrangement_slot, Flat_slot, Kind, accepts, Form, never, tok, from}
+use Rattle.daide_grammar.specs.Forms.{Slot, Press_slot, Arrangement_slot, Flat_slot, Kind, accepts, Form, never, tok}
+use Rattle.daide_grammar.specs.Forms.{from}
 use Rattle.daide_grammar.specs.Forms.{◌·◌, group}
 use Rattle.daide_grammar.specs.Forms.{Any_name, Place_name, Unit_name, Order_name, Arrangement_name, Flat_name}
 use Rattle.daide_grammar.specs.Forms.{Fact_name, Press_name, Send_name, Request_name, Added, Dialect, is}
-use Rattle.daide_grammar.specs.Matches.{Matches, token, nothing, both, first, second, no_more, one_more, bracketed, by_name}
-use Rattle.daide_grammar.specs.Words.{AddedWord, Words, WordSlot, press_word, arrangement_word, is_code, has_no_word, operand_in}
+use Rattle.daide_grammar.specs.Matches.{Matches, token, nothing, both, first, second, no_more, one_more, bracketed}
+use Rattle.daide_grammar.specs.Matches.{by_name}
+use Rattle.daide_grammar.specs.Words.{AddedWord, Words, WordSlot, press_word, arrangement_word, is_code, has_no_word}
+use Rattle.daide_grammar.specs.Words.{operand_in}
 use Rattle.daide_grammar.specs.Words.{stands_in, word_form}
 use Rattle.daide_grammar.specs.SideMessages.{standard, dialect_from, dialect_of, message_form, IsMessage, IsMessageOver}
 use Rattle.daide_grammar.specs.Proved.Alternatives.{both-pass}
@@ -97,9 +100,11 @@ module _ (words : Words) where
   kept f m h (by_name {n = Added s l} x) = elim x [ ]
 
   -- a class that is no operator's word is none
-  no-word : (place : ℕ) (t : ℕ) → not (is_code words t) ≡ true → IsTrue (accepts (is (Word place)) (spoken.class_of t)) → ⊥
+  no-word : (place : ℕ) (t : ℕ) → not (is_code words t) ≡ true →
+      IsTrue (accepts (is (Word place)) (spoken.class_of t)) → ⊥
   no-word place t h e =
-      let is_word : Word place ≡ class_of t = (told-apart (Word place) (spoken.class_of t)).0 e ∙ class-stays 0 words t h in
+      let is_word : Word place ≡ class_of t =
+          (told-apart (Word place) (spoken.class_of t)).0 e ∙ class-stays 0 words t h in
       let standard_word : is_standard (Word place) ≡ true = ap is_standard is_word ∙ standard_class t in
       absurd cc
 
@@ -118,7 +123,8 @@ module _ (words : Words) where
       b = nat_le (level_number word.level) (level_number l)
 
       go : (slot : WordSlot) (t : Slot) →
-          Matches spoken (stands_in slot t (from word.level l (tok (Word place) · group (operand_in word.operand s l)))) m → ⊥
+          Matches spoken (stands_in slot t (from word.level l (tok (Word place) · group (operand_in word.operand s l))))
+              m → ⊥
       go press_word Press_slot y = no-from place b (group (operand_in word.operand s l)) m h y
       go press_word Arrangement_slot y = elim y [ ]
       go press_word Flat_slot y = elim y [ ]
