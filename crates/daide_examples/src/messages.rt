@@ -1,11 +1,14 @@
 //! Messages written as text, and the verdicts on them.
 
+use daide_grammar::dense::Dense;
 use daide_grammar::level::Level;
 use daide_grammar::plain::Plain;
+use daide_grammar::predict::Predict;
 use daide_grammar::side::Side2;
 use daide_reader::reader::Reader;
 use daide_reader::verdict::Verdict;
 use daide_token::token::Token;
+use std::alloc::{AllocError, Global};
 use std::process::Abort;
 use std::test::Fail;
 
@@ -48,6 +51,41 @@ pub fn tokens_of_text(rt: &(impl Abort + AllocGlobal), text: &str) -> Result<Vec
     Ok(tokens)
 }
 
+/// The verdict on a message, and how often the table was asked after each of its tokens and at its end.
+#[derive(Drop)]
+struct Course {
+    verdict: Verdict,
+    steps: Vec<u64>,
+}
+
+impl Course {
+    fn is_that_of(&self, other: &Course) -> bool {
+        self.verdict == other.verdict && self.steps.as_slice() == other.steps.as_slice()
+    }
+}
+
+/// The course of a message, token by token.
+fn course_of<T: Predict, const N: usize>(
+    alloc: Global,
+    reader: &mut Reader<T, N>,
+    side: Side2,
+    level: Level,
+    message: &[Token],
+) -> Result<Course, AllocError> {
+    let mut steps = Vec::new(alloc);
+    reader.start(side, level);
+    for token in message {
+        if reader.is_full() {
+            break;
+        }
+        reader.push(*token);
+        steps.push(reader.steps())?;
+    }
+    let verdict = reader.finish();
+    steps.push(reader.steps())?;
+    Ok(Course { verdict, steps })
+}
+
 /// The verdict on a message, at a depth of 62 brackets.
 pub fn verdict_on(side: Side2, level: Level, message: &[Token]) -> Verdict {
     let mut reader: Reader<Plain, 512> = Reader::new(Plain::new(), 62);
@@ -61,12 +99,24 @@ pub fn verdict_on(side: Side2, level: Level, message: &[Token]) -> Verdict {
     reader.finish()
 }
 
-/// Each example has its verdict.
+/// Each example has its verdict, and the same course over both tables and with either room.
 pub fn assert_verdicts(rt: &(impl Abort + AllocGlobal), rows: &[Example]) -> Result<(), Fail> {
+    let mut plain: Reader<Plain, 512> = Reader::new(Plain::new(), 62);
+    let mut roomy: Reader<Plain, 2048> = Reader::new(Plain::new(), 62);
+    let mut dense: Reader<Dense, 512> = Reader::new(Dense::new(), 62);
+    let mut both: Reader<Dense, 2048> = Reader::new(Dense::new(), 62);
     for (side, level, text, want) in rows {
         let message = tokens_of_text(rt, text)?;
-        let verdict = verdict_on(*side, *level, message.as_slice());
-        assert!(rt; verdict == *want, "{side:?} {level:?} {text}");
+        let (side, level, message) = (*side, *level, message.as_slice());
+        let course = course_of(rt.alloc(), &mut plain, side, level, message)?;
+        assert!(rt; course.verdict == *want, "{side:?} {level:?} {text}");
+        let others = [
+            course_of(rt.alloc(), &mut roomy, side, level, message)?,
+            course_of(rt.alloc(), &mut dense, side, level, message)?,
+            course_of(rt.alloc(), &mut both, side, level, message)?,
+        ];
+        let alike = others.iter().all(|other| other.is_that_of(&course));
+        assert!(rt; alike, "{side:?} {level:?} {text}");
     }
     Ok(())
 }
