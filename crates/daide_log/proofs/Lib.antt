@@ -11,3 +11,4 @@ pub mod HeadLemmas
 pub mod EventLemmas
 pub mod StepLemmas
 pub mod AloneLemmas
+pub mod MatchLogFacts

@@ -26,7 +26,7 @@ versions : (version_of (codes "daide-log 1") ≡ Some Single) × (version_of (co
     × (version_of (codes "daide-log 3") ≡ None) × (version_of (codes "daide-log 2 ") ≡ None)
 versions = (refl, refl, refl, refl)
 
-limits : Config
+unfoldable pub limits : Config
 limits = record { top_level = 60; max_body = 1024; max_depth = 16 }
 
 sessions_and_words :
@@ -46,7 +46,7 @@ sessions_and_words = (refl, refl, refl, refl, refl, refl, refl, refl, refl, refl
 
 -- ---- words
 
-xyz : Word
+unfoldable pub xyz : Word
 xyz = record { name = codes "XYZ"; code = 0x4A40; slot = Press; level = L20; operand = Power }
 
 gof : Word

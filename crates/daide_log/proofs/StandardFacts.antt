@@ -97,22 +97,22 @@ counts_told = refl
 -- ---- whole logs
 
 -- the machine by events of which none asks the grammar anything
-quiet_state : SessionState → List Event → SessionState
+unfoldable pub quiet_state : SessionState → List Event → SessionState
 quiet_state state [] = state
 quiet_state state (event ∷ events) = quiet_state (event_outcome state event Verdicts.Relay).state events
 
-quiet_moves : SessionState → List Event → List Effect
+unfoldable pub quiet_moves : SessionState → List Event → List Effect
 quiet_moves state [] = []
 quiet_moves state (event ∷ events) =
     (event_outcome state event Verdicts.Relay).effects
     ++ quiet_moves (event_outcome state event Verdicts.Relay).state events
 
-AsksNothing : SessionState → List Event → Type 0
+unfoldable pub AsksNothing : SessionState → List Event → Type 0
 AsksNothing state [] = ⊤
 AsksNothing state (event ∷ events) =
     (question state event ≡ None) × AsksNothing (event_outcome state event Verdicts.Relay).state events
 
-quiet_run : (state : SessionState) (events : List Event) → AsksNothing state events →
+pub quiet_run : (state : SessionState) (events : List Event) → AsksNothing state events →
     Runs state events (quiet_moves state events) (quiet_state state events)
 unfolding quiet_state quiet_moves AsksNothing
 quiet_run state [] h = (refl, refl)
@@ -129,11 +129,11 @@ quiet_run state (event ∷ events) h = (
   refl,
 )
 
-has_no_feed : List ℕ → Bool
+unfoldable pub has_no_feed : List ℕ → Bool
 has_no_feed [] = true
 has_no_feed (b ∷ bytes) = if eqb b 10 then false else has_no_feed bytes
 
-unbroken : (bytes : List ℕ) → has_no_feed bytes ≡ true → IsUnbroken bytes
+pub unbroken : (bytes : List ℕ) → has_no_feed bytes ≡ true → IsUnbroken bytes
 unfolding has_no_feed
 unbroken [] h = tt
 unbroken (b ∷ bytes) h = go (eqb_tells b 10) (unbroken bytes)
