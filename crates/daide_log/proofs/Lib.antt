@@ -12,3 +12,4 @@ pub mod EventLemmas
 pub mod StepLemmas
 pub mod AloneLemmas
 pub mod MatchLogFacts
+pub mod SevenLinesFacts

@@ -1,5 +1,5 @@
 -- Lines of a log and of its report, and whole logs in which no message is judged, computed from the definitions, so
--- that a wrong one does not check. The tests have logs with messages.
+-- that a wrong one does not check. SevenLinesFacts has a log with messages, and so have the tests.
 use Rattle.std.proofs.Common.{◌≡◌, ℕ, ◌+◌, ◌<◌, ◌≤◌, Bool, true, false, List, [], ◌∷◌, ◌++◌, length, Some, None}
 use Rattle.std.proofs.Common.{Ok, Err, refl, ap, eqb, arith, ◌⊎◌, inl, inr, codes}
 use Rattle.std.specs.Prelude.{⊤, if◌then◌else◌, option_map}
@@ -36,7 +36,7 @@ names : (is_name (codes "daide-log 1") ≡ true) × (is_name (codes "daide-log 2
     × (is_name (codes "daide-log 1 ") ≡ false) × (is_name [] ≡ false)
 names = (refl, refl, refl, refl)
 
-limits : Config
+unfoldable pub limits : Config
 limits = record { top_level = 60; max_body = 1024; max_depth = 16 }
 
 numbers : (plain_number (codes "0") ≡ Some 0) × (plain_number (codes "65535") ≡ Some 65535)
@@ -143,10 +143,10 @@ unbroken (b ∷ bytes) h = go (eqb_tells b 10) (unbroken bytes)
     go (inl t) later = let wrong : false ≡ true = (rw t.0 at h) in absurd (cc)
     go (inr t) later = (t.1, later (rw t.0 at h))
 
-opening_lines : List ℕ
+unfoldable pub opening_lines : List ℕ
 opening_lines = (codes "daide-log 1" ++ 10 ∷ []) ++ codes "config 60 1024 16" ++ 10 ∷ []
 
-first : SessionState
+unfoldable pub first : SessionState
 first = opening (limits_of limits)
 
 named : Reports (codes "daide-log 1" ++ 10 ∷ []) 1 [] (Opening (Named Single))
@@ -155,7 +155,7 @@ named =
     Reports.line [] 0 [] (Opening Unnamed) Reports.none (codes "daide-log 1") [] (Opening (Named Single)) (omega arith)
     (unbroken (codes "daide-log 1") refl) (omega arith) (Named Single, refl, refl, refl)
 
-opened : Reports opening_lines 2 [] (Playing Single (first ∷ []))
+pub opened : Reports opening_lines 2 [] (Playing Single (first ∷ []))
 unfolding opening_lines first limits config_of_line parted_at_space plain_number has_no_feed
 opened =
     Reports.line (codes "daide-log 1" ++ 10 ∷ []) 1 [] (Opening (Named Single)) named (codes "config 60 1024 16") []
