@@ -49,7 +49,7 @@ no-bracket d keeps t h =
     differs : (c : Class) → not (same_class c (d.class_of t)) ≡ true → d.class_of t ≡ c → ⊥
     differs c p e =
         not-both (same_class c (d.class_of t))
-            (eq-eqb (class_number c) (class_number (d.class_of t)) (ap class_number (sym e))) p
+        (eq-eqb (class_number c) (class_number (d.class_of t)) (ap class_number (sym e))) p
 
 -- so it is a balanced list by itself
 word-balanced : (d : Dialect) → KeepsBrackets d → (t : ℕ) → accepts any_word (d.class_of t) ≡ true → IsBalanced (t ∷ [])
@@ -67,7 +67,7 @@ the-ket d keeps t h = (keeps.kets t).0 (number-Ket (d.class_of t) (sym (eqb-true
 in-brackets : (b k : ℕ) (u : List ℕ) → b ≡ bra → k ≡ ket → IsBalanced u → IsBalanced (b ∷ (u ++ k ∷ []))
 in-brackets b k u e f h =
     subst (λ (x : ℕ). IsBalanced (x ∷ (u ++ k ∷ []))) (sym e)
-        (subst (λ (x : ℕ). IsBalanced (bra ∷ (u ++ x ∷ []))) (sym f) (Rules.bracketed u h))
+    (subst (λ (x : ℕ). IsBalanced (bra ∷ (u ++ x ∷ []))) (sym f) (Rules.bracketed u h))
 
 -- what matches a form whose brackets stand in pairs balances
 pub matches-balance : (d : Dialect) → KeepsBrackets d → ((n : Name) → paired (rule d n) ≡ true) →
@@ -76,13 +76,13 @@ pub matches-balance : (d : Dialect) → KeepsBrackets d → ((n : Name) → pair
 unfolding paired
 matches-balance d keeps all (one (is c)) w e (token {t = t} h) =
     word-balanced d keeps t (sym (accepts-like any_word c (d.class_of t)
-        (eqb-true (class_number c) (class_number (d.class_of t)) h)) ∙ e)
+    (eqb-true (class_number c) (class_number (d.class_of t)) h)) ∙ e)
 matches-balance d keeps all (one any_word) w e (token {t = t} h) = word-balanced d keeps t h
 matches-balance d keeps all never w e m = elim m [ ]
 matches-balance d keeps all empty w e nothing = Rules.empty
 matches-balance d keeps all (f · g) w e (both {u = u} {v = v} m n) =
     let p = both-pass (paired f) (paired g) e in
-        Rules.joined u v (matches-balance d keeps all f u p.0 m) (matches-balance d keeps all g v p.1 n)
+    Rules.joined u v (matches-balance d keeps all f u p.0 m) (matches-balance d keeps all g v p.1 n)
 matches-balance d keeps all (f ∣ g) w e (first m) =
     matches-balance d keeps all f w (both-pass (paired f) (paired g) e).0 m
 matches-balance d keeps all (f ∣ g) w e (second m) =
@@ -137,7 +137,7 @@ some-one d f u m = subst (Matches d (many f)) (append-nil u) (one_more m no_more
 any-word : (d : Dialect) → KeepsBrackets d → (t : ℕ) → t ≢ bra → t ≢ ket → accepts any_word (d.class_of t) ≡ true
 any-word d keeps t b k =
     neither (same_class Bra (d.class_of t)) (same_class Ket (d.class_of t)) (λ e. b (the-bra d keeps t e))
-        (λ e. k (the-ket d keeps t e))
+    (λ e. k (the-ket d keeps t e))
   where
     neither : (x y : Bool) → (x ≡ true → ⊥) → (y ≡ true → ⊥) → (not x && not y) ≡ true
     neither true y f g = absurd (f refl)
@@ -161,13 +161,16 @@ balanced-anything d keeps (Rules.joined u v x y) =
     many-join d (one any_word ∣ group any) u v (balanced-anything d keeps x) (balanced-anything d keeps y)
 balanced-anything d keeps (Rules.bracketed u x) =
     some-one d (one any_word ∣ group any) _
-        (second (bracketed bra ket (bra-accepted d keeps) (by_name (balanced-anything d keeps x))
-            (ket-accepted d keeps)))
+    (second (bracketed bra ket (bra-accepted d keeps) (by_name (balanced-anything d keeps x))
+    (ket-accepted d keeps)))
 
 -- `any` is exactly the lists whose brackets balance
 pub any-balanced : (d : Dialect) → KeepsBrackets d → ((s : Slot) (l : Level) → paired (d.added s l) ≡ true) →
     (w : List ℕ) →
     Matches d any w ↔ IsBalanced w
 unfolding paired
-any-balanced d keeps h w = (λ m. matches-balance d keeps (rules_paired d h) any w refl m, λ b. by_name
-    (balanced-anything d keeps b))
+any-balanced d keeps h w = (
+  λ m. matches-balance d keeps (rules_paired d h) any w refl m,
+  λ b. by_name
+      (balanced-anything d keeps b),
+)

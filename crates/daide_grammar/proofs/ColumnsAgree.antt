@@ -43,7 +43,7 @@ number_told t word =
     let code : place / 256 ≡ t % 256 = omega arith in
     let here : agrees place (get_or TABLE.classes place 0) ≡ true =
     ap (λ (p : ℕ). agrees p (get_or TABLE.classes place 0)) (sym from)
-        ∙ at_place 0 place TABLE.classes agree (rw many (omega arith))
+    ∙ at_place 0 place TABLE.classes agree (rw many (omega arith))
     in
     eqb-true (get_or TABLE.classes place 0) (class_number (class_in (place % 256) (place / 256))) here
     ∙ ap (λ (p : ℕ). class_number (class_in p (place / 256))) category

@@ -43,22 +43,29 @@ peak-bra p = from_the_end (λ p. closes_early p ≡ false →
         peak (bra ∷ (p ++ t ∷ [])) ≡ peak (p ++ t ∷ []) + 1
     more p t ih e =
         let before = not-early (closes_early p) _ (sym (closes_early-snoc p t) ∙ e) in
-        omega (arith, greatest_prefixes-snoc (bra ∷ p) t, greatest_prefixes-snoc p t, ih before, bras-bra (p ++ t ∷ []),
-            kets-bra (p ++ t ∷ []), kets_le_bras (p ++ t ∷ []) e)
+        omega (
+          arith,
+          greatest_prefixes-snoc (bra ∷ p) t,
+          greatest_prefixes-snoc p t,
+          ih before,
+          bras-bra (p ++ t ∷ []),
+          kets-bra (p ++ t ∷ []),
+          kets_le_bras (p ++ t ∷ []) e,
+        )
 
 -- HUH in front changes no depth
 pub peak-huh : (p : List ℕ) → peak (huh ∷ p) ≡ peak p
 peak-huh p =
     from_the_end (λ p. peak (huh ∷ p) ≡ peak p) refl (λ p t ih. greatest_prefixes-snoc (huh ∷ p) t
-        ∙ (ap (λ n. max n (excess (p ++ t ∷ []))) ih ∙ sym (greatest_prefixes-snoc p t))) p
+    ∙ (ap (λ n. max n (excess (p ++ t ∷ []))) ih ∙ sym (greatest_prefixes-snoc p t))) p
 
 -- a balanced list in brackets is one deeper
 pub peak-bracketed : (a : List ℕ) → IsBalanced a → peak (bra ∷ (a ++ ket ∷ [])) ≡ peak a + 1
 peak-bracketed a h =
     let b = balanced-closes a h in
     let after : excess (bra ∷ (a ++ ket ∷ [])) ≡ 0 =
-        omega (arith, bras-snoc (bra ∷ a) ket, kets-snoc (bra ∷ a) ket, bras-bra a, kets-bra a, b.1, kets_le_bras a b.0)
-            in
+    omega (arith, bras-snoc (bra ∷ a) ket, kets-snoc (bra ∷ a) ket, bras-bra a, kets-bra a, b.1, kets_le_bras a b.0)
+    in
     omega (arith, greatest_prefixes-snoc (bra ∷ a) ket, peak-bra a b.0, after)
 
 -- HUH round a balanced list that has a depth is one deeper
@@ -66,4 +73,4 @@ pub huh_depth : (a : List ℕ) → IsBalanced a → begins_with_prn a ≡ false 
     depth_of (huh ∷ bra ∷ (a ++ ket ∷ [])) ≡ depth_of a + 1
 huh_depth a h n =
     peak-huh (bra ∷ (a ++ ket ∷ []))
-        ∙ (peak-bracketed a h ∙ ap (λ k. k + 1) (sym (ap (λ (b : Bool). if b then 0 else peak a) n)))
+    ∙ (peak-bracketed a h ∙ ap (λ k. k + 1) (sym (ap (λ (b : Bool). if b then 0 else peak a) n)))

@@ -54,7 +54,7 @@ form-not-prn : (side : Side2) (l : Level) (m : List ℕ) → SymbolMatches (open
 form-not-prn side l [] h = refl
 form-not-prn side l (t ∷ m) h =
     begins-false (t == prn) (λ e. plain_laws.stops_none (opening_of side l) t
-        (ap (table_answer (opening_of side l)) (class-prn t e) ∙ opening-stops side l) m h)
+    (ap (table_answer (opening_of side l)) (class-prn t e) ∙ opening-stops side l) m h)
 
 -- a list of an opening symbol matches its side's form, and the other way round
 to-form : (side : Side2) (l : Level) (m : List ℕ) → SymbolMatches (opening_of side l) m →
@@ -85,8 +85,11 @@ pub message-paired : (side : Side2) (l : Level) (m : List ℕ) → IsMessage sid
 unfolding paired
 message-paired side l m (inl r) = inl r
 message-paired side l m (inr f) =
-    inr (form-not-prn side l m (from-form side l m f), message-balanced standard standard-brackets (λ s k. refl) side l
-        m f)
+    inr (
+      form-not-prn side l m (from-form side l m f),
+      message-balanced standard standard-brackets (λ s k. refl) side l
+          m f,
+    )
 
 -- `any` is every list whose brackets balance
 pub any-is-balanced : (m : List ℕ) → Matches standard any m ↔ IsBalanced m
@@ -105,7 +108,7 @@ any-grouped : (a : List ℕ) → IsBalanced a → SymbolMatches AnyGroup (bra �
 unfolding form_of
 any-grouped a h =
     bracketed bra ket (bra-accepted standard standard-brackets) ((any-is-balanced a).1 h)
-        (ket-accepted standard standard-brackets)
+    (ket-accepted standard standard-brackets)
 
 -- the token HUH has the class HUH
 class-huh : class_of huh ≡ Huh

@@ -39,7 +39,7 @@ others-none c e [] h a = refl
 others-none c e (f ∷ es) h a =
     let p = both-pass (apart e.kind f.kind) (list_all (λ g. apart e.kind g.kind) es) a in
     taking-cons c f es ∙ (ap (λ n. cond (accepts f.kind c) 1 0 + n) (others-none c e es h p.1)
-        ∙ none (accepts f.kind c) (λ i. apart-sound e.kind f.kind c p.0 h i))
+    ∙ none (accepts f.kind c) (λ i. apart-sound e.kind f.kind c p.0 h i))
   where
     none : (b : Bool) → (b ≡ true → ⊥) → cond b 1 0 + 0 ≡ 0
     none true k = absurd (k refl)
@@ -57,10 +57,10 @@ at-most-one c (e ∷ es) a =
         taking c (e ∷ es) ≤ 1
     one-or-none true h few a =
         subst (λ (n : ℕ). n ≤ 1) (sym (taking-cons c e es ∙ ap (λ (b : Bool). cond b 1 0 + taking c es) h))
-            (omega (arith, others-none c e es h a))
+        (omega (arith, others-none c e es h a))
     one-or-none false h few a =
         subst (λ (n : ℕ). n ≤ 1) (sym (taking-cons c e es ∙ ap (λ (b : Bool). cond b 1 0 + taking c es) h))
-            (omega (arith, few))
+        (omega (arith, few))
 
 -- at most one alternative of a symbol begins with a class
 pub alternatives-differ : (s : Sym) (c : Class) → taking c (entries s) ≤ 1
@@ -87,8 +87,8 @@ unfolding table_answer
 short-rest s c rest a =
     let t = take-entry (entry_at c (entries s)) (may_end_of s) rest a in
     subst (λ (r : List Sym). length r ≤ 12) t.2
-        (leb-true (length t.0.rest) 12 (find-passes (λ e. nat_le (length e.rest) 12) c (entries s) t.0 (rests-short s)
-            t.1))
+    (leb-true (length t.0.rest) 12 (find-passes (λ e. nat_le (length e.rest) 12) c (entries s) t.0 (rests-short s)
+    t.1))
 
 -- ---- neighbours never begin with the same token
 
@@ -103,8 +103,11 @@ none-begins (s ∷ stack) t m e h =
     by_answer : (◌≡◌ {A = Option (List Sym)} (stack_after table_answer (class_of t) stack) None →
         StackMatches SymbolMatches stack (t ∷ m) → ⊥) →
         (a : Answer) → table_answer s (class_of t) ≡ a →
-        ◌≡◌ {A = Option (List Sym)} (elim a [ Take rest ↦ Some (rest ++ stack)
-            | Skip ↦ stack_after table_answer (class_of t) stack | Stop ↦ None ]) None →
+        ◌≡◌ {A = Option (List Sym)} (elim a [
+          | Take rest ↦ Some (rest ++ stack)
+          | Skip ↦ stack_after table_answer (class_of t) stack
+          | Stop ↦ None
+        ]) None →
         (u : List ℕ) → t ∷ m ≡ u ++ h.1 → SymbolMatches s u → StackMatches SymbolMatches stack h.1 → ⊥
     by_answer go (Take rest) a e u q x y = cc
     by_answer go Skip a e [] q x y = go e (subst (StackMatches SymbolMatches stack) (sym q) y)

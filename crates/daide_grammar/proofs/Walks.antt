@@ -60,7 +60,7 @@ sort_of c = go (same_class Bra c) (same_class Ket c) refl refl
     go false true x y = closes (number-Ket c (sym (eqb-true 1 (class_number c) y)))
     go false false x y =
         neither (λ e. no-yes (same_class Bra c) (ap (same_class Bra) e) x)
-            (λ e. no-yes (same_class Ket c) (ap (same_class Ket) e) y)
+        (λ e. no-yes (same_class Ket c) (ap (same_class Ket) e) y)
 
 -- a lawful stack with some number of open brackets
 abbrev Arises : List Sym → Type 0
@@ -72,11 +72,14 @@ arises-taken : (s : Sym) (c : Class) (rest stack : List Sym) → Arises (s ∷ s
 arises-taken s c rest stack l a = by_sort (sort_of c)
   where
     by_sort : Sort c → Arises (rest ++ stack)
-    by_sort (opens e) = (l.0 + 1, plain_laws.lawful_open s rest stack l.0 l.1
-        (subst (λ (x : Class). table_answer s x ≡ Take rest) e a))
+    by_sort (opens e) = (
+      l.0 + 1,
+      plain_laws.lawful_open s rest stack l.0 l.1
+          (subst (λ (x : Class). table_answer s x ≡ Take rest) e a),
+    )
     by_sort (closes e) =
         let k = plain_laws.lawful_close s rest stack l.0 l.1 (subst (λ (x : Class). table_answer s x ≡ Take rest) e a)
-            in (k.0, k.2)
+        in (k.0, k.2)
     by_sort (neither b k) = (l.0, plain_laws.lawful_take s c rest stack l.0 l.1 a b k)
 
 -- so does a token that skips some symbols first
@@ -88,8 +91,11 @@ arises-after c (s ∷ stack) next l e = by_answer (λ h. arises-after c stack ne
     by_answer : (Arises stack → ◌≡◌ {A = Option (List Sym)} (stack_after table_answer c stack) (Some next) →
         Arises next) → (a : Answer) →
         table_answer s c ≡ a →
-        ◌≡◌ {A = Option (List Sym)} (elim a [ Take rest ↦ Some (rest ++ stack) | Skip ↦ stack_after table_answer c stack
-            | Stop ↦ None ]) (Some next) → Arises next
+        ◌≡◌ {A = Option (List Sym)} (elim a [
+          | Take rest ↦ Some (rest ++ stack)
+          | Skip ↦ stack_after table_answer c stack
+          | Stop ↦ None
+        ]) (Some next) → Arises next
     by_answer go (Take rest) a e = let q : rest ++ stack ≡ next = cc in subst Arises q (arises-taken s c rest stack l a)
     by_answer go Skip a e = go (l.0, plain_laws.lawful_skip s c stack l.0 l.1 a) e
     by_answer go Stop a e = cc
@@ -116,13 +122,13 @@ goes-on-taken s rest stack t m l a = (
         StackMatches SymbolMatches (rest ++ stack) m
     by_front [] v e x y =
         absurd (none-begins stack t m (plain_laws.neighbours_differ s (class_of t) rest stack l.0 l.1
-            ((plain_laws.ends s).1 x) a)
+        ((plain_laws.ends s).1 x) a)
         (subst (StackMatches SymbolMatches stack) (sym e) y))
     by_front (z ∷ u) v e x y =
         let q = first-same t z m u v e in
         subst (StackMatches SymbolMatches (rest ++ stack)) (sym q.1)
-            (joined rest stack u v ((plain_laws.takes s t rest a u).0
-                (subst (λ (n : ℕ). SymbolMatches s (n ∷ u)) q.0 x)) y)
+        (joined rest stack u v ((plain_laws.takes s t rest a u).0
+        (subst (λ (n : ℕ). SymbolMatches s (n ∷ u)) q.0 x)) y)
 
 -- where the first symbol is skipped
 goes-on-skipped : (s : Sym) (stack : List Sym) (t : ℕ) (m : List ℕ) → table_answer s (class_of t) ≡ Skip →
@@ -145,12 +151,15 @@ goes-on (s ∷ stack) next t m l e = by_answer (λ h. goes-on stack next t m h) 
     by_answer : (Arises stack → ◌≡◌ {A = Option (List Sym)} (stack_after table_answer (class_of t) stack) (Some next) →
         GoesOn stack next t m) →
         (a : Answer) → table_answer s (class_of t) ≡ a →
-        ◌≡◌ {A = Option (List Sym)} (elim a [ Take rest ↦ Some (rest ++ stack)
-            | Skip ↦ stack_after table_answer (class_of t) stack | Stop ↦ None ]) (Some next) →
-                GoesOn (s ∷ stack) next t m
+        ◌≡◌ {A = Option (List Sym)} (elim a [
+          | Take rest ↦ Some (rest ++ stack)
+          | Skip ↦ stack_after table_answer (class_of t) stack
+          | Stop ↦ None
+        ]) (Some next) →
+        GoesOn (s ∷ stack) next t m
     by_answer go (Take rest) a e =
         let q : rest ++ stack ≡ next = cc in
-            subst (λ (x : List Sym). GoesOn (s ∷ stack) x t m) q (goes-on-taken s rest stack t m l a)
+        subst (λ (x : List Sym). GoesOn (s ∷ stack) x t m) q (goes-on-taken s rest stack t m l a)
     by_answer go Skip a e =
         let k = go (l.0, plain_laws.lawful_skip s (class_of t) stack l.0 l.1 a) e in
         let p = goes-on-skipped s stack t m a in
@@ -172,7 +181,7 @@ nothing-left (s ∷ stack) =
         (StackMatches SymbolMatches stack [] → follows stack [] ≡ true) → (may_end_of s && follows stack []) ≡ true
     by_front [] v e x y go =
         ap (λ (b : Bool). b && follows stack []) ((plain_laws.ends s).1 x)
-            ∙ go (subst (StackMatches SymbolMatches stack) (sym e) y)
+        ∙ go (subst (StackMatches SymbolMatches stack) (sym e) y)
     by_front (z ∷ u) v e x y go = cc
 
 -- the table follows exactly the lists that the stack stands for

@@ -94,7 +94,7 @@ request_of : (l : Level) (p : List ℕ) → nat_le 10 (level_number l) ≡ true 
     IsMessageOver added Client l (sent p)
 request_of l p e m = inr (first (by_name {n = Request_name l}
     (second (second (second (second
-        (second (second (second (second (second (second (second (second (second (second (second (second (second
+    (second (second (second (second (second (second (second (second (second (second (second (second (second
     (reached L10 l (send l) (sent p) e (send_of l p m)))))))))))))))))))))
 
 -- ---- the word of a press

@@ -104,7 +104,7 @@ module _ (words : Words) where
       IsTrue (accepts (is (Word place)) (spoken.class_of t)) → ⊥
   no-word place t h e =
       let is_word : Word place ≡ class_of t =
-          (told-apart (Word place) (spoken.class_of t)).0 e ∙ class-stays 0 words t h in
+      (told-apart (Word place) (spoken.class_of t)).0 e ∙ class-stays 0 words t h in
       let standard_word : is_standard (Word place) ≡ true = ap is_standard is_word ∙ standard_class t in
       absurd cc
 
@@ -124,7 +124,7 @@ module _ (words : Words) where
 
       go : (slot : WordSlot) (t : Slot) →
           Matches spoken (stands_in slot t (from word.level l (tok (Word place) · group (operand_in word.operand s l))))
-              m → ⊥
+          m → ⊥
       go press_word Press_slot y = no-from place b (group (operand_in word.operand s l)) m h y
       go press_word Arrangement_slot y = elim y [ ]
       go press_word Flat_slot y = elim y [ ]

@@ -1,16 +1,16 @@
 //! What no clause shows: words and messages worked out by hand, and each call once.
 
-use daide_words::extended::Extended;
-use daide_words::operand::Operand;
-use daide_words::slot::Slot;
-use daide_words::word::{Word, WordError};
-use daide_words::words::Words;
 use daide_grammar::level::Level;
 use daide_grammar::predict::Predict;
 use daide_grammar::side::Side2;
 use daide_grammar::symbol::Symbol;
 use daide_token::class::Class;
 use daide_token::token::Token;
+use daide_words::extended::Extended;
+use daide_words::operand::Operand;
+use daide_words::slot::Slot;
+use daide_words::word::{Word, WordError};
+use daide_words::words::Words;
 use std::alloc::{AllocError, Global};
 
 /// A word by its parts.

@@ -107,7 +107,12 @@ fn put_token(added: &[(Token, [u8; 3])], place: Place, token: Token, text: &mut 
 }
 
 /// Gathers the text of one token that may be a character.
-fn put_character(added: &[(Token, [u8; 3])], place: Place, token: Token, text: &mut Gathered) -> Place
+fn put_character(
+    added: &[(Token, [u8; 3])],
+    place: Place,
+    token: Token,
+    text: &mut Gathered,
+) -> Place
     requires room { length text.old ≤ 240 }
     requires word { number_of token ≡ None }
     ensures place { result ≡ place_after token }

@@ -1,10 +1,10 @@
 //! Lines of the log of a match.
 
+use daide_frame::Side;
 use daide_log::event_line::{MOST, Told};
 use daide_log::match_line::{
     MatchConfig, MatchTold, is_match_name, read_match_config, read_match_event,
 };
-use daide_frame::Side;
 use daide_session::Config;
 use std::test::Fail;
 

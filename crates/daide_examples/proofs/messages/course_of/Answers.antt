@@ -8,5 +8,5 @@ never h = cc
 pub push-requires : goal.push-requires
 push-requires g c =
     let full : 32767 ≤ c.loop-token.reader.outline.tokens → ⊥ =
-        λ more. never (sym c.if-is_full.false ∙ c.is_full.ensures.1 more) in
+    λ more. never (sym c.if-is_full.false ∙ c.is_full.ensures.1 more) in
     (search rules, (omega (arith, full), c.loop-token.invariant))

@@ -13,4 +13,4 @@ pub returns : goal.returns
 returns c =
     let t = c.code-bits.result in
     c.of.ensures ∙ ap class_at c.class_cell.ensures ∙ class_found t c.code-bits.type_inv
-        ∙ ap class_of c.code-bits.ensures
+    ∙ ap class_of c.code-bits.ensures
