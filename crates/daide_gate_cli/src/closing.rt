@@ -8,7 +8,7 @@ ghost use Rattle.std.specs.Prelude.{◌≤◌};
 
 use crate::ports::{Socket, SocketPorts};
 use crate::watch::Watch;
-use daide_session::ports::Pull;
+use daide_streams::dropping::Dropping;
 use std::alloc::{AllocError, Global};
 use std::net::Shutdown;
 use std::rt::Clock;
@@ -20,9 +20,6 @@ const MOST_DROPPED: usize = 1 << 20;
 /// How many seconds they are waited for.
 const SECONDS: u64 = 1;
 
-/// The most bytes that are dropped of a socket at a look at it.
-const PIECE: usize = 4096;
-
 /// How many sockets are looked at in one round, by turns, so that those that close don't hold up those at work.
 const MOST_LOOKS: usize = 8;
 
@@ -33,8 +30,8 @@ pub const MOST_CLOSING: usize = 256;
 #[derive(Drop)]
 struct Closing<'w> {
     socket: Socket<'w>,
-    /// How many bytes may still come.
-    left: usize,
+    /// What may still be dropped of it.
+    rest: Dropping,
 }
 
 impl<'w> Closing<'w> {
@@ -49,23 +46,18 @@ impl<'w> Closing<'w> {
             .set(watch.after(Duration::from_secs(SECONDS)));
         Closing {
             socket,
-            left: MOST_DROPPED,
+            rest: Dropping::new(MOST_DROPPED),
         }
     }
 
     /// Drops a piece of what came, and answers whether the socket is to be closed now.
     fn drops_last<R: Clock>(&mut self, watch: &Watch<R>) -> bool
-        ensures { self.new.left ≤ self.old.left }
+        ensures { self.new.rest ≤ self.old.rest }
     {
-        let mut piece = [0; PIECE];
-        let room = self.left.min(PIECE);
-        match self.socket.pull(&mut piece[..room]) {
-            Pull::Got(count) => self.left -= count,
-            Pull::Idle => {}
-            Pull::Ended => return true,
-        }
-        let due = self.socket.place.flags.due.get();
-        self.left == 0 || due.is_none() || watch.is_over(due)
+        let Socket { stream, place } = &mut self.socket;
+        let is_last = self.rest.drop_piece(stream, &place.flags.is_readable);
+        let due = place.flags.due.get();
+        is_last || due.is_none() || watch.is_over(due)
     }
 }
 

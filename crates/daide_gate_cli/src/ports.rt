@@ -6,68 +6,13 @@
 ghost use Rattle.std.specs.Prelude.{◌≡◌, length, None};
 ghost use Rattle.daide_session.specs.Record.{IsPullWithin, IsPutWithin};
 
-use crate::watch::{Flags, Place, Watch};
+use crate::watch::{Place, Watch};
 use daide_frame::side::Side;
 use daide_session::ports::{Ports, Pull, Put};
+use daide_streams::calls::{pull_from, put_to};
 use mio::Interest;
 use mio::net::TcpStream;
-use std::io::{ErrorKind, Read, Write};
 use std::rt::Clock;
-
-/// How often an interrupted call is made in all.
-const TRIES: usize = 8;
-
-/// The most bytes that one write hands to the system, so that a long frame holds up no other session for its length.
-const MOST_AT_ONCE: usize = 16_384;
-
-/// Reads what is there, where something may be, and notes where nothing was.
-pub fn pull_from<S: Read>(stream: &mut S, flags: &Flags, buffer: &mut [u8]) -> Pull
-    ensures within { IsPullWithin result (length buffer.old) }
-    ensures len { length buffer.new ≡ length buffer.old }
-{
-    if buffer.is_empty() || !flags.is_readable.get() {
-        return Pull::Idle;
-    }
-    for _ in 0..TRIES {
-        match stream.read(buffer) {
-            Ok(0) => return Pull::Ended,
-            Ok(count) => return Pull::Got(count),
-            Err(error) => match error.kind() {
-                ErrorKind::Interrupted => {}
-                ErrorKind::WouldBlock => {
-                    flags.is_readable.set(false);
-                    return Pull::Idle;
-                }
-                _ => return Pull::Ended,
-            },
-        }
-    }
-    Pull::Idle
-}
-
-/// Writes what the stream takes, where it may take something, and notes where it took nothing.
-pub fn put_to<S: Write>(stream: &mut S, flags: &Flags, bytes: &[u8]) -> Put
-    ensures within { IsPutWithin result (length bytes.now) }
-{
-    if !flags.is_writable.get() {
-        return Put::Took(0);
-    }
-    let front = &bytes[..bytes.len().min(MOST_AT_ONCE)];
-    for _ in 0..TRIES {
-        match stream.write(front) {
-            Ok(count) => return Put::Took(count),
-            Err(error) => match error.kind() {
-                ErrorKind::Interrupted => {}
-                ErrorKind::WouldBlock => {
-                    flags.is_writable.set(false);
-                    return Put::Took(0);
-                }
-                _ => return Put::Failed,
-            },
-        }
-    }
-    Put::Took(0)
-}
 
 /// A connection whose calls never wait, and its row of the table.
 #[derive(Drop)]
@@ -91,14 +36,14 @@ impl<'w> Socket<'w> {
         ensures within { IsPullWithin result (length buffer.old) }
         ensures len { length buffer.new ≡ length buffer.old }
     {
-        pull_from(&mut self.stream, self.place.flags, buffer)
+        pull_from(&mut self.stream, &self.place.flags.is_readable, buffer)
     }
 
     /// Writes what the connection takes.
     pub fn put(&mut self, bytes: &[u8]) -> Put
         ensures within { IsPutWithin result (length bytes.now) }
     {
-        put_to(&mut self.stream, self.place.flags, bytes)
+        put_to(&mut self.stream, &self.place.flags.is_writable, bytes)
     }
 }
 

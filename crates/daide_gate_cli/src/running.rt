@@ -1,23 +1,19 @@
 //! `run`: the gateway at work, until all its bots were served.
 
-ghost use Rattle.std.specs.Prelude.{◌≡◌, ◌≤◌, length, string_bytes, IfOk, IfSome};
-
 use crate::faults::{CLEAN, FAULT, tell};
 use crate::system::{Sockets, most_sockets};
 use crate::watch::{Watch, WatchFault};
 use daide_gate::serving::{ServeFault, serve};
 use daide_gate::settings::{Settings, SettingsError, read_settings};
+use daide_streams::text::{TextFault, read_text};
 use mio::net::TcpListener;
-use std::alloc::{Allocator, Global};
-use std::io::{ErrorKind, Read, Write};
+use std::alloc::Global;
+use std::io::Write;
 use std::net::{Net, SocketAddr, ToSocketAddrs};
 use std::rt::{Clock, Files};
 use std::time::Duration;
 use std::{fs, io};
 use thiserror::Error;
-
-/// The most bytes that a file of settings may have.
-const MOST_BYTES: usize = 65_536;
 
 /// How many seconds a server is tried for a bot.
 const CONNECT_SECONDS: u64 = 5;
@@ -39,30 +35,13 @@ pub enum RunFault {
     Serve(ServeFault),
 }
 
-/// Reads a text of settings, which has a bound.
-pub fn read_text<A: Allocator, I: Read>(alloc: A, input: &mut I) -> Result<String<A>, RunFault>
-    ensures fits { IfOk result (λ text. length (string_bytes text) ≤ 65_536) }
-    ensures whole { IfOk result (λ text. IfSome (I.remaining input.old) (λ all. string_bytes text ≡ all)) }
-{
-    let mut bytes = Vec::new(alloc);
-    match input.take(MOST_BYTES as u64 + 1).read_to_end(&mut bytes) {
-        Ok(_) => {}
-        Err(error) if error.kind() == ErrorKind::OutOfMemory => return Err(RunFault::Memory),
-        Err(_) => return Err(RunFault::Unreadable),
-    }
-    if bytes.len() > MOST_BYTES {
-        return Err(RunFault::Unreadable);
-    }
-    match String::from_utf8(bytes) {
-        Ok(text) => Ok(text),
-        Err(_) => Err(RunFault::Unreadable),
-    }
-}
-
 /// The text of a file of settings.
 fn text_at<R: AllocGlobal + Files>(rt: &R, path: &str) -> Result<String, RunFault> {
     let mut file = fs::open(rt, path).map_err(|_| RunFault::Unreadable)?;
-    read_text(rt.alloc(), &mut file)
+    read_text(rt.alloc(), &mut file).map_err(|fault| match fault {
+        TextFault::Unreadable => RunFault::Unreadable,
+        TextFault::Memory => RunFault::Memory,
+    })
 }
 
 /// The settings of a file.

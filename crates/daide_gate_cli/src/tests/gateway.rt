@@ -7,8 +7,9 @@ use super::stage::Act::{
 use super::stage::Who::{Bot, Server};
 use super::stage::{Act, Report, any_port, run_beside};
 use crate::admission::Door;
-use crate::running::{RunFault, read_text, run_text};
+use crate::running::{RunFault, run_text};
 use crate::watch::Watch;
+use daide_streams::text::{TextFault, read_text};
 use std::io;
 use std::io::{ErrorKind, Read, Write};
 use std::net::{Net, TcpListener, TcpStream};
@@ -412,7 +413,7 @@ impl Read for Fails {
 }
 
 /// Why a text of settings is refused, if it is.
-fn refusal(rt: &HostRuntime, input: &mut impl Read) -> Option<RunFault> {
+fn refusal(rt: &HostRuntime, input: &mut impl Read) -> Option<TextFault> {
     read_text(rt.alloc(), input).err()
 }
 
@@ -421,16 +422,16 @@ fn settings_have_a_longest_text(rt: HostRuntime) -> Result<(), Fail> {
     let mut text = vec![in rt.alloc(); b'#'; 65_536]?;
     assert!(rt; refusal(&rt, &mut text.as_slice()).is_none());
     text.push(b'#')?;
-    assert!(rt; refusal(&rt, &mut text.as_slice()) == Some(RunFault::Unreadable));
+    assert!(rt; refusal(&rt, &mut text.as_slice()) == Some(TextFault::Unreadable));
     Ok(())
 }
 
 #[test]
 fn settings_that_cannot_be_read(rt: HostRuntime) {
     let mut not_text = b"listen = '\xff'".as_slice();
-    assert!(rt; refusal(&rt, &mut not_text) == Some(RunFault::Unreadable));
+    assert!(rt; refusal(&rt, &mut not_text) == Some(TextFault::Unreadable));
     let other = refusal(&rt, &mut Fails(ErrorKind::Other));
-    assert!(rt; other == Some(RunFault::Unreadable));
+    assert!(rt; other == Some(TextFault::Unreadable));
     let memory = refusal(&rt, &mut Fails(ErrorKind::OutOfMemory));
-    assert!(rt; memory == Some(RunFault::Memory));
+    assert!(rt; memory == Some(TextFault::Memory));
 }

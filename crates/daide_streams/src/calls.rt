@@ -1,0 +1,63 @@
+//! A read and a write of a stream whose calls never wait.
+
+ghost use Rattle.std.specs.Prelude.{◌≡◌, length};
+ghost use Rattle.daide_session.specs.Record.{IsPullWithin, IsPutWithin};
+
+use daide_session::ports::{Pull, Put};
+use std::cell::Cell;
+use std::io::{ErrorKind, Read, Write};
+
+/// How often an interrupted call is made in all.
+const TRIES: usize = 8;
+
+/// The most bytes that one write hands to the system, so that a long frame holds up no other session for its length.
+const MOST_AT_ONCE: usize = 16_384;
+
+/// Reads what is there, where something may be, and notes where nothing was.
+pub fn pull_from<S: Read>(stream: &mut S, is_readable: &Cell<bool>, buffer: &mut [u8]) -> Pull
+    ensures within { IsPullWithin result (length buffer.old) }
+    ensures len { length buffer.new ≡ length buffer.old }
+{
+    if buffer.is_empty() || !is_readable.get() {
+        return Pull::Idle;
+    }
+    for _ in 0..TRIES {
+        match stream.read(buffer) {
+            Ok(0) => return Pull::Ended,
+            Ok(count) => return Pull::Got(count),
+            Err(error) => match error.kind() {
+                ErrorKind::Interrupted => {}
+                ErrorKind::WouldBlock => {
+                    is_readable.set(false);
+                    return Pull::Idle;
+                }
+                _ => return Pull::Ended,
+            },
+        }
+    }
+    Pull::Idle
+}
+
+/// Writes what the stream takes, where it may take something, and notes where it took nothing.
+pub fn put_to<S: Write>(stream: &mut S, is_writable: &Cell<bool>, bytes: &[u8]) -> Put
+    ensures within { IsPutWithin result (length bytes.now) }
+{
+    if !is_writable.get() {
+        return Put::Took(0);
+    }
+    let front = &bytes[..bytes.len().min(MOST_AT_ONCE)];
+    for _ in 0..TRIES {
+        match stream.write(front) {
+            Ok(count) => return Put::Took(count),
+            Err(error) => match error.kind() {
+                ErrorKind::Interrupted => {}
+                ErrorKind::WouldBlock => {
+                    is_writable.set(false);
+                    return Put::Took(0);
+                }
+                _ => return Put::Failed,
+            },
+        }
+    }
+    Put::Took(0)
+}

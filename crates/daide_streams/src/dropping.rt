@@ -1,0 +1,48 @@
+//! What is read and dropped of a stream that closes.
+
+ghost use Rattle.std.specs.Prelude.{◌≡◌, ◌≤◌, ℕ, true};
+
+use crate::calls::pull_from;
+use daide_session::ports::Pull;
+use std::cell::Cell;
+use std::io::Read;
+use std::marker::Model;
+
+/// The most bytes that are dropped at once.
+const PIECE: usize = 4096;
+
+/// What may still be dropped of a stream. Contracts see how many bytes.
+#[derive(Drop)]
+pub struct Dropping {
+    left: usize,
+}
+
+impl Model for Dropping {
+    ghost Value = { ℕ };
+
+    ghost view = { λ dropping. dropping.left };
+}
+
+impl Dropping {
+    /// Nothing was dropped yet, and at most so many bytes will be.
+    pub fn new(most: usize) -> Dropping
+        ensures { result ≡ most }
+    {
+        Dropping { left: most }
+    }
+
+    /// Drops a piece of what came, and answers whether no more is to be dropped.
+    pub fn drop_piece<S: Read>(&mut self, stream: &mut S, is_readable: &Cell<bool>) -> bool
+        ensures fewer { self.new ≤ self.old }
+        ensures all_dropped { self.new ≡ 0 → result ≡ true }
+    {
+        let mut piece = [0; PIECE];
+        let room = self.left.min(PIECE);
+        match pull_from(stream, is_readable, &mut piece[..room]) {
+            Pull::Got(count) => self.left -= count,
+            Pull::Idle => {}
+            Pull::Ended => return true,
+        }
+        self.left == 0
+    }
+}
