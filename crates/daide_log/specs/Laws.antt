@@ -1,6 +1,6 @@
 -- What the log of a match has of each session: its own log, as if it had been alone. (own)
-use Rattle.std.specs.Prelude.{◌≡◌, ◌⊎◌, ℕ, ◌<◌, ◌≤◌, ◌==◌, Bool, false, if◌then◌else◌, List, [], ◌∷◌, ◌++◌, length, map, codes}
-use Rattle.std.specs.Prelude.{Option, Some, None, Ok}
+use Rattle.std.specs.Prelude.{◌≡◌, ◌⊎◌, ℕ, ◌<◌, ◌≤◌, ◌==◌, Bool, false, if◌then◌else◌, List, [], ◌∷◌, ◌++◌, length}
+use Rattle.std.specs.Prelude.{map, codes, Option, Some, None, Ok}
 use Rattle.daide_log.specs.declared.match_line.MatchConfig.{MatchConfig}
 use Rattle.daide_log.specs.declared.report.Summary.{Summary}
 use Rattle.daide_log.specs.LogLine.{Parted, config_of_line, is_comment, parted_at_space, plain_number, without_cr}
@@ -59,5 +59,6 @@ SessionsAreAlone =
     IsLines own (codes "daide-log 1" ∷ own_second ∷ map (own_line session) lines) →
     config_of_line own_second ≡ Some limits.config → IsReport log text (Ok summary) →
     (told : List Entry) × (text ≡ lines_of told ++ summary_line summary)
-    × IsReport own (lines_of (own_told session told) ++ summary_line (counted_all (own_told session told) nothing_counted))
+    × IsReport own
+    (lines_of (own_told session told) ++ summary_line (counted_all (own_told session told) nothing_counted))
     (Ok (counted_all (own_told session told) nothing_counted))

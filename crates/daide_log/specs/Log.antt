@@ -14,7 +14,8 @@ use Rattle.daide_log.specs.declared.fault.LogFault.TheVariants.{BadLine, LineToo
 use Rattle.daide_log.specs.LogLine.{event_of_line, without_cr}
 use Rattle.daide_log.specs.MatchLine.{MatchEvent, Of, Quiet, match_event_of_line}
 use Rattle.daide_log.specs.Heading.{Head, Heading, Unnamed, Named, Headed, heading_after, is_whole}
-use Rattle.daide_log.specs.Report.{Entry, events_of, side_of, entries_of, lines_of, counted_all, nothing_counted, summary_line}
+use Rattle.daide_log.specs.Report.{Entry, events_of, side_of, entries_of, lines_of}
+use Rattle.daide_log.specs.Report.{counted_all, nothing_counted, summary_line}
 
 -- the most lines of a log
 abbrev pub most_lines : ℕ

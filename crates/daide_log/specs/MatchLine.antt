@@ -3,7 +3,8 @@ use Rattle.std.specs.Prelude.{ℕ, Bool, ◌&&◌, nat_le, if◌then◌else◌, 
 use Rattle.std.specs.Str.{bytes_eq}
 use Rattle.daide_session.specs.declared.config.Config.{Config}
 use Rattle.daide_log.specs.declared.match_line.MatchConfig.{MatchConfig}
-use Rattle.daide_log.specs.LogLine.{Parted, LogEvent, Traffic, EndOf, TimeOver, Silence, behind, plain_number, parted_at_space}
+use Rattle.daide_log.specs.LogLine.{Parted, LogEvent, Traffic, EndOf, TimeOver, Silence}
+use Rattle.daide_log.specs.LogLine.{behind, plain_number, parted_at_space}
 use Rattle.daide_log.specs.LogLine.{config_of_numbers, is_comment, event_of_line}
 
 -- ---- the first line
@@ -78,8 +79,8 @@ match_event_of_parts sessions None = None
 match_event_of_parts sessions (Some parted) =
     event_of_session (within 1 sessions (plain_number parted.word)) (loud (event_of_line parted.rest))
 
--- what a line tells: a session's number from 1 to the number of sessions, a space and an event as in version 1, or nothing
--- where it is empty or begins with `#`; any other is no log line
+-- what a line tells: a session's number from 1 to the number of sessions, a space and an event as in version 1, or
+-- nothing where it is empty or begins with `#`; any other is no log line
 unfoldable pub match_event_of_line : ℕ → List ℕ → Option MatchEvent
 match_event_of_line sessions line =
     if is_comment line then Some Quiet else match_event_of_parts sessions (parted_at_space line)

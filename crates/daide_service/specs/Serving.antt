@@ -198,7 +198,11 @@ Rounds {P} told (suc n) old answers new =
 -- a run that no bot came to
 abbrev pub opening : {P : Type 0} → Settings → Serving P
 opening settings = record {
-  hub = record { limits = limits_with settings.config (words_of settings.words); max = settings.max_sessions; places = [] };
+  hub = record {
+    limits = limits_with settings.config (words_of settings.words);
+    max = settings.max_sessions;
+    places = [];
+  };
   tally = record {
     max_sessions = settings.max_sessions;
     sessions = settings.sessions;

@@ -1,7 +1,14 @@
 -- A number for each class of tokens, by which two classes are compared. (own)
 use Rattle.std.specs.Prelude.{ℕ, ◌+◌, Bool, nat_eq}
 use Rattle.daide_token.specs.declared.class.Class.{Class}
-use Rattle.daide_token.specs.declared.class.Class.TheVariants.{Num, Bra, Ket, Power, Note, Outcome, Coast, Season, Text, Province, Amy, Flt, Cto, Cvy, Hld, Mto, Sup, Via, Dsb, Rto, Bld, Rem, Wve, Ccd, Drw, Frm, Gof, Hlo, Hst, Huh, Iam, Lod, Map, Mdf, Mis, Nme, Not, Now, Obs, Off, Ord, Out, Prn, Rej, Sco, Slo, Snd, Sub, Sve, Thx, Tme, Yes, Adm, Smr, Aly, And, Bwx, Dmz, Fct, Idk, Ins, Occ, Orr, Pce, Prp, Qry, Scd, Sry, Sug, Thk, Try, Vss, Xdo, Lvl, Mrt, Uno, Param, Other, Alien, Word}
+use Rattle.daide_token.specs.declared.class.Class.TheVariants.{Num, Bra, Ket, Power, Note, Outcome, Coast, Season}
+use Rattle.daide_token.specs.declared.class.Class.TheVariants.{Text, Province, Amy, Flt, Cto, Cvy, Hld, Mto, Sup, Via}
+use Rattle.daide_token.specs.declared.class.Class.TheVariants.{Dsb, Rto, Bld, Rem, Wve, Ccd, Drw, Frm, Gof, Hlo, Hst}
+use Rattle.daide_token.specs.declared.class.Class.TheVariants.{Huh, Iam, Lod, Map, Mdf, Mis, Nme, Not, Now, Obs, Off}
+use Rattle.daide_token.specs.declared.class.Class.TheVariants.{Ord, Out, Prn, Rej, Sco, Slo, Snd, Sub, Sve, Thx, Tme}
+use Rattle.daide_token.specs.declared.class.Class.TheVariants.{Yes, Adm, Smr, Aly, And, Bwx, Dmz, Fct, Idk, Ins, Occ}
+use Rattle.daide_token.specs.declared.class.Class.TheVariants.{Orr, Pce, Prp, Qry, Scd, Sry, Sug, Thk, Try, Vss, Xdo}
+use Rattle.daide_token.specs.declared.class.Class.TheVariants.{Lvl, Mrt, Uno, Param, Other, Alien, Word}
 
 -- the class's place in the list of classes: the brackets first, the operator's words last
 abbrev pub class_number : Class → ℕ

@@ -27,7 +27,8 @@ abbrev pub word_with : List Named → ℕ → List ℕ
 word_with added t =
     if t == bra then codes "(" else
     if t == ket then codes ")" else
-    unwrap_or (option_map signed_decimal (number_of t)) (unwrap_or (name_of t) (unwrap_or (added_name_of added t) (hex_text t)))
+    unwrap_or (option_map signed_decimal (number_of t))
+    (unwrap_or (name_of t) (unwrap_or (added_name_of added t) (hex_text t)))
 
 -- whether a token is a character that can stand in quotes: from space to tilde, and not the quote itself
 abbrev pub is_quotable : ℕ → Bool
