@@ -7,7 +7,9 @@ ghost use Rattle.std.specs.List.{list_all};
 ghost use Rattle.hex.specs.Hex.{decode_of, is_hex_digit};
 ghost use Rattle.daide_log.specs.Digits.{IsRead, bytes_in, value_of};
 
-/// Whether all bytes are digits, of either case.
+/// Whether all bytes are digits, of either case. It is called and not written out in its caller, where the compiler
+/// looks at one byte after the other.
+#[inline(never)]
 fn are_digits(bytes: &[u8]) -> bool
     ensures { result ≡ list_all is_hex_digit bytes.now }
 {
