@@ -15,6 +15,8 @@ import sys
 import tempfile
 import time
 
+PROCESSORS = os.sched_getaffinity(0)
+
 IM = bytes.fromhex("000000040001da10")
 RM = bytes.fromhex("01000000")
 OBS = bytes.fromhex("02000002480f")
@@ -336,12 +338,20 @@ def serve_all(listener):
                 key.fileobj.close()
 
 
+def keep_to(processor, process=0):
+    """Keeps a process, else this one, to the processor of that number, where there are four."""
+    usable = sorted(PROCESSORS)
+    if len(usable) >= 4:
+        os.sched_setaffinity(process, {usable[processor]})
+
+
 @contextlib.contextmanager
-def beside(act, *words):
-    """A process that does this while the body runs."""
+def beside(processor, act, *words):
+    """A process that does this while the body runs, on a processor of its own."""
     child = os.fork()
     if child == 0:
         try:
+            keep_to(processor)
             act(*words)
         finally:
             os._exit(1)
@@ -363,11 +373,13 @@ def good_times(good, seconds):
 
 def measure_hostile(program):
     with Gateway(program) as gateway:
+        keep_to(0, gateway.process.pid)
+        keep_to(1)
         good = [gateway.session() for _ in range(3)]
         tell_times("three good sessions alone", good_times(good, 5))
         print(f"resident before: {gateway.resident()} KB", flush=True)
-        with beside(serve_all, gateway.listener):
-            with beside(attack, gateway.port):
+        with beside(2, serve_all, gateway.listener):
+            with beside(3, attack, gateway.port):
                 time.sleep(3)
                 before, began = gateway.processor_seconds(), time.monotonic()
                 tell_times("three good sessions beside 200 hostile ones", good_times(good, 20))
@@ -376,6 +388,7 @@ def measure_hostile(program):
             time.sleep(3)
             print(f"resident after: {gateway.resident()} KB", flush=True)
             tell_times("three good sessions afterwards", good_times(good, 5))
+    os.sched_setaffinity(0, PROCESSORS)
 
 
 MEASURES = {
