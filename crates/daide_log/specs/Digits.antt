@@ -1,4 +1,4 @@
--- Bytes in hexadecimal digits, in the order in which they are read.
+-- Bytes in hexadecimal digits, in the order in which they are read. (own)
 use Rattle.std.specs.Prelude.{⊤, ◌≡◌, ℕ, ◌+◌, ◌*◌, Bool, true, false, List, [], ◌∷◌, Result, Ok, Err, unwrap_or}
 use Rattle.hex.specs.Hex.{hex_digit_value}
 use Rattle.hex.specs.declared.error.FromHexError.{FromHexError}

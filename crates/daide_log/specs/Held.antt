@@ -1,4 +1,4 @@
--- What the code holds of a log's head, and what it knows behind a line of it.
+-- What the code holds of a log's head, and what it knows behind a line of it. (own)
 use Rattle.std.specs.Prelude.{⊤, ℕ, ◌+◌, true, false, if◌then◌else◌, Option, Some, None, Result, Ok, Err}
 use Rattle.daide_words.specs.Words.{words_of}
 use Rattle.daide_log.specs.declared.fault.LogFault.{LogFault}

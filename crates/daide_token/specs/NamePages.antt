@@ -1,4 +1,4 @@
--- The names of a category on a page: those of its codes from a first one on.
+-- The names of a category on a page: those of its codes from a first one on. (own)
 use Rattle.std.specs.Prelude.{ℕ, ◌+◌, ◌*◌, ◌-◌, nat_lt, if◌then◌else◌, List, [], ◌∷◌, map, get_or, Option, None, Some}
 use Rattle.std.specs.List.{range_with_len}
 use Rattle.daide_token.specs.Names.{name_of}

@@ -1,4 +1,4 @@
--- The rows of the table by the first letters of their names.
+-- The rows of the table by the first letters of their names. (own)
 use Rattle.std.specs.Prelude.{ℕ, ◌==◌, List, [], ◌∷◌}
 use Rattle.std.specs.List.{filter}
 use Rattle.daide_token.specs.Names.{Named, names}
