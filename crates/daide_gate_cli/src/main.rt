@@ -1,28 +1,15 @@
 //! The program `daide-gate`.
 //!
-//! `main` only gathers the words and the streams; what is done with them stands in `program`, over
-//! any streams, so that each run is a row of a test.
+//! `main` only gathers the words and the streams; what is done with them stands in `daide_program`, over any streams, so
+//! that each run is a row of a test.
 #![tactic(auto)]
 
-mod admission;
-mod arguments;
-mod closing;
-mod faults;
-mod ports;
-mod program;
-mod running;
-mod system;
-mod terminal;
-#[cfg(test)]
-mod tests;
-mod watch;
-
-use faults::{FAULT, USAGE};
-use program::answer;
+use daide_program::answer;
+use daide_program::faults::{FAULT, USAGE};
+use daide_program::terminal::Asking;
 use std::io::ErrorKind;
 use std::process::ExitCode;
 use std::{env, io};
-use terminal::Asking;
 
 /// The words of the command line, or the status of a run that has none.
 fn words(rt: &HostRuntime) -> Result<Vec<String>, u8> {

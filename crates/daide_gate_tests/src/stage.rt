@@ -4,15 +4,14 @@
 //! wait ends where something came for one of them too; where nothing comes for anybody, it lasts until the play's time
 //! is over, and the play is wrong.
 
-use crate::ports::{Socket, SocketPorts};
-use crate::system::{Sockets, most_sockets};
-use crate::watch::{Place, Watch};
 use daide_gate::serving::Service;
 use daide_gate::settings::{Settings, read_settings};
 use daide_gate::system::System;
 use daide_session::ports::{Pull, Put};
-use mio::Interest;
-use mio::net::{TcpListener, TcpStream};
+use daide_sockets::ports::{Socket, SocketPorts};
+use daide_sockets::system::{Sockets, most_sockets};
+use daide_sockets::watch::{Place, Watch};
+use daide_sockets::{Interest, TcpListener, TcpStream};
 use std::net::{Net, Shutdown, SocketAddr};
 use std::rt::Clock;
 use std::test::Fail;

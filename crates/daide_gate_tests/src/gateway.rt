@@ -1,15 +1,15 @@
 //! The gateway at work, over real sockets on loopback.
 
-use super::holds;
-use super::stage::Act::{
+use crate::runs::holds;
+use crate::stage::Act::{
     Comes, Ends, Flooded, Floods, Hears, HearsEnd, Leave, Meets, MeetsNobody, Rests, Says,
 };
-use super::stage::Who::{Bot, Server};
-use super::stage::{Act, Report, any_port, run_beside};
-use crate::admission::Door;
-use crate::running::{RunFault, run_text};
-use crate::watch::Watch;
-use daide_streams::text::{TextFault, read_text};
+use crate::stage::Who::{Bot, Server};
+use crate::stage::{Act, Report, any_port, run_beside};
+use daide_program::running::{RunFault, run_text};
+use daide_sockets::admission::Door;
+use daide_sockets::gateway::GatewayFault;
+use daide_sockets::watch::Watch;
 use std::io;
 use std::io::{ErrorKind, Read, Write};
 use std::net::{Net, TcpListener, TcpStream};
@@ -162,7 +162,7 @@ fn server_that_never_answers_is_given_up(rt: HostRuntime) -> Result<(), Fail> {
     let full = server.local_addr()?;
     let mut queue = Vec::new(rt.alloc());
     for _ in 0..160 {
-        queue.push(mio::net::TcpStream::connect(&rt, full)?)?;
+        queue.push(daide_sockets::TcpStream::connect(&rt, full)?)?;
     }
     let report = run_beside(&rt, "", &[Comes, HearsEnd(Bot(0))], Some(full))?;
     check(&report, "daide-gate: cannot reach the server\n")
@@ -302,7 +302,7 @@ fn spent_turns_are_told(rt: HostRuntime) -> Result<(), Fail> {
 /// Where an accept fails, as for want of descriptors, none is made for a while, and then the bot that came is taken.
 #[test]
 fn failed_accept_is_made_again(rt: HostRuntime) -> Result<(), Fail> {
-    let listener = mio::net::TcpListener::bind(&rt, any_port())?;
+    let listener = daide_sockets::TcpListener::bind(&rt, any_port())?;
     let _bot = TcpStream::connect(&rt, listener.local_addr()?)?;
     let watch = Watch::new(rt.alloc(), &rt, &rt, 1)?;
     let Some(door) = Door::new(&watch, listener) else {
@@ -387,7 +387,10 @@ fn cannot_listen(rt: &HostRuntime, listen: &str) -> Result<(), Fail> {
     let mut errors = Vec::new(rt.alloc());
     let ended = run_text(rt, settings.as_str(), &mut output, &mut errors);
     let is_silent = output.is_empty() && errors.is_empty();
-    holds(ended == Err(RunFault::Listen) && is_silent, "the run")
+    holds(
+        ended == Err(RunFault::Gateway(GatewayFault::Listen)) && is_silent,
+        "the run",
+    )
 }
 
 #[test]
@@ -400,38 +403,4 @@ fn address_that_is_taken_cannot_be_listened_on(rt: HostRuntime) -> Result<(), Fa
 #[test]
 fn address_with_no_port_cannot_be_listened_on(rt: HostRuntime) -> Result<(), Fail> {
     cannot_listen(&rt, "127.0.0.1")
-}
-
-/// A reader that fails with one kind of error.
-#[derive(Drop)]
-struct Fails(ErrorKind);
-
-impl Read for Fails {
-    fn read(&mut self, _buffer: &mut [u8]) -> io::Result<usize> {
-        Err(io::Error::from(self.0))
-    }
-}
-
-/// Why a text of settings is refused, if it is.
-fn refusal(rt: &HostRuntime, input: &mut impl Read) -> Option<TextFault> {
-    read_text(rt.alloc(), input).err()
-}
-
-#[test]
-fn settings_have_a_longest_text(rt: HostRuntime) -> Result<(), Fail> {
-    let mut text = vec![in rt.alloc(); b'#'; 65_536]?;
-    assert!(rt; refusal(&rt, &mut text.as_slice()).is_none());
-    text.push(b'#')?;
-    assert!(rt; refusal(&rt, &mut text.as_slice()) == Some(TextFault::Unreadable));
-    Ok(())
-}
-
-#[test]
-fn settings_that_cannot_be_read(rt: HostRuntime) {
-    let mut not_text = b"listen = '\xff'".as_slice();
-    assert!(rt; refusal(&rt, &mut not_text) == Some(TextFault::Unreadable));
-    let other = refusal(&rt, &mut Fails(ErrorKind::Other));
-    assert!(rt; other == Some(TextFault::Unreadable));
-    let memory = refusal(&rt, &mut Fails(ErrorKind::OutOfMemory));
-    assert!(rt; memory == Some(TextFault::Memory));
 }

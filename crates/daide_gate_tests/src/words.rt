@@ -1,6 +1,6 @@
 //! `show` with the words of a file of settings.
 
-use super::check_run;
+use crate::runs::check_run;
 use std::fs;
 use std::test::Fail;
 

@@ -1,0 +1,17 @@
+//! Tests of the program: its runs, a row each, and the gateway at work over real sockets on loopback.
+//!
+//! There is nothing here to call. They stand apart, since a crate with tests is proved twice, with them and without.
+#![tactic(auto)]
+
+#[cfg(test)]
+mod gateway;
+#[cfg(test)]
+mod refusals;
+#[cfg(test)]
+mod runs;
+#[cfg(test)]
+mod settings;
+#[cfg(test)]
+mod stage;
+#[cfg(test)]
+mod words;

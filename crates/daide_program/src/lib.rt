@@ -1,0 +1,14 @@
+//! What `daide-gate` does with the words of its command line, over any streams.
+//!
+//! `arguments` says what the words ask for, `program` does it, `running` reads settings and runs the gateway over
+//! sockets, `faults` has the line that tells a fault and the exit statuses, and `terminal` is a standard input that a
+//! person may be typing.
+#![tactic(auto)]
+
+pub mod arguments;
+pub mod faults;
+pub mod program;
+pub mod running;
+pub mod terminal;
+
+pub use program::answer;

@@ -1,0 +1,69 @@
+//! `run`: the settings of a file, and the gateway at work until all its bots were served.
+
+use crate::faults::{CLEAN, FAULT, tell};
+use daide_gate::settings::{Settings, SettingsError, read_settings};
+use daide_sockets::gateway::{GatewayFault, serve_at};
+use daide_streams::text::{TextFault, read_text};
+use std::io::Write;
+use std::net::Net;
+use std::rt::{Clock, Files};
+use std::{fs, io};
+use thiserror::Error;
+
+/// Why a run doesn't begin, or ends early.
+#[derive(Clone, Copy, Debug, PartialEq, Eq, Error)]
+pub enum RunFault {
+    /// The file can't be read, is too long, or is not UTF-8.
+    #[error("settings could not be read")]
+    Unreadable,
+    #[error("{0}")]
+    Settings(SettingsError),
+    #[error("out of memory")]
+    Memory,
+    #[error("{0}")]
+    Gateway(GatewayFault),
+}
+
+/// The text of a file of settings.
+fn text_at<R: AllocGlobal + Files>(rt: &R, path: &str) -> Result<String, RunFault> {
+    let mut file = fs::open(rt, path).map_err(|_| RunFault::Unreadable)?;
+    read_text(rt.alloc(), &mut file).map_err(|fault| match fault {
+        TextFault::Unreadable => RunFault::Unreadable,
+        TextFault::Memory => RunFault::Memory,
+    })
+}
+
+/// The settings of a file.
+pub fn settings_at<R: AllocGlobal + Files>(rt: &R, path: &str) -> Result<Settings, RunFault> {
+    let text = text_at(rt, path)?;
+    read_settings(rt.alloc(), text.as_str()).map_err(RunFault::Settings)
+}
+
+/// Serves with the settings of a text.
+pub fn run_text<R: AllocGlobal + Clock + Net, O: Write, E: Write>(
+    rt: &R,
+    text: &str,
+    output: &mut O,
+    errors: &mut E,
+) -> Result<(), RunFault> {
+    let settings = read_settings(rt.alloc(), text).map_err(RunFault::Settings)?;
+    serve_at(rt, &settings, output, errors).map_err(RunFault::Gateway)
+}
+
+/// Reads the settings of a file, listens, says so, and serves until all bots were served. Only a fault that could
+/// not be told is an error.
+pub fn run<R: AllocGlobal + Files + Clock + Net, O: Write, E: Write>(
+    rt: &R,
+    path: &str,
+    output: &mut O,
+    errors: &mut E,
+) -> io::Result<u8> {
+    let ended = match text_at(rt, path) {
+        Ok(text) => run_text(rt, text.as_str(), output, errors),
+        Err(fault) => Err(fault),
+    };
+    match ended {
+        Ok(()) => Ok(CLEAN),
+        Err(fault) => tell(errors, fault, FAULT),
+    }
+}

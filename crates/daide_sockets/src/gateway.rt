@@ -1,0 +1,88 @@
+//! The gateway at the addresses of its settings.
+
+use crate::system::{Sockets, most_sockets};
+use crate::watch::{Watch, WatchFault};
+use daide_service::{ServeFault, serve};
+use daide_settings::Settings;
+use mio::net::TcpListener;
+use std::alloc::Global;
+use std::io::Write;
+use std::net::{Net, SocketAddr, ToSocketAddrs};
+use std::rt::Clock;
+use std::time::Duration;
+use thiserror::Error;
+
+/// How many seconds a server is tried for a bot.
+const CONNECT_SECONDS: u64 = 5;
+
+/// Why a gateway doesn't begin, or ends early.
+#[derive(Clone, Copy, Debug, PartialEq, Eq, Error)]
+pub enum GatewayFault {
+    /// The address can't be listened on.
+    #[error("cannot listen")]
+    Listen,
+    #[error("out of memory")]
+    Memory,
+    #[error("{0}")]
+    Serve(ServeFault),
+}
+
+/// A listener at the first of an address's meanings that can be listened on.
+fn listener_at<R: Net>(net: &R, address: &str) -> Result<TcpListener, GatewayFault> {
+    let addresses = address
+        .to_socket_addrs(net)
+        .map_err(|_| GatewayFault::Listen)?;
+    for address in addresses {
+        if let Ok(listener) = TcpListener::bind(net, address) {
+            return Ok(listener);
+        }
+    }
+    Err(GatewayFault::Listen)
+}
+
+/// The meanings of the server's address; none of a name that nobody knows, so that no bot's connect succeeds.
+fn servers_at<R: Net>(
+    alloc: Global,
+    net: &R,
+    address: &str,
+) -> Result<Vec<SocketAddr>, GatewayFault> {
+    let mut servers = Vec::new(alloc);
+    if let Ok(addresses) = address.to_socket_addrs(net) {
+        for address in addresses {
+            servers.push(address).map_err(|_| GatewayFault::Memory)?;
+        }
+    }
+    Ok(servers)
+}
+
+/// Listens, says so, and serves until all bots were served.
+pub fn serve_at<R: AllocGlobal + Clock + Net, O: Write, E: Write>(
+    rt: &R,
+    settings: &Settings,
+    output: &mut O,
+    errors: &mut E,
+) -> Result<(), GatewayFault> {
+    let listener = listener_at(rt, settings.listen.as_str())?;
+    let servers = servers_at(rt.alloc(), rt, settings.server.as_str())?;
+    let sockets = most_sockets(settings.max_sessions);
+    let watch = Watch::new(rt.alloc(), rt, rt, sockets).map_err(|fault| match fault {
+        WatchFault::System => GatewayFault::Listen,
+        WatchFault::Memory => GatewayFault::Memory,
+    })?;
+    let mut system = Sockets::new(
+        rt.alloc(),
+        rt,
+        &watch,
+        (listener, servers.as_slice()),
+        settings,
+        Duration::from_secs(CONNECT_SECONDS),
+        errors,
+    )
+    .ok_or(GatewayFault::Memory)?;
+    // Where nobody reads it the run goes on.
+    let _ = writeln!(output, "listening");
+    let _ = output.flush();
+    let served = serve(rt.alloc(), settings, &mut system);
+    system.finish();
+    served.map_err(GatewayFault::Serve)
+}
