@@ -1,5 +1,6 @@
 //! What no clause shows: numbers worked out by hand, each call once, and that answers are small.
 
+use crate::rows::same;
 use daide_grammar::column::Column;
 use daide_grammar::dense::Dense;
 use daide_grammar::level::Level;
@@ -11,81 +12,97 @@ use daide_grammar::symbol::{Sym, Symbol};
 use daide_token::class::Class;
 use daide_token::token::Token;
 use std::mem::size_of;
-use std::process::Abort;
+use std::test::Fail;
 
 #[test]
-fn levels_have_their_numbers(rt: HostRuntime) {
-    for number in [0, 10, 20, 30, 40, 50, 60] {
-        assert_eq!(rt;
-            Level::of(number).map(|level| level.number()),
-            Some(number),
-            "at {number}"
-        );
+fn levels_have_their_numbers(_rt: HostRuntime) -> Result<(), Fail> {
+    for number in &[0, 10, 20, 30, 40, 50, 60] {
+        match Level::of(*number) {
+            Some(level) => same(&level.number(), number, number)?,
+            None => return Err(Fail::new(*number)),
+        }
     }
-    for number in [1, 9, 65, 70, 65535] {
-        assert_eq!(rt; Level::of(number), None, "at {number}");
+    for number in &[1, 9, 65, 70, 65535] {
+        same(&Level::of(*number), &None, number)?;
     }
+    Ok(())
 }
 
+/// The number of an HLO's level, the level that is allowed, and the level that is taken.
+const HLO_LEVELS: &[(i16, Level, Level)] = &[
+    (8191, Level::L60, Level::L60),
+    (60, Level::L30, Level::L30),
+    (25, Level::L60, Level::L20),
+    (10, Level::L10, Level::L10),
+    (9, Level::L60, Level::L0),
+    (0, Level::L60, Level::L0),
+    (-1, Level::L60, Level::L0),
+    (-8192, Level::L10, Level::L0),
+    (60, Level::L0, Level::L0),
+];
+
 #[test]
-fn level_of_an_hlo_is_the_greatest_allowed(rt: HostRuntime) {
-    for (n, top, want) in [
-        (8191, Level::L60, Level::L60),
-        (60, Level::L30, Level::L30),
-        (25, Level::L60, Level::L20),
-        (10, Level::L10, Level::L10),
-        (9, Level::L60, Level::L0),
-        (0, Level::L60, Level::L0),
-        (-1, Level::L60, Level::L0),
-        (-8192, Level::L10, Level::L0),
-        (60, Level::L0, Level::L0),
-    ] {
-        assert_eq!(rt; Level::of_lvl(n, top), want, "at {n}");
+fn level_of_an_hlo_is_the_greatest_allowed(_rt: HostRuntime) -> Result<(), Fail> {
+    for (number, top, want) in HLO_LEVELS {
+        same(&Level::of_lvl(*number, *top), want, number)?;
     }
+    Ok(())
+}
+
+/// How an answer begins: whether it stops, whether it takes the class, and how many symbols it leaves.
+fn seen(answer: &Move) -> (bool, bool, usize) {
+    (answer.is_stop(), answer.is_take(), answer.len())
 }
 
 /// A few cells by hand, of any table.
-fn answers_and_counts<T: Predict>(rt: &impl Abort, table: &mut T) {
+fn answers_and_counts<T: Predict>(table: &mut T) -> Result<(), Fail> {
     let client = table.start(Side2::Client, Level::L0);
-    assert!(rt; matches!(client.sym(), Sym::Client(Level::L0)));
-    assert!(rt;
-        matches!(
-            table.start(Side2::ServerEnd, Level::L60).sym(),
-            Sym::Server(Level::L60)
-        )
-    );
+    let is_client = matches!(client.sym(), Sym::Client(Level::L0));
+    let server = table.start(Side2::ServerEnd, Level::L60);
+    let is_server = matches!(server.sym(), Sym::Server(Level::L60));
+    same(&(is_client, is_server), &(true, true), &"the start")?;
 
     // OBS is a whole message, and nothing else may follow
     let obs = table.class_of(Token::from_code(0x480F));
-    assert_eq!(rt; obs.class(), Class::Obs);
+    same(&obs.class(), &Class::Obs, &"OBS")?;
     let answer = table.predict(client, obs);
-    assert!(rt; answer.is_take() && answer.len() == 0);
-    assert!(rt; table.predict(client, Column::named(Class::Ket)).is_stop());
+    same(&seen(&answer), &(false, true, 0), &"OBS")?;
+    let answer = table.predict(client, Column::named(Class::Ket));
+    same(&answer.is_stop(), &true, &"a bracket")?;
 
     // TME may stand alone, and HST may not
     let answer = table.predict(client, Column::named(Class::Tme));
-    assert!(rt; answer.is_take() && answer.len() == 1);
+    same(&seen(&answer), &(false, true, 1), &"TME")?;
     let number = answer.cells()[0];
-    assert!(rt; matches!(number.sym(), Sym::MaybeNumberGroup));
+    let is_number = matches!(number.sym(), Sym::MaybeNumberGroup);
+    same(&is_number, &true, &"behind TME")?;
     let answer = table.predict(number, Column::named(Class::Ket));
-    assert!(rt; !answer.is_take() && !answer.is_stop());
-    assert!(rt; table.may_end(number));
-    assert!(rt; !table.may_end(Symbol::named(Sym::TurnGroup)));
-    assert_eq!(rt; table.asked(), 6);
+    same(
+        &(answer.is_take(), answer.is_stop()),
+        &(false, false),
+        &"a number left out",
+    )?;
+    same(&table.may_end(number), &true, &"TME")?;
+    same(
+        &table.may_end(Symbol::named(Sym::TurnGroup)),
+        &false,
+        &"HST",
+    )?;
+    same(&table.asked(), &6, &"asked")
 }
 
 #[test]
-fn plain_answers_and_counts(rt: HostRuntime) {
-    answers_and_counts(&rt, &mut Plain::new());
+fn plain_answers_and_counts(_rt: HostRuntime) -> Result<(), Fail> {
+    answers_and_counts(&mut Plain::new())
 }
 
 #[test]
-fn dense_answers_and_counts(rt: HostRuntime) {
-    answers_and_counts(&rt, &mut Dense::new());
+fn dense_answers_and_counts(_rt: HostRuntime) -> Result<(), Fail> {
+    answers_and_counts(&mut Dense::new())
 }
 
 #[test]
-fn rests_tell_their_symbols(rt: HostRuntime) {
+fn rests_tell_their_symbols(_rt: HostRuntime) -> Result<(), Fail> {
     let rest = Rest::of([
         Sym::OneUnit,
         Sym::Closing,
@@ -93,24 +110,23 @@ fn rests_tell_their_symbols(rt: HostRuntime) {
         Sym::Closing,
         Sym::Orders,
     ]);
-    assert!(rt;
-        matches!(
-            rest.as_slice(),
-            [
-                Sym::OneUnit,
-                Sym::Closing,
-                Sym::OrderTail,
-                Sym::Closing,
-                Sym::Orders
-            ]
-        )
+    let is_told = matches!(
+        rest.as_slice(),
+        [
+            Sym::OneUnit,
+            Sym::Closing,
+            Sym::OrderTail,
+            Sym::Closing,
+            Sym::Orders
+        ]
     );
-    assert_eq!(rt; Rest::of([]).as_slice().len(), 0);
+    same(&is_told, &true, &"five symbols")?;
+    same(&Rest::of([]).as_slice().len(), &0, &"none")
 }
 
 #[test]
-fn answers_are_small(rt: HostRuntime) {
-    assert_eq!(rt; size_of::<Symbol>(), 1);
-    assert_eq!(rt; size_of::<Column>(), size_of::<usize>());
-    assert_eq!(rt; size_of::<Move>(), size_of::<usize>());
+fn answers_are_small(_rt: HostRuntime) -> Result<(), Fail> {
+    same(&size_of::<Symbol>(), &1, &"a symbol")?;
+    same(&size_of::<Column>(), &size_of::<usize>(), &"a column")?;
+    same(&size_of::<Move>(), &size_of::<usize>(), &"an answer")
 }

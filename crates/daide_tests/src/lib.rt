@@ -11,6 +11,8 @@ mod grammar;
 #[cfg(test)]
 mod log;
 #[cfg(test)]
+mod rows;
+#[cfg(test)]
 mod token;
 #[cfg(test)]
 mod words;

@@ -1,5 +1,6 @@
 //! What no clause shows: words and messages worked out by hand, and each call once.
 
+use crate::rows::same;
 use daide_grammar::level::Level;
 use daide_grammar::predict::Predict;
 use daide_grammar::side::Side2;
@@ -12,6 +13,7 @@ use daide_words::slot::Slot;
 use daide_words::word::{Word, WordError};
 use daide_words::words::Words;
 use std::alloc::{AllocError, Global};
+use std::test::Fail;
 
 /// A word by its parts.
 fn word(name: [u8; 3], code: u16, slot: Slot, level: Level, operand: Operand) -> Word {
@@ -40,33 +42,40 @@ fn qqq() -> Word {
     )
 }
 
+/// Names of slots, and what has them.
+const SLOTS: &[(&str, Option<Slot>)] = &[
+    ("press", Some(Slot::Press)),
+    ("arrangement", Some(Slot::Arrangement)),
+    ("pres", None),
+    ("Press", None),
+    ("", None),
+];
+
+/// Names of operands, and what has them.
+const OPERANDS: &[(&str, Option<Operand>)] = &[
+    ("power", Some(Operand::Power)),
+    ("powers", Some(Operand::Powers)),
+    ("provinces", Some(Operand::Provinces)),
+    ("order", Some(Operand::Order)),
+    ("arrangement", Some(Operand::Arrangement)),
+    ("press", Some(Operand::Press)),
+    ("province", None),
+    ("PRESS", None),
+];
+
 #[test]
-fn slots_and_operands_have_their_names(rt: HostRuntime) {
-    for (name, slot) in [
-        ("press", Some(Slot::Press)),
-        ("arrangement", Some(Slot::Arrangement)),
-        ("pres", None),
-        ("Press", None),
-        ("", None),
-    ] {
-        assert_eq!(rt; Slot::by_name(name), slot, "slot {name}");
+fn slots_and_operands_have_their_names(_rt: HostRuntime) -> Result<(), Fail> {
+    for (name, slot) in SLOTS {
+        same(&Slot::by_name(name), slot, name)?;
     }
-    for (name, operand) in [
-        ("power", Some(Operand::Power)),
-        ("powers", Some(Operand::Powers)),
-        ("provinces", Some(Operand::Provinces)),
-        ("order", Some(Operand::Order)),
-        ("arrangement", Some(Operand::Arrangement)),
-        ("press", Some(Operand::Press)),
-        ("province", None),
-        ("PRESS", None),
-    ] {
-        assert_eq!(rt; Operand::by_name(name), operand, "operand {name}");
+    for (name, operand) in OPERANDS {
+        same(&Operand::by_name(name), operand, name)?;
     }
+    Ok(())
 }
 
 /// A name, a code, a level and an operand of a word that makes an arrangement, and why it is refused after XYZ.
-const REFUSED: [([u8; 3], u16, Level, Operand, WordError); 16] = [
+const REFUSED: &[([u8; 3], u16, Level, Operand, WordError)] = &[
     (*b"GOF", 0x4AFF, Level::L30, Operand::Power, WordError::Name),
     (*b"xyz", 0x4AFF, Level::L30, Operand::Power, WordError::Name),
     (*b"XYZ", 0x4AFF, Level::L30, Operand::Power, WordError::Name),
@@ -92,44 +101,39 @@ const REFUSED: [([u8; 3], u16, Level, Operand, WordError); 16] = [
 ];
 
 #[test]
-fn words_are_refused_by_their_first_fault(rt: HostRuntime) {
+fn words_are_refused_by_their_first_fault(_rt: HostRuntime) -> Result<(), Fail> {
     let mut words = Words::new();
-    assert_eq!(rt; words.names().len(), 0);
-    assert_eq!(rt; words.add(xyz()), Ok(()));
+    same(&words.names().len(), &0, &"none yet")?;
+    same(&words.add(xyz()), &Ok(()), &"XYZ")?;
     for (name, code, level, operand, fault) in REFUSED {
-        let refused = word(name, code, Slot::Arrangement, level, operand);
-        assert_eq!(rt; words.add(refused), Err(fault), "at {code}");
-        assert_eq!(rt; words.names().len(), 1);
+        let refused = word(*name, *code, Slot::Arrangement, *level, *operand);
+        same(&words.add(refused), &Err(*fault), code)?;
+        same(&words.names().len(), &1, code)?;
     }
-    assert_eq!(rt; words.add(qqq()), Ok(()));
+    same(&words.add(qqq()), &Ok(()), &"QQQ")?;
     let names = [
         (Token::from_code(0x4A40), *b"XYZ"),
         (Token::from_code(0x4A41), *b"QQQ"),
     ];
-    assert_eq!(rt; words.names(), names.as_slice());
-    assert_eq!(rt; words.get(1), Some(qqq()));
-    assert_eq!(rt; words.get(2), None);
+    same(&words.names(), &names.as_slice(), &"names")?;
+    same(&words.get(1), &Some(qqq()), &1)?;
+    same(&words.get(2), &None, &2)
 }
 
 #[test]
-fn seventeenth_word_is_refused(rt: HostRuntime) {
+fn seventeenth_word_is_refused(_rt: HostRuntime) -> Result<(), Fail> {
     let mut words = Words::new();
     for number in 0..16u8 {
         let name = [b'Q', b'Q', b'A' + number];
-        let added = word(
-            name,
-            0x4A50 + u16::from(number),
-            Slot::Press,
-            Level::L20,
-            Operand::Power,
-        );
-        assert_eq!(rt; words.add(added), Ok(()));
+        let code = 0x4A50 + u16::from(number);
+        let added = word(name, code, Slot::Press, Level::L20, Operand::Power);
+        same(&words.add(added), &Ok(()), &number)?;
     }
     let last = word(*b"gof", 0x4A10, Slot::Press, Level::L20, Operand::Power);
-    assert_eq!(rt; words.add(last), Err(WordError::Full));
-    assert_eq!(rt; words.names().len(), 16);
+    same(&words.add(last), &Err(WordError::Full), &"the last")?;
+    same(&words.names().len(), &16, &"names")?;
     let class = Extended::new(words).class_of(Token::from_code(0x4A5F));
-    assert_eq!(rt; class.class(), Class::Word(15));
+    same(&class.class(), &Class::Word(15), &"the sixteenth")
 }
 
 /// The tokens of a message as it is printed.
@@ -186,7 +190,7 @@ fn place_in<T: Predict>(
 }
 
 /// A bot's message at a level, and its place with the words and without.
-const MESSAGES: [(&str, Level, Option<usize>, Option<usize>); 11] = [
+const MESSAGES: &[(&str, Level, Option<usize>, Option<usize>)] = &[
     ("SND ( FRA ) ( XYZ ( ENG ) )", Level::L20, None, Some(5)),
     ("SND ( FRA ) ( XYZ ( ENG ) )", Level::L60, None, Some(5)),
     ("SND ( FRA ) ( XYZ ( ENG ) )", Level::L10, Some(5), Some(5)),
@@ -235,33 +239,47 @@ const MESSAGES: [(&str, Level, Option<usize>, Option<usize>); 11] = [
     ),
 ];
 
+/// The place of a message over these words.
+fn place_over(
+    alloc: Global,
+    words: Words,
+    level: Level,
+    text: &str,
+) -> Result<Option<usize>, AllocError> {
+    let tokens = tokens_of(alloc, text)?;
+    place_in(alloc, &mut Extended::new(words), level, tokens.as_slice())
+}
+
 #[test]
-fn words_stand_where_they_may(rt: HostRuntime) -> Result<(), AllocError> {
+fn words_stand_where_they_may(rt: HostRuntime) -> Result<(), Fail> {
     let mut words = Words::new();
-    assert_eq!(rt; words.add(xyz()), Ok(()));
-    assert_eq!(rt; words.add(qqq()), Ok(()));
+    same(&words.add(xyz()), &Ok(()), &"XYZ")?;
+    same(&words.add(qqq()), &Ok(()), &"QQQ")?;
     for (text, level, with, without) in MESSAGES {
-        let tokens = tokens_of(rt.alloc(), text)?;
-        let mut table = Extended::new(words);
-        let place = place_in(rt.alloc(), &mut table, level, tokens.as_slice())?;
-        assert_eq!(rt; place, with, "{text} with the words");
-        let mut table = Extended::new(Words::new());
-        let place = place_in(rt.alloc(), &mut table, level, tokens.as_slice())?;
-        assert_eq!(rt; place, without, "{text} without words");
+        same(&place_over(rt.alloc(), words, *level, text)?, with, text)?;
+        same(
+            &place_over(rt.alloc(), Words::new(), *level, text)?,
+            without,
+            text,
+        )?;
     }
     Ok(())
 }
 
 #[test]
-fn answers_are_counted(rt: HostRuntime) {
+fn answers_are_counted(_rt: HostRuntime) -> Result<(), Fail> {
     let mut words = Words::new();
-    assert_eq!(rt; words.add(xyz()), Ok(()));
+    same(&words.add(xyz()), &Ok(()), &"XYZ")?;
     let mut table = Extended::new(words);
     let start = table.start(Side2::Client, Level::L0);
     let word = table.class_of(xyz().code);
-    assert_eq!(rt; word.class(), Class::Word(0));
-    assert_eq!(rt; table.class_of(qqq().code).class(), Class::Other);
-    assert!(rt; table.predict(start, word).is_stop());
-    assert!(rt; !table.may_end(start));
-    assert_eq!(rt; table.asked(), 2);
+    same(&word.class(), &Class::Word(0), &"XYZ")?;
+    same(&table.class_of(qqq().code).class(), &Class::Other, &"QQQ")?;
+    same(
+        &table.predict(start, word).is_stop(),
+        &true,
+        &"the start at XYZ",
+    )?;
+    same(&table.may_end(start), &false, &"the start")?;
+    same(&table.asked(), &2, &"asked")
 }
