@@ -14,7 +14,7 @@ use crate::level::Level;
 use crate::predict::{Move, Predict};
 use crate::side::Side2;
 use crate::symbol::{Symbol, level_place};
-use crate::table::rows::TABLE;
+use crate::table::whole;
 use daide_token::token::Token;
 
 /// Predicts by a table, and counts its answers. It knows the protocol's own grammar, at every level.
@@ -48,7 +48,7 @@ fn rule_at(class: usize, symbol: u8) -> u8
     requires symbol { symbol < 202 }
     ensures { result ≡ rule_at class symbol }
 {
-    TABLE.rows[class][symbol as usize]
+    whole().rows[class][symbol as usize]
 }
 
 /// The class of a token.
@@ -66,7 +66,7 @@ fn class_of(token: Token) -> Column
 fn class_cell(place: u16) -> u8
     ensures { result ≡ class_cell place }
 {
-    TABLE.classes[place as usize]
+    whole().classes[place as usize]
 }
 
 /// Whether a symbol may be empty: whether a closing bracket skips it.

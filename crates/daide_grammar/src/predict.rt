@@ -21,7 +21,7 @@ use crate::column::Column;
 use crate::level::Level;
 use crate::side::Side2;
 use crate::symbol::Symbol;
-use crate::table::rows::TABLE;
+use crate::table::whole;
 use daide_token::token::Token;
 use std::marker::Model;
 
@@ -116,7 +116,7 @@ fn cell_at(rule: usize, place: usize) -> u8
     requires place { place < 8 }
     ensures { result ≡ cell_at rule place }
 {
-    TABLE.rests[rule][place]
+    whole().rests[rule][place]
 }
 
 /// How many symbols a rule leaves.
@@ -126,7 +126,7 @@ fn length_at(rule: usize) -> u8
     requires { rule < 256 }
     ensures { result ≡ length_at rule }
 {
-    TABLE.lengths[rule]
+    whole().lengths[rule]
 }
 
 /// A table that answers one question at a time, and counts its answers.
