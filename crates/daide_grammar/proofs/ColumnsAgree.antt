@@ -1,53 +1,104 @@
 -- The list of classes is that of the definition.
-use Rattle.std.proofs.Common.{◌≡◌, ℕ, zero, suc, ◌+◌, ◌*◌, ◌/◌, ◌%◌, ◌<◌, Bool, true, ◌&&◌, nat_eq, List, [], ◌∷◌}
-use Rattle.std.proofs.Common.{length, get_or, refl, ap, sym, ◌∙◌, subst, arith}
+use Rattle.std.proofs.Common.{◌≡◌, ℕ, zero, suc, ◌+◌, ◌*◌, ◌/◌, ◌%◌, ◌<◌, Bool, true, false, ◌&&◌, nat_eq, List, []}
+use Rattle.std.proofs.Common.{◌∷◌, ◌++◌, map, drop, length, get_or, refl, ap, sym, ◌∙◌, subst, arith}
 use Rattle.std.proofs.lemmas.Bool.{and_parts, eqb-true}
-use Rattle.daide_token.specs.Class.{class_in, class_of}
+use Rattle.std.proofs.lemmas.List.{get_or-drop}
+use Rattle.std.proofs.lemmas.List.FromFn.{get_or-map-range_with_len}
+use Rattle.std.specs.List.{range_with_len}
+use Rattle.std.specs.Prelude.{replicate}
+use Rattle.daide_token.specs.Class.{class_in, class_of, brackets, units, orders, commands, parameters, press, listed}
+use Rattle.daide_token.specs.declared.class.Class.{Class}
+use Rattle.daide_token.specs.declared.class.Class.TheVariants.{Num, Power, Note, Outcome, Coast, Season, Text, Province}
+use Rattle.daide_token.specs.declared.class.Class.TheVariants.{Param, Other, Alien}
 use Rattle.daide_grammar.specs.declared.table.rows.TheConstants.{TABLE}
 use Rattle.daide_grammar.specs.Cells.{class_cell, column_at}
 use Rattle.daide_grammar.specs.Classes.{class_number}
 use Rattle.daide_grammar.specs.Numbers.{class_at}
 use Rattle.daide_grammar.proofs.WordColumns.{class_told, own_class}
 
--- A test that computes: each number from a place of the list on is that of the class of its code and category.
-abbrev agrees : ℕ → ℕ → Bool
-agrees place n = nat_eq n (class_number (class_in (place % 256) (place / 256)))
+-- A code's classes, category by category. Six categories alone tell their codes apart, so a row is short to compute.
+unfoldable classes_of : ℕ → List Class
+classes_of code =
+    replicate 64 Num
+    ++ (listed brackets Other code ∷ Power ∷ listed units Other code ∷ listed orders Other code ∷ Note ∷ Outcome ∷ Coast ∷ Season ∷ [])
+    ++ (listed commands Other code ∷ listed parameters Param code ∷ listed press Other code ∷ Text ∷ [])
+    ++ replicate 4 Alien ++ replicate 8 Province ++ replicate 168 Alien
 
-abbrev all_agree : ℕ → List ℕ → Bool
-all_agree place [] = true
-all_agree place (n ∷ ns) = agrees place n && all_agree (suc place) ns
+abbrev row_of : ℕ → List ℕ
+row_of code = map class_number (classes_of code)
 
-agree : all_agree 0 TABLE.classes ≡ true
+defined : (code : ℕ) → row_of code ≡ map (λ category. class_number (class_in category code)) (range_with_len 0 256)
+unfolding classes_of
+defined code = refl
+
+whole_row : (code : ℕ) → length (row_of code) ≡ 256
+unfolding classes_of
+whole_row code = refl
+
+-- a test that computes: a list begins with a row, and what follows it passes
+abbrev begins : List ℕ → List ℕ → (List ℕ → Bool) → Bool
+begins [] ns passes = passes ns
+begins (r ∷ row) [] passes = false
+begins (r ∷ row) (n ∷ ns) passes = nat_eq n r && begins row ns passes
+
+-- and so on, row by row
+abbrev rows_follow : (ℕ → List ℕ) → ℕ → ℕ → List ℕ → Bool
+rows_follow row zero code ns = true
+rows_follow row (suc count) code ns = begins (row code) ns (rows_follow row count (suc code))
+
+agree : rows_follow row_of 256 0 TABLE.classes ≡ true
+unfolding classes_of
 agree = refl
 
-many : length TABLE.classes ≡ 65536
-many = refl
+in_row : (row ns : List ℕ) (passes : List ℕ → Bool) → begins row ns passes ≡ true → (k : ℕ) → k < length row →
+    get_or ns k 0 ≡ get_or row k 0
+in_row [] ns passes h k less = absurd (omega arith)
+in_row (r ∷ row) [] passes h k less = absurd (cc)
+in_row (r ∷ row) (n ∷ ns) passes h zero less = eqb-true n r (and_parts (nat_eq n r) (begins row ns passes) h).0
+in_row (r ∷ row) (n ∷ ns) passes h (suc k) less =
+    in_row row ns passes (and_parts (nat_eq n r) (begins row ns passes) h).1 k (omega arith)
 
-at_place : (place k : ℕ) (ns : List ℕ) → all_agree place ns ≡ true → k < length ns →
-    agrees (place + k) (get_or ns k 0) ≡ true
-at_place place k [] h less = absurd (omega arith)
-at_place place zero (n ∷ ns) h less =
-    let here : place ≡ place + 0 = omega arith in
-    ap (λ (p : ℕ). agrees p n) (sym here) ∙ (and_parts (agrees place n) (all_agree (suc place) ns) h).0
-at_place place (suc k) (n ∷ ns) h less =
-    let there : place + suc k ≡ suc place + k = omega arith in
-    ap (λ (p : ℕ). agrees p (get_or ns k 0)) there
-    ∙ at_place (suc place) k ns (and_parts (agrees place n) (all_agree (suc place) ns) h).1 (omega arith)
+past_row : (row ns : List ℕ) (passes : List ℕ → Bool) → begins row ns passes ≡ true →
+    passes (drop (length row) ns) ≡ true
+past_row [] ns passes h = h
+past_row (r ∷ row) [] passes h = absurd (cc)
+past_row (r ∷ row) (n ∷ ns) passes h = past_row row ns passes (and_parts (nat_eq n r) (begins row ns passes) h).1
+
+at_place : (row : ℕ → List ℕ) → ((code : ℕ) → length (row code) ≡ 256) → (count from : ℕ) (ns : List ℕ) →
+    rows_follow row count from ns ≡ true → (code category : ℕ) → code < count → category < 256 →
+    get_or ns (code * 256 + category) 0 ≡ get_or (row (from + code)) category 0
+at_place row long zero from ns h code category less few = absurd (omega arith)
+at_place row long (suc count) from ns h zero category less few =
+    let place : 0 * 256 + category ≡ category = omega arith in
+    let code : from ≡ from + 0 = omega arith in
+    ap (λ (k : ℕ). get_or ns k 0) place
+    ∙ in_row (row from) ns (rows_follow row count (suc from)) h category (rw (long from) few)
+    ∙ ap (λ (k : ℕ). get_or (row k) category 0) code
+at_place row long (suc count) from ns h (suc code) category less few =
+    let place : suc code * 256 + category ≡ 256 + (code * 256 + category) = omega arith in
+    let there : suc from + code ≡ from + suc code = omega arith in
+    let left = past_row (row from) ns (rows_follow row count (suc from)) h in
+    let rest : rows_follow row count (suc from) (drop 256 ns) ≡ true =
+    subst (λ (k : ℕ). rows_follow row count (suc from) (drop k ns) ≡ true) (long from) left
+    in
+    ap (λ (k : ℕ). get_or ns k 0) place ∙ sym (get_or-drop 256 ns (code * 256 + category) 0)
+    ∙ at_place row long count (suc from) (drop 256 ns) rest code category (omega arith) few
+    ∙ ap (λ (k : ℕ). get_or (row k) category 0) there
 
 pub number_told : (t : ℕ) → t < 65536 → column_at (t / 256) (t % 256) ≡ class_number (class_of t)
 unfolding class_cell class_of
 number_told t word =
-    let place : ℕ = t % 256 * 256 + t / 256 in
-    let from : 0 + place ≡ place = omega arith in
-    let category : place % 256 ≡ t / 256 = omega arith in
-    let code : place / 256 ≡ t % 256 = omega arith in
-    let here : agrees place (get_or TABLE.classes place 0) ≡ true =
-    ap (λ (p : ℕ). agrees p (get_or TABLE.classes place 0)) (sym from)
-    ∙ at_place 0 place TABLE.classes agree (rw many (omega arith))
-    in
-    eqb-true (get_or TABLE.classes place 0) (class_number (class_in (place % 256) (place / 256))) here
-    ∙ ap (λ (p : ℕ). class_number (class_in p (place / 256))) category
-    ∙ ap (λ (p : ℕ). class_number (class_in (t / 256) p)) code
+    let code : ℕ = t % 256 in
+    let category : ℕ = t / 256 in
+    let f : ℕ → ℕ = λ category. class_number (class_in category code) in
+    let few_codes : code < 256 = omega arith in
+    let few : category < 256 = omega arith in
+    let from : 0 + category ≡ category = omega arith in
+    let own : 0 + code ≡ code = omega arith in
+    at_place row_of whole_row 256 0 TABLE.classes agree code category few_codes few
+    ∙ ap (λ (k : ℕ). get_or (row_of k) category 0) own
+    ∙ ap (λ (ns : List ℕ). get_or ns category 0) (defined code)
+    ∙ get_or-map-range_with_len f 0 256 category category 0 few from
 
 pub class_found : (t : ℕ) → t < 65536 → class_at (column_at (t / 256) (t % 256)) ≡ class_of t
 class_found t word = ap class_at (number_told t word) ∙ class_told (class_of t) (own_class t)
