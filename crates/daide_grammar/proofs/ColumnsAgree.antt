@@ -20,7 +20,8 @@ use Rattle.daide_grammar.proofs.WordColumns.{class_told, own_class}
 unfoldable classes_of : ℕ → List Class
 classes_of code =
     replicate 64 Num
-    ++ (listed brackets Other code ∷ Power ∷ listed units Other code ∷ listed orders Other code ∷ Note ∷ Outcome ∷ Coast ∷ Season ∷ [])
+    ++ (listed brackets Other code ∷ Power ∷ listed units Other code ∷ listed orders Other code ∷ [])
+    ++ (Note ∷ Outcome ∷ Coast ∷ Season ∷ [])
     ++ (listed commands Other code ∷ listed parameters Param code ∷ listed press Other code ∷ Text ∷ [])
     ++ replicate 4 Alien ++ replicate 8 Province ++ replicate 168 Alien
 

@@ -1,7 +1,7 @@
 -- The constant table says what the entries of each symbol say.
-use Rattle.std.proofs.Common.{◌≡◌, ℕ, ◌<◌, true, nat_eq, nat_lt, ltb-true, List, [], length, map, get_or, refl, sym, ap}
-use Rattle.std.proofs.Common.{◌∙◌}
-use Rattle.std.proofs.Math.ListN.{get_or-map}
+use Rattle.std.proofs.Common.{◌≡◌, ℕ, zero, suc, ◌<◌, Bool, true, false, ◌&&◌, nat_eq, nat_lt, ltb-true, List, [], ◌∷◌}
+use Rattle.std.proofs.Common.{length, refl, sym, ap, ◌∙◌, arith}
+use Rattle.std.proofs.lemmas.Bool.{and_parts, eqb-true}
 use Rattle.std.specs.List.{list_all}
 use Rattle.std.specs.Prelude.{slice_index, slice_index_or}
 use Rattle.daide_token.specs.declared.class.Class.{Class}
@@ -13,21 +13,37 @@ use Rattle.daide_grammar.specs.declared.symbol.Sym.TheVariants.{OperandGroup, Op
 use Rattle.daide_grammar.specs.declared.symbol.Sym.TheVariants.{SendGroup, MaybeSendGroup, Send, SendTail, SendFirst}
 use Rattle.daide_grammar.specs.declared.symbol.Sym.TheVariants.{Client, RequestGroup, Request, Server}
 use Rattle.daide_grammar.specs.declared.table.rows.TheConstants.{TABLE}
-use Rattle.daide_grammar.specs.Answers.{Answer}
+use Rattle.daide_grammar.specs.Answers.{Answer, Take, Skip, Stop}
 use Rattle.daide_grammar.specs.Cells.{rule_at}
 use Rattle.daide_grammar.specs.Classes.{class_number}
-use Rattle.daide_grammar.specs.Numbers.{classes, class_at, symbol_number}
+use Rattle.daide_grammar.specs.Numbers.{classes, class_at, symbol_at, symbol_number}
 use Rattle.daide_grammar.specs.Rules.{deed, rest_at, HasRule}
 use Rattle.daide_grammar.specs.Symbols.{entries, may_end_of, table_answer}
-use Rattle.daide_grammar.proofs.Alike.{any_default, passes_at}
+use Rattle.daide_grammar.proofs.Alike.{passes_at}
+use Rattle.daide_grammar.proofs.NumberLemmas.{symbol_back}
 use Rattle.daide_grammar.proofs.WordColumns.{class_told}
 
--- a symbol's rules, class by class
-abbrev rules_of : Sym → List ℕ
-rules_of s = map (λ column. slice_index column (symbol_number s)) TABLE.rows
+-- whether two rests are the same, symbol by symbol
+abbrev same_symbols : List Sym → List Sym → Bool
+same_symbols [] [] = true
+same_symbols (s ∷ ss) (t ∷ ts) = nat_eq (symbol_number s) (symbol_number t) && same_symbols ss ts
+same_symbols _ _ = false
+
+abbrev same_answer : Answer → Answer → Bool
+same_answer (Take ss) (Take ts) = same_symbols ss ts
+same_answer Skip Skip = true
+same_answer Stop Stop = true
+same_answer _ _ = false
+
+-- whether a symbol's rules do what its entries say, class by class
+abbrev all_told : Sym → List (List ℕ) → List Class → Bool
+all_told s (column ∷ columns) (c ∷ cs) =
+    same_answer (deed (slice_index column (symbol_number s))) (table_answer s c) && all_told s columns cs
+all_told s [] [] = true
+all_told s _ _ = false
 
 -- A test that computes: each rule of a symbol does what its entries say. A wrong cell is refused by its symbol's name.
-rows_agree : (s : Sym) → map deed (rules_of s) ≡ map (table_answer s) classes
+rows_agree : (s : Sym) → all_told s TABLE.rows classes ≡ true
 unfolding deed rest_at table_answer entries may_end_of
 rows_agree (ArrangementGroup L60) = refl
 rows_agree (Arrangement L60) = refl
@@ -49,18 +65,44 @@ rows_agree (Request L60) = refl
 rows_agree (Server L60) = refl
 rows_agree _ = refl
 
-every_class : (s : Sym) → length (map (table_answer s) classes) ≡ 95
-every_class s = refl
+symbols_same : (ss ts : List Sym) → same_symbols ss ts ≡ true → ss ≡ ts
+symbols_same [] [] h = refl
+symbols_same [] (t ∷ ts) h = absurd (cc)
+symbols_same (s ∷ ss) [] h = absurd (cc)
+symbols_same (s ∷ ss) (t ∷ ts) h =
+    let parts = and_parts (nat_eq (symbol_number s) (symbol_number t)) (same_symbols ss ts) h in
+    let numbers = eqb-true (symbol_number s) (symbol_number t) parts.0 in
+    let first : s ≡ t = sym (symbol_back s) ∙ ap symbol_at numbers ∙ symbol_back t in
+    let others : ss ≡ ts = symbols_same ss ts parts.1 in
+    cc
+
+answers_same : (a b : Answer) → same_answer a b ≡ true → a ≡ b
+answers_same (Take ss) (Take ts) h = ap Take (symbols_same ss ts h)
+answers_same Skip Skip h = refl
+answers_same Stop Stop h = refl
+answers_same (Take ss) Skip h = absurd (cc)
+answers_same (Take ss) Stop h = absurd (cc)
+answers_same Skip (Take ts) h = absurd (cc)
+answers_same Skip Stop h = absurd (cc)
+answers_same Stop (Take ts) h = absurd (cc)
+answers_same Stop Skip h = absurd (cc)
+
+told_at : (s : Sym) (columns : List (List ℕ)) (cs : List Class) → all_told s columns cs ≡ true → (n : ℕ) →
+    n < length cs →
+    deed (slice_index (slice_index_or columns n []) (symbol_number s)) ≡ table_answer s (slice_index_or cs n Num)
+told_at s columns [] h n less = absurd (omega arith)
+told_at s [] (c ∷ cs) h n less = absurd (cc)
+told_at s (column ∷ columns) (c ∷ cs) h zero less =
+    let told = same_answer (deed (slice_index column (symbol_number s))) (table_answer s c) in
+    answers_same _ _ (and_parts told (all_told s columns cs) h).0
+told_at s (column ∷ columns) (c ∷ cs) h (suc n) less =
+    let told = same_answer (deed (slice_index column (symbol_number s))) (table_answer s c) in
+    told_at s columns cs (and_parts told (all_told s columns cs) h).1 n (omega arith)
 
 -- so a look-up answers what the table of the definitions answers
 pub looked_up : (s : Sym) (n : ℕ) → n < 95 → deed (rule_at n (symbol_number s)) ≡ table_answer s (class_at n)
 unfolding rule_at
-looked_up s n less =
-    let rule : List ℕ → ℕ = λ column. slice_index column (symbol_number s) in
-    ap deed (sym (get_or-map rule TABLE.rows n [])) ∙ sym (get_or-map deed (rules_of s) n (rule []))
-    ∙ ap (λ (xs : List Answer). get_or xs n (deed (rule []))) (rows_agree s)
-    ∙ any_default n (map (table_answer s) classes) (deed (rule [])) (table_answer s Num) (rw (every_class s) less)
-    ∙ get_or-map (table_answer s) classes n Num
+looked_up s n less = told_at s TABLE.rows classes (rows_agree s) n less
 
 -- each rule has a number of one byte
 in_a_byte : list_all (list_all (λ rule. nat_lt rule 256)) TABLE.rows ≡ true
