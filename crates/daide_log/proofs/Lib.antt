@@ -1,6 +1,7 @@
 pub mod PartedLemmas
 pub mod OneMove
 pub mod PageLemmas
+pub mod ReportLemmas
 pub mod StandardFacts
 pub mod MatchFacts
 pub mod PlayLemmas

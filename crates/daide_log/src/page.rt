@@ -4,7 +4,7 @@ ghost use Rattle.std.specs.Prelude.{◌≡◌, [], OnOk};
 ghost use Rattle.std.specs.Io.KnownBytes.{Appends, Keeps, append_known};
 ghost use Rattle.daide_log.specs.Report.{move_line, summary_line};
 
-use crate::report::{Source, Summary, write_move, write_summary};
+use crate::report::{LINE, Source, Summary, write_move, write_summary};
 use arrayvec::ArrayVec;
 use daide_frame::Side;
 use daide_machine::Note;
@@ -13,9 +13,6 @@ use std::io::Write;
 
 /// How many bytes are held back at most.
 const PAGE: usize = 8192;
-
-/// More bytes than any line of a report has.
-const LINE: usize = 128;
 
 /// The lines of a report that were not handed to the writer yet.
 pub type Page = ArrayVec<u8, PAGE>;

@@ -1,18 +1,26 @@
-//! The lines of a report.
+//! The lines of a report. Each is put together by itself, and given to its writer at once.
 
-ghost use Rattle.std.specs.Prelude.{◌≡◌, [], ◌∷◌, OnOk};
+ghost use Rattle.std.specs.Prelude.{◌≡◌, ◌≤◌, ◌+◌, [], ◌∷◌, ◌++◌, length, OnOk};
+ghost use Rattle.std.specs.Fmt.{decimal};
 ghost use Rattle.std.specs.Io.KnownBytes.{Appends};
 ghost use Rattle.hex.specs.Hex.{encode_upper};
 ghost use Rattle.daide_frame.specs.Code.{code_number};
-ghost use Rattle.daide_log.specs.Report.{name_of_side, name_of_kind, source_text, told_text, move_line};
+ghost use Rattle.daide_log.specs.Report.{name_of_side, name_of_kind, move_text, source_text, told_text, move_line};
 ghost use Rattle.daide_log.specs.Report.{counted, nothing_counted};
 ghost use Rattle.daide_log.specs.Report.{summary_line as last_line};
 ghost use Rattle.daide_log.specs.Told.{HasRoom, IsMoreBy};
 
+use arrayvec::ArrayVec;
 use daide_frame::{Code, Head, Kind, Side};
 use daide_machine::{Deed, Note};
 use std::io;
 use std::io::Write;
+
+/// More bytes than any line of a report has.
+pub const LINE: usize = 128;
+
+/// A line that is put together.
+type Line = ArrayVec<u8, LINE>;
 
 /// What made a move.
 #[derive(Clone, Copy, Debug, PartialEq, Eq)]
@@ -36,15 +44,6 @@ pub struct Summary {
     pub faults: u64,
 }
 
-fn side_name(side: Side) -> &'static str
-    ensures { result.now ≡ name_of_side side }
-{
-    match side {
-        Side::Bot => "bot",
-        Side::Server => "server",
-    }
-}
-
 /// A kind by the two letters of the protocol.
 pub fn kind_name(kind: Kind) -> &'static str
     ensures { result.now ≡ name_of_kind kind }
@@ -58,39 +57,89 @@ pub fn kind_name(kind: Kind) -> &'static str
     }
 }
 
-/// Writes the number of the line that made a move, and that of the session.
-#[tactic(auto, unfolding(crate::specs::Report::source_text))]
-fn write_source<W: Write>(source: Source, writer: &mut W) -> io::Result<()>
-    ensures { OnOk result (Appends (W.contents writer.old) (W.contents writer.new) (source_text source)) }
+/// Puts text behind a line.
+#[inline(always)]
+fn put(text: &[u8], line: &mut Line)
+    requires { length line.old.items + length text.now ≤ 128 }
+    ensures text { line.new.items ≡ line.old.items ++ text.now }
+    ensures length { length line.new.items ≡ length line.old.items + length text.now }
 {
-    let Source { line, session } = source;
-    match session {
-        None => write!(writer, "{line} "),
-        Some(session) => write!(writer, "{line} {session} "),
+    line.try_extend_from_slice(text).unwrap();
+}
+
+/// Puts the decimal digits of a number behind a line.
+fn put_digits(number: u64, line: &mut Line)
+    requires { length line.old.items + length (decimal number) ≤ 128 }
+    ensures { line.new.items ≡ line.old.items ++ decimal number }
+{
+    if number >= 10 {
+        put_digits(number / 10, line);
+    }
+    line.push(b'0' + (number % 10) as u8);
+}
+
+/// Puts a number behind a line, which has twenty digits at most.
+#[tactic(auto, using(crate::proofs::ReportLemmas::decimal_few))]
+fn put_number(number: u64, line: &mut Line)
+    requires { length line.old.items ≤ 108 }
+    ensures text { line.new.items ≡ line.old.items ++ decimal number }
+    ensures few { length line.new.items ≤ length line.old.items + 20 }
+{
+    put_digits(number, line);
+}
+
+/// Puts the number of the line that made a move, and that of the session.
+#[tactic(auto, unfolding(crate::specs::Report::source_text))]
+fn put_source(source: Source, line: &mut Line)
+    requires { line.old.items ≡ [] }
+    ensures text { line.new.items ≡ source_text source }
+    ensures few { length line.new.items ≤ 42 }
+{
+    put_number(source.line as u64, line);
+    line.push(b' ');
+    if let Some(session) = source.session {
+        put_number(session as u64, line);
+        line.push(b' ');
     }
 }
 
-/// Writes what became of a side's frame.
-#[tactic(auto, unfolding(crate::specs::Report::told_text))]
-fn write_frame<W: Write>(side: Side, head: Head, deed: Deed, writer: &mut W) -> io::Result<()>
-    ensures { OnOk result (Appends (W.contents writer.old) (W.contents writer.new)
-        (told_text side (Note.Frame head deed))) }
+/// Puts a side, and a space behind it.
+fn put_side(side: Side, line: &mut Line)
+    requires { length line.old.items ≤ 42 }
+    ensures text { line.new.items ≡ line.old.items ++ name_of_side side ++ 32 ∷ [] }
+    ensures few { length line.new.items ≤ 49 }
 {
-    let side = side_name(side);
-    let kind = kind_name(head.kind);
-    let len = head.len;
+    match side {
+        Side::Bot => put(b"bot ", line),
+        Side::Server => put(b"server ", line),
+    }
+}
+
+/// Puts what became of a frame, and the end of the line.
+fn put_frame(head: Head, deed: Deed, line: &mut Line)
+    requires { length line.old.items ≤ 49 }
+    ensures { line.new.items ≡ line.old.items ++ move_text (Note.Frame head deed) ++ 10 ∷ [] }
+{
+    put(kind_name(head.kind).as_bytes(), line);
+    line.push(b' ');
+    put_number(head.len as u64, line);
     match deed {
-        Deed::Relayed => writeln!(writer, "{side} {kind} {len} relay"),
-        Deed::Dropped => writeln!(writer, "{side} {kind} {len} drop"),
-        Deed::Prn => writeln!(writer, "{side} {kind} {len} prn"),
-        Deed::Huh(place) => writeln!(writer, "{side} {kind} {len} huh {place}"),
+        Deed::Relayed => put(b" relay\n", line),
+        Deed::Dropped => put(b" drop\n", line),
+        Deed::Prn => put(b" prn\n", line),
+        Deed::Huh(place) => {
+            put(b" huh ", line);
+            put_number(place as u64, line);
+            line.push(b'\n');
+        }
     }
 }
 
 /// A code in two digits.
 #[tactic(auto, unfolding(hex::specs::Hex::encode_with))]
 fn code_digits(code: Code) -> &'static str
-    ensures { result.now ≡ encode_upper (code_number code ∷ []) }
+    ensures digits { result.now ≡ encode_upper (code_number code ∷ []) }
+    ensures two { length result.now ≡ 2 }
 {
     match code {
         Code::ImTimeout => "01",
@@ -110,26 +159,26 @@ fn code_digits(code: Code) -> &'static str
     }
 }
 
-/// Writes what a side's move was.
+/// Puts what a side's move was, and the end of the line.
 #[tactic(auto, unfolding(crate::specs::Report::told_text))]
-fn write_told<W: Write>(side: Side, told: Note, writer: &mut W) -> io::Result<()>
-    ensures { OnOk result (Appends (W.contents writer.old) (W.contents writer.new) (told_text side told)) }
+fn put_told(side: Side, told: Note, line: &mut Line)
+    requires { length line.old.items ≤ 42 }
+    ensures { line.new.items ≡ line.old.items ++ told_text side told }
 {
+    put_side(side, line);
     match told {
-        Note::Nothing => {
-            let side = side_name(side);
-            writeln!(writer, "{side} end")
-        }
-        Note::Frame(head, deed) => write_frame(side, head, deed, writer),
+        Note::Nothing => put(b"end\n", line),
+        Note::Frame(head, deed) => put_frame(head, deed, line),
         Note::Fault(code) => {
-            let side = side_name(side);
-            let code = code_digits(code);
-            writeln!(writer, "{side} fault {code}")
+            put(b"fault ", line);
+            put(code_digits(code).as_bytes(), line);
+            line.push(b'\n');
         }
     }
 }
 
 /// Writes the line of a side's move, behind the numbers of what made it.
+#[tactic(auto, unfolding(crate::specs::Report::move_line))]
 pub fn write_move<W: Write>(
     source: Source,
     side: Side,
@@ -138,8 +187,10 @@ pub fn write_move<W: Write>(
 ) -> io::Result<()>
     ensures { OnOk result (Appends (W.contents writer.old) (W.contents writer.new) (move_line source side told)) }
 {
-    write_source(source, writer)?;
-    write_told(side, told, writer)
+    let mut line = Line::new();
+    put_source(source, &mut line);
+    put_told(side, told, &mut line);
+    writer.write_all(line.as_slice())
 }
 
 impl Summary {
@@ -176,14 +227,15 @@ impl Summary {
 pub fn write_summary<W: Write>(summary: Summary, writer: &mut W) -> io::Result<()>
     ensures { OnOk result (Appends (W.contents writer.old) (W.contents writer.new) (last_line summary)) }
 {
-    let Summary {
-        relayed,
-        prn,
-        huh,
-        faults,
-    } = summary;
-    writeln!(
-        writer,
-        "relayed {relayed} prn {prn} huh {huh} faults {faults}"
-    )
+    let mut line = Line::new();
+    put(b"relayed ", &mut line);
+    put_number(summary.relayed, &mut line);
+    put(b" prn ", &mut line);
+    put_number(summary.prn, &mut line);
+    put(b" huh ", &mut line);
+    put_number(summary.huh, &mut line);
+    put(b" faults ", &mut line);
+    put_number(summary.faults, &mut line);
+    line.push(b'\n');
+    writer.write_all(line.as_slice())
 }
