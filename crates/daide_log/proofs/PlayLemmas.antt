@@ -5,12 +5,14 @@ use Rattle.std.proofs.Common.{◌⊎◌, inl, inr, cond, OnOk, Result, Ok, Err}
 use Rattle.std.specs.Prelude.{◌||◌}
 use Rattle.std.specs.Io.KnownBytes.{Appends}
 use Rattle.daide_frame.specs.declared.side.Side.{Side}
+use Rattle.daide_frame.specs.declared.side.Side.TheVariants.{Bot, Server}
 use Rattle.daide_frame.specs.Frames.{missing}
 use Rattle.daide_machine.specs.declared.note.Note.{Note}
 use Rattle.daide_machine.specs.declared.note.Note.TheVariants as Notes
 use Rattle.daide_machine.specs.Events.{Event, Ends, Pops, bytes_come, other}
 use Rattle.daide_machine.specs.Machine.{SessionState, Effect, Outcome, Sent, Runs, coming, is_over, event_outcome}
-use Rattle.daide_machine.specs.Wires.{Gateway, Goes, waiting, bytes_of, IsFrontOf, first_len, room_of, is_awaited}
+use Rattle.daide_machine.specs.Wires.{Gateway, Goes, sent_to, waiting, bytes_of}
+use Rattle.daide_machine.specs.Wires.{IsFrontOf, first_len, room_of, is_awaited}
 use Rattle.daide_machine.proofs.OneRun.{runs_join}
 use Rattle.daide_machine.proofs.PieceRuns.{over_stays}
 use Rattle.daide_machine.proofs.WireLemmas.{bytes_come-append}
@@ -80,6 +82,25 @@ piece_moves old mid new side piece told room g e = (
   subst (IsOneMove g.effects) (sym g.note)
       (one_move_a_piece piece old.state side g.effects mid.state (room_is_missing old side (length piece) room) g.run),
 )
+
+no_move : (effects : List Effect) (told : Note) → IsOneMove effects told → told ≡ Notes.Nothing → effects ≡ []
+no_move [] told one e = refl
+no_move (move ∷ []) told one e = absurd (one.1 e)
+no_move (move ∷ another ∷ moves) told one e = absurd one
+
+-- where a piece made no move, nothing was answered
+pub idle_still : (old new : Gateway) (side : Side) (piece : List ℕ) (told : Note) → length piece ≤ room_of old side →
+    Goes old (bytes_come side piece) told new → IsIdle old → told ≡ Notes.Nothing → IsIdle new
+idle_still old new side piece told room g idle e =
+    let few = room_is_missing old side (length piece) room in
+    let one = one_move_a_piece piece old.state side g.effects new.state few g.run in
+    let none : g.effects ≡ [] = no_move g.effects told (subst (IsOneMove g.effects) (sym g.note) one) e in
+    record {
+      bot = g.kept Bot ∙ ap (λ (moves : List Effect). waiting old Bot ++ sent_to Bot moves) none
+          ∙ ap (λ (l : List Sent). l ++ []) idle.bot;
+      server = g.kept Server ∙ ap (λ (moves : List Effect). waiting old Server ++ sent_to Server moves) none
+          ∙ ap (λ (l : List Sent). l ++ []) idle.server;
+    }
 
 pub timer_moves : (old mid : Gateway) (new : SessionState) (told : Note) → Goes old (Pops ∷ []) told mid →
     new ≡ mid.state → Moves old.state (Pops ∷ []) told new

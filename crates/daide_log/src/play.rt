@@ -40,13 +40,18 @@ fn take_answers<A: Allocator>(session: &mut Session<A>)
     take_waiting(session, Side::Server);
 }
 
-/// Feeds a side's next bytes, for which there is room, and takes the answers.
+/// Feeds a side's next bytes, for which there is room, and takes the answers. Where nothing is told, nothing was
+/// answered.
 fn feed_piece<A: Allocator>(session: &mut Session<A>, side: Side, piece: &[u8]) -> Note
-    requires { length piece.now ≤ room_of session.old side }
+    requires idle { IsIdle session.old }
+    requires room { length piece.now ≤ room_of session.old side }
     ensures moves { Moves session.old.state (bytes_come side piece.now) result session.new.state }
     ensures idle { IsIdle session.new }
 {
     let told = session.feed(side, piece);
+    if let Note::Nothing = told {
+        return told;
+    }
     take_answers(session);
     told
 }
