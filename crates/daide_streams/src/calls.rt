@@ -13,10 +13,11 @@ const TRIES: usize = 8;
 /// The most bytes that one write hands to the system, so that a long frame holds up no other session for its length.
 const MOST_AT_ONCE: usize = 16_384;
 
-/// Reads what is there, where something may be, and notes where nothing was.
+/// Reads what is there, where something may be, and notes where nothing was. Into an empty buffer nothing is read.
 pub fn pull_from<S: Read>(stream: &mut S, is_readable: &Cell<bool>, buffer: &mut [u8]) -> Pull
     ensures within { IsPullWithin result (length buffer.old) }
     ensures len { length buffer.new ≡ length buffer.old }
+    ensures no_room { length buffer.old ≡ 0 → result ≡ Pull.Idle }
 {
     if buffer.is_empty() || !is_readable.get() {
         return Pull::Idle;
@@ -38,9 +39,11 @@ pub fn pull_from<S: Read>(stream: &mut S, is_readable: &Cell<bool>, buffer: &mut
     Pull::Idle
 }
 
-/// Writes what the stream takes, where it may take something, and notes where it took nothing.
+/// Writes what the stream takes, where it may take something, and notes where it took nothing. It hands on the front
+/// of what it was given, of `MOST_AT_ONCE` bytes where there are more.
 pub fn put_to<S: Write>(stream: &mut S, is_writable: &Cell<bool>, bytes: &[u8]) -> Put
     ensures within { IsPutWithin result (length bytes.now) }
+    ensures at_most { IsPutWithin result MOST_AT_ONCE }
 {
     if !is_writable.get() {
         return Put::Took(0);

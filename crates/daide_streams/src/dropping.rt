@@ -1,6 +1,6 @@
 //! What is read and dropped of a stream that closes.
 
-ghost use Rattle.std.specs.Prelude.{◌≡◌, ◌≤◌, ℕ, true};
+ghost use Rattle.std.specs.Prelude.{◌≡◌, ◌+◌, ◌≤◌, ℕ, true};
 
 use crate::calls::pull_from;
 use daide_session::ports::Pull;
@@ -34,6 +34,7 @@ impl Dropping {
     /// Drops a piece of what came, and answers whether no more is to be dropped.
     pub fn drop_piece<S: Read>(&mut self, stream: &mut S, is_readable: &Cell<bool>) -> bool
         ensures fewer { self.new ≤ self.old }
+        ensures piece { self.old ≤ self.new + PIECE }
         ensures all_dropped { self.new ≡ 0 → result ≡ true }
     {
         let mut piece = [0; PIECE];

@@ -1,5 +1,5 @@
-//! What the program takes of streams, whichever they are: calls that never wait, what is dropped of one that closes, and
-//! a text that has a bound.
+//! What the program takes of streams, whichever they are: calls that never wait, what is dropped of one that closes,
+//! and a text that has a bound.
 #![tactic(auto)]
 
 pub mod calls;
