@@ -2,10 +2,10 @@
 //!
 //! It knows no socket. What the system gives is a parameter, so that whole runs can be driven in memory.
 
-ghost use Rattle.std.specs.Prelude.{◌≡◌, ◌+◌, ◌≤◌, List, length, Ok, OnOk, IfOk, IfErr};
+ghost use Rattle.std.specs.Prelude.{◌≡◌, ◌+◌, ◌≤◌, List, [], ◌∷◌, ◌++◌, length, Ok, OnOk, OnErr, IfOk, IfErr};
 ghost use Rattle.daide_session.specs.Config.{config_fault};
 ghost use Rattle.daide_session.specs.Hub.{IsHubSize};
-ghost use Rattle.daide_service.specs.System.{SystemAnswer, Tells};
+ghost use Rattle.daide_service.specs.System.{SystemAnswer, Connects, Tells};
 ghost use Rattle.daide_service.specs.Serving.{IsWithin, Admits, Meets, TurnsAll, any_moved, RemovesClosed, parting};
 ghost use Rattle.daide_service.specs.Serving.{wait_where, any_stirs, Round, is_done, opening, Serves, fault_of};
 ghost use Rattle.daide_service.specs.Serving.{IsServeCause, IsOfSettings};
@@ -100,6 +100,8 @@ fn meet<P: Ports, A: Allocator + Copy, S: System<P>>(
         × Meets hub.old tally.old answers hub.new tally.new × (stirred ≡ any_stirs answers)) }
     ensures within { IsWithin hub.new tally.new }
     ensures refused { IfErr result (λ fault. fault ≡ ServeFault.Memory) }
+    ensures broken_off { OnErr result ((ports : P)
+        × Tells (S.told system.old) (Connects (Connect.Ready ports) ∷ []) (S.told system.new)) }
 {
     if tally.connecting == 0 {
         return Ok(false);
@@ -222,11 +224,13 @@ impl<P: Ports, A: Allocator + Copy> Service<P, A> {
     /// One round: at most one bot is admitted, and at most one connect taken up; each session has one turn, in
     /// order of place; those that are over and of which nothing waits are taken out, from the last place to the
     /// first; and where nothing moved in all this, there is one wait. Want of memory for a session is its only
-    /// fault; its ports are dropped then, and the round broken off.
+    /// fault; its ports are dropped then, and the round broken off behind the connect that gave them.
     pub fn round<S: System<P>>(&mut self, system: &mut S) -> Result<(), ServeFault>
         ensures round { OnOk result ((answers : List (SystemAnswer P))
             × Tells (S.told system.old) answers (S.told system.new) × Round P.told self.old answers self.new) }
         ensures refused { IfErr result (λ fault. fault ≡ ServeFault.Memory) }
+        ensures broken_off { OnErr result ((admission : List (SystemAnswer P)) × (ports : P)
+            × Tells (S.told system.old) (admission ++ Connects (Connect.Ready ports) ∷ []) (S.told system.new)) }
     {
         let came = admit::<P, S>(self.hub.count(), &mut self.tally, system);
         let met = meet(&mut self.hub, &mut self.tally, system)?;

@@ -1,5 +1,7 @@
-use Rattle.std.proofs.Common.{ℕ, ◌++◌, ap, ◌∙◌, subst, arith}
-use Rattle.std.specs.Prelude.{◌||◌}
+use Rattle.std.proofs.Common.{ℕ, List, [], ◌∷◌, ◌++◌, Result, Ok, Err, ap, ◌∙◌, subst, arith}
+use Rattle.std.specs.Prelude.{◌||◌, OnErr}
+use Rattle.daide_service.specs.declared.system.Connect.TheVariants.{Ready}
+use Rattle.daide_service.specs.System.{SystemAnswer, Connects, Tells}
 use Rattle.daide_service.specs.Serving.{Serving, Admits, Round, wait_where, accepts}
 use Rattle.daide_service.proofs.ServingLemmas.{tells_then, waits_alike}
 use Rattle.daide_service.proofs.serving.Service.round.Goals as goal
@@ -45,4 +47,21 @@ returns-clause-round g c =
       subst (λ (a : Serving g.row.P.Denot). Round g.P.Ports.told a
           (admits.0 ++ meets.0 ++ removes.0 ++ wait_where stirred c.accepts-more.result)
           (record { hub = c.remove_closed-removed.new.hub; tally = c.meet.new.tally })) c.self.view_is step,
+    )
+
+-- what holds anyway holds at an error
+at_error : {A E : Type 0} (r : Result A E) (P : Type 0) → P → OnErr r P
+at_error (Ok x) P h = tt
+at_error (Err e) P h = h
+
+pub returns-in_err-met-clause-broken_off : goal.returns-in_err-met-clause-broken_off
+returns-in_err-met-clause-broken_off g c =
+    let told = g.S.System.told in
+    let admits = c.admit-came.ensures.admits in
+    let broken = c.in_err-met.ensures.broken_off in
+    at_error c.from_residual.result ((admission : List (SystemAnswer g.row.P.Denot)) × (ports : g.row.P.Denot)
+    × Tells (told c.args.system.now) (admission ++ Connects (Ready ports) ∷ []) (told c.meet.new.system)) (
+      admits.0,
+      broken.0,
+      tells_then _ _ _ admits.0 (Connects (Ready broken.0) ∷ []) admits.1 broken.1,
     )
