@@ -10,7 +10,8 @@ ghost use Rattle.toml.specs.Data.{get_member};
 ghost use Rattle.toml.specs.View.{items_view, table_view, view};
 ghost use Rattle.daide_words.specs.Words.{words_of};
 ghost use Rattle.daide_settings.specs.WordSettings.{accepted_words, are_entries, code_of, entries_judged, has_fields};
-ghost use Rattle.daide_settings.specs.WordSettings.{has_only, is_entry, is_field, level_of, number_in, text_in, three_of, word_of};
+ghost use Rattle.daide_settings.specs.WordSettings.{has_only, is_entry, is_field, level_of, number_in, text_in};
+ghost use Rattle.daide_settings.specs.WordSettings.{three_of, word_of};
 ghost use Rattle.daide_settings.specs.WordSettings.{word_of_members, words_judged, words_of_entries};
 
 use super::SettingsError;
