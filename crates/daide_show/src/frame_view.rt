@@ -8,7 +8,7 @@ mod one_frame;
 mod text;
 mod verdict_of;
 
-ghost use Rattle.std.specs.Prelude.{◌≡◌, ◌≢◌, ◌≤◌, ◌+◌, ℕ, List, [], length, IfOk, IfErr, IfSome, Ok, Err};
+ghost use Rattle.std.specs.Prelude.{◌≢◌, ◌≤◌, ◌+◌, ℕ, List, [], length, IfOk, IfErr, IfSome, Ok, Err};
 ghost use Rattle.std.specs.Io.KnownBytes.{Consumes, Keeps};
 ghost use Rattle.daide_words.specs.Words.{words_of};
 ghost use Rattle.daide_show.specs.Input.{limit};
@@ -59,9 +59,10 @@ fn show_bytes<A: Allocator + Copy>(
     words: &Words,
     bytes: &[u8],
 ) -> Result<(Vec<u8, A>, bool), ShowFault>
-    ensures shown { IfOk result (λ answer.
-        AreShownAs (words_of words.now) side level bytes.now (Ok (record { text = answer.0.items; relayed = answer.1 }))) }
-    ensures refused { IfErr result (λ fault. fault ≢ ShowFault.Memory → AreShownAs (words_of words.now) side level bytes.now (Err fault)) }
+    ensures shown { IfOk result (λ answer. AreShownAs (words_of words.now) side level bytes.now
+        (Ok (record { text = answer.0.items; relayed = answer.1 }))) }
+    ensures refused { IfErr result (λ fault. fault ≢ ShowFault.Memory
+        → AreShownAs (words_of words.now) side level bytes.now (Err fault)) }
 {
     let Ok(mut cutter) = Cutter::new(alloc, MAX_BODY) else {
         return Err(ShowFault::Memory);
@@ -95,9 +96,10 @@ fn show_input<A: Allocator + Copy>(
     mut input: Vec<u8, A>,
 ) -> Result<(Vec<u8, A>, bool), ShowFault>
     requires { length input.items ≤ limit }
-    ensures shown { IfOk result (λ answer.
-        IsShownAs (words_of words.now) side level input.items (Ok (record { text = answer.0.items; relayed = answer.1 }))) }
-    ensures refused { IfErr result (λ fault. fault ≢ ShowFault.Memory → IsShownAs (words_of words.now) side level input.items (Err fault)) }
+    ensures shown { IfOk result (λ answer. IsShownAs (words_of words.now) side level input.items
+        (Ok (record { text = answer.0.items; relayed = answer.1 }))) }
+    ensures refused { IfErr result (λ fault. fault ≢ ShowFault.Memory
+        → IsShownAs (words_of words.now) side level input.items (Err fault)) }
 {
     drop_blanks(&mut input);
     match hex::decode(alloc, input.as_slice()) {

@@ -48,13 +48,14 @@ pub(super) fn read_input<A: Allocator, R: Read>(
     unreachable!()
 }
 
+/// Whether a byte is dropped wherever it stands.
 fn is_blank(byte: u8) -> bool
     ensures { result ≡ is_blank byte }
 {
     matches!(byte, b' ' | b'\t' | b'\r' | b'\n')
 }
 
-/// Leaves the digits alone.
+/// Drops the blanks, and leaves the digits in their order.
 pub(super) fn drop_blanks<A: Allocator>(input: &mut Vec<u8, A>)
     ensures { input.new.items ≡ digits_of input.old.items }
 {

@@ -7,7 +7,6 @@ ghost use Rattle.daide_words.specs.Words.{words_of};
 ghost use Rattle.daide_show.specs.Shown.{Shown, Adds, IsFrameShownAs};
 ghost use Rattle.daide_reader.specs.Verdict.{IsPlaceIn};
 ghost use Rattle.daide_machine.specs.Bounds.{longest_body};
-ghost use Rattle.daide_log.specs.Report.{name_of_kind};
 ghost use Rattle.daide_show.specs.Shown.{line, printed, kind_line, fault_shown, relayed_shown, im_shown};
 ghost use Rattle.daide_show.specs.Shown.{verdict_lines, prn_answer, huh_answer, is_relay};
 ghost use Rattle.daide_frame.specs.InitialMessage.{im_of};
@@ -36,7 +35,8 @@ fn write_kind<A: Allocator>(head: Head, text: &mut Vec<u8, A>) -> io::Result<()>
 /// Writes the text form of tokens on a line, the operator's words by their own names.
 fn write_tokens<A: Allocator>(words: &Words, tokens: &[u8], text: &mut Vec<u8, A>) -> io::Result<()>
     requires { length tokens.now % 2 ≡ 0 }
-    ensures { OnOk result (text.new.items ≡ text.old.items ++ line (printed (words_of words.now) (tokens_of tokens.now))) }
+    ensures { OnOk result (text.new.items ≡ text.old.items
+        ++ line (printed (words_of words.now) (tokens_of tokens.now))) }
 {
     write_text_with(words.names(), tokens, text)?;
     text.write_all(b"\n")
