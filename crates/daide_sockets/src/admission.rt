@@ -24,7 +24,7 @@ pub struct Door<'w> {
 }
 
 impl<'w> Door<'w> {
-    /// Follows a listener, where that can be.
+    /// Follows a listener; none where the table has no row for it, or the system refuses.
     pub fn new<R: Clock>(watch: &'w Watch<R>, listener: TcpListener) -> Option<Door<'w>> {
         let mut listener = listener;
         let place = watch.follow(&mut listener, Interest::READABLE)?;
@@ -32,7 +32,7 @@ impl<'w> Door<'w> {
     }
 
     /// Ends the pause after an accept that failed, where it is over.
-    pub fn reopen<R: Clock>(&self, watch: &Watch<R>) {
+    pub(crate) fn reopen<R: Clock>(&self, watch: &Watch<R>) {
         let flags = self.place.flags;
         if watch.is_over(flags.due.get()) {
             flags.due.set(None);
@@ -40,7 +40,8 @@ impl<'w> Door<'w> {
         }
     }
 
-    /// The connection of a bot that came, if one did.
+    /// The connection of a bot that came, if the system has one; it isn't asked during the pause after an accept that
+    /// failed.
     pub fn accept<R: Clock>(&self, watch: &Watch<R>) -> Option<TcpStream> {
         self.reopen(watch);
         if !self.place.flags.is_readable.get() {
@@ -74,17 +75,20 @@ impl<'w> Door<'w> {
     }
 }
 
-/// What became of one bot's connect.
+/// What became of the connect to one address.
 #[derive(Clone, Copy, Debug, PartialEq, Eq)]
 enum Progress {
+    /// The server is there.
     Connected,
+    /// It failed, or there is none.
     Failed,
+    /// The system hasn't told yet.
     Pending,
 }
 
 /// A bot whose connect to the server is under way.
 #[derive(Drop)]
-pub struct Arrival<'w> {
+pub(crate) struct Arrival<'w> {
     bot: Socket<'w>,
     server: Option<Socket<'w>>,
     /// How many addresses were tried.
@@ -95,17 +99,20 @@ pub struct Arrival<'w> {
     im_over: Option<Instant>,
 }
 
-/// What became of a bot: its ports, its own socket where the server can't be reached, or nothing yet.
+/// What became of a bot that came.
 #[derive(Drop)]
-pub enum Outcome<'w, R: Clock> {
+pub(crate) enum Outcome<'w, R: Clock> {
+    /// Bot and server are joined.
     Joined(SocketPorts<'w, R>),
+    /// No address of the server was reached in its time; the bot's own socket is left.
     Unreached(Socket<'w>),
+    /// It is still under way.
     Pending(Arrival<'w>),
 }
 
 impl<'w> Arrival<'w> {
     /// A bot that came now, whose connect is still to begin.
-    pub fn new<R: Clock>(
+    pub(crate) fn new<R: Clock>(
         watch: &Watch<R>,
         bot: Socket<'w>,
         im_time: Duration,
@@ -121,7 +128,7 @@ impl<'w> Arrival<'w> {
     }
 
     /// Begins to connect to the next address to which that can be done.
-    pub fn try_next<R: Clock, N: Net>(
+    pub(crate) fn try_next<R: Clock, N: Net>(
         &mut self,
         watch: &'w Watch<R>,
         net: &N,
@@ -161,7 +168,7 @@ impl<'w> Arrival<'w> {
     }
 
     /// Goes on with the connect, as far as that is without waiting.
-    pub fn advance<R: Clock, N: Net>(
+    pub(crate) fn advance<R: Clock, N: Net>(
         self,
         watch: &'w Watch<R>,
         net: &N,

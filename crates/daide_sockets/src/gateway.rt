@@ -18,11 +18,13 @@ const CONNECT_SECONDS: u64 = 5;
 /// Why a gateway doesn't begin, or ends early.
 #[derive(Clone, Copy, Debug, PartialEq, Eq, Error)]
 pub enum GatewayFault {
-    /// The address can't be listened on.
+    /// The address can't be listened on, or the system has no descriptor for the table of sockets.
     #[error("cannot listen")]
     Listen,
+    /// The memory of the server's addresses, the table or the sockets was refused, or the listener can't be followed.
     #[error("out of memory")]
     Memory,
+    /// The run ended before all its bots were served.
     #[error("{0}")]
     Serve(ServeFault),
 }
@@ -40,7 +42,8 @@ fn listener_at<R: Net>(net: &R, address: &str) -> Result<TcpListener, GatewayFau
     Err(GatewayFault::Listen)
 }
 
-/// The meanings of the server's address; none of a name that nobody knows, so that no bot's connect succeeds.
+/// The meanings of the server's address; none of a name that nobody knows, so that no bot's connect succeeds. `Memory`
+/// alone ends it.
 fn servers_at<R: Net>(
     alloc: Global,
     net: &R,
@@ -55,7 +58,8 @@ fn servers_at<R: Net>(
     Ok(servers)
 }
 
-/// Listens, says so, and serves until all bots were served.
+/// Listens, says so, and serves until all bots were served. `Listen` and `Memory` come before anything is printed,
+/// `Serve` after it. Whom it serves is the system's to say.
 pub fn serve_at<R: AllocGlobal + Clock + Net, O: Write, E: Write>(
     rt: &R,
     settings: &Settings,

@@ -3,6 +3,9 @@
 //! No call waits but the loop's own wait. `watch` is what is known of each socket, `ports` are a session's, `admission`
 //! takes bots and connects them, `closing` closes in stages, `system` puts them together for the loop, and `gateway`
 //! runs it at the addresses of settings.
+//!
+//! What the system answers, and what a shared cell holds, no contract can name. So a call that hangs on either is
+//! proved safe and to end, and its doc says what it does; the tests of `daide_gate_tests` show it.
 #![tactic(auto)]
 
 pub mod admission;

@@ -17,12 +17,15 @@ use std::rt::Clock;
 /// A connection whose calls never wait, and its row of the table.
 #[derive(Drop)]
 pub struct Socket<'w> {
+    /// The connection itself.
     pub stream: TcpStream,
+    /// Its row, by which its flags are seen.
     pub place: Place<'w>,
 }
 
 impl<'w> Socket<'w> {
-    /// Follows a connection, where that can be. Small writes go out at once.
+    /// Follows a connection; none where the table has no row for it, or the system refuses. Small writes go out at
+    /// once.
     pub fn new<R: Clock>(watch: &'w Watch<R>, stream: TcpStream) -> Option<Socket<'w>> {
         let mut stream = stream;
         // A connection that keeps small writes back is slower, and right.
@@ -53,13 +56,17 @@ pub struct SocketPorts<'w, R: Clock> {
     watch: &'w Watch<R>,
     /// The round of the last turn, if there was one.
     turned: Option<u64>,
-    pub bot: Socket<'w>,
-    pub server: Socket<'w>,
+    pub(crate) bot: Socket<'w>,
+    pub(crate) server: Socket<'w>,
 }
 
 impl<'w, R: Clock> SocketPorts<'w, R> {
     /// The ports of a bot and of the server that it is joined to.
-    pub fn new(watch: &'w Watch<R>, bot: Socket<'w>, server: Socket<'w>) -> SocketPorts<'w, R> {
+    pub(crate) fn new(
+        watch: &'w Watch<R>,
+        bot: Socket<'w>,
+        server: Socket<'w>,
+    ) -> SocketPorts<'w, R> {
         SocketPorts {
             watch,
             turned: None,

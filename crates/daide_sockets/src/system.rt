@@ -1,6 +1,6 @@
 //! What a run asks of the system, over sockets.
 
-ghost use Rattle.std.specs.Prelude.{None};
+ghost use Rattle.std.specs.Prelude.{◌≡◌, ◌+◌, ◌*◌, ◌^◌, ◌<◌, None};
 
 use crate::admission::{Arrival, Door, Outcome};
 use crate::closing::{Closings, MOST_CLOSING};
@@ -16,7 +16,9 @@ use std::rt::Clock;
 use std::time::Duration;
 
 /// How many sockets a run with so many sessions has at most: the listener, two a session, and those that close.
-pub fn most_sockets(max_sessions: usize) -> usize {
+pub fn most_sockets(max_sessions: usize) -> usize
+    ensures { max_sessions < 2 ^ 62 → result ≡ 2 * max_sessions + MOST_CLOSING + 1 }
+{
     max_sessions
         .saturating_mul(2)
         .saturating_add(MOST_CLOSING)
@@ -60,12 +62,6 @@ impl<'w, R: Clock + Net, E: Write + Drop> Sockets<'w, R, E> {
             closings: Closings::new(alloc).ok()?,
             errors,
         })
-    }
-
-    /// Sees to what closes and to a door that was shut, and looks what came.
-    pub fn look(&mut self) {
-        self.tidy();
-        self.watch.look();
     }
 
     /// Goes on with the sockets that close, and reopens the door where its pause is over.

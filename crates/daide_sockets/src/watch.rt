@@ -4,6 +4,8 @@
 //! The table is shared by `&`, so that the ports in a hub see what the loop's wait was told. An idle session reads
 //! two flags of it, and makes no call to the system.
 
+ghost use Rattle.std.specs.Prelude.{◌≡◌, IsNone, false};
+
 use mio::event::{Event, Source};
 use mio::{Events, Interest, Poll, Registry, Token};
 use std::alloc::Global;
@@ -21,9 +23,9 @@ const EVENTS: usize = 256;
 pub struct Flags {
     is_taken: Cell<bool>,
     /// Whether a read, or a listener's accept, may give something.
-    pub is_readable: Cell<bool>,
+    pub(crate) is_readable: Cell<bool>,
     /// Whether a write may take something.
-    pub is_writable: Cell<bool>,
+    pub(crate) is_writable: Cell<bool>,
     /// The moment at which something is to be done.
     pub due: Cell<Option<Instant>>,
 }
@@ -60,6 +62,7 @@ pub enum WatchFault {
 
 /// A socket's row of the table, which is free again where this is dropped.
 pub struct Place<'w> {
+    /// What is known of the socket.
     pub flags: &'w Flags,
 }
 
@@ -110,7 +113,7 @@ impl Flags {
 }
 
 impl<R: Clock + Drop> Watch<R> {
-    /// A table of so many sockets.
+    /// A table of so many sockets, of which none is followed. Its descriptors and its memory are taken at once.
     pub fn new<N: Net>(
         alloc: Global,
         clock: R,
@@ -139,17 +142,19 @@ impl<R: Clock + Drop> Watch<R> {
 
 impl<R: Clock> Watch<R> {
     /// The number of the present round.
-    pub fn round(&self) -> u64 {
+    pub(crate) fn round(&self) -> u64 {
         self.round.get()
     }
 
-    /// So long after the moment of the present round.
+    /// So long after the moment of the present round; none where the clock can't be read, or no such moment is known.
     pub fn after(&self, duration: Duration) -> Option<Instant> {
         self.now.get()?.checked_add(duration)
     }
 
-    /// Whether a moment is over.
-    pub fn is_over(&self, moment: Option<Instant>) -> bool {
+    /// Whether a moment is over; one that isn't given never is.
+    pub fn is_over(&self, moment: Option<Instant>) -> bool
+        ensures { IsNone moment → result ≡ false }
+    {
         match (moment, self.now.get()) {
             (Some(moment), Some(now)) => moment <= now,
             _ => false,
@@ -167,7 +172,7 @@ impl<R: Clock> Watch<R> {
     }
 
     /// A descriptor that is free, for as long as this is held.
-    pub fn spare(&self) -> io::Result<Registry> {
+    pub(crate) fn spare(&self) -> io::Result<Registry> {
         self.registry.try_clone()
     }
 
@@ -198,7 +203,7 @@ impl<R: Clock> Watch<R> {
     }
 
     /// Begins a round with what the system tells now.
-    pub fn look(&self) {
+    pub(crate) fn look(&self) {
         self.begin_round(Some(Duration::ZERO));
     }
 
