@@ -1,7 +1,7 @@
 //! The program `daide-gate`.
 //!
-//! `main` only gathers the words and the streams; what is done with them stands in `daide_program`, over any streams, so
-//! that each run is a row of a test.
+//! `main` only gathers the words and the streams; what is done with them stands in `daide_program`, over any streams,
+//! so that each run is a row of a test.
 #![tactic(auto)]
 
 use daide_program::answer;

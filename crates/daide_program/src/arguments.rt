@@ -7,7 +7,7 @@ use std::alloc::{AllocError, Global};
 
 /// What the words ask for.
 #[derive(Clone, Copy, Debug, PartialEq, Eq)]
-pub enum Order<'a> {
+pub(crate) enum Order<'a> {
     /// Show one frame, judged as the side's at the level, with the words of the settings at this path.
     Show(Side, Level, Option<&'a str>),
     /// Report a log.
@@ -59,6 +59,7 @@ fn option<'a>(alloc: Global, name: &'a str, value: &'a str, help: &'a str) -> Ar
         .help(help)
 }
 
+/// The words of `show`.
 fn show_command<'a>(alloc: Global) -> Result<Command<'a>, AllocError> {
     let side = "Whose frame it is, bot or server [default: bot]";
     let level = "The level of press, 0, 10, 20, 30, 40, 50 or 60 [default: 0]";
@@ -71,12 +72,14 @@ fn show_command<'a>(alloc: Global) -> Result<Command<'a>, AllocError> {
         .arg(option(alloc, "words", "SETTINGS", words))
 }
 
+/// The word `check`, which takes no other.
 fn check_command<'a>(alloc: Global) -> Command<'a> {
     Command::new(alloc, "check")
         .about("Reports what a gateway makes of each line of a log, read from standard input")
         .after_help(CHECK_NOTES)
 }
 
+/// The words of `run`.
 fn run_command<'a>(alloc: Global) -> Result<Command<'a>, AllocError> {
     let settings = Arg::new(alloc, "SETTINGS")
         .required(true)
@@ -91,7 +94,7 @@ fn run_command<'a>(alloc: Global) -> Result<Command<'a>, AllocError> {
 }
 
 /// The command line that is understood.
-pub fn command<'a>(alloc: Global) -> Result<Command<'a>, AllocError> {
+pub(crate) fn command<'a>(alloc: Global) -> Result<Command<'a>, AllocError> {
     Command::new(alloc, "daide-gate")
         .version("0.1.0")
         .about("A gateway between one bot and a DAIDE server")
@@ -101,6 +104,7 @@ pub fn command<'a>(alloc: Global) -> Result<Command<'a>, AllocError> {
         .subcommand(run_command(alloc)?)
 }
 
+/// The side that a word names.
 fn side_of(word: &str) -> Option<Side> {
     match word {
         "bot" => Some(Side::Bot),
@@ -109,6 +113,7 @@ fn side_of(word: &str) -> Option<Side> {
     }
 }
 
+/// The level that a word names, in decimal digits.
 fn level_of(word: &str) -> Option<Level> {
     match word {
         "0" => Some(Level::L0),
@@ -124,7 +129,7 @@ fn level_of(word: &str) -> Option<Level> {
 
 /// What the words ask for; without any, what `show` does with its defaults. A bad side is told
 /// before a bad level.
-pub fn order_of<'a>(matches: &ArgMatches<'a>) -> Order<'a> {
+pub(crate) fn order_of<'a>(matches: &ArgMatches<'a>) -> Order<'a> {
     let (side, level, words) = match matches.subcommand() {
         Some(("run", run)) => return Order::Run(run.get_str("SETTINGS").unwrap_or("")),
         Some(("check", _)) => return Order::Check,

@@ -1,5 +1,7 @@
 //! The one line that tells a fault, and the exit statuses.
 
+ghost use Rattle.std.specs.Prelude.{◌≡◌, IfOk};
+
 use std::fmt::Display;
 use std::io;
 use std::io::Write;
@@ -17,8 +19,14 @@ pub const USAGE: u8 = 2;
 /// log with either.
 pub const NOT_RELAYED: u8 = 3;
 
-/// Tells a fault, and gives the run's status.
-pub fn tell<E: Write>(errors: &mut E, fault: impl Display + Drop, status: u8) -> io::Result<u8> {
+/// Tells a fault in one line, and gives back the status that it ends the run with.
+pub(crate) fn tell<E: Write>(
+    errors: &mut E,
+    fault: impl Display + Drop,
+    status: u8,
+) -> io::Result<u8>
+    ensures { IfOk result (λ told. told ≡ status) }
+{
     writeln!(errors, "daide-gate: {fault}")?;
     Ok(status)
 }

@@ -5,9 +5,9 @@
 //! person may be typing.
 #![tactic(auto)]
 
-pub mod arguments;
+mod arguments;
 pub mod faults;
-pub mod program;
+mod program;
 pub mod running;
 pub mod terminal;
 

@@ -1,5 +1,7 @@
 //! What the program does, over any streams.
 
+ghost use Rattle.std.specs.Prelude.{◌≤◌, IfOk};
+
 use crate::arguments::{Order, command, order_of};
 use crate::faults::{CLEAN, FAULT, NOT_RELAYED, USAGE, tell};
 use crate::running::{run, settings_at};
@@ -17,11 +19,14 @@ use std::rt::{Clock, Files};
 /// Shows the frame of the input, with the words of the settings at a path. The settings are read before the input.
 fn run_show<R: AllocGlobal + Files, I: Read, O: Write, E: Write>(
     rt: &R,
-    (side, level, path): (Side, Level, Option<&str>),
+    asked: (Side, Level, Option<&str>),
     input: &mut I,
     output: &mut O,
     errors: &mut E,
-) -> io::Result<u8> {
+) -> io::Result<u8>
+    ensures { IfOk result (λ status. status ≤ NOT_RELAYED) }
+{
+    let (side, level, path) = asked;
     let shown = match path {
         None => show(rt.alloc(), side, level, input, output),
         Some(path) => match settings_at(rt, path) {
@@ -42,7 +47,9 @@ fn run_check<R: AllocGlobal, I: Read, O: Write, E: Write>(
     input: &mut I,
     output: &mut O,
     errors: &mut E,
-) -> io::Result<u8> {
+) -> io::Result<u8>
+    ensures { IfOk result (λ status. status ≤ NOT_RELAYED) }
+{
     match check_log(rt.alloc(), input, output) {
         Ok(counts) if counts.prn == 0 && counts.huh == 0 && counts.faults == 0 => Ok(CLEAN),
         Ok(_) => Ok(NOT_RELAYED),
@@ -51,7 +58,9 @@ fn run_check<R: AllocGlobal, I: Read, O: Write, E: Write>(
 }
 
 /// Prints the help that was asked for, or tells what is wrong with the words.
-fn explain<O: Write, E: Write>(why: Error, output: &mut O, errors: &mut E) -> io::Result<u8> {
+fn explain<O: Write, E: Write>(why: Error, output: &mut O, errors: &mut E) -> io::Result<u8>
+    ensures { IfOk result (λ status. status ≤ NOT_RELAYED) }
+{
     if why.kind() == ErrorKind::OutOfMemory {
         return tell(errors, "out of memory", FAULT);
     }
@@ -72,7 +81,9 @@ fn carry_out<R: AllocGlobal + Files + Clock + Net, I: Read, O: Write, E: Write>(
     input: &mut I,
     output: &mut O,
     errors: &mut E,
-) -> io::Result<u8> {
+) -> io::Result<u8>
+    ensures { IfOk result (λ status. status ≤ NOT_RELAYED) }
+{
     match order {
         Order::Show(side, level, path) => run_show(rt, (side, level, path), input, output, errors),
         Order::Check => run_check(rt, input, output, errors),
@@ -82,15 +93,17 @@ fn carry_out<R: AllocGlobal + Files + Clock + Net, I: Read, O: Write, E: Write>(
     }
 }
 
-/// Does what the words ask for, and gives the exit status. The first word is the program's name.
-/// Only a fault that could not be told is an error.
+/// Does what the words ask for, and gives the exit status, one of the four of `faults`. The first word is the program's
+/// name. Only a fault that could not be told is an error.
 pub fn answer<R: AllocGlobal + Files + Clock + Net, S: AsStr, I: Read, O: Write, E: Write>(
     rt: &R,
     words: &[S],
     input: &mut I,
     output: &mut O,
     errors: &mut E,
-) -> io::Result<u8> {
+) -> io::Result<u8>
+    ensures { IfOk result (λ status. status ≤ NOT_RELAYED) }
+{
     let Ok(command) = command(rt.alloc()) else {
         return tell(errors, "out of memory", FAULT);
     };

@@ -1,5 +1,7 @@
 //! `run`: the settings of a file, and the gateway at work until all its bots were served.
 
+ghost use Rattle.std.specs.Prelude.{◌≤◌, IfOk};
+
 use crate::faults::{CLEAN, FAULT, tell};
 use daide_gate::settings::{Settings, SettingsError, read_settings};
 use daide_sockets::gateway::{GatewayFault, serve_at};
@@ -16,10 +18,13 @@ pub enum RunFault {
     /// The file can't be read, is too long, or is not UTF-8.
     #[error("settings could not be read")]
     Unreadable,
+    /// The text of the file gives no settings.
     #[error("{0}")]
     Settings(SettingsError),
+    /// The memory of the file's text was refused.
     #[error("out of memory")]
     Memory,
+    /// The gateway of the settings doesn't begin, or ends early.
     #[error("{0}")]
     Gateway(GatewayFault),
 }
@@ -34,12 +39,15 @@ fn text_at<R: AllocGlobal + Files>(rt: &R, path: &str) -> Result<String, RunFaul
 }
 
 /// The settings of a file.
-pub fn settings_at<R: AllocGlobal + Files>(rt: &R, path: &str) -> Result<Settings, RunFault> {
+pub(crate) fn settings_at<R: AllocGlobal + Files>(
+    rt: &R,
+    path: &str,
+) -> Result<Settings, RunFault> {
     let text = text_at(rt, path)?;
     read_settings(rt.alloc(), text.as_str()).map_err(RunFault::Settings)
 }
 
-/// Serves with the settings of a text.
+/// Serves with the settings of a text. Whom it serves is the system's to say, of which no contract speaks.
 pub fn run_text<R: AllocGlobal + Clock + Net, O: Write, E: Write>(
     rt: &R,
     text: &str,
@@ -52,12 +60,14 @@ pub fn run_text<R: AllocGlobal + Clock + Net, O: Write, E: Write>(
 
 /// Reads the settings of a file, listens, says so, and serves until all bots were served. Only a fault that could
 /// not be told is an error.
-pub fn run<R: AllocGlobal + Files + Clock + Net, O: Write, E: Write>(
+pub(crate) fn run<R: AllocGlobal + Files + Clock + Net, O: Write, E: Write>(
     rt: &R,
     path: &str,
     output: &mut O,
     errors: &mut E,
-) -> io::Result<u8> {
+) -> io::Result<u8>
+    ensures { IfOk result (λ status. status ≤ FAULT) }
+{
     let ended = match text_at(rt, path) {
         Ok(text) => run_text(rt, text.as_str(), output, errors),
         Err(fault) => Err(fault),

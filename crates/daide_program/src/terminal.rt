@@ -12,7 +12,7 @@ pub struct Asking<'a, R: Eprint, I: Read + IsTerminal> {
 }
 
 impl<'a, R: Eprint, I: Read + IsTerminal> Asking<'a, R, I> {
-    /// An input of which nothing was read yet.
+    /// An input of which nothing was read yet. What a terminal gives no contract says.
     pub fn new(rt: &'a R, input: I) -> Asking<'a, R, I> {
         Asking {
             rt,
