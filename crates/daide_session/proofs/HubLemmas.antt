@@ -58,6 +58,32 @@ module _ {X P : Type 0} (v : X → Gateway × P) where
       (record { limits = limits; max = max; places = map v (set items i x) }) (with_places h (set h.places i (v x)))) e
       (ap (λ (ps : List (Gateway × P)). record { limits = limits; max = max; places = ps }) (map-set v items i x))
 
+  -- how many places there are
+  pub places_counted : (limits : Limits) (max : ℕ) (items : List X) (now : Hosting P) →
+      ◌≡◌ {A = Hosting P} (record { limits = limits; max = max; places = map v items }) now →
+      length items ≡ length now.places
+  places_counted limits max items now e =
+      sym (length-map items v) ∙ ap (λ (h : Hosting P). length h.places) e
+
+  -- there is room for one more
+  pub room_here : (limits : Limits) (max : ℕ) (items : List X) (now : Hosting P) →
+      ◌≡◌ {A = Hosting P} (record { limits = limits; max = max; places = map v items }) now →
+      length items < max → length now.places < now.max
+  room_here limits max items now e lt =
+      subst (λ (h : Hosting P). length h.places < h.max) e (rw (length-map items v) lt)
+
+  -- one place added
+  pub place_added : (limits : Limits) (max : ℕ) (items : List X) (x : X) (now : Hosting P) →
+      ◌≡◌ {A = Hosting P} (record { limits = limits; max = max; places = map v items }) now →
+      ◌≡◌ {A = Hosting P} (record { limits = limits; max = max; places = map v (items ++ x ∷ []) })
+      (with_places now (now.places ++ v x ∷ []))
+  place_added limits max items x now e =
+      subst (λ (h : Hosting P). ◌≡◌ {A = Hosting P}
+      (record { limits = limits; max = max; places = map v (items ++ x ∷ []) })
+      (with_places h (h.places ++ v x ∷ []))) e
+      (ap (λ (ps : List (Gateway × P)). record { limits = limits; max = max; places = ps })
+      (map-append v items (x ∷ [])))
+
   map-remove : (items : List X) (i : ℕ) → map v (remove items i) ≡ remove (map v items) i
   map-remove items i =
       map-append v (take i items) (drop (suc i) items)

@@ -6,6 +6,13 @@ use Rattle.daide_session.specs.Session.{limits_with}
 use Rattle.daide_session.proofs.HubLemmas.{place_inside, same_read, place_read, place_removed, all_removed}
 use Rattle.daide_session.proofs.hub.Hub.remove_over.Goals as goal
 
+pub index-requires : goal.index-requires
+index-requires g c =
+    let s = c.self.inside in
+    let inside = place_inside (λ p. (p.session, p.ports)) (limits_with s.config (words_of s.words)) s.max s.places.items
+    c.args.i c.args.self.now c.self.view_is c.requires in
+    omega (arith, inside, s.places.ok.0)
+
 pub remove-ports-requires : goal.remove-ports-requires
 remove-ports-requires g c =
     let s = c.self.inside in

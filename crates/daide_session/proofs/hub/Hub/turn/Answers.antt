@@ -1,8 +1,16 @@
+use Rattle.std.proofs.Common.{arith}
 use Rattle.std.specs.Prelude.{vec_capacity}
 use Rattle.daide_words.specs.Words.{words_of}
 use Rattle.daide_session.specs.Session.{limits_with}
 use Rattle.daide_session.proofs.HubLemmas.{place_inside, place_read, place_set, hosting_set}
 use Rattle.daide_session.proofs.hub.Hub.turn.Goals as goal
+
+pub index_mut-place-requires : goal.index_mut-place-requires
+index_mut-place-requires g c =
+    let s = c.self.inside in
+    let inside = place_inside (λ p. (p.session, p.ports)) (limits_with s.config (words_of s.words)) s.max s.places.items
+    c.args.i c.args.self.now c.self.view_is c.requires in
+    omega (arith, inside, s.places.ok.0)
 
 pub invariant_of-self : goal.invariant_of-self
 invariant_of-self g c =
