@@ -12,7 +12,7 @@ use Rattle.daide_machine.specs.declared.note.Note.{Note}
 use Rattle.daide_machine.specs.Events.{Event, Ends, Pops, bytes_come, other}
 use Rattle.daide_machine.specs.Machine.{Sent, Effect, Runs, is_over}
 use Rattle.daide_machine.specs.Wires.{Gateway, waiting, sent_to, bytes_of, without}
-use Rattle.daide_machine.specs.Wires.{Goes, Lost, Wrote, IsFrontOf}
+use Rattle.daide_machine.specs.Wires.{Goes, Lost, Wrote, IsFrontOf, no_frame}
 use Rattle.daide_machine.proofs.WireLemmas.{bytes_of-append}
 use Rattle.daide_session.specs.declared.ports.Pull.TheVariants.{Got, Idle, Ended}
 use Rattle.daide_session.specs.declared.ports.Put.TheVariants.{Took, Failed}
@@ -167,3 +167,10 @@ pub none_left : (xs : List ℕ) (frames : List Sent) (b : Bool) → b ≡ eqb (l
 none_left [] frames b e f h = nothing_waits frames h
 none_left (x ∷ xs) frames b e f h =
     absurd (let x : false ≡ true = sym (apart (length (x ∷ xs)) (omega arith)) ∙ sym e ∙ f in cc)
+
+-- a front tells by its length whether nothing waits
+pub none_waits : (xs : List ℕ) (frames : List Sent) (b : Bool) → b ≡ eqb (length xs) 0 → IsFrontOf xs frames →
+    b ≡ no_frame frames
+none_waits xs [] b e f = e ∙ ap (λ (ys : List ℕ). eqb (length ys) 0) f
+none_waits [] (frame ∷ frames) b e f = absurd (omega (arith, f.0))
+none_waits (x ∷ xs) (frame ∷ frames) b e f = e ∙ apart (length (x ∷ xs)) (omega arith)

@@ -10,7 +10,7 @@ use Rattle.daide_machine.proofs.OneRun.{one_run, runs_join}
 use Rattle.daide_machine.proofs.PieceRuns.{over_stays}
 use Rattle.daide_machine.proofs.WireLemmas.{sent_to-append, bytes_of-append}
 use Rattle.daide_session.specs.Record.{PortAnswer, event_of, events_of, took, taken, fails, has_failed, Moved, Relays}
-use Rattle.daide_session.specs.Record.{Carries}
+use Rattle.daide_session.specs.Record.{Carries, Tells}
 use Rattle.daide_session.specs.Turn.{Then}
 
 -- ---- lists along an append
@@ -135,3 +135,16 @@ pub carries_weaker : (K L : Gateway → List PortAnswer → Gateway → Type 0) 
     Carries K a s b t → Carries L a s b t
 carries_weaker K L a s b None f h = tt
 carries_weaker K L a s b (Some after) f h = (h.0, h.1, (h.2.0, h.2.1, f h.2.0 h.2.2))
+
+-- the ports were asked nothing
+pub carries_nothing : (K : Gateway → List PortAnswer → Gateway → Type 0) (a : Gateway) (s : Option (List PortAnswer))
+    (b : Gateway) → K a [] b → Carries K a s b s
+carries_nothing K a None b h = tt
+carries_nothing K a (Some xs) b h = (xs, refl, ([], sym (append-nil xs), h))
+
+-- the ports answered once
+pub carries_one : (K : Gateway → List PortAnswer → Gateway → Type 0) (a : Gateway) (s : Option (List PortAnswer))
+    (b : Gateway) (t : Option (List PortAnswer)) (answer : PortAnswer) → Tells s answer t → K a (answer ∷ []) b →
+    Carries K a s b t
+carries_one K a s b None answer told h = tt
+carries_one K a s b (Some after) answer told h = (told.0, told.1, (answer ∷ [], told.2, h))

@@ -1,9 +1,11 @@
 -- A turn is a stretch by which the session relays.
-use Rattle.std.proofs.Common.{◌≡◌, ℕ, Bool, true, false, List, [], ◌∷◌, length, sym, subst}
+use Rattle.std.proofs.Common.{◌≡◌, ℕ, ◌<◌, ◌≤◌, Bool, true, false, eqb, List, [], ◌∷◌, length, refl, sym, ap, ◌∙◌}
+use Rattle.std.proofs.Common.{subst, arith, length-append, inl, inr}
 use Rattle.std.proofs.Common.{⊎_elim}
 use Rattle.daide_frame.specs.declared.side.Side.{Side}
 use Rattle.daide_frame.specs.declared.side.Side.TheVariants.{Bot, Server}
-use Rattle.daide_machine.specs.Wires.{Gateway, waiting, front_of, IsFrontOf}
+use Rattle.daide_machine.specs.Wires.{Gateway, waiting, front_of, first_len, room_of, IsFrontOf}
+use Rattle.daide_machine.specs.Machine.{Sent}
 use Rattle.daide_session.specs.declared.ports.Pull.{Pull}
 use Rattle.daide_session.specs.declared.ports.Pull.TheVariants.{Got, Idle, Ended}
 use Rattle.daide_session.specs.declared.ports.Put.{Put}
@@ -13,7 +15,7 @@ use Rattle.daide_session.specs.Turn.{Then, Hears, AsksClock, Hands, HasNone, Han
 use Rattle.daide_session.specs.Turn.{FillsRoom, Pulls, Turn}
 use Rattle.daide_session.proofs.Stretches.{relays_append, relays_nil}
 use Rattle.daide_session.proofs.PortAnswers.{clock_pops, clock_runs, got_bytes, was_idle, has_ended}
-use Rattle.daide_session.proofs.PortAnswers.{took_bytes, put_failed}
+use Rattle.daide_session.proofs.PortAnswers.{took_bytes, put_failed, filled, none_left}
 
 -- nothing was asked, and nothing changed
 unmoved : (a b : Gateway) (xs : List PortAnswer) → xs ≡ [] → b ≡ a → Relays a xs b
@@ -68,3 +70,34 @@ turn_relays =
     (then_relays (Puts Bot) (Then (Puts Server) (Then (Pulls Bot) (Pulls Server))) (puts_relay Bot)
     (then_relays (Puts Server) (Then (Pulls Bot) (Pulls Server)) (puts_relay Server)
     (then_relays (Pulls Bot) (Pulls Server) (pulls_relay Bot) (pulls_relay Server))))
+
+-- ---- what a turn's steps make
+
+-- nothing waits, and no put is made
+pub no_put : (side : Side) (front : List ℕ) (a : Gateway) (empty : Bool) → IsFrontOf front (waiting a side) →
+    empty ≡ eqb (length front) 0 → empty ≡ true → Puts side a [] a
+no_put side front a empty is e f = inl (none_left front (waiting a side) empty e f is, refl, refl)
+
+-- a put of the whole front
+pub whole_put : (side : Side) (put : Put) (front : List ℕ) (a b : Gateway) (empty : Bool) → front ≡ front_of a side →
+    IsFrontOf front (waiting a side) → empty ≡ eqb (length front) 0 → empty ≡ false →
+    IsPutWithin put (length front) → Hands side put a b → Puts side a (Offered side front put ∷ []) b
+whole_put side put front a b empty same is e f within hands = inr (record {
+  put = put;
+  filled = subst (λ (xs : List ℕ). 0 < length xs) same (filled front empty e f);
+  front = subst (λ (xs : List ℕ). IsFrontOf xs (waiting a side)) same is;
+  asked = ap (λ (xs : List ℕ). Offered side xs put ∷ []) same;
+  within = subst (λ (xs : List ℕ). IsPutWithin put (length xs)) same within;
+  hands = hands;
+})
+
+-- a front is within the first frame
+pub front_short : (xs : List ℕ) (frames : List Sent) → IsFrontOf xs frames → length xs ≤ first_len frames
+front_short xs [] f = let none = ap length f in omega (arith, none)
+front_short xs (frame ∷ frames) f =
+    let same = ap length f.1.1 in
+    omega (arith, same, length-append xs f.1.0)
+
+-- there is no room, and no pull is made
+pub no_pull : (side : Side) (room : ℕ) (a : Gateway) → room ≡ room_of a side → room ≡ 0 → Pulls side a [] a
+no_pull side room a same none = inl (sym same ∙ none, refl, refl)
