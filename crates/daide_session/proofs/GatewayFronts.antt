@@ -4,7 +4,7 @@ use Rattle.daide_frame.specs.declared.side.Side.{Side}
 use Rattle.daide_frame.specs.declared.side.Side.TheVariants.{Bot, Server}
 use Rattle.daide_machine.specs.Events.{other}
 use Rattle.daide_machine.specs.Machine.{Sent}
-use Rattle.daide_machine.specs.Wires.{frames_to}
+use Rattle.daide_machine.specs.Wires.{frames_to, front_of}
 use Rattle.daide_traffic.specs.Both.{Both, at, put}
 use Rattle.daide_traffic.specs.Fronts.{first_bytes, IsFrontKept, KeepsFront, KeepsFronts}
 use Rattle.daide_traffic.specs.Traffic.{Traffic, posted}
@@ -39,6 +39,10 @@ fronts_kept_on old mid new frame frames post more a b = λ wire.
     (ap (λ (w : Both (List Sent)). at w wire) post ∙ posted_at old.waiting frame wire) (more wire) (a wire) (b wire)
 
 -- ---- a session
+
+pub front_at : (t : Traffic) (s : Stage) (side : Side) → front_of (gateway_of t s) side ≡ at t.fronts side
+front_at t s Bot = refl
+front_at t s Server = refl
 
 pub fronts_seen : (t u : Traffic) (s r : Stage) → KeepsFronts t u → (side : Side) →
     KeepsFront (gateway_of t s) side (gateway_of u r)

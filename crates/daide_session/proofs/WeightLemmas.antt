@@ -94,3 +94,8 @@ steps_few t s side steps few =
     subst (λ (h : Holding).
     steps ≤ 4 * length (tokens_held t.cap h.held) + cond (is_awaited (waiting (gateway_of t s)) side) 4 0)
     (sym (holding_at t s side)) few
+
+-- what holds of each side
+pub on_both : (P : Side → Type 0) → P Bot → P Server → (side : Side) → P side
+on_both P bot server Bot = bot
+on_both P bot server Server = server

@@ -1,4 +1,5 @@
-use Rattle.std.proofs.Common.{[], ◌∷◌, refl, subst}
+use Rattle.std.proofs.Common.{[], ◌∷◌, refl, ap, subst}
+use Rattle.std.specs.Prelude.{not}
 use Rattle.daide_machine.specs.declared.note.Note.TheVariants as Notes
 use Rattle.daide_machine.specs.Events.{Ends}
 use Rattle.daide_machine.specs.Wires.{Gateway, Goes}
@@ -24,3 +25,6 @@ pub returns-clause-goes : goal.returns-clause-goes
 returns-clause-goes g c =
     subst (λ (v : Gateway). Goes v (Ends c.args.side ∷ []) Notes.Nothing
     (gateway_of c.stop.new.traffic c.stop.new.stage)) c.self.view_is (went g c)
+
+pub returns-clause-answer : goal.returns-clause-answer
+returns-clause-answer g c = ap not c.is_over-live.ensures

@@ -1,8 +1,15 @@
-use Rattle.std.proofs.Common.{◌≤◌, subst}
-use Rattle.daide_machine.specs.Wires.{Gateway}
+use Rattle.std.proofs.Common.{◌≤◌, sym, ap, ◌∙◌, subst}
+use Rattle.daide_machine.specs.Wires.{Gateway, holding, steps_of}
 use Rattle.daide_machine.specs.Weight.{steps_bound}
+use Rattle.daide_session.proofs.ReactionLemmas.{holding_at}
 use Rattle.daide_session.proofs.WeightLemmas.{steps_few}
 use Rattle.daide_session.proofs.session.Session.steps.Goals as goal
+
+pub returns-clause-value : goal.returns-clause-value
+returns-clause-value g c =
+    c.steps.ensures.value
+    ∙ (ap steps_of (sym (holding_at c.self.inside.traffic c.self.inside.stage c.args.side))
+    ∙ ap (λ (v : Gateway). steps_of (holding v c.args.side)) c.self.view_is)
 
 pub returns-clause-steps : goal.returns-clause-steps
 returns-clause-steps g c =

@@ -1,16 +1,24 @@
-use Rattle.std.proofs.Common.{ap, ◌∙◌, subst}
+use Rattle.std.proofs.Common.{◌≤◌, List, sym, ap, ◌∙◌, subst}
 use Rattle.daide_frame.specs.declared.side.Side.TheVariants.{Bot, Server}
 use Rattle.daide_machine.specs.Events.{other}
-use Rattle.daide_machine.specs.Wires.{Gateway, Wrote, without}
+use Rattle.daide_machine.specs.Machine.{Sent}
+use Rattle.daide_machine.specs.Wires.{Gateway, Wrote, waiting, first_len, without}
 use Rattle.daide_traffic.specs.Both.{at}
 use Rattle.daide_traffic.specs.Fronts.{KeepsFront}
 use Rattle.daide_session.specs.Session.{gateway_of}
 use Rattle.daide_traffic.proofs.FrontsKept.{fronts_stay}
 use Rattle.daide_session.proofs.GatewayFronts.{other_front}
 use Rattle.daide_session.proofs.WrittenLemmas.{wrote_of}
+use Rattle.daide_session.proofs.MovesLemmas.{waiting_at}
 use Rattle.daide_session.proofs.SessionLemmas.{standing_wrote}
 use Rattle.daide_session.proofs.session.Session.wrote.Given.{Over}
 use Rattle.daide_session.proofs.session.Session.wrote.Goals as goal
+
+pub wrote-requires : goal.wrote-requires
+wrote-requires g c =
+    subst (λ (xs : List Sent). c.args.n ≤ first_len xs)
+    (waiting_at c.self.inside.traffic c.self.inside.stage c.args.side)
+    (subst (λ (v : Gateway). c.args.n ≤ first_len (waiting v c.args.side)) (sym c.self.view_is) c.requires)
 
 done : (g : Over) (c : goal.After-wrote g) →
     Wrote (gateway_of c.self.inside.traffic c.self.inside.stage) c.args.side c.args.n
