@@ -6,16 +6,25 @@ use Rattle.daide_frame.specs.declared.side.Side.{Side}
 use Rattle.daide_frame.specs.declared.side.Side.TheVariants.{Bot, Server}
 use Rattle.daide_frame.specs.declared.head.Head.{Head}
 use Rattle.daide_frame.specs.declared.code.Code.{Code}
+use Rattle.daide_frame.specs.declared.head.Kind.{Kind}
+use Rattle.daide_frame.specs.declared.head.Kind.TheVariants.{Im, Rm, Dm, Fm, Em}
+use Rattle.daide_token.specs.Token.{tokens_of}
 use Rattle.daide_frame.specs.declared.cutter.Step.TheVariants.{Bodied}
 use Rattle.daide_frame.specs.Frames.{Begun, Whole, told, head_in}
+use Rattle.daide_frame.specs.Head.{is_im}
 use Rattle.daide_grammar.specs.declared.level.Level.{Level}
+use Rattle.daide_grammar.specs.declared.level.Level.TheVariants.{L0}
+use Rattle.daide_machine.specs.declared.note.Deed.TheVariants.{Dropped}
+use Rattle.daide_machine.specs.declared.phase.Phase.{Phase}
 use Rattle.daide_reader.specs.declared.verdict.Verdict.{Verdict}
+use Rattle.daide_reader.specs.declared.verdict.Verdict.TheVariants.{Relay}
+use Rattle.daide_reader.proofs.ReadingLemmas.{raised_none}
 use Rattle.daide_reader.specs.Reading.{IsRaised}
 use Rattle.daide_machine.specs.declared.note.Note.{Note}
 use Rattle.daide_machine.specs.declared.note.Note.TheVariants as Notes
 use Rattle.daide_machine.specs.Events.{other}
 use Rattle.daide_machine.specs.Machine.{Sent, Effect, Outcome, SessionState, Coming, with_noted}
-use Rattle.daide_machine.specs.Machine.{is_over}
+use Rattle.daide_machine.specs.Machine.{is_over, is_dm, is_sent, level_after, phase_after, in_phase, with_pending}
 use Rattle.daide_machine.specs.Machine.{untimely, whole}
 use Rattle.daide_machine.specs.Machine.{items_outcome, IsRight}
 use Rattle.daide_machine.specs.Machine.{question_of}
@@ -24,7 +33,7 @@ use Rattle.daide_machine.specs.Wires.{is_dm_head}
 use Rattle.daide_session.specs.declared.stage.Stage.{Stage}
 use Rattle.daide_traffic.specs.Both.{at}
 use Rattle.daide_traffic.specs.Inbound.{Rules}
-use Rattle.daide_traffic.specs.Traffic.{Traffic, Arrival, Keeps}
+use Rattle.daide_traffic.specs.Traffic.{Traffic, Arrival, IsCleared, Keeps, pending}
 use Rattle.daide_session.specs.Session.{state_of, gateway_of}
 use Rattle.daide_session.specs.Reaction.{IsUnread, Reacts, IsBegun, note_by}
 use Rattle.daide_session.proofs.MovesLemmas.{coming_at, waits_same}
@@ -72,6 +81,37 @@ noted_state : (t u : Traffic) (s : Stage) (side : Side) → Keeps side t u →
     state_of u s ≡ with_noted (state_of t s) side s.level
 noted_state t u s Bot keeps e = rw (keeps.cap, keeps.rules, keeps.other_side, e) refl
 noted_state t u s Server keeps e = rw (keeps.cap, keeps.rules, keeps.other_side, e) refl
+
+-- ---- a header
+
+-- a header that is timely, of whose body nothing came
+pub begun_alone : (t u : Traffic) (s : Stage) (side : Side) (head : Head) → is_over s.phase ≡ false →
+    untimely s.phase side head.kind ≡ None → drop 4 (pending t side) ≡ [] →
+    (at t.sides side).holding.held ≡ pending t side → IsBegun side t s u s →
+    Reacts (gateway_of t s) side (Begun head ∷ []) Notes.Nothing (gateway_of u s)
+begun_alone t u s side head live timely bodiless tied b = record {
+  verdict = Relay;
+  right = refl;
+  moves = record {
+    state = rw (live, timely) (noted_state t u s side b.keeps b.started.coming);
+    sent = λ wire. rw (live, timely)
+        (waits_same t u s s wire b.waiting ∙ sym (append-nil (waiting (gateway_of t s) wire)));
+  };
+  note = rw (live, timely) refl;
+  held = rw (holding_at u s side, holding_at t s side) b.started.held;
+  asks = record {
+    base = inr (
+      inl (ap (λ (h : Holding). drop 4 h.held) (holding_at t s side) ∙ (ap (drop 4) tied ∙ bodiless)),
+      rw (holding_at u s side, holding_at t s side) b.started.base,
+    );
+    raised = raised_none _ _ total;
+    no_message = λ none. total;
+  };
+  other_side = holding_same t u s s (other side) b.keeps.other_side;
+}
+  where
+    total : (holding (gateway_of u s) side).total ≡ (holding (gateway_of t s) side).total
+    total = rw (holding_at u s side, holding_at t s side) b.started.total
 
 -- ---- a header whose body is empty
 
@@ -140,6 +180,69 @@ begun_and_empty t u v s r q side head told live timely bodiless b h = record {
         ≡ is_dm_head (head_in t.cap (holding (gateway_of t s) side).held)
     head_same = ap (λ (n : ℕ). is_dm_head (head_in n (holding (gateway_of u r) side).held)) b.keeps.cap
         ∙ ap (λ (x : List ℕ). is_dm_head (head_in t.cap x)) held
+
+-- ---- a whole frame that is dropped
+
+-- only an FM or EM may not go out
+record IsLast (kind : Kind) (top : Level) (side : Side) (tokens : List ℕ) (level : Level) : Type 0 where
+  not_dm : is_dm kind ≡ false
+  not_im : is_im kind ≡ false
+  ends : level_after top kind side Relay tokens level ≡ L0
+
+last_of : (phase : Phase) (kind : Kind) (to : Side) (top : Level) (side : Side) (tokens : List ℕ) (level : Level) →
+    is_sent phase kind to ≡ false → IsLast kind top side tokens level
+last_of phase Im to top side tokens level e = absurd (cc)
+last_of phase Rm to top side tokens level e = absurd (cc)
+last_of phase Dm to top side tokens level e = absurd (cc)
+last_of phase Fm to top side tokens level e = record { not_dm = refl; not_im = refl; ends = refl }
+last_of phase Em to top side tokens level e = record { not_dm = refl; not_im = refl; ends = refl }
+
+cleared_state : (t u : Traffic) (s : Stage) (side : Side) (phase : Phase) → Keeps side t u →
+    (at u.sides side).coming ≡ record { pending = []; noted = (at t.sides side).coming.noted } →
+    state_of u (record { top_level = s.top_level; phase = phase; level = L0 })
+    ≡ in_phase phase L0 (with_pending (state_of t s) side [])
+cleared_state t u s Bot phase keeps e = rw (keeps.cap, keeps.rules, keeps.other_side, e) refl
+cleared_state t u s Server phase keeps e = rw (keeps.cap, keeps.rules, keeps.other_side, e) refl
+
+pub dropped_whole : (t u : Traffic) (s : Stage) (side : Side) (head : Head) (body : List ℕ) (phase : Phase) →
+    is_over s.phase ≡ false → is_sent s.phase head.kind (other side) ≡ false →
+    (at t.sides side).holding.held ≡ pending t side → head_in t.cap (pending t side) ≡ Some head →
+    phase ≡ phase_after head.kind s.phase → Keeps side t u → u.waiting ≡ t.waiting →
+    IsCleared (at t.sides side) (at u.sides side) →
+    Reacts (gateway_of t s) side (Whole head body ∷ []) (Notes.Frame head Dropped)
+    (gateway_of u (record { top_level = s.top_level; phase = phase; level = L0 }))
+dropped_whole t u s side head body phase live unsent tied head_is now keeps waits cleared = record {
+  verdict = Relay;
+  right = rw last.not_dm refl;
+  moves = record {
+    state = rw (live, last.not_im, last.ends) (cleared_state t u s side phase keeps cleared.coming
+        ∙ ap (λ (p : Phase). in_phase p L0 (with_pending (state_of t s) side [])) now);
+    sent = λ wire. rw (live, last.not_im, unsent)
+        (waits_same t u s later wire waits ∙ sym (append-nil (waiting (gateway_of t s) wire)));
+  };
+  note = rw (live, last.not_im, unsent) refl;
+  held = ap (λ (h : Holding). h.held) (holding_at u later side) ∙ cleared.held;
+  asks = record {
+    base = inr (
+      inr (ap (λ (h : Holding). is_dm_head (head_in t.cap h.held)) (holding_at t s side)
+          ∙ (ap (λ (b : List ℕ). is_dm_head (head_in t.cap b)) tied
+          ∙ (ap is_dm_head head_is ∙ last.not_dm))),
+      rw (holding_at u later side, holding_at t s side) cleared.base,
+    );
+    raised = raised_none _ _ total;
+    no_message = λ none. total;
+  };
+  other_side = holding_same t u s later (other side) keeps.other_side;
+}
+  where
+    last : IsLast head.kind s.top_level side (tokens_of body) s.level
+    last = last_of s.phase head.kind (other side) s.top_level side (tokens_of body) s.level unsent
+
+    later : Stage
+    later = record { top_level = s.top_level; phase = phase; level = L0 }
+
+    total : (holding (gateway_of u later) side).total ≡ (holding (gateway_of t s) side).total
+    total = rw (holding_at u later side, holding_at t s side) cleared.total
 
 -- ---- the items that a step tells
 
