@@ -12,5 +12,6 @@ pub mod PortAnswers
 pub mod TurnLemmas
 pub mod Standing
 pub mod HubLemmas
+pub mod StoredLemmas
 pub mod LimitFacts
 pub mod ApartLemmas
