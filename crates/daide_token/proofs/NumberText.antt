@@ -38,7 +38,7 @@ number_place t n e = rw (not_quotable t (number_small t n e)) refl
 
 -- A number is written behind what was gathered
 
-appends_on : (a b c : Option (List ℕ)) (xs ys : List ℕ) → Appends a b xs → Appends b c ys → Appends a c (xs ++ ys)
+pub appends_on : (a b c : Option (List ℕ)) (xs ys : List ℕ) → Appends a b xs → Appends b c ys → Appends a c (xs ++ ys)
 appends_on None b c xs ys h k = tt
 appends_on (Some a) None c xs ys h k = absurd h
 appends_on (Some a) (Some b) None xs ys h k = absurd k
@@ -96,3 +96,29 @@ number_on added a b c final p next held text left rest t n two same number word 
     subst (λ (u : List ℕ). Appends a final (held ++ u)) (sym all)
     (before (said ++ rest_of_text added (place_after t) ts)
     (subst (λ (u : List ℕ). Appends b final u) (append_assoc text said (rest_of_text added (place_after t) ts)) both))
+
+-- A token that is no number is gathered
+
+pub word_on : (added : List Named) (a b final : Option (List ℕ)) (p next : Place) (held text left rest : List ℕ)
+    (t : ℕ) → 2 ≤ length rest → t ≡ get_or rest 0 0 * 256 + get_or rest 1 0 → next ≡ place_after t →
+    left ≡ text ++ token_text added p t →
+    ((more : List ℕ) → Appends b final (text ++ more) → Appends a final (held ++ more)) →
+    Appends b final (left ++ rest_of_text added next (tokens_of (take (length rest - 2) (drop 2 rest)))) →
+    Appends a final (held ++ rest_of_text added p (tokens_of rest))
+word_on added a b final p next held text left rest t two same after gathered before h =
+    let ts = tokens_of (take (length rest - 2) (drop 2 rest)) in
+    let said = token_text added p t in
+    let all : rest_of_text added p (tokens_of rest) ≡ said ++ rest_of_text added (place_after t) ts =
+    ap (rest_of_text added p) (first_token rest two ∙ ap (λ (u : ℕ). u ∷ ts) (sym same)) ∙ first_text added p t ts in
+    subst (λ (u : List ℕ). Appends a final (held ++ u)) (sym all)
+    (before (said ++ rest_of_text added (place_after t) ts)
+    (subst (λ (u : List ℕ). Appends b final u) (append_assoc text said (rest_of_text added (place_after t) ts))
+    (subst (λ (q : Place). Appends b final ((text ++ said) ++ rest_of_text added q ts)) after
+    (subst (λ (u : List ℕ). Appends b final (u ++ rest_of_text added next ts)) gathered h))))
+
+-- What is left at the end is no token
+
+pub none_left : (rest : List ℕ) → length rest < 2 → tokens_of rest ≡ []
+none_left [] less = refl
+none_left (x ∷ []) less = refl
+none_left (x ∷ y ∷ rest) less = absurd (omega arith)

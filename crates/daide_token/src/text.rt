@@ -1,10 +1,12 @@
 //! The text form of tokens, in which a person reads them.
 
-ghost use Rattle.std.specs.Prelude.{IfOk, OnOk, None, [], ◌++◌, length, ◌∷◌, ◌%◌, ◌<◌, ◌≤◌, ◌≡◌};
+ghost use Rattle.std.specs.Prelude.{List, IfOk, OnOk, None, [], ◌++◌, length, ◌∷◌, ◌%◌, ◌<◌, ◌≤◌, ◌≡◌};
 ghost use Rattle.std.specs.Io.KnownBytes.{Appends};
 ghost use Rattle.std.specs.Prelude.{unwrap_or};
+ghost use Rattle.daide_token.specs.Names.{Named};
 ghost use Rattle.daide_token.specs.Text.{added_name_of, hex_digit_of, hex_text, is_quotable, text_of, text_with, word_with};
-ghost use Rattle.daide_token.specs.TextSteps.{before_item, number_text, place_after, token_text};
+ghost use Rattle.daide_token.specs.TextSteps.{before_character, before_item, number_text, place_after, rest_of_text};
+ghost use Rattle.daide_token.specs.TextSteps.{token_text};
 ghost use Rattle.daide_token.specs.Token.{number_of, tokens_of};
 ghost use Rattle.daide_token.specs.declared.text.Place.TheVariants.{Word};
 
@@ -16,8 +18,11 @@ use std::io::Write;
 /// From how many bytes on the text that was gathered is written before more comes.
 const MOST_GATHERED: usize = 240;
 
+/// The category of characters.
+const CHARACTERS: u8 = 0x4B;
+
 /// What was written last.
-#[derive(Clone, Copy, Debug, PartialEq, Eq)]
+#[derive(Clone, Copy, Debug)]
 enum Place {
     /// Nothing yet.
     Start,
@@ -64,9 +69,7 @@ pub fn write_text_with<W: Write>(
         };
         rest = others;
     }
-    if place == Place::Quote {
-        text.push(b'\'');
-    }
+    end_last(place, &mut text);
     text.write_out(writer)
 }
 
@@ -99,7 +102,7 @@ fn put_token(added: &[(Token, [u8; 3])], place: Place, token: Token, text: &mut 
     ensures room { length text.new ≤ 250 }
 {
     let [category, _code] = token.to_be();
-    if category == 0x4B {
+    if category == CHARACTERS {
         return put_character(added, place, token, text);
     }
     put_word(added, place, token, text);
@@ -123,13 +126,24 @@ fn put_character(
         put_word(added, place, token, text);
         return Place::Word;
     }
-    if place != Place::Quote {
-        begin_item(place, text);
-        text.push(b'\'');
-    }
+    begin_character(place, text);
     let [_category, character] = token.to_be();
     text.push(character);
     Place::Quote
+}
+
+/// Opens a run, and gathers the space before it, unless one is open.
+#[inline(always)]
+fn begin_character(place: Place, text: &mut Gathered)
+    requires { length text.old ≤ 240 }
+    ensures text { text.new ≡ text.old ++ before_character place }
+    ensures room { length text.new ≤ 242 }
+{
+    match place {
+        Place::Start => text.push(b'\''),
+        Place::Word => text.extend(*b" '"),
+        Place::Quote => {}
+    }
 }
 
 /// Whether a token is a character that can stand in quotes.
@@ -150,6 +164,19 @@ fn begin_item(place: Place, text: &mut Gathered)
         Place::Start => {}
         Place::Word => text.push(b' '),
         Place::Quote => text.extend(*b"' "),
+    }
+}
+
+/// Ends the run that is open, behind the last token.
+#[inline(always)]
+fn end_last(place: Place, text: &mut Gathered)
+    requires { length text.old ≤ 250 }
+    ensures { (added : List Named) → text.new ≡ text.old ++ rest_of_text added place [] }
+{
+    match place {
+        Place::Start => {}
+        Place::Word => {}
+        Place::Quote => text.push(b'\''),
     }
 }
 
@@ -181,12 +208,13 @@ fn put_sign(place: Place, sign: u8, text: &mut Gathered)
     ensures text { text.new ≡ text.old ++ before_item place ++ sign ∷ [] }
     ensures room { length text.new ≤ 250 }
 {
-    if place == Place::Word {
-        text.extend([b' ', sign]);
-        return;
+    match place {
+        Place::Word => text.extend([b' ', sign]),
+        _ => {
+            begin_item(place, text);
+            text.push(sign);
+        }
     }
-    begin_item(place, text);
-    text.push(sign);
 }
 
 /// Gathers a name of three letters, and what goes before it.
@@ -200,12 +228,13 @@ fn put_name(place: Place, name: &str, text: &mut Gathered)
     let [a, b, c] = name.as_bytes() else {
         unreachable!();
     };
-    if place == Place::Word {
-        text.extend([b' ', *a, *b, *c]);
-        return;
+    match place {
+        Place::Word => text.extend([b' ', *a, *b, *c]),
+        _ => {
+            begin_item(place, text);
+            text.extend([*a, *b, *c]);
+        }
     }
-    begin_item(place, text);
-    text.extend([*a, *b, *c]);
 }
 
 /// Gathers a token that the protocol doesn't name: by its first entry among the added names, else as its digits.

@@ -113,6 +113,7 @@ impl Token {
     pub fn by_name(name: &str) -> Option<Token>
         ensures { result ≡ token_named name.now }
     {
-        names::token_named(name).map(Token::from_code)
+        let code = names::token_named(name)?;
+        Some(Token::from_code(code))
     }
 }
