@@ -5,7 +5,7 @@ use Rattle.std.proofs.Common.{length-append, length-drop, length-take, get_or, a
 use Rattle.std.proofs.lemmas.List.{drop-take, drop-drop, take-append-drop, length-take-le}
 use Rattle.std.proofs.Math.Seq.{take-append-add, take-length}
 use Rattle.std.specs.Io.KnownBytes.{Consumes, Keeps}
-use Rattle.daide_log.specs.Log.{IsUnbroken, longest_line}
+use Rattle.daide_log.specs.Log.{IsUnbroken, longest_line, most_lines}
 use Rattle.daide_log.specs.declared.fault.LogFault.{LogFault}
 use Rattle.daide_log.specs.declared.fault.LogFault.TheVariants as Faults
 use Rattle.daide_log.specs.Lines.{Reads, Scans, HasMore, IsFound, block_size}
@@ -99,6 +99,25 @@ scanned_on old held now text turn new block h r =
       turns = omega arith;
       some = λ _. r.1;
     }
+
+-- the line has a byte too many
+pub found_too_long : (old : Option (List ℕ)) (held : List ℕ) (now : Option (List ℕ)) (text block after rest : List ℕ)
+    (turn count : ℕ) → HasScanned old held now text block turn → Scans block text false rest after →
+    length after ≡ 2101 → count < most_lines → IsFound old held count (Err (Faults.LineTooLong (count + 1))) after now rest
+found_too_long old held now text block after rest turn count h s long fits = (
+  after,
+  (
+    h.given,
+    h.consumed,
+    h.whole ∙ ap (λ (l : List ℕ). text ++ l) s.1 ∙ sym (append_assoc text s.0 rest)
+        ∙ ap (λ (l : List ℕ). l ++ rest) (sym s.3),
+  ),
+  subst IsUnbroken (sym s.3) (unbroken_append text s.0 h.unbroken s.2),
+  long,
+  fits,
+  refl,
+  s.5 h.short,
+)
 
 pub failed_read : (old : Option (List ℕ)) (held : List ℕ) (now : Option (List ℕ)) (text : List ℕ) (turn : ℕ)
     (new : Option (List ℕ)) (block : List ℕ) (count : ℕ) (fault : LogFault) → HasEmptied old held now text turn →

@@ -5,9 +5,16 @@ use Rattle.daide_log.specs.declared.fault.LogFault.TheVariants.{BadLine, Write}
 use Rattle.daide_log.specs.Log.{event_in}
 use Rattle.daide_log.specs.Lines.{IsFound}
 use Rattle.daide_log.specs.Progress.{Judges, states_of}
-use Rattle.daide_log.proofs.EventLemmas.{plays_more, plays_kept, finished_at_end, finished_at_last, fault_in_play}
+use Rattle.daide_log.proofs.EventLemmas.{plays_first, plays_more, plays_kept, finished_at_end, finished_at_last, fault_in_play}
 use Rattle.daide_log.proofs.EventLemmas.{bad_in_play, at_end, at_last_line, at_line}
 use Rattle.daide_log.proofs.check.play.Goals as goal
+
+pub lines-init : goal.lines-init
+lines-init g c =
+    plays_first (g.R.Read.remaining c.args.reader.now) c.args.block.now c.args.lines c.args.version
+    c.args.sessions.now.items c.new-summary.result
+    (append_known (g.W.Write.contents c.args.writer.now) c.args.page.now.items) c.requires.idle c.requires.lines
+    c.new-summary.ensures
 
 pub returns-in-Err-clause-refused : goal.returns-in-Err-clause-refused
 returns-in-Err-clause-refused g c =

@@ -5,6 +5,9 @@ use Rattle.daide_log.specs.Told.{event_told}
 use Rattle.daide_log.proofs.EventLemmas.{session_judged, nothing_judged, on_ok}
 use Rattle.daide_log.proofs.judge.judge_line.Goals as goal
 
+pub returns-in-None-clause-judged : goal.returns-in-None-clause-judged
+returns-in-None-clause-judged g c = tt
+
 pub returns-in-Some-Quiet-clause-judged : goal.returns-in-Some-Quiet-clause-judged
 returns-in-Some-Quiet-clause-judged g c =
     let count : length c.args.sessions.now.items ≡ c.len-count.result =

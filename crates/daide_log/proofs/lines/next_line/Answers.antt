@@ -1,8 +1,14 @@
-use Rattle.std.proofs.Common.{arith, ap, ◌∙◌, subst, Ok}
+use Rattle.std.proofs.Common.{arith, ap, sym, ◌∙◌, subst, Ok}
 use Rattle.daide_log.specs.Lines.{Reads}
-use Rattle.daide_log.proofs.LineLemmas.{emptied, scanned_on, failed_read}
+use Rattle.daide_log.proofs.LineLemmas.{emptied, scanned_on, failed_read, found_too_long}
 use Rattle.daide_log.proofs.PageLemmas.{keeps_more}
 use Rattle.daide_log.proofs.lines.next_line.Goals as goal
+
+pub returns-then-len-eq-TOO_LONG-clause-found : goal.returns-then-len-eq-TOO_LONG-clause-found
+returns-then-len-eq-TOO_LONG-clause-found g c =
+    found_too_long (g.R.Read.remaining c.args.reader.now) c.args.block.now (g.R.Read.remaining c.loop-turn.reader)
+    c.loop-turn.text.items c.loop-turn.block c.scan.new.text.items c.scan.new.block c.loop-turn._turn c.args.count
+    c.loop-turn.invariant.0 c.if-scan.ensures (sym c.len.ensures.value ∙ c.if-len-eq-TOO_LONG.true) (omega arith)
 
 pub returns-in-Err-clause-found : goal.returns-in-Err-clause-found
 returns-in-Err-clause-found g c =
