@@ -1,26 +1,22 @@
 -- The constant table says what the entries of each symbol say.
 use Rattle.std.proofs.Common.{◌≡◌, ℕ, zero, suc, ◌<◌, Bool, true, false, ◌&&◌, nat_eq, nat_lt, ltb-true, List, [], ◌∷◌}
-use Rattle.std.proofs.Common.{length, refl, sym, ap, ◌∙◌, arith}
+use Rattle.std.proofs.Common.{Option, Some, None, length, get_or, refl, sym, ap, subst, ◌∙◌, arith}
 use Rattle.std.proofs.lemmas.Bool.{and_parts, eqb-true}
 use Rattle.std.specs.List.{list_all}
-use Rattle.std.specs.Prelude.{slice_index, slice_index_or}
+use Rattle.std.specs.Prelude.{slice_index_or}
 use Rattle.daide_token.specs.declared.class.Class.{Class}
 use Rattle.daide_token.specs.declared.class.Class.TheVariants.{Num}
-use Rattle.daide_grammar.specs.declared.level.Level.TheVariants.{L60}
 use Rattle.daide_grammar.specs.declared.symbol.Sym.{Sym}
-use Rattle.daide_grammar.specs.declared.symbol.Sym.TheVariants.{ArrangementGroup, Arrangement, FactGroup, Fact}
-use Rattle.daide_grammar.specs.declared.symbol.Sym.TheVariants.{OperandGroup, Operands, Operand, PressGroup, Press}
-use Rattle.daide_grammar.specs.declared.symbol.Sym.TheVariants.{SendGroup, MaybeSendGroup, Send, SendTail, SendFirst}
-use Rattle.daide_grammar.specs.declared.symbol.Sym.TheVariants.{Client, RequestGroup, Request, Server}
+use Rattle.daide_grammar.specs.declared.symbol.Sym.TheVariants.{Closing}
 use Rattle.daide_grammar.specs.declared.table.rows.TheConstants.{TABLE}
 use Rattle.daide_grammar.specs.Answers.{Answer, Take, Skip, Stop}
 use Rattle.daide_grammar.specs.Cells.{rule_at}
 use Rattle.daide_grammar.specs.Classes.{class_number}
-use Rattle.daide_grammar.specs.Numbers.{classes, class_at, symbol_at, symbol_number}
+use Rattle.daide_grammar.specs.Numbers.{classes, class_at, symbol_at, symbol_number, symbols}
 use Rattle.daide_grammar.specs.Rules.{deed, rest_at, HasRule}
-use Rattle.daide_grammar.specs.Symbols.{entries, may_end_of, table_answer}
+use Rattle.daide_grammar.specs.Symbols.{Entry, answer_by, entries, entry_at, may_end_of, table_answer}
 use Rattle.daide_grammar.proofs.Alike.{passes_at}
-use Rattle.daide_grammar.proofs.NumberLemmas.{symbol_back}
+use Rattle.daide_grammar.proofs.NumberLemmas.{symbol_back, symbol_small}
 use Rattle.daide_grammar.proofs.WordColumns.{class_told}
 
 -- whether two rests are the same, symbol by symbol
@@ -35,35 +31,53 @@ same_answer Skip Skip = true
 same_answer Stop Stop = true
 same_answer _ _ = false
 
--- whether a symbol's rules do what its entries say, class by class
-abbrev all_told : Sym → List (List ℕ) → List Class → Bool
-all_told s (column ∷ columns) (c ∷ cs) =
-    same_answer (deed (slice_index column (symbol_number s))) (table_answer s c) && all_told s columns cs
-all_told s [] [] = true
-all_told s _ _ = false
+abbrev same_truth : Bool → Bool → Bool
+same_truth true b = b
+same_truth false true = false
+same_truth false false = true
 
--- A test that computes: each rule of a symbol does what its entries say. A wrong cell is refused by its symbol's name.
-rows_agree : (s : Sym) → all_told s TABLE.rows classes ≡ true
-unfolding deed rest_at table_answer entries may_end_of
-rows_agree (ArrangementGroup L60) = refl
-rows_agree (Arrangement L60) = refl
-rows_agree (FactGroup L60) = refl
-rows_agree (Fact L60) = refl
-rows_agree (OperandGroup L60) = refl
-rows_agree (Operands L60) = refl
-rows_agree (Operand L60) = refl
-rows_agree (PressGroup L60) = refl
-rows_agree (Press L60) = refl
-rows_agree (SendGroup L60) = refl
-rows_agree (MaybeSendGroup L60) = refl
-rows_agree (Send L60) = refl
-rows_agree (SendTail L60) = refl
-rows_agree (SendFirst L60) = refl
-rows_agree (Client L60) = refl
-rows_agree (RequestGroup L60) = refl
-rows_agree (Request L60) = refl
-rows_agree (Server L60) = refl
-rows_agree _ = refl
+-- whether rules do what entries say, class by class
+abbrev all_told : List Entry → Bool → List ℕ → List Class → Bool
+all_told es b (rule ∷ rules) (c ∷ cs) = same_answer (deed rule) (answer_by (entry_at c es) b) && all_told es b rules cs
+all_told es b [] [] = true
+all_told es b _ _ = false
+
+-- the first cells of the columns, which are the rules of one symbol, and what lies below them
+abbrev tops : List (List ℕ) → List ℕ
+tops [] = []
+tops ([] ∷ columns) = 0 ∷ tops columns
+tops ((rule ∷ column) ∷ columns) = rule ∷ tops columns
+
+abbrev below : List (List ℕ) → List (List ℕ)
+below [] = []
+below ([] ∷ columns) = [] ∷ below columns
+below ((rule ∷ column) ∷ columns) = column ∷ below columns
+
+-- whether a symbol's rules do what its entries say; a closing bracket skips it exactly where it may be empty
+abbrev is_right : Sym → List ℕ → Bool
+is_right s rules =
+    let es = entries s in
+    let b = may_end_of s in
+    all_told es b rules classes && same_truth (nat_eq (get_or rules 1 0) 1) b
+
+-- the symbol where its test fails, else the first wrong one of the rest
+abbrev if_wrong : Bool → Sym → Option Sym → Option Sym
+if_wrong true s rest = rest
+if_wrong false s rest = Some s
+
+-- the first symbol whose cells are not right; columns are gone through together, each cell once
+abbrev first_wrong : List Sym → List (List ℕ) → Option Sym
+first_wrong [] columns = None
+first_wrong (s ∷ ss) columns =
+    let rules = tops columns in
+    let others = below columns in
+    if_wrong (is_right s rules) s (first_wrong ss others)
+
+-- A test that computes: each rule of each symbol does what the entries say. A wrong cell is refused by its symbol's
+-- name.
+rows_agree : first_wrong symbols TABLE.rows ≡ None
+unfolding deed rest_at entries may_end_of
+rows_agree = refl
 
 symbols_same : (ss ts : List Sym) → same_symbols ss ts ≡ true → ss ≡ ts
 symbols_same [] [] h = refl
@@ -87,22 +101,71 @@ answers_same Skip Stop h = absurd (cc)
 answers_same Stop (Take ts) h = absurd (cc)
 answers_same Stop Skip h = absurd (cc)
 
-told_at : (s : Sym) (columns : List (List ℕ)) (cs : List Class) → all_told s columns cs ≡ true → (n : ℕ) →
-    n < length cs →
-    deed (slice_index (slice_index_or columns n []) (symbol_number s)) ≡ table_answer s (slice_index_or cs n Num)
-told_at s columns [] h n less = absurd (omega arith)
-told_at s [] (c ∷ cs) h n less = absurd (cc)
-told_at s (column ∷ columns) (c ∷ cs) h zero less =
-    let told = same_answer (deed (slice_index column (symbol_number s))) (table_answer s c) in
-    answers_same _ _ (and_parts told (all_told s columns cs) h).0
-told_at s (column ∷ columns) (c ∷ cs) h (suc n) less =
-    let told = same_answer (deed (slice_index column (symbol_number s))) (table_answer s c) in
-    told_at s columns cs (and_parts told (all_told s columns cs) h).1 n (omega arith)
+truths_same : (a b : Bool) → same_truth a b ≡ true → a ≡ b
+truths_same true b h = sym h
+truths_same false true h = absurd (cc)
+truths_same false false h = refl
 
--- so a look-up answers what the table of the definitions answers
-pub looked_up : (s : Sym) (n : ℕ) → n < 95 → deed (rule_at n (symbol_number s)) ≡ table_answer s (class_at n)
+none_wrong : (b : Bool) (s : Sym) (rest : Option Sym) → if_wrong b s rest ≡ None → (b ≡ true) × (rest ≡ None)
+none_wrong true s rest e = (refl, e)
+none_wrong false s rest e = absurd (cc)
+
+-- each place of the first cells, and of what lies below
+top_at : (columns : List (List ℕ)) (n : ℕ) → get_or (tops columns) n 0 ≡ get_or (get_or columns n []) 0 0
+top_at [] n = refl
+top_at ([] ∷ columns) zero = refl
+top_at ((rule ∷ column) ∷ columns) zero = refl
+top_at ([] ∷ columns) (suc n) = top_at columns n
+top_at ((rule ∷ column) ∷ columns) (suc n) = top_at columns n
+
+below_at : (columns : List (List ℕ)) (n k : ℕ) →
+    get_or (get_or (below columns) n []) k 0 ≡ get_or (get_or columns n []) (suc k) 0
+below_at [] n k = refl
+below_at ([] ∷ columns) zero k = refl
+below_at ((rule ∷ column) ∷ columns) zero k = refl
+below_at ([] ∷ columns) (suc n) k = below_at columns n k
+below_at ((rule ∷ column) ∷ columns) (suc n) k = below_at columns n k
+
+told_at : (es : List Entry) (b : Bool) (rules : List ℕ) (cs : List Class) → all_told es b rules cs ≡ true → (n : ℕ) →
+    n < length cs → deed (get_or rules n 0) ≡ answer_by (entry_at (get_or cs n Num) es) b
+told_at es b rules [] h n less = absurd (omega arith)
+told_at es b [] (c ∷ cs) h n less = absurd (cc)
+told_at es b (rule ∷ rules) (c ∷ cs) h zero less =
+    answers_same _ _ (and_parts (same_answer (deed rule) (answer_by (entry_at c es) b)) (all_told es b rules cs) h).0
+told_at es b (rule ∷ rules) (c ∷ cs) h (suc n) less =
+    let told = same_answer (deed rule) (answer_by (entry_at c es) b) in
+    told_at es b rules cs (and_parts told (all_told es b rules cs) h).1 n (omega arith)
+
+-- a symbol's rules, by its place in the list
+right_at : (ss : List Sym) (columns : List (List ℕ)) → first_wrong ss columns ≡ None → (k : ℕ) → k < length ss →
+    (rules : List ℕ) × (is_right (get_or ss k Closing) rules ≡ true)
+    × ((n : ℕ) → get_or rules n 0 ≡ get_or (get_or columns n []) k 0)
+right_at [] columns h k less = absurd (omega arith)
+right_at (s ∷ ss) columns h zero less =
+    let parts = none_wrong (is_right s (tops columns)) s (first_wrong ss (below columns)) h in
+    (tops columns, parts.0, top_at columns)
+right_at (s ∷ ss) columns h (suc k) less =
+    let parts = none_wrong (is_right s (tops columns)) s (first_wrong ss (below columns)) h in
+    let there = right_at ss (below columns) parts.1 k (omega arith) in
+    (there.0, there.1, λ n. there.2 n ∙ below_at columns n k)
+
+-- so the rules of a symbol are right
+right : (s : Sym) → (rules : List ℕ) × (is_right s rules ≡ true)
+    × ((n : ℕ) → get_or rules n 0 ≡ rule_at n (symbol_number s))
 unfolding rule_at
-looked_up s n less = told_at s TABLE.rows classes (rows_agree s) n less
+right s =
+    let there = right_at symbols TABLE.rows rows_agree (symbol_number s) (symbol_small s) in
+    (there.0, subst (λ (x : Sym). is_right x there.0 ≡ true) (symbol_back s) there.1, there.2)
+
+-- and a look-up answers what the table of the definitions answers
+pub looked_up : (s : Sym) (n : ℕ) → n < 95 → deed (rule_at n (symbol_number s)) ≡ table_answer s (class_at n)
+unfolding table_answer
+looked_up s n less =
+    let there = right s in
+    let told = all_told (entries s) (may_end_of s) there.0 classes in
+    let ends = same_truth (nat_eq (get_or there.0 1 0) 1) (may_end_of s) in
+    ap deed (sym (there.2 n))
+    ∙ told_at (entries s) (may_end_of s) there.0 classes (and_parts told ends there.1).0 n less
 
 -- each rule has a number of one byte
 in_a_byte : list_all (list_all (λ rule. nat_lt rule 256)) TABLE.rows ≡ true
@@ -123,23 +186,9 @@ has_rule s c less =
 
 -- a symbol may be empty exactly where a closing bracket skips it
 pub ends_told : (s : Sym) → nat_eq (rule_at 1 (symbol_number s)) 1 ≡ may_end_of s
-unfolding rule_at may_end_of
-ends_told (ArrangementGroup L60) = refl
-ends_told (Arrangement L60) = refl
-ends_told (FactGroup L60) = refl
-ends_told (Fact L60) = refl
-ends_told (OperandGroup L60) = refl
-ends_told (Operands L60) = refl
-ends_told (Operand L60) = refl
-ends_told (PressGroup L60) = refl
-ends_told (Press L60) = refl
-ends_told (SendGroup L60) = refl
-ends_told (MaybeSendGroup L60) = refl
-ends_told (Send L60) = refl
-ends_told (SendTail L60) = refl
-ends_told (SendFirst L60) = refl
-ends_told (Client L60) = refl
-ends_told (RequestGroup L60) = refl
-ends_told (Request L60) = refl
-ends_told (Server L60) = refl
-ends_told _ = refl
+ends_told s =
+    let there = right s in
+    let told = all_told (entries s) (may_end_of s) there.0 classes in
+    let ends = same_truth (nat_eq (get_or there.0 1 0) 1) (may_end_of s) in
+    ap (λ (rule : ℕ). nat_eq rule 1) (sym (there.2 1))
+    ∙ truths_same (nat_eq (get_or there.0 1 0) 1) (may_end_of s) (and_parts told ends there.1).1
