@@ -20,4 +20,5 @@ pub mod ColumnsAgree
 pub mod RulesFit
 pub mod RowsAgree
 pub mod PlainRules
+pub mod OneEntry
 pub mod Starts
