@@ -1,0 +1,7 @@
+use Rattle.std.proofs.Common.{ap, ◌∙◌}
+use Rattle.daide_grammar.specs.Numbers.{class_at}
+use Rattle.daide_grammar.proofs.WordColumns.{class_told}
+use Rattle.daide_grammar.proofs.column.Column.named.Goals as goal
+
+pub returns : goal.returns
+returns c = ap class_at c.number.ensures ∙ class_told c.args.class c.requires

@@ -1,0 +1,5 @@
+use Rattle.std.proofs.Common.{refl}
+use Rattle.daide_grammar.proofs.predict.Move.of.Goals as goal
+
+pub returns : goal.returns
+returns c = refl
