@@ -1,9 +1,10 @@
 //! Logs worked out by hand, and their reports.
 
+use crate::rows::same;
 use daide_log::check::check_log;
 use daide_log::fault::LogFault;
 use daide_log::report::Summary;
-use std::process::Abort;
+use std::alloc::Global;
 use std::test::Fail;
 
 mod match_lines;
@@ -11,14 +12,22 @@ mod matches;
 mod streams;
 
 /// What a check answers, and what it writes.
-fn checked<R: AllocGlobal + Abort>(
-    rt: &R,
-    log: &[u8],
-) -> Result<(Result<Summary, LogFault>, String), Fail> {
+fn checked(alloc: Global, log: &[u8]) -> Result<(Result<Summary, LogFault>, String), Fail> {
     let mut bytes = log;
-    let mut report = Vec::new(rt.alloc());
-    let answer = check_log(rt.alloc(), &mut bytes, &mut report);
+    let mut report = Vec::new(alloc);
+    let answer = check_log(alloc, &mut bytes, &mut report);
     Ok((answer, String::from_utf8(report)?))
+}
+
+/// The same of a log with `/` for a line feed, and the text of the fault, if any.
+fn checked_row(alloc: Global, log: &str) -> Result<(String, String), Fail> {
+    let log = log.replace(alloc, "/", "\n")?;
+    let (answer, written) = checked(alloc, log.as_bytes())?;
+    let told = match answer {
+        Ok(_) => String::new(alloc),
+        Err(fault) => fault.to_string(alloc)?,
+    };
+    Ok((written.replace(alloc, "\n", "/")?, told))
 }
 
 /// Logs | their reports, with `/` for a line feed | the text of the fault, if any.
@@ -65,28 +74,36 @@ daide-log 1/config 60 1024 16 0/ | | line 2 is not a log line
 daide-log 1/config 60 1024 16/Bot 00/ | | line 3 is not a log line
 ";
 
-/// Checks the log of a row.
-fn check_row<R: AllocGlobal + Abort>(rt: &R, row: &str) -> Result<(), Fail> {
+/// The fields of a row: a log, its report, and the text of the fault.
+fn fields_of(row: &str) -> (&str, &str, &str) {
     let mut fields = row.split('|');
-    let log = fields.next().unwrap_or("").strip_suffix(" ").unwrap_or("");
-    let report = fields.next().unwrap_or("").trim();
-    let fault = fields.next().unwrap_or("").trim();
-    let log = log.replace(rt.alloc(), "/", "\n")?;
-    let (answer, written) = checked(rt, log.as_bytes())?;
-    let written = written.replace(rt.alloc(), "\n", "/")?;
-    assert!(rt; written.as_str() == report, "written {written} at {row}");
-    let told = match answer {
-        Ok(_) => String::new(rt.alloc()),
-        Err(fault) => fault.to_string(rt.alloc())?,
-    };
-    assert!(rt; told.as_str() == fault, "told {told} at {row}");
+    let log = fields.next().unwrap_or("");
+    let report = fields.next().unwrap_or("");
+    let fault = fields.next().unwrap_or("");
+    (
+        log.strip_suffix(" ").unwrap_or(""),
+        report.trim(),
+        fault.trim(),
+    )
+}
+
+/// Checks the log of a row.
+fn check_row(alloc: Global, row: &str) -> Result<(), Fail> {
+    let (log, report, fault) = fields_of(row);
+    let (written, told) = checked_row(alloc, log)?;
+    same(&written.as_str(), &report, &row)?;
+    same(&told.as_str(), &fault, &row)
+}
+
+/// Checks the logs of a table of rows.
+fn check_rows(alloc: Global, rows: &str) -> Result<(), Fail> {
+    for row in rows.lines() {
+        check_row(alloc, row)?;
+    }
     Ok(())
 }
 
 #[test]
 fn logs_and_their_reports(rt: HostRuntime) -> Result<(), Fail> {
-    for row in ROWS.lines() {
-        check_row(&rt, row)?;
-    }
-    Ok(())
+    check_rows(rt.alloc(), ROWS)
 }

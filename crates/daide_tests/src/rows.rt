@@ -1,10 +1,15 @@
 //! What a row of a table is held against.
 //!
-//! A test is proved, too. It says `same` where it could say `assert_eq!`, since a call is proved in a fraction of the time
-//! that the lines take which the macro writes.
+//! A test is proved, too. It says `holds` or `same` where it could say `assert!` or `assert_eq!`, since a call is proved
+//! in a fraction of the time that the lines take which the macros write.
 
 use std::fmt::Debug;
 use std::test::Fail;
+
+/// A failure with this text, where something doesn't hold.
+pub fn holds(is_so: bool, text: &str) -> Result<(), Fail> {
+    if is_so { Ok(()) } else { Err(Fail::new(text)) }
+}
 
 /// A failure that tells the row and both values, where they differ.
 pub fn same<T: PartialEq + Debug, W: Debug>(found: &T, wanted: &T, row: &W) -> Result<(), Fail> {

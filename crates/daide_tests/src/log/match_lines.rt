@@ -1,5 +1,6 @@
 //! Lines of the log of a match.
 
+use crate::rows::same;
 use daide_frame::Side;
 use daide_log::event_line::{MOST, Told};
 use daide_log::match_line::{
@@ -14,73 +15,90 @@ const CONFIG: Config = Config {
     max_depth: 16,
 };
 
+/// First lines, and whether they begin the log of a match.
+const NAMES: &[(&[u8], bool)] = &[
+    (b"daide-log 2", true),
+    (b"daide-log 1", false),
+    (b"daide-log 3", false),
+];
+
 #[test]
-fn first_line_of_a_match(rt: HostRuntime) -> Result<(), Fail> {
-    assert!(rt; is_match_name(b"daide-log 2"));
-    assert!(rt; !is_match_name(b"daide-log 1") && !is_match_name(b"daide-log 3"));
+fn first_line_of_a_match(_rt: HostRuntime) -> Result<(), Fail> {
+    for (line, is_name) in NAMES {
+        same(&is_match_name(line), is_name, line)?;
+    }
     Ok(())
 }
 
+/// Lines, and the sessions and the words that they give.
+const SIZES: &[(&[u8], u16, u16)] = &[
+    (b"config 60 1024 16 2 1", 2, 1),
+    (b"config 60 1024 16 1 0", 1, 0),
+    (b"config 60 1024 16 256 16", 256, 16),
+];
+
+/// Lines that give none.
+const NO_SIZES: &[&[u8]] = &[
+    b"config 60 1024 16",
+    b"config 60 1024 16 2",
+    b"config 60 1024 16 0 1",
+    b"config 60 1024 16 257 1",
+    b"config 60 1024 16 2 17",
+    b"config 60 1024 16 02 1",
+    b"config 60 1024 16 2 01",
+    b"config 60 1024 16 2 1 ",
+    b"config 61 1024 16 2 1",
+];
+
 #[test]
-fn sessions_and_words_of_a_match(rt: HostRuntime) -> Result<(), Fail> {
-    for (sessions, words, line) in [
-        (2, 1, b"config 60 1024 16 2 1".as_slice()),
-        (1, 0, b"config 60 1024 16 1 0".as_slice()),
-        (256, 16, b"config 60 1024 16 256 16".as_slice()),
-    ] {
+fn sessions_and_words_of_a_match(_rt: HostRuntime) -> Result<(), Fail> {
+    for (line, sessions, words) in SIZES {
         let config = MatchConfig {
             config: CONFIG,
-            sessions,
-            words,
+            sessions: *sessions,
+            words: *words,
         };
-        assert!(rt; read_match_config(line) == Some(config));
+        same(&read_match_config(line), &Some(config), line)?;
     }
-    for line in [
-        b"config 60 1024 16".as_slice(),
-        b"config 60 1024 16 2".as_slice(),
-        b"config 60 1024 16 0 1".as_slice(),
-        b"config 60 1024 16 257 1".as_slice(),
-        b"config 60 1024 16 2 17".as_slice(),
-        b"config 60 1024 16 02 1".as_slice(),
-        b"config 60 1024 16 2 01".as_slice(),
-        b"config 60 1024 16 2 1 ".as_slice(),
-        b"config 61 1024 16 2 1".as_slice(),
-    ] {
-        assert!(rt; read_match_config(line).is_none());
+    for line in NO_SIZES {
+        same(&read_match_config(line), &None, line)?;
     }
     Ok(())
 }
 
+/// Lines of a match of two sessions, and what they tell.
+const EVENTS: &[(&[u8], MatchTold)] = &[
+    (b"2 timer", MatchTold::Of(2, Told::TimeOver)),
+    (b"1 end bot", MatchTold::Of(1, Told::EndOf(Side::Bot))),
+    (
+        b"1 server 01000000",
+        MatchTold::Of(1, Told::Traffic(Side::Server, 4)),
+    ),
+    (b"", MatchTold::Quiet),
+    (b"# 3 timer", MatchTold::Quiet),
+];
+
+/// Lines that tell nothing that may be told of them.
+const NO_EVENTS: &[&[u8]] = &[
+    b"3 timer",
+    b"0 timer",
+    b"01 timer",
+    b"1 ",
+    b"1 #",
+    b"1",
+    b"1  timer",
+    b"timer",
+    b" 1 timer",
+];
+
 #[test]
-fn events_of_the_sessions_of_a_match(rt: HostRuntime) -> Result<(), Fail> {
+fn events_of_the_sessions_of_a_match(_rt: HostRuntime) -> Result<(), Fail> {
     let mut bytes = [0; MOST];
-    for (line, told) in [
-        (b"2 timer".as_slice(), MatchTold::Of(2, Told::TimeOver)),
-        (
-            b"1 end bot".as_slice(),
-            MatchTold::Of(1, Told::EndOf(Side::Bot)),
-        ),
-        (
-            b"1 server 01000000".as_slice(),
-            MatchTold::Of(1, Told::Traffic(Side::Server, 4)),
-        ),
-        (b"".as_slice(), MatchTold::Quiet),
-        (b"# 3 timer".as_slice(), MatchTold::Quiet),
-    ] {
-        assert!(rt; read_match_event(line, 2, &mut bytes) == Some(told));
+    for (line, told) in EVENTS {
+        same(&read_match_event(line, 2, &mut bytes), &Some(*told), line)?;
     }
-    for line in [
-        b"3 timer".as_slice(),
-        b"0 timer".as_slice(),
-        b"01 timer".as_slice(),
-        b"1 ".as_slice(),
-        b"1 #".as_slice(),
-        b"1".as_slice(),
-        b"1  timer".as_slice(),
-        b"timer".as_slice(),
-        b" 1 timer".as_slice(),
-    ] {
-        assert!(rt; read_match_event(line, 2, &mut bytes).is_none());
+    for line in NO_EVENTS {
+        same(&read_match_event(line, 2, &mut bytes), &None, line)?;
     }
     Ok(())
 }

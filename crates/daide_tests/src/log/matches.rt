@@ -1,7 +1,8 @@
 //! Logs of matches, and their reports.
 
-use super::{check_row, checked};
-use std::process::Abort;
+use super::{check_rows, checked, checked_row};
+use crate::rows::{holds, same};
+use std::alloc::Global;
 use std::test::Fail;
 
 /// Logs | their reports, with `/` for a line feed | the text of the fault, if any.
@@ -46,10 +47,7 @@ daide-log 2/config 60 1024 16 256 0/256 bot 03000000/255 timer/256 timer/ | 3 25
 
 #[test]
 fn matches_and_their_reports(rt: HostRuntime) -> Result<(), Fail> {
-    for row in ROWS.lines() {
-        check_row(&rt, row)?;
-    }
-    Ok(())
+    check_rows(rt.alloc(), ROWS)
 }
 
 /// The bot's offer `SND ( FRA ) ( XYZ ( ENG ) )` at level 20, behind the opening of a game, with XYZ as a word.
@@ -60,53 +58,65 @@ const WORDED: &str =
 const UNWORDED: &str =
     "daide-log 2/config 60 1024 16 1 0/1 bot 000000040001DA10/1 server 01000000/1 server 0200001A4804400041014001400004D24001400040004903001440014001/1 bot 02000014481740004102400140004A404000410140014001/";
 
+/// Their reports.
+const WORDED_REPORT: &str =
+    "4 1 bot IM 4 relay/5 1 server RM 0 relay/6 1 server DM 26 relay/7 1 bot DM 20 relay/relayed 4 prn 0 huh 0 faults 0/";
+
+const UNWORDED_REPORT: &str =
+    "3 1 bot IM 4 relay/4 1 server RM 0 relay/5 1 server DM 26 relay/6 1 bot DM 20 huh 5/relayed 3 prn 0 huh 1 faults 0/";
+
 #[test]
 fn words_are_of_each_session(rt: HostRuntime) -> Result<(), Fail> {
-    for (log, report) in [
-        (
-            WORDED,
-            "4 1 bot IM 4 relay/5 1 server RM 0 relay/6 1 server DM 26 relay/7 1 bot DM 20 relay/relayed 4 prn 0 huh 0 faults 0/",
-        ),
-        (
-            UNWORDED,
-            "3 1 bot IM 4 relay/4 1 server RM 0 relay/5 1 server DM 26 relay/6 1 bot DM 20 huh 5/relayed 3 prn 0 huh 1 faults 0/",
-        ),
-    ] {
-        let log = log.replace(rt.alloc(), "/", "\n")?;
-        let (_, written) = checked(&rt, log.as_bytes())?;
-        let written = written.replace(rt.alloc(), "\n", "/")?;
-        assert!(rt; written.as_str() == report, "written {written}");
+    let (worded, _) = checked_row(rt.alloc(), WORDED)?;
+    same(&worded.as_str(), &WORDED_REPORT, &"with XYZ")?;
+    let (unworded, _) = checked_row(rt.alloc(), UNWORDED)?;
+    same(&unworded.as_str(), &UNWORDED_REPORT, &"without")
+}
+
+/// What the sessions of a match are told in turn: a session goes on as far as its number modulo 5 says.
+const EVENTS: &[&str] = &[
+    "bot 000000040001DA10\n",
+    "server 01000000\n",
+    "bot 020000024803\n",
+    "bot 0200000448034000\n",
+    "server 03000000\n",
+    "timer\n",
+];
+
+/// What a session is told in a round.
+fn event_of(session: usize, round: usize) -> &'static str {
+    let place = if session % 5 < round { 5 } else { round };
+    EVENTS.get(place).unwrap_or(&"")
+}
+
+/// A number, and a blank.
+fn number_of(alloc: Global, session: usize) -> Result<String, Fail> {
+    let mut number = session.to_string(alloc)?;
+    number.push(' ')?;
+    Ok(number)
+}
+
+/// What each of so many sessions is told in a round.
+fn push_round(log: &mut String, alloc: Global, round: usize, sessions: usize) -> Result<(), Fail> {
+    for session in 1..=sessions {
+        log.push_str(number_of(alloc, session)?.as_str())?;
+        log.push_str(event_of(session, round))?;
     }
     Ok(())
 }
 
-/// What the sessions of a match are told in turn: a session goes on as far as its number modulo 5 says.
-const EVENTS: [&str; 6] = [
-    "bot 000000040001DA10",
-    "server 01000000",
-    "bot 020000024803",
-    "bot 0200000448034000",
-    "server 03000000",
-    "timer",
-];
-
-/// The log of so many sessions, of which each is told one event in each round.
-fn interleaved<R: AllocGlobal>(rt: &R, sessions: usize) -> Result<String, Fail> {
-    let mut log = format!(in rt.alloc(); "daide-log 2\nconfig 60 512 16 {sessions} 0\n")?;
+/// The log of a hundred sessions, of which each is told one event in each round.
+fn interleaved(alloc: Global) -> Result<String, Fail> {
+    let mut log = String::from_str(alloc, "daide-log 2\nconfig 60 512 16 100 0\n")?;
     for round in 0..EVENTS.len() {
-        for session in 1..=sessions {
-            let place = if session % 5 < round { 5 } else { round };
-            let event = EVENTS[place];
-            let line = format!(in rt.alloc(); "{session} {event}\n")?;
-            log.push_str(line.as_str())?;
-        }
+        push_round(&mut log, alloc, round, 100)?;
     }
     Ok(log)
 }
 
 /// The log of one session alone: its own lines without its number, and `#` for every other.
-fn own_log<R: AllocGlobal>(rt: &R, log: &str, number: &str) -> Result<String, Fail> {
-    let mut own = String::from_str(rt.alloc(), "daide-log 1\nconfig 60 512 16\n")?;
+fn own_log(alloc: Global, log: &str, number: &str) -> Result<String, Fail> {
+    let mut own = String::from_str(alloc, "daide-log 1\nconfig 60 512 16\n")?;
     for line in log.lines().skip(2) {
         own.push_str(line.strip_prefix(number).unwrap_or("#"))?;
         own.push_str("\n")?;
@@ -114,23 +124,25 @@ fn own_log<R: AllocGlobal>(rt: &R, log: &str, number: &str) -> Result<String, Fa
     Ok(own)
 }
 
+/// A line without the number of a session, where it names that.
+fn push_own_line(own: &mut String, line: &str, number: &str) -> Result<(), Fail> {
+    let Some((place, told)) = line.split_once(' ') else {
+        return Ok(());
+    };
+    let Some(told) = told.strip_prefix(number) else {
+        return Ok(());
+    };
+    own.push_str(place)?;
+    own.push_str(" ")?;
+    own.push_str(told)?;
+    Ok(own.push_str("\n")?)
+}
+
 /// The lines of a report that name a session, without its number, and then the last.
-fn own_report<R: AllocGlobal>(
-    rt: &R,
-    report: &str,
-    number: &str,
-    last: &str,
-) -> Result<String, Fail> {
-    let mut own = String::new(rt.alloc());
+fn own_report(alloc: Global, report: &str, number: &str, last: &str) -> Result<String, Fail> {
+    let mut own = String::new(alloc);
     for line in report.lines() {
-        if let Some((place, told)) = line.split_once(' ') {
-            if let Some(told) = told.strip_prefix(number) {
-                own.push_str(place)?;
-                own.push_str(" ")?;
-                own.push_str(told)?;
-                own.push_str("\n")?;
-            }
-        }
+        push_own_line(&mut own, line, number)?;
     }
     own.push_str(last)?;
     own.push_str("\n")?;
@@ -142,30 +154,29 @@ fn last_line(report: &str) -> &str {
     report.lines().last().unwrap_or("")
 }
 
-/// Whether the report of a match has of a session what the session's own log has.
-fn session_is_alone<R: AllocGlobal + Abort>(
-    rt: &R,
-    log: &str,
-    report: &str,
-    session: usize,
-) -> Result<(), Fail> {
-    let number = format!(in rt.alloc(); "{session} ")?;
-    let own = own_log(rt, log, number.as_str())?;
-    let (answer, alone) = checked(rt, own.as_bytes())?;
-    assert!(rt; answer.is_ok());
+/// The report of a log that has no fault.
+fn report_of(alloc: Global, log: &str) -> Result<String, Fail> {
+    let (answer, report) = checked(alloc, log.as_bytes())?;
+    holds(answer.is_ok(), "a fault")?;
+    Ok(report)
+}
+
+/// The report of a match has of a session what the session's own log has.
+fn session_is_alone(alloc: Global, log: &str, report: &str, session: usize) -> Result<(), Fail> {
+    let number = number_of(alloc, session)?;
+    let own = own_log(alloc, log, number.as_str())?;
+    let alone = report_of(alloc, own.as_str())?;
     let last = last_line(alone.as_str());
-    let told = own_report(rt, report, number.as_str(), last)?;
-    assert!(rt; told.as_str() == alone.as_str(), "session {session}");
-    Ok(())
+    let told = own_report(alloc, report, number.as_str(), last)?;
+    same(&told.as_str(), &alone.as_str(), &session)
 }
 
 #[test]
 fn a_hundred_sessions_are_each_as_if_alone(rt: HostRuntime) -> Result<(), Fail> {
-    let log = interleaved(&rt, 100)?;
-    let (answer, report) = checked(&rt, log.as_bytes())?;
-    assert!(rt; answer.is_ok());
+    let log = interleaved(rt.alloc())?;
+    let report = report_of(rt.alloc(), log.as_str())?;
     for session in 1..=100usize {
-        session_is_alone(&rt, log.as_str(), report.as_str(), session)?;
+        session_is_alone(rt.alloc(), log.as_str(), report.as_str(), session)?;
     }
     Ok(())
 }

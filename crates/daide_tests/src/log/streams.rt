@@ -1,12 +1,14 @@
 //! Logs of any length, and readers, writers and heaps that refuse.
 
+use crate::fakes::{FailsAtRead, FailsAtWrite};
+use crate::rows::{holds, same};
 use daide_log::check::check_log;
 use daide_log::fault::LogFault;
 use daide_log::report::Summary;
 use linked_list_allocator::LocalHeap;
+use std::alloc::Global;
 use std::io;
 use std::io::{ErrorKind, Read, Write};
-use std::process::Abort;
 use std::test::Fail;
 
 /// A log of which each event line is reported in one line.
@@ -14,7 +16,7 @@ const LOG: &[u8] =
     b"daide-log 1\nconfig 60 1024 16\nbot 000000040001DA10\nserver 01000000\nbot 020000024803\nbot 0200000448034000\nserver 03000000\n";
 
 /// Its report, line by line.
-const REPORT: [&str; 6] = [
+const REPORT: &[&str] = &[
     "3 bot IM 4 relay\n",
     "4 server RM 0 relay\n",
     "5 bot DM 2 relay\n",
@@ -33,8 +35,8 @@ const NOTHING: Summary = Summary {
 };
 
 /// The first lines of the report.
-fn first_lines<R: AllocGlobal>(rt: &R, count: usize) -> Result<String, Fail> {
-    let mut text = String::new(rt.alloc());
+fn first_lines(alloc: Global, count: usize) -> Result<String, Fail> {
+    let mut text = String::new(alloc);
     for line in REPORT.iter().take(count) {
         text.push_str(line)?;
     }
@@ -42,29 +44,31 @@ fn first_lines<R: AllocGlobal>(rt: &R, count: usize) -> Result<String, Fail> {
 }
 
 /// The answer to a log of the opening and a line of so many `#`, with this end.
-fn comment_of<R: AllocGlobal>(
-    rt: &R,
-    count: usize,
-    end: &[u8],
-) -> Result<Result<Summary, LogFault>, Fail> {
-    let mut log = Vec::from_slice(rt.alloc(), OPENING)?;
+fn comment_of(alloc: Global, count: usize, end: &[u8]) -> Result<Result<Summary, LogFault>, Fail> {
+    let mut log = Vec::from_slice(alloc, OPENING)?;
     for _byte in 0..count {
         log.push(b'#')?;
     }
     log.extend_from_slice(end)?;
-    let mut report = Vec::new(rt.alloc());
-    Ok(check_log(rt.alloc(), &mut log.as_slice(), &mut report))
+    let mut report = Vec::new(alloc);
+    Ok(check_log(alloc, &mut log.as_slice(), &mut report))
 }
+
+/// How many `#` there are, the end of their line, and the answer.
+const LINES: &[(usize, &[u8], Result<Summary, LogFault>)] = &[
+    (2100, b"\n", Ok(NOTHING)),
+    (2100, b"", Ok(NOTHING)),
+    (2099, b"\r\n", Ok(NOTHING)),
+    (2101, b"\n", Err(LogFault::LineTooLong(3))),
+    (2101, b"", Err(LogFault::LineTooLong(3))),
+    (2100, b"\r\n", Err(LogFault::LineTooLong(3))),
+];
 
 #[test]
 fn longest_line(rt: HostRuntime) -> Result<(), Fail> {
-    let too_long = Err(LogFault::LineTooLong(3));
-    assert!(rt; comment_of(&rt, 2100, b"\n")? == Ok(NOTHING));
-    assert!(rt; comment_of(&rt, 2100, b"")? == Ok(NOTHING));
-    assert!(rt; comment_of(&rt, 2099, b"\r\n")? == Ok(NOTHING));
-    assert!(rt; comment_of(&rt, 2101, b"\n")? == too_long);
-    assert!(rt; comment_of(&rt, 2101, b"")? == too_long);
-    assert!(rt; comment_of(&rt, 2100, b"\r\n")? == too_long);
+    for (count, end, answer) in LINES {
+        same(&comment_of(rt.alloc(), *count, end)?, answer, count)?;
+    }
     Ok(())
 }
 
@@ -93,19 +97,28 @@ impl Read for Comments<'_> {
     }
 }
 
+/// How many lines there are, and the answer.
+const COUNTS: &[(usize, Result<Summary, LogFault>)] = &[
+    (999_998, Ok(NOTHING)),
+    (999_999, Err(LogFault::TooManyLines)),
+];
+
+/// A log of so many lines is answered so, and reported only where it is whole.
+fn assert_lines(alloc: Global, lines: usize, want: &Result<Summary, LogFault>) -> Result<(), Fail> {
+    let mut log = Comments {
+        opening: OPENING,
+        lines,
+    };
+    let mut report = Vec::new(alloc);
+    let answer = check_log(alloc, &mut log, &mut report);
+    same(&answer, want, &lines)?;
+    same(&report.is_empty(), &want.is_err(), &lines)
+}
+
 #[test]
 fn most_lines(rt: HostRuntime) -> Result<(), Fail> {
-    for (lines, answer) in [
-        (999_998, Ok(NOTHING)),
-        (999_999, Err(LogFault::TooManyLines)),
-    ] {
-        let mut log = Comments {
-            opening: OPENING,
-            lines,
-        };
-        let mut report = Vec::new(rt.alloc());
-        assert!(rt; check_log(rt.alloc(), &mut log, &mut report) == answer);
-        assert!(rt; report.is_empty() == answer.is_err());
+    for (lines, answer) in COUNTS {
+        assert_lines(rt.alloc(), *lines, answer)?;
     }
     Ok(())
 }
@@ -131,38 +144,24 @@ impl Read for Endless<'_> {
     }
 }
 
+/// What goes before the line, and the number of the line.
+const ENDLESS: &[(&[u8], u32)] = &[(b"", 1), (b"daide-log 1\n", 2), (OPENING, 3)];
+
+/// A line without end is too long at its byte 2,101, and nothing is reported.
+fn assert_endless(alloc: Global, opening: &[u8], number: u32) -> Result<(), Fail> {
+    let mut log = Endless { opening, given: 0 };
+    let mut report = Vec::new(alloc);
+    let answer = check_log(alloc, &mut log, &mut report);
+    same(&answer, &Err(LogFault::LineTooLong(number)), &number)?;
+    holds(report.is_empty() && log.given == 2101, "its bytes")
+}
+
 #[test]
 fn endless_line_is_left_at_its_byte_2101(rt: HostRuntime) -> Result<(), Fail> {
-    for (opening, number) in [
-        (b"".as_slice(), 1),
-        (b"daide-log 1\n".as_slice(), 2),
-        (OPENING, 3),
-    ] {
-        let mut log = Endless { opening, given: 0 };
-        let mut report = Vec::new(rt.alloc());
-        let answer = check_log(rt.alloc(), &mut log, &mut report);
-        assert!(rt; answer == Err(LogFault::LineTooLong(number)));
-        assert!(rt; report.is_empty() && log.given == 2101);
+    for (opening, number) in ENDLESS {
+        assert_endless(rt.alloc(), opening, *number)?;
     }
     Ok(())
-}
-
-/// A reader that gives three bytes at a read, and fails at a read.
-#[derive(Drop)]
-struct FailsAtRead<'a> {
-    bytes: &'a [u8],
-    reads: usize,
-}
-
-impl Read for FailsAtRead<'_> {
-    fn read(&mut self, buffer: &mut [u8]) -> io::Result<usize> {
-        if self.reads == 0 {
-            return Err(io::Error::from(ErrorKind::Other));
-        }
-        self.reads -= 1;
-        let room = buffer.len().min(3);
-        self.bytes.read(&mut buffer[..room])
-    }
 }
 
 /// How many lines of the report stand for the first bytes of the log.
@@ -175,63 +174,59 @@ fn lines_for(count: usize) -> usize {
     whole.saturating_sub(2)
 }
 
+/// How many reads are enough for the log.
+const ENOUGH_READS: usize = LOG.len() / 3 + 2;
+
+/// Where a read fails, that is told, after the report of all lines before it.
+fn assert_read(alloc: Global, reads: usize) -> Result<(), Fail> {
+    let mut log = FailsAtRead {
+        bytes: LOG,
+        reads,
+        kind: ErrorKind::Other,
+    };
+    let mut report = Vec::new(alloc);
+    let answer = check_log(alloc, &mut log, &mut report);
+    let is_enough = reads >= ENOUGH_READS;
+    same(&(answer != Err(LogFault::Read)), &is_enough, &reads)?;
+    let lines = if is_enough {
+        6
+    } else {
+        lines_for(reads.saturating_mul(3))
+    };
+    let expected = first_lines(alloc, lines)?;
+    same(&report.as_slice(), &expected.as_bytes(), &reads)
+}
+
 #[test]
 fn each_read_refused_in_turn(rt: HostRuntime) -> Result<(), Fail> {
-    let enough = LOG.len() / 3 + 2;
-    for reads in 0..=enough {
-        let mut log = FailsAtRead { bytes: LOG, reads };
-        let mut report = Vec::new(rt.alloc());
-        let answer = check_log(rt.alloc(), &mut log, &mut report);
-        assert!(rt; (answer == Err(LogFault::Read)) == (reads < enough));
-        let lines = if reads < enough {
-            lines_for(3 * reads)
-        } else {
-            6
-        };
-        let expected = first_lines(&rt, lines)?;
-        assert!(rt; report.as_slice() == expected.as_bytes());
+    for reads in 0..=ENOUGH_READS {
+        assert_read(rt.alloc(), reads)?;
     }
     Ok(())
 }
 
-/// A writer that takes four bytes at a write, and fails at a write.
-#[derive(Drop)]
-struct FailsAtWrite {
-    taken: Vec<u8>,
-    writes: usize,
-}
+/// How many writes are enough for the report: 89 bytes before the last read, and 31 behind it.
+const ENOUGH_WRITES: usize = 23 + 8;
 
-impl Write for FailsAtWrite {
-    fn write(&mut self, bytes: &[u8]) -> io::Result<usize> {
-        if self.writes == 0 {
-            return Err(io::Error::from(ErrorKind::Other));
-        }
-        self.writes -= 1;
-        let count = bytes.len().min(4);
-        self.taken.extend_from_slice(&bytes[..count])?;
-        Ok(count)
-    }
-
-    fn flush(&mut self) -> io::Result<()> {
-        Ok(())
-    }
+/// Where a write fails, that is told, and the start of the whole report is written.
+fn assert_write(alloc: Global, writes: usize, whole: &[u8]) -> Result<(), Fail> {
+    let mut log = LOG;
+    let mut report = FailsAtWrite {
+        taken: Vec::new(alloc),
+        writes,
+    };
+    let answer = check_log(alloc, &mut log, &mut report);
+    let is_enough = writes == ENOUGH_WRITES;
+    same(&(answer != Err(LogFault::Write)), &is_enough, &writes)?;
+    holds(whole.starts_with(report.taken.as_slice()), "its start")?;
+    same(&(report.taken.len() == whole.len()), &is_enough, &writes)
 }
 
 #[test]
 fn each_write_refused_in_turn(rt: HostRuntime) -> Result<(), Fail> {
-    let whole = first_lines(&rt, 6)?;
-    // 89 bytes before the last read, and 31 behind it
-    let enough = 23 + 8;
-    for writes in 0..=enough {
-        let mut log = LOG;
-        let mut report = FailsAtWrite {
-            taken: Vec::new(rt.alloc()),
-            writes,
-        };
-        let answer = check_log(rt.alloc(), &mut log, &mut report);
-        assert!(rt; (answer == Err(LogFault::Write)) == (writes < enough));
-        assert!(rt; whole.as_bytes().starts_with(report.taken.as_slice()));
-        assert!(rt; (report.taken.len() == whole.len()) == (writes == enough));
+    let whole = first_lines(rt.alloc(), 6)?;
+    for writes in 0..=ENOUGH_WRITES {
+        assert_write(rt.alloc(), writes, whole.as_bytes())?;
     }
     Ok(())
 }
@@ -255,39 +250,45 @@ impl Write for Counts {
     }
 }
 
-/// Counts what is written for a log that is read at once.
-fn writes_for<R: AllocGlobal>(rt: &R, log: &[u8]) -> Counts {
+/// How many writes, of how many bytes in all, there are for a log that is read at once.
+fn writes_for(alloc: Global, log: &[u8]) -> (u32, usize) {
     let mut bytes = log;
     let mut report = Counts {
         writes: 0,
         bytes: 0,
     };
-    let _answer = check_log(rt.alloc(), &mut bytes, &mut report);
-    report
+    let _answer = check_log(alloc, &mut bytes, &mut report);
+    (report.writes, report.bytes)
 }
 
-/// The log up to its first message, and two lines of 256 empty messages each.
-fn busy_log<R: AllocGlobal>(rt: &R) -> Result<Vec<u8>, Fail> {
-    let mut log = Vec::from_slice(rt.alloc(), &LOG[..67])?;
-    for _line in 0..2 {
-        log.extend_from_slice(b"bot ")?;
-        for _message in 0..256 {
-            log.extend_from_slice(b"02000000")?;
-        }
-        log.push(b'\n')?;
+/// A line of 256 empty messages.
+fn push_busy_line(log: &mut Vec<u8>) -> Result<(), Fail> {
+    log.extend_from_slice(b"bot ")?;
+    for _message in 0..256 {
+        log.extend_from_slice(b"02000000")?;
     }
+    Ok(log.push(b'\n')?)
+}
+
+/// The log up to its first message, and two such lines.
+fn busy_log(alloc: Global) -> Result<Vec<u8>, Fail> {
+    let mut log = Vec::from_slice(alloc, &LOG[..67])?;
+    push_busy_line(&mut log)?;
+    push_busy_line(&mut log)?;
     Ok(log)
 }
 
 #[test]
 fn report_goes_out_in_blocks(rt: HostRuntime) -> Result<(), Fail> {
     // before the read that finds the end, and at the end
-    let report = writes_for(&rt, LOG);
-    assert!(rt; report.writes == 2 && report.bytes == 120);
+    same(&writes_for(rt.alloc(), LOG), &(2, 120), &"at the end")?;
     // and where a line more might not find room: 37 bytes, 512 lines of 17, and 33
-    let report = writes_for(&rt, busy_log(&rt)?.as_slice());
-    assert!(rt; report.writes == 3 && report.bytes == 8774);
-    Ok(())
+    let busy = busy_log(rt.alloc())?;
+    same(
+        &writes_for(rt.alloc(), busy.as_slice()),
+        &(3, 8774),
+        &"no room",
+    )
 }
 
 /// A log that wants room for a session and two bodies of 512 bytes, and has a bad line behind that.
@@ -297,75 +298,84 @@ const SMALL: &[u8] = b"daide-log 1\nconfig 60 512 16\ntimer\nbad\n";
 const SMALL_MATCH: &[u8] =
     b"daide-log 2\nconfig 60 512 16 2 1\nword XYZ 4A40 press 20 power\n2 timer\nbad\n";
 
-#[test]
-fn growth_refused_in_turn(rt: HostRuntime) -> Result<(), Fail> {
-    for (log, fault, report_before) in [
-        (SMALL, LogFault::BadLine(4), b"3 bot fault 01\n".as_slice()),
-        (
-            SMALL_MATCH,
-            LogFault::BadLine(5),
-            b"4 2 bot fault 01\n".as_slice(),
-        ),
-    ] {
-        let mut refused = 0;
-        for unit in 0..=64usize {
-            let heap = LocalHeap::new(rt.alloc(), 256 * unit)?;
-            let mut bytes = log;
-            let mut report = Vec::new(rt.alloc());
-            let answer = check_log(&heap, &mut bytes, &mut report);
-            if answer == Err(LogFault::Memory) {
-                assert!(rt; report.is_empty() && refused == unit);
-                refused = unit + 1;
-            } else {
-                assert!(rt; answer == Err(fault));
-                assert!(rt; report.as_slice() == report_before);
-            }
-            assert!(rt; heap.used() == 0);
-        }
-        // room for the sessions alone is refused at less than that of their bodies
-        assert!(rt; 4 < refused && refused < 64);
+/// A log whose memory lies in a heap of so many bytes, which is given back: its answer, and the report.
+fn checked_within(alloc: Global, bytes: usize, log: &[u8]) -> Result<(LogFault, Vec<u8>), Fail> {
+    let heap = LocalHeap::new(alloc, bytes)?;
+    let mut rest = log;
+    let mut report = Vec::new(alloc);
+    let answer = check_log(&heap, &mut rest, &mut report);
+    same(&heap.used(), &0, &bytes)?;
+    match answer {
+        Ok(_) => Err(Fail::new("no fault")),
+        Err(fault) => Ok((fault, report)),
     }
-    Ok(())
+}
+
+/// Whether a log is refused for want of memory on a heap of so many bytes, and reports nothing then; else it has this
+/// fault, and this report before it.
+fn is_refused_within(
+    alloc: Global,
+    bytes: usize,
+    log: &[u8],
+    want: LogFault,
+    report_before: &[u8],
+) -> Result<bool, Fail> {
+    let (fault, report) = checked_within(alloc, bytes, log)?;
+    let is_refused = fault == LogFault::Memory;
+    let expected = if is_refused { b"" } else { report_before };
+    holds(is_refused || fault == want, "the fault")?;
+    same(&report.as_slice(), &expected, &bytes)?;
+    Ok(is_refused)
+}
+
+/// Over heaps from empty to ample a log is refused for want of memory up to some size.
+fn assert_growths(
+    alloc: Global,
+    log: &[u8],
+    fault: LogFault,
+    report_before: &[u8],
+) -> Result<(), Fail> {
+    let mut refused = 0;
+    for unit in 0..=64usize {
+        if is_refused_within(alloc, 256 * unit, log, fault, report_before)? {
+            same(&refused, &unit, &"refused again")?;
+            refused = unit + 1;
+        }
+    }
+    // room for the sessions alone is refused at less than that of their bodies
+    holds(4 < refused && refused < 64, "how often")
 }
 
 #[test]
+fn growth_refused_in_turn(rt: HostRuntime) -> Result<(), Fail> {
+    let fault = LogFault::BadLine(4);
+    assert_growths(rt.alloc(), SMALL, fault, b"3 bot fault 01\n")?;
+    let fault = LogFault::BadLine(5);
+    assert_growths(rt.alloc(), SMALL_MATCH, fault, b"4 2 bot fault 01\n")
+}
+
+/// Logs, and their faults where there is no memory.
+#[rattlefmt::skip]
+const WITHOUT_MEMORY: &[(&[u8], LogFault)] = &[
+    (b"daide-log 2\n", LogFault::BadLine(2)),
+    (b"daide-log 2\nconfig 60 512 16 2 1\n", LogFault::BadLine(3)),
+    (b"daide-log 2\nconfig 60 512 16 2 1\nword GOF 4A40 press 20 power\n", LogFault::BadLine(3)),
+    (b"daide-log 2\nconfig 60 512 16 2 1\nword XYZ 4A40 press 20 power", LogFault::Memory),
+    (b"daide-log 2\nconfig 60 512 16 2 0\n", LogFault::Memory),
+    (SMALL_MATCH, LogFault::Memory),
+    (b"", LogFault::BadLine(1)),
+    (b"daide-log 1\n", LogFault::BadLine(2)),
+    (b"daide-log 1\nconfig 61 512 16\n", LogFault::BadLine(2)),
+    (b"daide-log 1\nconfig 60 512 16", LogFault::Memory),
+    (SMALL, LogFault::Memory),
+];
+
+#[test]
 fn memory_is_wanted_behind_the_head_alone(rt: HostRuntime) -> Result<(), Fail> {
-    for (log, answer) in [
-        (b"daide-log 2\n".as_slice(), LogFault::BadLine(2)),
-        (
-            b"daide-log 2\nconfig 60 512 16 2 1\n".as_slice(),
-            LogFault::BadLine(3),
-        ),
-        (
-            b"daide-log 2\nconfig 60 512 16 2 1\nword GOF 4A40 press 20 power\n".as_slice(),
-            LogFault::BadLine(3),
-        ),
-        (
-            b"daide-log 2\nconfig 60 512 16 2 1\nword XYZ 4A40 press 20 power".as_slice(),
-            LogFault::Memory,
-        ),
-        (
-            b"daide-log 2\nconfig 60 512 16 2 0\n".as_slice(),
-            LogFault::Memory,
-        ),
-        (SMALL_MATCH, LogFault::Memory),
-        (b"".as_slice(), LogFault::BadLine(1)),
-        (b"daide-log 1\n".as_slice(), LogFault::BadLine(2)),
-        (
-            b"daide-log 1\nconfig 61 512 16\n".as_slice(),
-            LogFault::BadLine(2),
-        ),
-        (
-            b"daide-log 1\nconfig 60 512 16".as_slice(),
-            LogFault::Memory,
-        ),
-        (SMALL, LogFault::Memory),
-    ] {
-        let heap = LocalHeap::new(rt.alloc(), 0)?;
-        let mut bytes = log;
-        let mut report = Vec::new(rt.alloc());
-        assert!(rt; check_log(&heap, &mut bytes, &mut report) == Err(answer));
-        assert!(rt; report.is_empty());
+    for (log, want) in WITHOUT_MEMORY {
+        let (fault, report) = checked_within(rt.alloc(), 0, log)?;
+        same(&fault, want, log)?;
+        same(&report.len(), &0, log)?;
     }
     Ok(())
 }
