@@ -3,25 +3,24 @@
 
 use crate::messages::{Example, assert_verdicts};
 use crate::script::Act::Says;
-use crate::script::{Scene, Script, WIDEST, assert_scenes, script_of, with_gofs};
+use crate::script::{PIECES, Scene, Script, WIDEST, assert_scenes, script_of, with_gofs};
 use daide_frame::side::Side::{Bot, Server};
 use daide_grammar::level::Level::L0;
 use daide_grammar::side::Side2::Client;
 use daide_reader::verdict::Verdict::{Huh, Prn, Relay};
-use std::process::Abort;
+use daide_tests::rows::holds;
+use std::alloc::Global;
 use std::test::Fail;
 
 /// The messages have their verdicts, and the scenes in an open session send their bytes, whole and byte by byte.
-fn assert_answers(
-    rt: &(impl Abort + AllocGlobal),
-    messages: &[Example],
-    scenes: &[Scene],
-) -> Result<(), Fail> {
-    assert_verdicts(rt, messages)?;
-    assert_scenes(rt, true, scenes)
+fn assert_answers(alloc: Global, messages: &[Example], scenes: &[Scene]) -> Result<(), Fail> {
+    assert_verdicts(alloc, messages)?;
+    assert_scenes(alloc, true, scenes)
 }
 
 const NAME: &str = "02 00 00 0E  48 0C 40 00 4B 61 40 01 40 00 4B 62 40 01";
+
+const A_NAME: &[Example] = &[(Client, L0, "NME ( 'a' ) ( 'b' )", Relay)];
 
 const NAMES: &[Scene] = &[
     (&[Says(Bot, NAME)], "", NAME),
@@ -30,8 +29,10 @@ const NAMES: &[Scene] = &[
 
 #[test]
 fn relays_a_name_in_any_pieces(rt: HostRuntime) -> Result<(), Fail> {
-    assert_answers(&rt, &[(Client, L0, "NME ( 'a' ) ( 'b' )", Relay)], NAMES)
+    assert_answers(rt.alloc(), A_NAME, NAMES)
 }
+
+const OPEN_BRACKET: &[Example] = &[(Client, L0, "GOF (", Prn)];
 
 const UNCLOSED: &[Scene] = &[(
     &[Says(Bot, "02 00 00 04  48 03 40 00")],
@@ -41,7 +42,7 @@ const UNCLOSED: &[Scene] = &[(
 
 #[test]
 fn unclosed_bracket_gets_prn(rt: HostRuntime) -> Result<(), Fail> {
-    assert_answers(&rt, &[(Client, L0, "GOF (", Prn)], UNCLOSED)
+    assert_answers(rt.alloc(), OPEN_BRACKET, UNCLOSED)
 }
 
 const WORD_TOO_MANY: &[Example] = &[
@@ -57,8 +58,10 @@ const ERR_BEFORE_IT: &[Scene] = &[(
 
 #[test]
 fn word_after_a_whole_message_gets_err_before_it(rt: HostRuntime) -> Result<(), Fail> {
-    assert_answers(&rt, WORD_TOO_MANY, ERR_BEFORE_IT)
+    assert_answers(rt.alloc(), WORD_TOO_MANY, ERR_BEFORE_IT)
 }
+
+const EARLY_END: &[Example] = &[(Client, L0, "NME ( 'a' )", Huh(4))];
 
 const ERR_LAST: &[Scene] = &[(
     &[Says(Bot, "02 00 00 08  48 0C 40 00 4B 61 40 01")],
@@ -68,8 +71,10 @@ const ERR_LAST: &[Scene] = &[(
 
 #[test]
 fn message_that_ends_early_gets_err_last(rt: HostRuntime) -> Result<(), Fail> {
-    assert_answers(&rt, &[(Client, L0, "NME ( 'a' )", Huh(4))], ERR_LAST)
+    assert_answers(rt.alloc(), EARLY_END, ERR_LAST)
 }
+
+const NO_WORDS: &[Example] = &[(Client, L0, "", Huh(0))];
 
 const EMPTY: &[Scene] = &[(
     &[Says(Bot, "02 00 00 00")],
@@ -79,7 +84,7 @@ const EMPTY: &[Scene] = &[(
 
 #[test]
 fn empty_message_gets_huh_err(rt: HostRuntime) -> Result<(), Fail> {
-    assert_answers(&rt, &[(Client, L0, "", Huh(0))], EMPTY)
+    assert_answers(rt.alloc(), NO_WORDS, EMPTY)
 }
 
 const REPORT: &str = "02 00 00 08  48 13 40 00 40 00 40 01";
@@ -100,8 +105,10 @@ const REPORTS_GO_ON: &[Scene] = &[
 
 #[test]
 fn prn_is_relayed_or_wrapped_once(rt: HostRuntime) -> Result<(), Fail> {
-    assert_answers(&rt, REPORTS, REPORTS_GO_ON)
+    assert_answers(rt.alloc(), REPORTS, REPORTS_GO_ON)
 }
+
+const KET_BEFORE_BRA: &[Example] = &[(Client, L0, "GOF ) (", Prn)];
 
 const KET_FIRST: &[Scene] = &[(
     &[Says(Bot, "02 00 00 06  48 03 40 01 40 00")],
@@ -111,33 +118,37 @@ const KET_FIRST: &[Scene] = &[(
 
 #[test]
 fn ket_before_bra_gets_prn(rt: HostRuntime) -> Result<(), Fail> {
-    assert_answers(&rt, &[(Client, L0, "GOF ) (", Prn)], KET_FIRST)
+    assert_answers(rt.alloc(), KET_BEFORE_BRA, KET_FIRST)
 }
 
-/// In an open session a frame of the bot gets this answer, in pieces of so many bytes.
+/// In a fresh session, once it is open, a frame of the bot gets this answer, in pieces of so many bytes.
 fn assert_gets(
-    rt: &(impl Abort + AllocGlobal),
     script: &mut Script,
+    alloc: Global,
     frame: &[u8],
     want: &[u8],
     piece: usize,
 ) -> Result<(), Fail> {
-    script.open(rt, piece)?;
+    script.open(alloc, piece)?;
     script.say(Bot, frame, piece)?;
-    assert!(rt; script.to_bot.as_slice() == want, "in pieces of {piece}");
+    holds(script.sent.to(Bot) == want, "the answer")
+}
+
+/// The same, whole and byte by byte.
+fn assert_frame_gets(alloc: Global, frame: &[u8], want: &[u8]) -> Result<(), Fail> {
+    for piece in PIECES {
+        let mut script = script_of(alloc, WIDEST)?;
+        assert_gets(&mut script, alloc, frame, want, *piece)?;
+    }
     Ok(())
 }
 
 #[test]
 fn longest_body_gets_huh(rt: HostRuntime) -> Result<(), Fail> {
-    let frame = with_gofs(&rt, "02 00 FF F6", 32_763, &[])?;
+    let frame = with_gofs(rt.alloc(), "02 00 FF F6", 32_763, &[])?;
     let front = "02 00 FF FE 48 06 40 00 48 03 49 02";
-    let want = with_gofs(&rt, front, 32_762, &[0x40, 0x01])?;
-    for piece in [65_530, 1] {
-        let mut script = script_of(&rt, WIDEST)?;
-        assert_gets(&rt, &mut script, frame.as_slice(), want.as_slice(), piece)?;
-    }
-    Ok(())
+    let want = with_gofs(rt.alloc(), front, 32_762, &[0x40, 0x01])?;
+    assert_frame_gets(rt.alloc(), frame.as_slice(), want.as_slice())
 }
 
 const FM: &str = "03 00 00 00";
@@ -150,7 +161,7 @@ const WRONG_LENGTHS: &[Scene] = &[
 
 #[test]
 fn wrong_length_and_over_the_cap_end_the_session(rt: HostRuntime) -> Result<(), Fail> {
-    assert_scenes(&rt, true, WRONG_LENGTHS)
+    assert_scenes(rt.alloc(), true, WRONG_LENGTHS)
 }
 
 const ALIEN_TOKENS: &[Scene] = &[
@@ -173,8 +184,10 @@ const ALIEN_TOKENS: &[Scene] = &[
 
 #[test]
 fn alien_token_faults_at_its_second_byte(rt: HostRuntime) -> Result<(), Fail> {
-    assert_scenes(&rt, true, ALIEN_TOKENS)
+    assert_scenes(rt.alloc(), true, ALIEN_TOKENS)
 }
+
+const UNLISTED_WORD: &[Example] = &[(Client, L0, "#4a12", Huh(0))];
 
 const UNLISTED: &[Scene] = &[(
     &[Says(Bot, "02 00 00 02  4A 12")],
@@ -184,5 +197,5 @@ const UNLISTED: &[Scene] = &[(
 
 #[test]
 fn unlisted_word_gets_huh(rt: HostRuntime) -> Result<(), Fail> {
-    assert_answers(&rt, &[(Client, L0, "#4a12", Huh(0))], UNLISTED)
+    assert_answers(rt.alloc(), UNLISTED_WORD, UNLISTED)
 }

@@ -11,8 +11,8 @@ use daide_gate::relaying::{RelayEnd, relay};
 use daide_session::memory_ports::{Arrival, MemoryPorts, Script};
 use daide_session::ports::{Ports, Pull, Put};
 use daide_session::session::Session;
+use daide_tests::rows::holds;
 use std::alloc::Global;
-use std::process::Abort;
 use std::test::Fail;
 
 /// The IM; then OBS, which goes on; `GOF (`, which gets PRN; and an empty message, which gets HUH.
@@ -33,7 +33,7 @@ const FROM_THE_SERVER: Script<'static> = Script {
 };
 
 /// What the bot is sent: the RM, PRN and HUH.
-const TO_THE_BOT: [&[u8]; 3] = [
+const TO_THE_BOT: &[&[u8]] = &[
     &[1, 0, 0, 0],
     &[
         2, 0, 0, 0x0A, 0x48, 0x13, 0x40, 0, 0x48, 0x03, 0x40, 0, 0x40, 0x01,
@@ -42,7 +42,7 @@ const TO_THE_BOT: [&[u8]; 3] = [
 ];
 
 /// What the server is sent: the IM and OBS.
-const TO_THE_SERVER: [&[u8]; 2] = [&[0, 0, 0, 4, 0, 1, 0xDA, 0x10], &[2, 0, 0, 2, 0x48, 0x0F]];
+const TO_THE_SERVER: &[&[u8]] = &[&[0, 0, 0, 4, 0, 1, 0xDA, 0x10], &[2, 0, 0, 2, 0x48, 0x0F]];
 
 /// A final message.
 const FM: &[u8] = &[3, 0, 0, 0];
@@ -165,55 +165,51 @@ fn are_sent(bytes: &[u8], frames: &[&[u8]], failed: bool) -> bool {
     rest.is_empty() || rest == FM || (failed && FM.starts_with(rest))
 }
 
-/// A side was sent whole frames of these, and all of them where nothing broke.
-fn assert_sent_well(
-    rt: &(impl Abort + AllocGlobal),
-    ports: &Breaking,
-    side: Side,
-    frames: &[&[u8]],
-    all: Option<usize>,
-) -> Result<(), Fail> {
-    let calls = ports.ports.calls().unwrap_or(&[]);
-    let bytes = sent(rt, calls, side)?;
-    let failed = ports.at.is_put && ports.at.side == side;
-    assert!(rt; are_sent(bytes.as_slice(), frames, failed), "whole frames");
-    assert!(rt; all.is_none_or(|len| bytes.len() == len), "all was sent");
-    Ok(())
+/// What a side was sent, and how many bytes that is where nothing broke.
+fn expected_to(side: Side) -> (&'static [&'static [u8]], usize) {
+    match side {
+        Bot => (TO_THE_BOT, 30),
+        Server => (TO_THE_SERVER, 14),
+    }
 }
 
-/// The same of both.
-fn assert_both_sent_well(
-    rt: &(impl Abort + AllocGlobal),
-    ports: &Breaking,
-    is_all: bool,
-) -> Result<(), Fail> {
-    assert_sent_well(rt, ports, Bot, &TO_THE_BOT, is_all.then_some(30))?;
-    assert_sent_well(rt, ports, Server, &TO_THE_SERVER, is_all.then_some(14))
+/// A side was sent whole frames of its own, and all of them where nothing broke.
+fn assert_sent_well(alloc: Global, ports: &Breaking, side: Side, is_all: bool) -> Result<(), Fail> {
+    let bytes = sent(alloc, ports.ports.calls().unwrap_or(&[]), side)?;
+    let failed = ports.at.is_put && ports.at.side == side;
+    let (frames, count) = expected_to(side);
+    holds(are_sent(bytes.as_slice(), frames, failed), "whole frames")?;
+    holds(!is_all || bytes.len() == count, "all was sent")
+}
+
+/// The end of a relay of a fresh session over ports that break.
+fn end_of(alloc: Global, ports: &mut Breaking) -> Result<RelayEnd, Fail> {
+    let mut session = Session::new(alloc, WIDEST)?;
+    Ok(relay(&mut session, ports, 400))
 }
 
 /// Relays the conversation, which breaks there, looks at what each side was sent, and answers whether it was closed.
-fn is_closed_well(rt: &(impl Abort + AllocGlobal), at: Break) -> Result<bool, Fail> {
-    let mut session = Session::new(rt.alloc(), WIDEST)?;
-    let mut ports = breaking_at(rt.alloc(), at);
-    let end = relay(&mut session, &mut ports, 400);
-    let is_closed = end == RelayEnd::Closed;
-    assert_both_sent_well(rt, &ports, !is_closed)?;
+fn is_closed_well(alloc: Global, at: Break) -> Result<bool, Fail> {
+    let mut ports = breaking_at(alloc, at);
+    let is_closed = end_of(alloc, &mut ports)? == RelayEnd::Closed;
+    assert_sent_well(alloc, &ports, Bot, !is_closed)?;
+    assert_sent_well(alloc, &ports, Server, !is_closed)?;
     Ok(is_closed)
 }
 
 /// Whether it is a put that breaks, or a pull, and of which side.
-const KINDS: [(bool, Side); 4] = [(false, Bot), (false, Server), (true, Bot), (true, Server)];
+const KINDS: &[(bool, Side)] = &[(false, Bot), (false, Server), (true, Bot), (true, Server)];
 
 /// How many conversations that break at calls of this number are closed.
-fn closed_at(rt: &(impl Abort + AllocGlobal), number: usize) -> Result<usize, Fail> {
+fn closed_at(alloc: Global, number: usize) -> Result<usize, Fail> {
     let mut closed = 0_usize;
-    for (is_put, side) in &KINDS {
+    for (is_put, side) in KINDS {
         let at = Break {
             is_put: *is_put,
             side: *side,
             number,
         };
-        if is_closed_well(rt, at)? {
+        if is_closed_well(alloc, at)? {
             closed = closed.saturating_add(1);
         }
     }
@@ -224,9 +220,8 @@ fn closed_at(rt: &(impl Abort + AllocGlobal), number: usize) -> Result<usize, Fa
 fn ends_and_failures_at_every_place(rt: HostRuntime) -> Result<(), Fail> {
     let mut closed = 0_usize;
     for number in 1..70 {
-        closed = closed.saturating_add(closed_at(&rt, number)?);
+        closed = closed.saturating_add(closed_at(rt.alloc(), number)?);
     }
     // 30 puts to the bot, 14 to the server, each of their pulls that is among the first 69
-    assert!(rt; closed >= 30 + 14 + 58);
-    Ok(())
+    holds(closed >= 30 + 14 + 58, "how many were closed")
 }

@@ -1,20 +1,20 @@
 //! Many sessions in one loop: places, refusals, and that none hears of another.
 
 use crate::relays::{NEVER, OPENS, QUIET, assert_sent, sent};
-use crate::script::{WIDEST, with_gofs};
+use crate::script::{WIDEST, add_words, with_gofs};
 use crate::words::two_words;
 use daide_frame::side::Side::{self, Bot, Server};
 use daide_session::config::{Config, ConfigError};
 use daide_session::hub::{AddFault, Hub, HubError};
 use daide_session::memory_ports::{Acceptance, Arrival, MemoryPorts, Script};
 use daide_session::ports::{Ports, Pull, Put};
+use daide_tests::rows::{holds, same};
 use linked_list_allocator::LocalHeap;
 use std::alloc::Global;
-use std::process::Abort;
 use std::test::Fail;
 
 /// Limits and sizes of a hub, and the fault that is told, if one is.
-const SIZES: [(u16, usize, Option<HubError>); 5] = [
+const SIZES: &[(u16, usize, Option<HubError>)] = &[
     (65, 0, Some(HubError::Config(ConfigError::Level))),
     (60, 0, Some(HubError::Sessions)),
     (60, 257, Some(HubError::Sessions)),
@@ -23,15 +23,16 @@ const SIZES: [(u16, usize, Option<HubError>); 5] = [
 ];
 
 #[test]
-fn hub_refusals_in_order(rt: HostRuntime) {
-    for (top_level, max, want) in &SIZES {
+fn hub_refusals_in_order(rt: HostRuntime) -> Result<(), Fail> {
+    for (top_level, max, want) in SIZES {
         let config = Config {
             top_level: *top_level,
             ..WIDEST
         };
         let fault = Hub::<MemoryPorts<'_>>::new(rt.alloc(), config, *max).err();
-        assert!(rt; fault == *want, "{want:?}");
+        same(&fault, want, max)?;
     }
+    Ok(())
 }
 
 /// A server that ends the session.
@@ -191,15 +192,18 @@ const POURING: Seat = Seat {
     ..SEAT
 };
 
+/// GOF so often.
+fn gofs_of(alloc: Global, count: usize) -> Result<Vec<u8>, Fail> {
+    let mut gofs = Vec::new(alloc);
+    add_words(&mut gofs, &[0x48, 0x03], count)?;
+    Ok(gofs)
+}
+
 /// The ports of a seat.
 fn ports_of(alloc: Global, seat: Seat) -> Result<Feeding, Fail> {
-    let mut gofs = Vec::new(alloc);
-    for _token in 0..256 {
-        gofs.extend_from_slice(&[0x48, 0x03])?;
-    }
     Ok(Feeding {
+        gofs: gofs_of(alloc, 256)?,
         ports: MemoryPorts::new(alloc, seat.bot, seat.server, seat.quiet),
-        gofs,
         before: seat.before,
         left: seat.gofs,
     })
@@ -226,103 +230,153 @@ enum Act {
     Counts(usize),
 }
 
-/// Adds a session, which has this place; a full hub hands the very ports back.
-fn add(
-    rt: &(impl Abort + AllocGlobal),
-    hub: &mut Hub<Feeding>,
-    seat: Seat,
-    want: Option<usize>,
-) -> Result<(), Fail> {
-    match hub.add(ports_of(rt.alloc(), seat)?) {
-        Ok(place) => assert!(rt; Some(place) == want, "its place"),
+/// Adds a session, which has this place.
+fn add(alloc: Global, hub: &mut Hub<Feeding>, seat: Seat, want: usize) -> Result<(), Fail> {
+    match hub.add(ports_of(alloc, seat)?) {
+        Ok(place) => same(&place, &want, &"its place"),
+        Err(_) => Err(Fail::new("refused")),
+    }
+}
+
+/// A full hub hands the very ports back, whose clock pops at once.
+fn add_to_full(alloc: Global, hub: &mut Hub<Feeding>, seat: Seat) -> Result<(), Fail> {
+    match hub.add(ports_of(alloc, seat)?) {
+        Ok(_) => Err(Fail::new("a full hub")),
         Err((fault, mut ports)) => {
-            assert!(rt; want.is_none() && fault == AddFault::Full, "a full hub");
-            assert!(rt; ports.clock_popped(), "the very ports");
+            let is_same = ports.clock_popped();
+            holds(fault == AddFault::Full && is_same, "the very ports")
         }
     }
-    Ok(())
+}
+
+/// Makes a turn of the session at a place, if there is one.
+fn make_turn(hub: &mut Hub<Feeding>, place: usize) -> bool {
+    let is_there = place < hub.count();
+    if is_there {
+        hub.turn(place);
+    }
+    is_there
 }
 
 /// Makes turns of the session at a place.
-fn make_turns(rt: &impl Abort, hub: &mut Hub<Feeding>, place: usize, turns: usize) {
+fn make_turns(hub: &mut Hub<Feeding>, place: usize, turns: usize) -> Result<(), Fail> {
     for _turn in 0..turns {
-        assert!(rt; place < hub.count());
-        hub.turn(place);
+        holds(make_turn(hub, place), "no such place")?;
     }
-}
-
-/// These bytes were sent to the two sides.
-fn assert_both_sent(
-    rt: &(impl Abort + AllocGlobal),
-    ports: &Feeding,
-    to_bot: &str,
-    to_server: &str,
-) -> Result<(), Fail> {
-    assert_sent(rt, ports.ports.calls(), Bot, to_bot)?;
-    assert_sent(rt, ports.ports.calls(), Server, to_server)
-}
-
-/// Takes out the session at a place, which is closed.
-fn take_out(rt: &impl Abort, hub: &mut Hub<Feeding>, place: usize) -> Result<Feeding, Fail> {
-    assert!(rt; place < hub.count());
-    Ok(
-        hub.remove_over(place)
-            .ok_or("it is over, and nothing waits")?,
-    )
-}
-
-/// The session at a place is over or not, and stays.
-fn assert_kept(rt: &impl Abort, hub: &mut Hub<Feeding>, place: usize, is_over: bool) {
-    assert!(rt; place < hub.count());
-    assert!(rt; hub.session(place).is_over() == is_over);
-    assert!(rt; hub.remove_over(place).is_none());
+    Ok(())
 }
 
 /// Turns all sessions of a hub, round by round.
 fn turn_all(hub: &mut Hub<Feeding>, rounds: usize) {
     for _round in 0..rounds {
         for place in 0..hub.count() {
-            if place < hub.count() {
-                hub.turn(place);
-            }
+            make_turn(hub, place);
         }
     }
 }
 
+/// These bytes were sent to the two sides.
+fn assert_both_sent(
+    alloc: Global,
+    ports: &Feeding,
+    to_bot: &str,
+    to_server: &str,
+) -> Result<(), Fail> {
+    assert_sent(alloc, ports.ports.calls(), Bot, to_bot)?;
+    assert_sent(alloc, ports.ports.calls(), Server, to_server)
+}
+
+/// The ports of the session at a place, which is taken out if it is closed.
+fn remove(hub: &mut Hub<Feeding>, place: usize) -> Option<Feeding> {
+    if place < hub.count() {
+        hub.remove_over(place)
+    } else {
+        None
+    }
+}
+
+/// Takes out the session at a place, which is closed.
+fn take_out(hub: &mut Hub<Feeding>, place: usize) -> Result<Feeding, Fail> {
+    match remove(hub, place) {
+        Some(ports) => Ok(ports),
+        None => Err(Fail::new("it isn't closed")),
+    }
+}
+
+/// Takes out the session at a place, whose wires were sent these bytes.
+fn take_out_after(
+    alloc: Global,
+    hub: &mut Hub<Feeding>,
+    place: usize,
+    to_bot: &str,
+    to_server: &str,
+) -> Result<(), Fail> {
+    let ports = take_out(hub, place)?;
+    assert_both_sent(alloc, &ports, to_bot, to_server)
+}
+
+/// Whether there is a session at a place, which is over or not.
+fn is_there(hub: &Hub<Feeding>, place: usize, is_over: bool) -> bool {
+    place < hub.count() && hub.session(place).is_over() == is_over
+}
+
+/// The session at a place is over or not, and stays.
+fn assert_kept(hub: &mut Hub<Feeding>, place: usize, is_over: bool) -> Result<(), Fail> {
+    holds(is_there(hub, place, is_over), "it is over or not")?;
+    holds(remove(hub, place).is_none(), "it stays")
+}
+
+/// The wires of the session at a place were sent these bytes.
+fn assert_sent_at(
+    alloc: Global,
+    hub: &Hub<Feeding>,
+    place: usize,
+    to_bot: &str,
+    to_server: &str,
+) -> Result<(), Fail> {
+    if place < hub.count() {
+        assert_both_sent(alloc, hub.ports(place), to_bot, to_server)
+    } else {
+        Err(Fail::new("no such place"))
+    }
+}
+
+/// So many rounds of turns, after which all sessions together weigh at most so much.
+fn make_rounds(hub: &mut Hub<Feeding>, rounds: usize, most: usize) -> Result<(), Fail> {
+    turn_all(hub, rounds);
+    holds(hub.weight() <= most, "weight")
+}
+
 /// One call of a hub.
-fn play(rt: &(impl Abort + AllocGlobal), hub: &mut Hub<Feeding>, act: Act) -> Result<(), Fail> {
+fn play(alloc: Global, hub: &mut Hub<Feeding>, act: Act) -> Result<(), Fail> {
     match act {
-        Act::Adds(seat, place) => add(rt, hub, seat, Some(place))?,
-        Act::IsFull(seat) => add(rt, hub, seat, None)?,
-        Act::Turns(place, turns) => make_turns(rt, hub, place, turns),
+        Act::Adds(seat, place) => add(alloc, hub, seat, place),
+        Act::IsFull(seat) => add_to_full(alloc, hub, seat),
+        Act::Turns(place, turns) => make_turns(hub, place, turns),
         Act::Removes(place, to_bot, to_server) => {
-            let ports = take_out(rt, hub, place)?;
-            assert_both_sent(rt, &ports, to_bot, to_server)?;
+            take_out_after(alloc, hub, place, to_bot, to_server)
         }
-        Act::Keeps(place, is_over) => assert_kept(rt, hub, place, is_over),
+        Act::Keeps(place, is_over) => assert_kept(hub, place, is_over),
         Act::Sent(place, to_bot, to_server) => {
-            assert!(rt; place < hub.count());
-            assert_both_sent(rt, hub.ports(place), to_bot, to_server)?;
+            assert_sent_at(alloc, hub, place, to_bot, to_server)
         }
-        Act::Rounds(rounds, most) => {
-            turn_all(hub, rounds);
-            assert!(rt; hub.weight() <= most);
-        }
-        Act::Counts(count) => assert!(rt; hub.count() == count),
+        Act::Rounds(rounds, most) => make_rounds(hub, rounds, most),
+        Act::Counts(count) => same(&hub.count(), &count, &"how many"),
+    }
+}
+
+/// Calls one after the other.
+fn play_all(alloc: Global, hub: &mut Hub<Feeding>, acts: &[Act]) -> Result<(), Fail> {
+    for act in acts {
+        play(alloc, hub, *act)?;
     }
     Ok(())
 }
 
 /// A hub of at most so many sessions after these calls, each of which came out as it is to.
-fn hub_after(
-    rt: &(impl Abort + AllocGlobal),
-    max: usize,
-    acts: &[Act],
-) -> Result<Hub<Feeding>, Fail> {
-    let mut hub = Hub::new(rt.alloc(), WIDEST, max)?;
-    for act in acts {
-        play(rt, &mut hub, *act)?;
-    }
+fn hub_after(alloc: Global, max: usize, acts: &[Act]) -> Result<Hub<Feeding>, Fail> {
+    let mut hub = Hub::new(alloc, WIDEST, max)?;
+    play_all(alloc, &mut hub, acts)?;
     Ok(hub)
 }
 
@@ -346,7 +400,7 @@ const MOVES_DOWN: &[Act] = &[
 
 #[test]
 fn hub_places_move_down(rt: HostRuntime) -> Result<(), Fail> {
-    drop(hub_after(&rt, 2, MOVES_DOWN)?);
+    drop(hub_after(rt.alloc(), 2, MOVES_DOWN)?);
     Ok(())
 }
 
@@ -367,25 +421,16 @@ const KEEPS_WHAT_WAITS: &[Act] = &[
 
 #[test]
 fn session_with_a_byte_waiting_is_kept(rt: HostRuntime) -> Result<(), Fail> {
-    drop(hub_after(&rt, 1, KEEPS_WHAT_WAITS)?);
+    drop(hub_after(rt.alloc(), 1, KEEPS_WHAT_WAITS)?);
     Ok(())
 }
 
-/// Takes out the first session, whose bot was sent these bytes, and whose server an IM and an FM.
-fn was_sent(
-    rt: &(impl Abort + AllocGlobal),
-    hub: &mut Hub<Feeding>,
-    to_bot: &[u8],
-) -> Result<(), Fail> {
-    let ports = take_out(rt, hub, 0)?;
-    let calls = ports.ports.calls().unwrap_or(&[]);
-    assert!(rt; sent(rt, calls, Bot)?.as_slice() == to_bot);
-    assert_sent(
-        rt,
-        ports.ports.calls(),
-        Server,
-        "00 00 00 04 00 01 DA 10  03 00 00 00",
-    )
+/// The bot of these ports was sent these bytes, and the server an IM and an FM.
+fn was_sent(alloc: Global, ports: &Feeding, to_bot: &[u8]) -> Result<(), Fail> {
+    let calls = ports.ports.calls();
+    let bytes = sent(alloc, calls.unwrap_or(&[]), Bot)?;
+    holds(bytes.as_slice() == to_bot, "to the bot")?;
+    assert_sent(alloc, calls, Server, "00 00 00 04 00 01 DA 10  03 00 00 00")
 }
 
 /// One session gets `GOF (` in single bytes, one the longest body; then both bots end. The first was sent the RM and
@@ -405,19 +450,12 @@ const SIDE_BY_SIDE: &[Act] = &[
 /// ports of each, handed back, were sent exactly its own answers.
 #[test]
 fn sessions_hear_nothing_of_each_other(rt: HostRuntime) -> Result<(), Fail> {
-    let mut hub = hub_after(&rt, 2, SIDE_BY_SIDE)?;
+    let mut hub = hub_after(rt.alloc(), 2, SIDE_BY_SIDE)?;
     // the RM, and HUH ( GOF ERR GOF .. GOF )
     let front = "01 00 00 00  02 00 FF FE  48 06 40 00 48 03 49 02";
-    let longest = with_gofs(&rt, front, 32_762, &[0x40, 0x01])?;
-    was_sent(&rt, &mut hub, longest.as_slice())
-}
-
-/// What became of a hub of two sessions whose memory lies in this heap, and of a session added to it.
-#[derive(Clone, Copy)]
-enum Growth {
-    NoHub,
-    NoSession,
-    Whole,
+    let longest = with_gofs(rt.alloc(), front, 32_762, &[0x40, 0x01])?;
+    let ports = take_out(&mut hub, 0)?;
+    was_sent(rt.alloc(), &ports, longest.as_slice())
 }
 
 /// A hub of two sessions in a heap, with an operator's words or without.
@@ -435,43 +473,76 @@ fn hub_in<'a>(
     Hub::new(heap, config, 2)
 }
 
-fn growth_in(rt: &(impl Abort + AllocGlobal), heap: &LocalHeap, has_words: bool) -> Growth {
-    match hub_in(heap, has_words) {
-        Err(fault) => {
-            assert!(rt; fault == HubError::Memory);
-            Growth::NoHub
-        }
-        Ok(mut hub) => match hub.add(MemoryPorts::new(rt.alloc(), QUIET, QUIET, 0)) {
+/// Which were seen of these: no hub, a hub that has no memory for a session, and one that has it.
+#[derive(Clone, Copy)]
+pub struct Growths {
+    pub no_hub: bool,
+    pub no_session: bool,
+    pub whole: bool,
+}
+
+/// None of them yet.
+pub const NO_GROWTHS: Growths = Growths {
+    no_hub: false,
+    no_session: false,
+    whole: false,
+};
+
+impl Growths {
+    /// Each was seen.
+    pub fn assert_all(self) -> Result<(), Fail> {
+        holds(
+            self.no_hub && self.no_session && self.whole,
+            "each was seen",
+        )
+    }
+
+    /// A session is added to a hub, or refused for want of memory; the hub is as it was, and the very ports come back.
+    fn add(
+        &mut self,
+        alloc: Global,
+        hub: &mut Hub<MemoryPorts<'static>, &LocalHeap>,
+    ) -> Result<(), Fail> {
+        match hub.add(MemoryPorts::new(alloc, QUIET, QUIET, 0)) {
             Ok(place) => {
-                assert!(rt; place == 0 && hub.count() == 1);
-                Growth::Whole
+                self.whole = true;
+                holds(place == 0 && hub.count() == 1, "added")
             }
             Err((fault, mut ports)) => {
-                assert!(rt; fault == AddFault::Memory && hub.count() == 0);
-                assert!(rt; ports.clock_popped(), "the very ports");
-                Growth::NoSession
+                self.no_session = true;
+                let is_same = ports.clock_popped();
+                holds(
+                    fault == AddFault::Memory && hub.count() == 0 && is_same,
+                    "refused",
+                )
             }
-        },
+        }
+    }
+
+    /// What becomes of a hub, and of a session added to it, in a heap of so many bytes.
+    fn try_within(&mut self, alloc: Global, bytes: usize, has_words: bool) -> Result<(), Fail> {
+        let heap = LocalHeap::new(alloc, bytes)?;
+        match hub_in(&heap, has_words) {
+            Ok(mut hub) => self.add(alloc, &mut hub),
+            Err(fault) => {
+                self.no_hub = true;
+                same(&fault, &HubError::Memory, &bytes)
+            }
+        }
     }
 }
 
 /// Over heaps from empty to ample, 32 KB: want of memory and nothing else, and the hub as it was.
-fn assert_growths(rt: &(impl Abort + AllocGlobal), has_words: bool) -> Result<(), Fail> {
-    let mut seen = [false; 3];
+fn assert_growths(alloc: Global, has_words: bool) -> Result<(), Fail> {
+    let mut seen = NO_GROWTHS;
     for step in 0..1000 {
-        let heap = LocalHeap::new(rt.alloc(), 32 * step)?;
-        match growth_in(rt, &heap, has_words) {
-            Growth::NoHub => seen[0] = true,
-            Growth::NoSession => seen[1] = true,
-            Growth::Whole => seen[2] = true,
-        }
+        seen.try_within(alloc, 32 * step, has_words)?;
     }
-    assert!(rt; seen == [true; 3], "each was seen");
-    Ok(())
+    seen.assert_all()
 }
 
 #[test]
 fn growths_of_a_hub_refused_in_turn(rt: HostRuntime) -> Result<(), Fail> {
-    assert_growths(&rt, false)?;
-    assert_growths(&rt, true)
+    assert_growths(rt.alloc(), false)?;
+    assert_growths(rt.alloc(), true)
 }

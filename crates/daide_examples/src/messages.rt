@@ -7,44 +7,70 @@ use daide_grammar::predict::Predict;
 use daide_grammar::side::Side2;
 use daide_reader::reader::Reader;
 use daide_reader::verdict::Verdict;
+use daide_tests::rows::{holds, same};
 use daide_token::token::Token;
 use std::alloc::{AllocError, Global};
-use std::process::Abort;
 use std::test::Fail;
 
 /// Whose message it is, the level, the message as text, and the verdict on it.
 pub type Example = (Side2, Level, &'static str, Verdict);
+
+/// The token of `#` and four hexadecimal digits.
+fn token_of_code(word: &str) -> Option<Token> {
+    let digits = word.strip_prefix('#')?;
+    match u16::from_str_radix(digits, 16) {
+        Ok(code) => Some(Token::from_code(code)),
+        Err(_) => None,
+    }
+}
+
+/// The token of a number.
+fn token_of_number(word: &str) -> Option<Token> {
+    match word.parse() {
+        Ok(number) => Token::of_number(number),
+        Err(_) => None,
+    }
+}
 
 /// The token of a word of the text form: a bracket, a name, `#` and four hexadecimal digits, or a number.
 fn token_of(word: &str) -> Option<Token> {
     match word.as_bytes() {
         b"(" => Some(Token::from_code(0x4000)),
         b")" => Some(Token::from_code(0x4001)),
-        [b'#', ..] => {
-            let code = u16::from_str_radix(word.strip_prefix('#')?, 16).ok()?;
-            Some(Token::from_code(code))
-        }
-        _ => Token::by_name(word).or_else(|| Token::of_number(word.parse().ok()?)),
+        [b'#', ..] => token_of_code(word),
+        [b'-' | b'0'..=b'9', ..] => token_of_number(word),
+        _ => Token::by_name(word),
     }
+}
+
+/// A token more, if it is one.
+fn push(tokens: &mut Vec<Token>, token: Option<Token>, word: &str) -> Result<(), Fail> {
+    match token {
+        Some(token) => Ok(tokens.push(token)?),
+        None => Err(Fail::new(word)),
+    }
+}
+
+/// The tokens of a text, each letter being one.
+fn push_letters(tokens: &mut Vec<Token>, letters: &[u8]) -> Result<(), Fail> {
+    for letter in letters {
+        tokens.push(Token::from_be([0x4B, *letter]))?;
+    }
+    Ok(())
 }
 
 /// The tokens of a word, each letter of a text in quotes being one.
 fn read_word(tokens: &mut Vec<Token>, word: &str) -> Result<(), Fail> {
     match word.as_bytes() {
-        [] => {}
-        [b'\'', letters @ .., b'\''] => {
-            for letter in letters {
-                tokens.push(Token::from_be([0x4B, *letter]))?;
-            }
-        }
-        _ => tokens.push(token_of(word).ok_or("a word")?)?,
+        [] => Ok(()),
+        [b'\'', letters @ .., b'\''] => push_letters(tokens, letters),
+        _ => push(tokens, token_of(word), word),
     }
-    Ok(())
 }
 
 /// The tokens of a message that is written in the text form, a space between its words.
-pub fn tokens_of_text(rt: &(impl Abort + AllocGlobal), text: &str) -> Result<Vec<Token>, Fail> {
-    let mut tokens = Vec::new(rt.alloc());
+pub fn tokens_of_text(alloc: Global, text: &str) -> Result<Vec<Token>, Fail> {
+    let mut tokens = Vec::new(alloc);
     for word in text.split(' ') {
         read_word(&mut tokens, word)?;
     }
@@ -56,12 +82,6 @@ pub fn tokens_of_text(rt: &(impl Abort + AllocGlobal), text: &str) -> Result<Vec
 struct Course {
     verdict: Verdict,
     steps: Vec<u64>,
-}
-
-impl Course {
-    fn is_that_of(&self, other: &Course) -> bool {
-        self.verdict == other.verdict && self.steps.as_slice() == other.steps.as_slice()
-    }
 }
 
 /// The course of a message, token by token.
@@ -99,31 +119,71 @@ pub fn verdict_on(side: Side2, level: Level, message: &[Token]) -> Verdict {
     reader.finish()
 }
 
+/// The readers of all examples, over both tables and with either room.
+#[derive(Drop)]
+struct Readers {
+    plain: Reader<Plain, 512>,
+    roomy: Reader<Plain, 2048>,
+    dense: Reader<Dense, 512>,
+    both: Reader<Dense, 2048>,
+}
+
+/// A reader has the same course of a message.
+fn assert_alike<T: Predict, const N: usize>(
+    alloc: Global,
+    reader: &mut Reader<T, N>,
+    row: &Example,
+    message: &[Token],
+    want: &Course,
+) -> Result<(), Fail> {
+    let (side, level, text, _) = row;
+    let course = course_of(alloc, reader, *side, *level, message)?;
+    holds(course.verdict == want.verdict, text)?;
+    holds(course.steps.as_slice() == want.steps.as_slice(), text)
+}
+
+impl Readers {
+    /// Each reader has the course of the plain one.
+    fn assert_all_alike(
+        &mut self,
+        alloc: Global,
+        row: &Example,
+        message: &[Token],
+        want: &Course,
+    ) -> Result<(), Fail> {
+        assert_alike(alloc, &mut self.roomy, row, message, want)?;
+        assert_alike(alloc, &mut self.dense, row, message, want)?;
+        assert_alike(alloc, &mut self.both, row, message, want)
+    }
+
+    /// An example has its verdict, and the same course in each reader.
+    fn assert_verdict(&mut self, alloc: Global, row: &Example) -> Result<(), Fail> {
+        let (side, level, text, want) = row;
+        let message = tokens_of_text(alloc, text)?;
+        let course = course_of(alloc, &mut self.plain, *side, *level, message.as_slice())?;
+        same(&course.verdict, want, row)?;
+        self.assert_all_alike(alloc, row, message.as_slice(), &course)
+    }
+}
+
 /// Each example has its verdict, and the same course over both tables and with either room.
-pub fn assert_verdicts(rt: &(impl Abort + AllocGlobal), rows: &[Example]) -> Result<(), Fail> {
-    let mut plain: Reader<Plain, 512> = Reader::new(Plain::new(), 62);
-    let mut roomy: Reader<Plain, 2048> = Reader::new(Plain::new(), 62);
-    let mut dense: Reader<Dense, 512> = Reader::new(Dense::new(), 62);
-    let mut both: Reader<Dense, 2048> = Reader::new(Dense::new(), 62);
-    for (side, level, text, want) in rows {
-        let message = tokens_of_text(rt, text)?;
-        let (side, level, message) = (*side, *level, message.as_slice());
-        let course = course_of(rt.alloc(), &mut plain, side, level, message)?;
-        assert!(rt; course.verdict == *want, "{side:?} {level:?} {text}");
-        let others = [
-            course_of(rt.alloc(), &mut roomy, side, level, message)?,
-            course_of(rt.alloc(), &mut dense, side, level, message)?,
-            course_of(rt.alloc(), &mut both, side, level, message)?,
-        ];
-        let alike = others.iter().all(|other| other.is_that_of(&course));
-        assert!(rt; alike, "{side:?} {level:?} {text}");
+pub fn assert_verdicts(alloc: Global, rows: &[Example]) -> Result<(), Fail> {
+    let mut readers = Readers {
+        plain: Reader::new(Plain::new(), 62),
+        roomy: Reader::new(Plain::new(), 62),
+        dense: Reader::new(Dense::new(), 62),
+        both: Reader::new(Dense::new(), 62),
+    };
+    for row in rows {
+        readers.assert_verdict(alloc, row)?;
     }
     Ok(())
 }
 
 /// HUH and that many opening and closing brackets.
-pub fn nested(rt: &(impl Abort + AllocGlobal), brackets: usize) -> Result<Vec<Token>, Fail> {
-    let mut message = tokens_of_text(rt, "HUH")?;
+pub fn nested(alloc: Global, brackets: usize) -> Result<Vec<Token>, Fail> {
+    let mut message = Vec::new(alloc);
+    message.push(Token::from_code(0x4806))?;
     for _ in 0..brackets {
         message.push(Token::from_code(0x4000))?;
     }

@@ -11,7 +11,7 @@ use std::test::Fail;
 
 // side, level, message, verdict
 #[rattlefmt::skip]
-const REQUESTS: [Example; 35] = [
+const REQUESTS: &[Example] = &[
     (Client, L0, "NME ( 'Al' ) ( 'v12' )", Relay),
     (Client, L0, "NME ( 'a' ) ( 'b' ) ( 'c' )", Huh(7)),
     (Client, L0, "NME ( FRA ) ( 'b' )", Huh(2)),
@@ -51,12 +51,12 @@ const REQUESTS: [Example; 35] = [
 
 #[test]
 fn parts_of_requests(rt: HostRuntime) -> Result<(), Fail> {
-    assert_verdicts(&rt, &REQUESTS)
+    assert_verdicts(rt.alloc(), REQUESTS)
 }
 
 // side, level, message, verdict
 #[rattlefmt::skip]
-const ORDERS: [Example; 40] = [
+const ORDERS: &[Example] = &[
     (Client, L0, "SUB ( HLD )", Huh(2)),
     (Client, L0, "SUB ( ( ) HLD )", Huh(3)),
     (Client, L0, "SUB ( ( UNO FLT NTH ) HLD )", Huh(3)),
@@ -101,12 +101,12 @@ const ORDERS: [Example; 40] = [
 
 #[test]
 fn parts_of_orders(rt: HostRuntime) -> Result<(), Fail> {
-    assert_verdicts(&rt, &ORDERS)
+    assert_verdicts(rt.alloc(), ORDERS)
 }
 
 // side, level, message, verdict
 #[rattlefmt::skip]
-const REPLIES: [Example; 18] = [
+const REPLIES: &[Example] = &[
     (Client, L0, "YES", Huh(1)),
     (Client, L0, "YES ( )", Huh(2)),
     (Client, L0, "YES ( MAP ( FRA ) )", Huh(4)),
@@ -129,12 +129,12 @@ const REPLIES: [Example; 18] = [
 
 #[test]
 fn parts_of_replies_and_reports(rt: HostRuntime) -> Result<(), Fail> {
-    assert_verdicts(&rt, &REPLIES)
+    assert_verdicts(rt.alloc(), REPLIES)
 }
 
 // side, level, message, verdict
 #[rattlefmt::skip]
-const MAPS: [Example; 30] = [
+const MAPS: &[Example] = &[
     (ServerEnd, L0, "MAP ( FRA )", Huh(2)),
     (ServerEnd, L0, "MAP ( 'a' ) ( 'b' )", Huh(4)),
     (ServerEnd, L0, "SVE", Huh(1)),
@@ -170,12 +170,12 @@ const MAPS: [Example; 30] = [
 
 #[test]
 fn parts_of_maps_and_saved_games(rt: HostRuntime) -> Result<(), Fail> {
-    assert_verdicts(&rt, &MAPS)
+    assert_verdicts(rt.alloc(), MAPS)
 }
 
 // side, level, message, verdict
 #[rattlefmt::skip]
-const STATES: [Example; 30] = [
+const STATES: &[Example] = &[
     (ServerEnd, L0, "HLO ( ) ( 1 ) ( )", Huh(2)),
     (ServerEnd, L0, "HLO ( ( ENG ) ) ( 1 ) ( )", Huh(2)),
     (ServerEnd, L0, "HLO ( ENG ) ( ) ( )", Huh(5)),
@@ -210,12 +210,12 @@ const STATES: [Example; 30] = [
 
 #[test]
 fn parts_of_what_a_server_tells_of_the_game(rt: HostRuntime) -> Result<(), Fail> {
-    assert_verdicts(&rt, &STATES)
+    assert_verdicts(rt.alloc(), STATES)
 }
 
 // side, level, message, verdict
 #[rattlefmt::skip]
-const ANSWERS: [Example; 41] = [
+const ANSWERS: &[Example] = &[
     (ServerEnd, L0, "YES", Huh(1)),
     (ServerEnd, L0, "YES ( )", Huh(2)),
     (ServerEnd, L0, "YES ( OBS OBS )", Huh(3)),
@@ -261,12 +261,12 @@ const ANSWERS: [Example; 41] = [
 
 #[test]
 fn parts_of_a_servers_answers_and_notices(rt: HostRuntime) -> Result<(), Fail> {
-    assert_verdicts(&rt, &ANSWERS)
+    assert_verdicts(rt.alloc(), ANSWERS)
 }
 
 // side, level, message, verdict
 #[rattlefmt::skip]
-const SENDS: [Example; 19] = [
+const SENDS: &[Example] = &[
     (ServerEnd, L10, "FRM ( ) ( ENG ) ( TRY ( ) )", Huh(2)),
     (ServerEnd, L10, "FRM ( UNO ) ( ENG ) ( TRY ( ) )", Huh(2)),
     (ServerEnd, L10, "FRM ( FRA ) ( ) ( TRY ( ) )", Huh(5)),
@@ -290,12 +290,12 @@ const SENDS: [Example; 19] = [
 
 #[test]
 fn parts_of_press_from_a_server(rt: HostRuntime) -> Result<(), Fail> {
-    assert_verdicts(&rt, &SENDS)
+    assert_verdicts(rt.alloc(), SENDS)
 }
 
 // side, level, message, verdict
 #[rattlefmt::skip]
-const PRESS: [Example; 49] = [
+const PRESS: &[Example] = &[
     (Client, L10, "SND ( FRA ) ( ( TRY ( ) ) )", Huh(5)),
     (Client, L10, "SND ( FRA ) ( PRP )", Huh(6)),
     (Client, L10, "SND ( FRA ) ( PRP ( ) )", Huh(7)),
@@ -349,12 +349,12 @@ const PRESS: [Example; 49] = [
 
 #[test]
 fn parts_of_press(rt: HostRuntime) -> Result<(), Fail> {
-    assert_verdicts(&rt, &PRESS)
+    assert_verdicts(rt.alloc(), PRESS)
 }
 
 // side, level, message, verdict
 #[rattlefmt::skip]
-const ARRANGEMENTS: [Example; 43] = [
+const ARRANGEMENTS: &[Example] = &[
     (Client, L10, "SND ( FRA ) ( PRP ( PCE ) )", Huh(8)),
     (Client, L10, "SND ( FRA ) ( PRP ( PCE ( UNO ) ) )", Huh(9)),
     (Client, L10, "SND ( FRA ) ( PRP ( PCE ( FRA ) ( ENG ) ) )", Huh(11)),
@@ -402,5 +402,5 @@ const ARRANGEMENTS: [Example; 43] = [
 
 #[test]
 fn parts_of_arrangements(rt: HostRuntime) -> Result<(), Fail> {
-    assert_verdicts(&rt, &ARRANGEMENTS)
+    assert_verdicts(rt.alloc(), ARRANGEMENTS)
 }

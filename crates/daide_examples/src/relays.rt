@@ -6,9 +6,9 @@ use daide_gate::relaying::{RelayEnd, relay};
 use daide_session::memory_ports::{Acceptance, Arrival, Call, MemoryPorts, Script};
 use daide_session::ports::{Ports, Pull, Put};
 use daide_session::session::{Phase, Session};
+use daide_tests::rows::{holds, same};
 use linked_list_allocator::LocalHeap;
-use std::alloc::Allocator;
-use std::process::Abort;
+use std::alloc::{Allocator, Global};
 use std::test::Fail;
 
 /// No test asks the clock so often.
@@ -21,12 +21,8 @@ pub const QUIET: Script<'static> = Script {
 };
 
 /// What a wire took, by the calls that were stored.
-pub fn sent<A: Allocator>(
-    rt: &impl AllocGlobal,
-    calls: &[Call<A>],
-    side: Side,
-) -> Result<Vec<u8>, Fail> {
-    let mut bytes = Vec::new(rt.alloc());
+pub fn sent<A: Allocator>(alloc: Global, calls: &[Call<A>], side: Side) -> Result<Vec<u8>, Fail> {
+    let mut bytes = Vec::new(alloc);
     for call in calls {
         if let Call::Offered(to, offered, Put::Took(count)) = call {
             if *to == side {
@@ -38,15 +34,17 @@ pub fn sent<A: Allocator>(
 }
 
 /// A wire took these bytes, by the calls that were stored.
-pub fn assert_sent<A: Allocator>(
-    rt: &(impl Abort + AllocGlobal),
-    calls: Option<&[Call<A>]>,
+pub fn assert_sent(
+    alloc: Global,
+    calls: Option<&[Call]>,
     side: Side,
     want: &str,
 ) -> Result<(), Fail> {
-    let calls = calls.ok_or("memory for the record")?;
-    let bytes = sent(rt, calls, side)?;
-    assert_bytes(rt, bytes.as_slice(), want)
+    let Some(calls) = calls else {
+        return Err(Fail::new("memory for the record"));
+    };
+    let bytes = sent(alloc, calls, side)?;
+    assert_bytes(alloc, bytes.as_slice(), want)
 }
 
 /// A call of ports, as it is wanted: a clock that popped or not; a side, the length of the buffer, and what came; a
@@ -84,37 +82,47 @@ struct Relay {
     asks: &'static [Asks],
 }
 
-/// The calls are those that are wanted.
-fn assert_calls(rt: &impl Abort, calls: &[Call], asks: &[Asks]) {
+/// Whether the calls are those that are wanted.
+fn are_wanted(calls: &[Call], asks: &[Asks]) -> bool {
     let mut rest = calls.iter();
-    for (place, want) in asks.iter().enumerate() {
-        let is_asked = rest.next().is_some_and(|call| is_wanted(call, *want));
-        assert!(rt; is_asked, "call {place}");
+    for want in asks {
+        match rest.next() {
+            Some(call) if is_wanted(call, *want) => {}
+            _ => return false,
+        }
     }
-    assert!(rt; rest.next().is_none(), "one call more");
+    rest.next().is_none()
+}
+
+/// The end of a relay of a fresh session over these ports.
+fn end_of(alloc: Global, ports: &mut MemoryPorts<'_>, turns: u64) -> Result<RelayEnd, Fail> {
+    let mut session = Session::new(alloc, WIDEST)?;
+    Ok(relay(&mut session, ports, turns))
 }
 
 /// A relay of a fresh session asks just that.
-fn assert_relay(rt: &(impl Abort + AllocGlobal), row: &Relay) -> Result<(), Fail> {
-    let mut session = Session::new(rt.alloc(), WIDEST)?;
-    let mut ports = MemoryPorts::new(rt.alloc(), row.bot, row.server, row.quiet);
-    let end = relay(&mut session, &mut ports, row.turns);
-    assert!(rt; end == row.end, "the end");
-    assert_calls(rt, ports.calls().unwrap_or(&[]), row.asks);
-    Ok(())
+fn assert_relay(alloc: Global, row: &Relay) -> Result<(), Fail> {
+    let mut ports = MemoryPorts::new(alloc, row.bot, row.server, row.quiet);
+    let end = end_of(alloc, &mut ports, row.turns)?;
+    same(&end, &row.end, &"the end")?;
+    holds(
+        are_wanted(ports.calls().unwrap_or(&[]), row.asks),
+        "the calls",
+    )
 }
+
+const NO_TURNS: Relay = Relay {
+    bot: QUIET,
+    server: QUIET,
+    quiet: NEVER,
+    turns: 0,
+    end: RelayEnd::TurnsSpent,
+    asks: &[],
+};
 
 #[test]
 fn no_turns_ask_nothing(rt: HostRuntime) -> Result<(), Fail> {
-    let row = Relay {
-        bot: QUIET,
-        server: QUIET,
-        quiet: NEVER,
-        turns: 0,
-        end: RelayEnd::TurnsSpent,
-        asks: &[],
-    };
-    assert_relay(&rt, &row)
+    assert_relay(rt.alloc(), &NO_TURNS)
 }
 
 /// A side that ends at once.
@@ -123,40 +131,42 @@ const ENDS: Script<'static> = Script {
     puts: &[],
 };
 
+const ENDS_AT_ONCE: Relay = Relay {
+    bot: ENDS,
+    server: QUIET,
+    quiet: NEVER,
+    turns: 1,
+    end: RelayEnd::Closed,
+    asks: &[Asks::Clock(false), Asks::Pull(Bot, 4, Pull::Ended)],
+};
+
 #[test]
 fn bot_that_ends_at_once_is_closed_after_one_turn(rt: HostRuntime) -> Result<(), Fail> {
-    let row = Relay {
-        bot: ENDS,
-        server: QUIET,
-        quiet: NEVER,
-        turns: 1,
-        end: RelayEnd::Closed,
-        asks: &[Asks::Clock(false), Asks::Pull(Bot, 4, Pull::Ended)],
-    };
-    assert_relay(&rt, &row)
+    assert_relay(rt.alloc(), &ENDS_AT_ONCE)
 }
 
 /// The clock pops in the third turn, whose EM goes out in it, whole.
+const LATE: Relay = Relay {
+    bot: QUIET,
+    server: QUIET,
+    quiet: 2,
+    turns: 9,
+    end: RelayEnd::Closed,
+    asks: &[
+        Asks::Clock(false),
+        Asks::Pull(Bot, 4, Pull::Idle),
+        Asks::Pull(Server, 4, Pull::Idle),
+        Asks::Clock(false),
+        Asks::Pull(Bot, 4, Pull::Idle),
+        Asks::Pull(Server, 4, Pull::Idle),
+        Asks::Clock(true),
+        Asks::Put(Bot, &[4, 0, 0, 2, 0, 1], Put::Took(6)),
+    ],
+};
+
 #[test]
 fn late_initial_message_is_told_to_the_bot_alone(rt: HostRuntime) -> Result<(), Fail> {
-    let row = Relay {
-        bot: QUIET,
-        server: QUIET,
-        quiet: 2,
-        turns: 9,
-        end: RelayEnd::Closed,
-        asks: &[
-            Asks::Clock(false),
-            Asks::Pull(Bot, 4, Pull::Idle),
-            Asks::Pull(Server, 4, Pull::Idle),
-            Asks::Clock(false),
-            Asks::Pull(Bot, 4, Pull::Idle),
-            Asks::Pull(Server, 4, Pull::Idle),
-            Asks::Clock(true),
-            Asks::Put(Bot, &[4, 0, 0, 2, 0, 1], Put::Took(6)),
-        ],
-    };
-    assert_relay(&rt, &row)
+    assert_relay(rt.alloc(), &LATE)
 }
 
 /// A bot whose wire fails at its first put.
@@ -179,37 +189,38 @@ pub const OPENS: Script<'static> = Script {
 
 /// A relayed frame is handed over by its parts, the bot isn't read while its IM waits, and the FM after a put that
 /// failed goes out whole, in the turn that let it wait.
+const WHOLE_FRONTS: Relay = Relay {
+    bot: FAILS,
+    server: OPENS,
+    quiet: NEVER,
+    turns: 9,
+    end: RelayEnd::Closed,
+    asks: &[
+        Asks::Clock(false),
+        Asks::Pull(Bot, 4, Pull::Got(4)),
+        Asks::Pull(Server, 4, Pull::Idle),
+        Asks::Clock(false),
+        Asks::Pull(Bot, 4, Pull::Got(4)),
+        Asks::Pull(Server, 4, Pull::Idle),
+        Asks::Clock(false),
+        Asks::Put(Server, &[0, 0, 0, 4], Put::Took(4)),
+        Asks::Pull(Server, 4, Pull::Idle),
+        Asks::Clock(false),
+        Asks::Put(Server, &[0, 1, 0xDA, 0x10], Put::Took(4)),
+        Asks::Pull(Bot, 4, Pull::Idle),
+        Asks::Pull(Server, 4, Pull::Idle),
+        Asks::Clock(false),
+        Asks::Pull(Bot, 4, Pull::Idle),
+        Asks::Pull(Server, 4, Pull::Got(4)),
+        Asks::Clock(false),
+        Asks::Put(Bot, &[1, 0, 0, 0], Put::Failed),
+        Asks::Put(Server, &[3, 0, 0, 0], Put::Took(4)),
+    ],
+};
+
 #[test]
 fn each_put_is_of_the_whole_front(rt: HostRuntime) -> Result<(), Fail> {
-    let row = Relay {
-        bot: FAILS,
-        server: OPENS,
-        quiet: NEVER,
-        turns: 9,
-        end: RelayEnd::Closed,
-        asks: &[
-            Asks::Clock(false),
-            Asks::Pull(Bot, 4, Pull::Got(4)),
-            Asks::Pull(Server, 4, Pull::Idle),
-            Asks::Clock(false),
-            Asks::Pull(Bot, 4, Pull::Got(4)),
-            Asks::Pull(Server, 4, Pull::Idle),
-            Asks::Clock(false),
-            Asks::Put(Server, &[0, 0, 0, 4], Put::Took(4)),
-            Asks::Pull(Server, 4, Pull::Idle),
-            Asks::Clock(false),
-            Asks::Put(Server, &[0, 1, 0xDA, 0x10], Put::Took(4)),
-            Asks::Pull(Bot, 4, Pull::Idle),
-            Asks::Pull(Server, 4, Pull::Idle),
-            Asks::Clock(false),
-            Asks::Pull(Bot, 4, Pull::Idle),
-            Asks::Pull(Server, 4, Pull::Got(4)),
-            Asks::Clock(false),
-            Asks::Put(Bot, &[1, 0, 0, 0], Put::Failed),
-            Asks::Put(Server, &[3, 0, 0, 0], Put::Took(4)),
-        ],
-    };
-    assert_relay(&rt, &row)
+    assert_relay(rt.alloc(), &WHOLE_FRONTS)
 }
 
 /// A bot whose wire takes none of the first put of a HUH, then three bytes a put.
@@ -290,12 +301,12 @@ fn is_read_in_time(calls: &[Call]) -> bool {
 }
 
 /// The bot was sent the RM, the HUH and NOW, and the server the IM, and no side was read while its answer waited.
-fn assert_slow_calls(rt: &(impl Abort + AllocGlobal), calls: Option<&[Call]>) -> Result<(), Fail> {
-    assert!(rt; calls.is_some_and(is_read_in_time));
-    assert_sent(rt, calls, Server, "00 00 00 04 00 01 DA 10")?;
+fn assert_slow_calls(alloc: Global, calls: Option<&[Call]>) -> Result<(), Fail> {
+    holds(is_read_in_time(calls.unwrap_or(&[])), "read in time")?;
+    assert_sent(alloc, calls, Server, "00 00 00 04 00 01 DA 10")?;
     let want =
         "01 00 00 00  02 00 00 08 48 06 40 00 49 02 40 01  02 00 00 0A 48 0E 40 00 47 00 07 6D 40 01";
-    assert_sent(rt, calls, Bot, want)
+    assert_sent(alloc, calls, Bot, want)
 }
 
 /// The bot's wire takes none of the first put of a HUH, then three bytes a put, while a message of the server
@@ -303,11 +314,10 @@ fn assert_slow_calls(rt: &(impl Abort + AllocGlobal), calls: Option<&[Call]>) ->
 /// while its answer waits.
 #[test]
 fn slow_wire_keeps_frames_whole_in_turns(rt: HostRuntime) -> Result<(), Fail> {
-    let mut session = Session::new(rt.alloc(), WIDEST)?;
     let mut ports = MemoryPorts::new(rt.alloc(), SLOW_BOT, SERVER_OF_A_SLOW_BOT, NEVER);
-    let end = relay(&mut session, &mut ports, 60);
-    assert!(rt; end == RelayEnd::TurnsSpent);
-    assert_slow_calls(&rt, ports.calls())
+    let end = end_of(rt.alloc(), &mut ports, 60)?;
+    same(&end, &RelayEnd::TurnsSpent, &"the end")?;
+    assert_slow_calls(rt.alloc(), ports.calls())
 }
 
 /// Ports that note what the wire toward the bot took, beside ports in memory whose record may be refused.
@@ -366,18 +376,38 @@ const SENT_TO_THE_BOT: &[u8] = &[
     1, 0, 0, 0, 2, 0, 0, 0x0A, 0x48, 0x13, 0x40, 0, 0x48, 0x03, 0x40, 0, 0x40, 1,
 ];
 
+/// Relays a fresh session over these ports, to its end, and the bot is sent all of it.
+fn relay_whole<A: Allocator + Copy>(
+    alloc: Global,
+    ports: &mut Watching<'_, A>,
+) -> Result<(), Fail> {
+    let mut session = Session::new(alloc, WIDEST)?;
+    let end = relay(&mut session, ports, 60);
+    holds(
+        end == RelayEnd::Closed && session.phase() == Phase::Over,
+        "the end",
+    )?;
+    holds(
+        !ports.refused && ports.to_bot.as_slice() == SENT_TO_THE_BOT,
+        "what is sent",
+    )
+}
+
 /// Relays the conversation over ports whose record lies in this heap, and answers whether the record was refused.
-fn is_record_refused(rt: &(impl Abort + AllocGlobal), heap: &LocalHeap) -> Result<bool, Fail> {
-    let mut session = Session::new(rt.alloc(), WIDEST)?;
+fn is_record_refused(alloc: Global, heap: &LocalHeap) -> Result<bool, Fail> {
     let mut ports = Watching {
         ports: MemoryPorts::new(heap, OPEN_BRACKET, OPENS, NEVER),
-        to_bot: Vec::new(rt.alloc()),
+        to_bot: Vec::new(alloc),
         refused: false,
     };
-    let end = relay(&mut session, &mut ports, 60);
-    assert!(rt; end == RelayEnd::Closed && session.phase() == Phase::Over);
-    assert!(rt; !ports.refused && ports.to_bot.as_slice() == SENT_TO_THE_BOT);
+    relay_whole(alloc, &mut ports)?;
     Ok(ports.ports.calls().is_none())
+}
+
+/// The same on a heap of so many bytes.
+fn is_record_refused_within(alloc: Global, bytes: usize) -> Result<bool, Fail> {
+    let heap = LocalHeap::new(alloc, bytes)?;
+    is_record_refused(alloc, &heap)
 }
 
 /// Over heaps from empty to ample, whatever becomes of the record, the same is sent.
@@ -385,11 +415,9 @@ fn is_record_refused(rt: &(impl Abort + AllocGlobal), heap: &LocalHeap) -> Resul
 fn refused_record_changes_nothing(rt: HostRuntime) -> Result<(), Fail> {
     let mut refusals = 0u32;
     for step in 0..60 {
-        let heap = LocalHeap::new(rt.alloc(), 1_024 * step)?;
-        if is_record_refused(&rt, &heap)? {
+        if is_record_refused_within(rt.alloc(), 1_024 * step)? {
             refusals = refusals.saturating_add(1);
         }
     }
-    assert!(rt; refusals > 0 && refusals < 60);
-    Ok(())
+    holds(refusals > 0 && refusals < 60, "how many were refused")
 }

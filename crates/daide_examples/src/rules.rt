@@ -10,7 +10,7 @@ use std::test::Fail;
 
 // side, level, message, verdict
 #[rattlefmt::skip]
-const REQUESTS: [Example; 59] = [
+const REQUESTS: &[Example] = &[
     (Client, L0, "NME ( 'a' ) ( 'b' )", Relay),
     (Client, L0, "NME ( ) ( )", Relay),
     (Client, L0, "NME ( 'a' )", Huh(4)),
@@ -74,12 +74,12 @@ const REQUESTS: [Example; 59] = [
 
 #[test]
 fn requests_of_the_client(rt: HostRuntime) -> Result<(), Fail> {
-    assert_verdicts(&rt, &REQUESTS)
+    assert_verdicts(rt.alloc(), REQUESTS)
 }
 
 // side, level, message, verdict
 #[rattlefmt::skip]
-const ORDERS: [Example; 33] = [
+const ORDERS: &[Example] = &[
     (Client, L0, "SUB ( ( ENG FLT NTH ) HLD )", Relay),
     (Client, L0, "SUB ( ( ENG FLT NTH ) )", Huh(7)),
     (Client, L0, "SUB ( ( ENG FLT NTH ) MTO NWY )", Relay),
@@ -117,12 +117,12 @@ const ORDERS: [Example; 33] = [
 
 #[test]
 fn orders(rt: HostRuntime) -> Result<(), Fail> {
-    assert_verdicts(&rt, &ORDERS)
+    assert_verdicts(rt.alloc(), ORDERS)
 }
 
 // side, level, message, verdict
 #[rattlefmt::skip]
-const REPLIES: [Example; 25] = [
+const REPLIES: &[Example] = &[
     (Client, L0, "YES ( MAP ( 'a' ) )", Relay),
     (Client, L0, "REJ ( SVE ( 'a' ) )", Relay),
     (Client, L0, "YES ( LOD ( ) )", Relay),
@@ -152,12 +152,12 @@ const REPLIES: [Example; 25] = [
 
 #[test]
 fn replies_and_reports(rt: HostRuntime) -> Result<(), Fail> {
-    assert_verdicts(&rt, &REPLIES)
+    assert_verdicts(rt.alloc(), REPLIES)
 }
 
 // side, level, message, verdict
 #[rattlefmt::skip]
-const SERVER: [Example; 76] = [
+const SERVER: &[Example] = &[
     (ServerEnd, L0, "MAP ( 'a' )", Relay),
     (ServerEnd, L0, "MAP", Huh(1)),
     (ServerEnd, L0, "MDF ( FRA ) ( ( ) ( ) ) ( )", Relay),
@@ -238,12 +238,12 @@ const SERVER: [Example; 76] = [
 
 #[test]
 fn messages_of_the_server(rt: HostRuntime) -> Result<(), Fail> {
-    assert_verdicts(&rt, &SERVER)
+    assert_verdicts(rt.alloc(), SERVER)
 }
 
 // side, level, message, verdict
 #[rattlefmt::skip]
-const PRESS: [Example; 42] = [
+const PRESS: &[Example] = &[
     (Client, L10, "SND ( SPR 1901 ) ( FRA ) ( PRP ( PCE ( ENG FRA ) ) )", Relay),
     (Client, L10, "SND ( SPR 1901 ) ( PRP ( DRW ) )", Huh(6)),
     (Client, L10, "SND ( ) ( TRY ( ) )", Huh(2)),
@@ -290,12 +290,12 @@ const PRESS: [Example; 42] = [
 
 #[test]
 fn press(rt: HostRuntime) -> Result<(), Fail> {
-    assert_verdicts(&rt, &PRESS)
+    assert_verdicts(rt.alloc(), PRESS)
 }
 
 // side, level, message, verdict
 #[rattlefmt::skip]
-const ARRANGEMENTS: [Example; 41] = [
+const ARRANGEMENTS: &[Example] = &[
     (Client, L10, "SND ( FRA ) ( PRP ( PCE ( FRA ENG ) ) )", Relay),
     (Client, L10, "SND ( FRA ) ( PRP ( PCE ( ) ) )", Huh(9)),
     (Client, L10, "SND ( FRA ) ( PRP ( ALY ( FRA ENG ) VSS ( GER ) ) )", Relay),
@@ -341,12 +341,12 @@ const ARRANGEMENTS: [Example; 41] = [
 
 #[test]
 fn arrangements(rt: HostRuntime) -> Result<(), Fail> {
-    assert_verdicts(&rt, &ARRANGEMENTS)
+    assert_verdicts(rt.alloc(), ARRANGEMENTS)
 }
 
 // side, level, message, verdict
 #[rattlefmt::skip]
-const CLASSES: [Example; 8] = [
+const CLASSES: &[Example] = &[
     (Client, L0, "SUB ( #4109 WVE )", Relay),
     (Client, L0, "SUB ( ( ENG AMY #5300 ) HLD )", Relay),
     (Client, L0, "SUB ( ( ENG #4202 LON ) HLD )", Huh(4)),
@@ -359,5 +359,5 @@ const CLASSES: [Example; 8] = [
 
 #[test]
 fn classes_beyond_the_standard_names(rt: HostRuntime) -> Result<(), Fail> {
-    assert_verdicts(&rt, &CLASSES)
+    assert_verdicts(rt.alloc(), CLASSES)
 }

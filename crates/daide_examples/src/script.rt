@@ -8,8 +8,8 @@ use daide_frame::side::Side::{self, Bot, Server};
 use daide_grammar::level::Level;
 use daide_session::config::Config;
 use daide_session::session::{Note, Phase, Session};
+use daide_tests::rows::holds;
 use std::alloc::{Allocator, Global};
-use std::process::Abort;
 use std::test::Fail;
 
 /// What happens to a session, or what is seen of it.
@@ -68,67 +68,45 @@ pub const IM: &str = "00 00 00 04  00 01 DA 10";
 pub const RM: &str = "01 00 00 00";
 
 /// The bytes of hexadecimal digits with blanks between them.
-pub fn bytes_of(rt: &impl AllocGlobal, text: &str) -> Result<Vec<u8>, Fail> {
-    let mut digits = Vec::new(rt.alloc());
-    for byte in text.as_bytes() {
-        if *byte != b' ' {
-            digits.push(*byte)?;
-        }
-    }
-    Ok(hex::decode(rt.alloc(), digits.as_slice())?)
+pub fn bytes_of(alloc: Global, text: &str) -> Result<Vec<u8>, Fail> {
+    let digits = text.replace(alloc, " ", "")?;
+    Ok(hex::decode(alloc, digits.as_bytes())?)
 }
 
 /// A word of two bytes over and over, at the end of these bytes.
-pub fn add_words(bytes: &mut Vec<u8>, word: [u8; 2], count: usize) -> Result<(), Fail> {
+pub fn add_words(bytes: &mut Vec<u8>, word: &[u8], count: usize) -> Result<(), Fail> {
     for _word in 0..count {
-        bytes.extend_from_slice(&word)?;
+        bytes.extend_from_slice(word)?;
     }
     Ok(())
 }
 
 /// These bytes, then so many times GOF, and then these words.
-pub fn with_gofs(
-    rt: &impl AllocGlobal,
-    front: &str,
-    count: usize,
-    last: &[u8],
-) -> Result<Vec<u8>, Fail> {
-    let mut bytes = bytes_of(rt, front)?;
-    add_words(&mut bytes, [0x48, 0x03], count)?;
+pub fn with_gofs(alloc: Global, front: &str, count: usize, last: &[u8]) -> Result<Vec<u8>, Fail> {
+    let mut bytes = bytes_of(alloc, front)?;
+    add_words(&mut bytes, &[0x48, 0x03], count)?;
     bytes.extend_from_slice(last)?;
     Ok(bytes)
 }
 
 /// These bytes were sent.
-pub fn assert_bytes(rt: &(impl Abort + AllocGlobal), sent: &[u8], want: &str) -> Result<(), Fail> {
-    let bytes = bytes_of(rt, want)?;
-    assert!(rt; sent == bytes.as_slice(), "not {want}");
-    Ok(())
+pub fn assert_bytes(alloc: Global, sent: &[u8], want: &str) -> Result<(), Fail> {
+    let bytes = bytes_of(alloc, want)?;
+    holds(sent == bytes.as_slice(), want)
 }
 
-/// A session and what it sent since it was last looked at.
-#[derive(Drop)]
-pub struct Script<A: Allocator = Global> {
-    pub session: Session<A>,
-    pub to_bot: Vec<u8>,
-    pub to_server: Vec<u8>,
-    /// How often the table of the bot's reader was asked by the messages that were looked at.
-    asked: u64,
-}
-
-/// A fresh session of these limits.
-pub fn script_of(rt: &impl AllocGlobal, config: Config) -> Result<Script, Fail> {
-    Ok(script_over(rt, Session::new(rt.alloc(), config)?))
-}
-
-/// This session, of which nothing was taken.
-pub fn script_over<A: Allocator>(rt: &impl AllocGlobal, session: Session<A>) -> Script<A> {
-    Script {
-        session,
-        to_bot: Vec::new(rt.alloc()),
-        to_server: Vec::new(rt.alloc()),
-        asked: 0,
-    }
+/// Takes bytes that wait for the wire toward a side, at most so many at once, and tells how many.
+fn take_front<A: Allocator>(
+    session: &mut Session<A>,
+    side: Side,
+    taken: &mut Vec<u8>,
+    most: usize,
+) -> Result<usize, Fail> {
+    let front = session.front(side);
+    let count = front.len().min(most);
+    taken.extend_from_slice(&front[..count])?;
+    session.wrote(side, count);
+    Ok(count)
 }
 
 /// Takes what waits for the wire toward a side, at most so many fronts.
@@ -138,27 +116,16 @@ fn take_all<A: Allocator>(
     taken: &mut Vec<u8>,
 ) -> Result<(), Fail> {
     for _front in 0..32 {
-        let front = session.front(side);
-        let count = front.len();
-        taken.extend_from_slice(front)?;
-        session.wrote(side, count);
+        take_front(session, side, taken, usize::MAX)?;
     }
     Ok(())
 }
 
 /// Takes bytes that wait for the wire toward a side, at most three at once, until so many were taken.
-fn take<A: Allocator>(
-    session: &mut Session<A>,
-    side: Side,
-    taken: &mut Vec<u8>,
-    most: usize,
-) -> Result<(), Fail> {
+fn take(session: &mut Session, side: Side, taken: &mut Vec<u8>, most: usize) -> Result<(), Fail> {
     let mut left = most;
     for _front in 0..most {
-        let front = session.front(side);
-        let count = front.len().min(left).min(3);
-        taken.extend_from_slice(&front[..count])?;
-        session.wrote(side, count);
+        let count = take_front(session, side, taken, left.min(3))?;
         left = left.saturating_sub(count);
     }
     Ok(())
@@ -173,72 +140,136 @@ fn feed<A: Allocator>(session: &mut Session<A>, side: Side, bytes: &[u8], most: 
     count
 }
 
-impl<A: Allocator> Script<A> {
-    /// Takes what waits for the wire toward a side.
-    pub fn take_all(&mut self, side: Side) -> Result<(), Fail> {
+/// What a session sent since it was last looked at.
+#[derive(Drop)]
+pub struct Sent {
+    pub to_bot: Vec<u8>,
+    pub to_server: Vec<u8>,
+}
+
+impl Sent {
+    /// Nothing yet.
+    pub fn none(alloc: Global) -> Sent {
+        Sent {
+            to_bot: Vec::new(alloc),
+            to_server: Vec::new(alloc),
+        }
+    }
+
+    /// What the wire toward a side took.
+    pub fn to(&self, side: Side) -> &[u8] {
         match side {
-            Bot => take_all(&mut self.session, Bot, &mut self.to_bot),
-            Server => take_all(&mut self.session, Server, &mut self.to_server),
+            Bot => self.to_bot.as_slice(),
+            Server => self.to_server.as_slice(),
         }
     }
 
     /// Takes what waits for both wires.
-    pub fn deliver(&mut self) -> Result<(), Fail> {
-        self.take_all(Bot)?;
-        self.take_all(Server)
+    pub fn deliver<A: Allocator>(&mut self, session: &mut Session<A>) -> Result<(), Fail> {
+        take_all(session, Bot, &mut self.to_bot)?;
+        take_all(session, Server, &mut self.to_server)
     }
 
-    /// A side's bytes, in pieces of at most `piece` bytes, with all that waits taken after each. What comes
+    /// A side's bytes come, in pieces of at most `piece` bytes, with all that waits taken after each. What comes
     /// after the session's end is left out.
-    pub fn say(&mut self, side: Side, bytes: &[u8], piece: usize) -> Result<(), Fail> {
+    pub fn hear<A: Allocator>(
+        &mut self,
+        session: &mut Session<A>,
+        side: Side,
+        bytes: &[u8],
+        piece: usize,
+    ) -> Result<(), Fail> {
         let mut rest = bytes;
         for _piece in 0..=bytes.len() {
-            let count = feed(&mut self.session, side, rest, piece);
+            let count = feed(session, side, rest, piece);
             rest = &rest[count..];
-            self.deliver()?;
+            self.deliver(session)?;
         }
         Ok(())
+    }
+}
+
+/// A session and what it sent since it was last looked at.
+#[derive(Drop)]
+pub struct Script {
+    pub session: Session,
+    pub sent: Sent,
+    /// How often the table of the bot's reader was asked by the messages that were looked at.
+    asked: u64,
+}
+
+/// A fresh session of these limits.
+pub fn script_of(alloc: Global, config: Config) -> Result<Script, Fail> {
+    Ok(script_over(alloc, Session::new(alloc, config)?))
+}
+
+/// This session, of which nothing was taken.
+pub fn script_over(alloc: Global, session: Session) -> Script {
+    Script {
+        session,
+        sent: Sent::none(alloc),
+        asked: 0,
+    }
+}
+
+impl Script {
+    /// Takes what waits for the wire toward a side.
+    pub fn take_all(&mut self, side: Side) -> Result<(), Fail> {
+        match side {
+            Bot => take_all(&mut self.session, Bot, &mut self.sent.to_bot),
+            Server => take_all(&mut self.session, Server, &mut self.sent.to_server),
+        }
+    }
+
+    /// Takes what waits for both wires.
+    fn deliver(&mut self) -> Result<(), Fail> {
+        self.sent.deliver(&mut self.session)
+    }
+
+    /// A side's bytes, in pieces of at most `piece` bytes, with all that waits taken after each.
+    pub fn say(&mut self, side: Side, bytes: &[u8], piece: usize) -> Result<(), Fail> {
+        self.sent.hear(&mut self.session, side, bytes, piece)
     }
 
     /// The same, of bytes in hexadecimal digits.
     fn say_text(
         &mut self,
-        rt: &impl AllocGlobal,
+        alloc: Global,
         side: Side,
         text: &str,
         piece: usize,
     ) -> Result<(), Fail> {
-        let bytes = bytes_of(rt, text)?;
+        let bytes = bytes_of(alloc, text)?;
         self.say(side, bytes.as_slice(), piece)
     }
 
     /// A side's bytes, all of which there is room for, while nothing of what waits is taken.
-    fn send(
-        &mut self,
-        rt: &(impl Abort + AllocGlobal),
-        side: Side,
-        text: &str,
-    ) -> Result<(), Fail> {
-        let bytes = bytes_of(rt, text)?;
+    fn send(&mut self, alloc: Global, side: Side, text: &str) -> Result<(), Fail> {
+        let bytes = bytes_of(alloc, text)?;
         let mut rest = bytes.as_slice();
         for _piece in 0..=bytes.len() {
             let count = feed(&mut self.session, side, rest, bytes.len());
             rest = &rest[count..];
         }
-        assert!(rt; rest.is_empty(), "no room");
-        Ok(())
+        holds(rest.is_empty(), "no room")
+    }
+
+    /// What is told of a side's byte, where there is room for it.
+    fn note_of_byte(&mut self, side: Side, byte: u8) -> Note {
+        if self.session.room(side) == 0 {
+            return Note::Nothing;
+        }
+        self.session.feed(side, &[byte])
     }
 
     /// What was told of a side's bytes one by one, of which at most one thing is to be told.
-    fn note_of(&mut self, rt: &impl Abort, side: Side, bytes: &[u8]) -> Result<Note, Fail> {
+    fn note_of(&mut self, side: Side, bytes: &[u8]) -> Result<Note, Fail> {
         let mut told = Note::Nothing;
         for byte in bytes {
-            if self.session.room(side) > 0 {
-                let note = self.session.feed(side, &[*byte]);
-                if note != Note::Nothing {
-                    assert!(rt; told == Note::Nothing, "told twice");
-                    told = note;
-                }
+            let note = self.note_of_byte(side, *byte);
+            if note != Note::Nothing {
+                holds(told == Note::Nothing, "told twice")?;
+                told = note;
             }
             self.deliver()?;
         }
@@ -246,52 +277,38 @@ impl<A: Allocator> Script<A> {
     }
 
     /// This is told of a side's bytes.
-    fn tell(
-        &mut self,
-        rt: &(impl Abort + AllocGlobal),
-        side: Side,
-        text: &str,
-        want: Note,
-    ) -> Result<(), Fail> {
-        let bytes = bytes_of(rt, text)?;
-        let told = self.note_of(rt, side, bytes.as_slice())?;
-        assert!(rt; told == want, "another note of {text}");
-        Ok(())
-    }
-
-    /// What the wire toward a side took since it was last looked at.
-    pub fn sent(&self, side: Side) -> &[u8] {
-        match side {
-            Bot => self.to_bot.as_slice(),
-            Server => self.to_server.as_slice(),
-        }
+    fn tell(&mut self, alloc: Global, side: Side, text: &str, want: Note) -> Result<(), Fail> {
+        let bytes = bytes_of(alloc, text)?;
+        let told = self.note_of(side, bytes.as_slice())?;
+        holds(told == want, text)
     }
 
     /// A side was sent these bytes since it was last looked at.
-    pub fn assert_sent(
-        &mut self,
-        rt: &(impl Abort + AllocGlobal),
-        side: Side,
-        want: &str,
-    ) -> Result<(), Fail> {
-        assert_bytes(rt, self.sent(side), want)?;
+    pub fn assert_sent(&mut self, alloc: Global, side: Side, want: &str) -> Result<(), Fail> {
+        assert_bytes(alloc, self.sent.to(side), want)?;
         match side {
-            Bot => self.to_bot.clear(),
-            Server => self.to_server.clear(),
+            Bot => self.sent.to_bot.clear(),
+            Server => self.sent.to_server.clear(),
         }
         Ok(())
     }
 
+    /// Nothing was looked at before.
+    pub fn forget(&mut self) {
+        self.sent.to_bot.clear();
+        self.sent.to_server.clear();
+    }
+
     /// The message of a side took from one step to so many, and its table was asked nothing beside.
-    fn assert_steps(&mut self, rt: &impl Abort, side: Side, most: u64) {
+    fn assert_steps(&mut self, side: Side, most: u64) -> Result<(), Fail> {
         let steps = self.session.steps(side);
-        assert!(rt; 0 < steps && steps <= most);
         self.asked = self.asked.saturating_add(steps);
-        assert!(rt; self.session.total(side) == self.asked);
+        let total = self.session.total(side);
+        holds(0 < steps && steps <= most && total == self.asked, "steps")
     }
 
     /// Whether this is seen of the session's state.
-    fn holds(&self, look: Look) -> bool {
+    fn shows(&self, look: Look) -> bool {
         let session = &self.session;
         match look {
             Look::Phase(want) => session.phase() == want,
@@ -305,27 +322,20 @@ impl<A: Allocator> Script<A> {
     }
 
     /// This is seen.
-    fn look(&mut self, rt: &(impl Abort + AllocGlobal), look: Look) -> Result<(), Fail> {
+    fn look(&mut self, alloc: Global, look: Look) -> Result<(), Fail> {
         match look {
-            Look::Sent(side, want) => return self.assert_sent(rt, side, want),
-            Look::Steps(side, most) => self.assert_steps(rt, side, most),
-            _ => assert!(rt; self.holds(look), "seen"),
+            Look::Sent(side, want) => self.assert_sent(alloc, side, want),
+            Look::Steps(side, most) => self.assert_steps(side, most),
+            _ => holds(self.shows(look), "seen"),
         }
-        Ok(())
     }
 
     /// The wire toward a side takes so many bytes, at most three at once.
     fn take(&mut self, side: Side, most: usize) -> Result<(), Fail> {
         match side {
-            Bot => take(&mut self.session, Bot, &mut self.to_bot, most),
-            Server => take(&mut self.session, Server, &mut self.to_server, most),
+            Bot => take(&mut self.session, Bot, &mut self.sent.to_bot, most),
+            Server => take(&mut self.session, Server, &mut self.sent.to_server, most),
         }
-    }
-
-    /// A side's stream ends, which is told.
-    fn stop(&mut self, rt: &impl Abort, side: Side) -> Result<(), Fail> {
-        assert!(rt; self.session.ended(side), "an end is told once");
-        Ok(())
     }
 
     /// An event that is no bytes; all that waits is taken.
@@ -344,113 +354,103 @@ impl<A: Allocator> Script<A> {
     }
 
     /// One act.
-    pub fn play(
-        &mut self,
-        rt: &(impl Abort + AllocGlobal),
-        act: Act,
-        piece: usize,
-    ) -> Result<(), Fail> {
+    pub fn play(&mut self, alloc: Global, act: Act, piece: usize) -> Result<(), Fail> {
         match act {
-            Act::Says(side, text) => self.say_text(rt, side, text, piece),
-            Act::Sends(side, text) => self.send(rt, side, text),
-            Act::Tells(side, text, note) => self.tell(rt, side, text, note),
+            Act::Says(side, text) => self.say_text(alloc, side, text, piece),
+            Act::Sends(side, text) => self.send(alloc, side, text),
+            Act::Tells(side, text, note) => self.tell(alloc, side, text, note),
             Act::Takes(side, most) => self.take(side, most),
             Act::Ends(_) | Act::Loses(_) | Act::Pops => self.hear(act),
-            Act::Stops(side) => self.stop(rt, side),
-            Act::Sees(look) => self.look(rt, look),
+            Act::Stops(side) => holds(self.session.ended(side), "an end is told once"),
+            Act::Sees(look) => self.look(alloc, look),
         }
     }
 
     /// Acts one after the other.
-    pub fn play_all(
-        &mut self,
-        rt: &(impl Abort + AllocGlobal),
-        acts: &[Act],
-        piece: usize,
-    ) -> Result<(), Fail> {
+    pub fn play_all(&mut self, alloc: Global, acts: &[Act], piece: usize) -> Result<(), Fail> {
         for act in acts {
-            self.play(rt, *act, piece)?;
+            self.play(alloc, *act, piece)?;
         }
         Ok(())
     }
 
     /// The IM and the RM go through, after which nothing was looked at.
-    pub fn open(&mut self, rt: &(impl Abort + AllocGlobal), piece: usize) -> Result<(), Fail> {
-        self.play_all(rt, &OPENING, piece)?;
-        self.to_bot.clear();
-        self.to_server.clear();
+    pub fn open(&mut self, alloc: Global, piece: usize) -> Result<(), Fail> {
+        self.play_all(alloc, OPENING, piece)?;
+        self.forget();
         Ok(())
     }
 
     /// The acts send these bytes; where the scene begins open, the IM and the RM go before them.
     fn assert_scene(
         &mut self,
-        rt: &(impl Abort + AllocGlobal),
+        alloc: Global,
         is_open: bool,
         scene: &Scene,
         piece: usize,
     ) -> Result<(), Fail> {
         let (acts, to_bot, to_server) = scene;
         if is_open {
-            self.open(rt, piece)?;
+            self.open(alloc, piece)?;
         }
-        self.play_all(rt, acts, piece)?;
+        self.play_all(alloc, acts, piece)?;
         self.deliver()?;
-        self.assert_sent(rt, Bot, to_bot)?;
-        self.assert_sent(rt, Server, to_server)
+        self.assert_sent(alloc, Bot, to_bot)?;
+        self.assert_sent(alloc, Server, to_server)
     }
 }
 
 /// The IM and the RM.
-pub const OPENING: [Act; 2] = [Act::Says(Bot, IM), Act::Says(Server, RM)];
+pub const OPENING: &[Act] = &[Act::Says(Bot, IM), Act::Says(Server, RM)];
 
 /// Acts, and the bytes that they send to the bot and to the server, but for those that were looked at.
 pub type Scene = (&'static [Act], &'static str, &'static str);
 
-/// Plays a scene on a fresh session of these limits.
-fn assert_played(
-    rt: &(impl Abort + AllocGlobal),
+/// A whole frame or more at once, and byte by byte.
+pub const PIECES: &[usize] = &[65_530, 1];
+
+/// The acts of a conversation, with what is seen among them, in a fresh session of these limits.
+fn play_acts(alloc: Global, config: Config, acts: &[Act], piece: usize) -> Result<(), Fail> {
+    let mut script = script_of(alloc, config)?;
+    script.play_all(alloc, acts, piece)
+}
+
+/// The same, whole and byte by byte.
+pub fn assert_acts(alloc: Global, config: Config, acts: &[Act]) -> Result<(), Fail> {
+    for piece in PIECES {
+        play_acts(alloc, config, acts, *piece)?;
+    }
+    Ok(())
+}
+
+/// A scene sends its bytes in a fresh session of these limits.
+fn play_scene(
+    alloc: Global,
     config: Config,
     is_open: bool,
     scene: &Scene,
     piece: usize,
 ) -> Result<(), Fail> {
-    let mut script = script_of(rt, config)?;
-    script.assert_scene(rt, is_open, scene, piece)
-}
-
-/// The acts of a conversation, with what is seen among them, whole and byte by byte, in a fresh session of these limits.
-pub fn assert_acts(
-    rt: &(impl Abort + AllocGlobal),
-    config: Config,
-    acts: &[Act],
-) -> Result<(), Fail> {
-    for piece in [65_530, 1] {
-        let mut script = script_of(rt, config)?;
-        script.play_all(rt, acts, piece)?;
-    }
-    Ok(())
+    let mut script = script_of(alloc, config)?;
+    script.assert_scene(alloc, is_open, scene, piece)
 }
 
 /// Each scene sends its bytes, whole and byte by byte, in a session of these limits.
 pub fn assert_scenes_within(
-    rt: &(impl Abort + AllocGlobal),
+    alloc: Global,
     config: Config,
     is_open: bool,
     scenes: &[Scene],
 ) -> Result<(), Fail> {
     for scene in scenes {
-        assert_played(rt, config, is_open, scene, 65_530)?;
-        assert_played(rt, config, is_open, scene, 1)?;
+        for piece in PIECES {
+            play_scene(alloc, config, is_open, scene, *piece)?;
+        }
     }
     Ok(())
 }
 
 /// Each scene sends its bytes, whole and byte by byte.
-pub fn assert_scenes(
-    rt: &(impl Abort + AllocGlobal),
-    is_open: bool,
-    scenes: &[Scene],
-) -> Result<(), Fail> {
-    assert_scenes_within(rt, WIDEST, is_open, scenes)
+pub fn assert_scenes(alloc: Global, is_open: bool, scenes: &[Scene]) -> Result<(), Fail> {
+    assert_scenes_within(alloc, WIDEST, is_open, scenes)
 }

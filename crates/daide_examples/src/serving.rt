@@ -1,5 +1,6 @@
 //! Whole runs in memory: what the system was asked, in which order, and what each bot was served.
 
+use crate::hubs::{Growths, NO_GROWTHS};
 use crate::relays::{NEVER, QUIET, assert_sent};
 use daide_frame::side::Side::Server;
 use daide_gate::serving::{ServeFault, serve};
@@ -7,9 +8,10 @@ use daide_gate::settings::{Settings, read_settings};
 use daide_gate::system::{Connect, Notice, System};
 use daide_session::config::ConfigError;
 use daide_session::memory_ports::{Arrival, MemoryPorts, Script};
+use daide_tests::rows::{holds, same};
 use linked_list_allocator::LocalHeap;
 use std::alloc::Global;
-use std::process::Abort;
+use std::fmt::Display;
 use std::test::Fail;
 
 /// What became of a connect, in a script.
@@ -56,6 +58,7 @@ struct Stage {
 }
 
 impl Stage {
+    /// Nobody came yet.
     fn new(alloc: Global, scene: Scene) -> Stage {
         Stage {
             alloc,
@@ -69,6 +72,7 @@ impl Stage {
         }
     }
 
+    /// What the system was asked is remembered, where there is memory.
     fn note(&mut self, event: Event) {
         let _ = self.events.push(event);
     }
@@ -156,12 +160,12 @@ const ENDING: Scene = Scene {
     bot: ENDS,
 };
 
-fn settings(
-    alloc: Global,
-    max_sessions: usize,
-    sessions: u32,
-    turns: u64,
-) -> Result<Settings, Fail> {
+/// The settings `max_sessions`, `sessions` and `turns`.
+type Limits = (usize, u32, u64);
+
+/// Settings of these limits.
+fn settings(alloc: Global, limits: Limits) -> Result<Settings, Fail> {
+    let (max_sessions, sessions, turns) = limits;
     let mut settings = read_settings(alloc, "listen = \"a\"\nserver = \"b\"\nmax_body = 512\n")?;
     settings.max_sessions = max_sessions;
     settings.sessions = sessions;
@@ -169,8 +173,8 @@ fn settings(
     Ok(settings)
 }
 
-/// Each run: its scene, the settings `max_sessions`, `sessions` and `turns`, and what the system was asked.
-const RUNS: &[(Scene, usize, u32, u64, &[Event])] = &[
+/// Each run: its scene, its limits, and what the system was asked.
+const RUNS: &[(Scene, Limits, &[Event])] = &[
     // an accept that brings none, a connect that hangs, waits that return at once
     (
         Scene {
@@ -178,9 +182,7 @@ const RUNS: &[(Scene, usize, u32, u64, &[Event])] = &[
             fates: &[Fate::Pending, Fate::Pending],
             bot: ENDS,
         },
-        16,
-        1,
-        9,
+        (16, 1, 9),
         &[
             Event::NoneCame,
             Event::Waited(true),
@@ -199,9 +201,7 @@ const RUNS: &[(Scene, usize, u32, u64, &[Event])] = &[
             fates: &[Fate::Failed],
             bot: ENDS,
         },
-        1,
-        1,
-        9,
+        (1, 1, 9),
         &[Event::Came, Event::Failed, Event::Told(Notice::CannotReach)],
     ),
     // one at once: the next comes when the first is gone
@@ -211,9 +211,7 @@ const RUNS: &[(Scene, usize, u32, u64, &[Event])] = &[
             fates: &[],
             bot: ENDS_LATER,
         },
-        1,
-        2,
-        9,
+        (1, 2, 9),
         &[
             Event::Came,
             Event::Ready,
@@ -230,9 +228,7 @@ const RUNS: &[(Scene, usize, u32, u64, &[Event])] = &[
             fates: &[Fate::Pending, Fate::Pending, Fate::Failed],
             bot: ENDS,
         },
-        1,
-        2,
-        9,
+        (1, 2, 9),
         &[
             Event::Came,
             Event::Pending,
@@ -252,9 +248,7 @@ const RUNS: &[(Scene, usize, u32, u64, &[Event])] = &[
             fates: &[Fate::Pending],
             bot: ENDS_LATER,
         },
-        2,
-        2,
-        9,
+        (2, 2, 9),
         &[
             Event::Came,
             Event::Pending,
@@ -272,9 +266,7 @@ const RUNS: &[(Scene, usize, u32, u64, &[Event])] = &[
             fates: &[],
             bot: QUIET,
         },
-        1,
-        1,
-        3,
+        (1, 1, 3),
         &[
             Event::Came,
             Event::Ready,
@@ -286,25 +278,30 @@ const RUNS: &[(Scene, usize, u32, u64, &[Event])] = &[
     ),
 ];
 
-/// The stage after a whole run by these settings.
-fn stage_after(rt: &(impl Abort + AllocGlobal), settings: &Settings, scene: Scene) -> Stage {
-    let mut stage = Stage::new(rt.alloc(), scene);
-    assert!(rt; serve(rt.alloc(), settings, &mut stage).is_ok());
-    stage
+/// The stage after a whole run of a scene by these limits.
+fn stage_after(alloc: Global, scene: Scene, limits: Limits) -> Result<Stage, Fail> {
+    let settings = settings(alloc, limits)?;
+    let mut stage = Stage::new(alloc, scene);
+    serve(alloc, &settings, &mut stage)?;
+    Ok(stage)
+}
+
+/// A run of a scene by these limits asks just that.
+fn assert_run(alloc: Global, scene: Scene, limits: Limits, want: &[Event]) -> Result<(), Fail> {
+    let stage = stage_after(alloc, scene, limits)?;
+    holds(stage.events.as_slice() == want, "the events")
 }
 
 #[test]
 fn system_is_asked_round_by_round(rt: HostRuntime) -> Result<(), Fail> {
-    for (scene, max_sessions, sessions, turns, want) in RUNS {
-        let settings = settings(rt.alloc(), *max_sessions, *sessions, *turns)?;
-        let stage = stage_after(&rt, &settings, *scene);
-        assert!(rt; stage.events.as_slice() == *want, "{} events", want.len());
+    for (scene, limits, want) in RUNS {
+        assert_run(rt.alloc(), *scene, *limits, want)?;
     }
     Ok(())
 }
 
 /// What the system is asked where one bot's turns are spent while it is open.
-const SPENT: [Event; 5] = [
+const SPENT: &[Event] = &[
     Event::Came,
     Event::Ready,
     Event::Waited(false),
@@ -312,97 +309,100 @@ const SPENT: [Event; 5] = [
     Event::Retired,
 ];
 
+/// A bot that opens and says no more.
+const OPENING: Scene = Scene {
+    bot: OPENS_ALONE,
+    ..ENDING
+};
+
+/// The system was asked that, and the server got no more than the IM.
+fn assert_spent(alloc: Global, stage: &Stage) -> Result<(), Fail> {
+    holds(stage.events.as_slice() == SPENT, "the events")?;
+    match stage.retired.first() {
+        Some(ports) => assert_sent(alloc, ports.calls(), Server, "00 00 00 04 00 01 DA 10"),
+        None => Err(Fail::new("nobody was retired")),
+    }
+}
+
 /// A bot's IM is read in two turns and written in two. When its turns are spent an FM waits for the server; the wire
 /// fails then, so the server gets no more than the IM.
 #[test]
 fn spent_turns_end_an_open_wire(rt: HostRuntime) -> Result<(), Fail> {
-    let settings = settings(rt.alloc(), 1, 1, 5)?;
-    let scene = Scene {
-        bot: OPENS_ALONE,
-        ..ENDING
-    };
-    let stage = stage_after(&rt, &settings, scene);
-    assert!(rt; stage.events.as_slice() == SPENT.as_slice());
-    let calls = stage.retired.first().and_then(MemoryPorts::calls);
-    assert_sent(&rt, calls, Server, "00 00 00 04 00 01 DA 10")
+    let stage = stage_after(rt.alloc(), OPENING, (1, 1, 5))?;
+    assert_spent(rt.alloc(), &stage)
 }
+
+/// Bots that say nothing, of which some don't come at once, and some find no server.
+const HUNDRED: Scene = Scene {
+    accepts: &[true, false, true, false],
+    fates: &[Fate::Failed, Fate::Pending, Fate::Failed],
+    bot: QUIET,
+};
 
 #[test]
 fn hundred_bots_sixteen_at_once(rt: HostRuntime) -> Result<(), Fail> {
-    let settings = settings(rt.alloc(), 16, 100, 30)?;
-    let scene = Scene {
-        accepts: &[true, false, true, false],
-        fates: &[Fate::Failed, Fate::Pending, Fate::Failed],
-        bot: QUIET,
-    };
-    let stage = stage_after(&rt, &settings, scene);
-    assert!(rt; [stage.held, stage.most, stage.retired.len()] == [0, 16, 98]);
-    Ok(())
+    let stage = stage_after(rt.alloc(), HUNDRED, (16, 100, 30))?;
+    let counts = (stage.held, stage.most, stage.retired.len());
+    same(&counts, &(0, 16, 98), &"held, at most, retired")
 }
 
-/// What became of a run whose memory lies in a heap.
-#[derive(Clone, Copy)]
-enum Growth {
-    NoHub,
-    NoSession,
-    Whole,
-}
-
-fn growth_in(rt: &(impl Abort + AllocGlobal), heap: &LocalHeap, settings: &Settings) -> Growth {
-    let mut stage = Stage::new(rt.alloc(), ENDING);
-    let Err(fault) = serve(heap, settings, &mut stage) else {
-        return Growth::Whole;
+/// What becomes of a run whose memory lies in a heap of so many bytes.
+fn try_within(
+    alloc: Global,
+    bytes: usize,
+    settings: &Settings,
+    seen: &mut Growths,
+) -> Result<(), Fail> {
+    let heap = LocalHeap::new(alloc, bytes)?;
+    let mut stage = Stage::new(alloc, ENDING);
+    let Err(fault) = serve(&heap, settings, &mut stage) else {
+        seen.whole = true;
+        return Ok(());
     };
-    assert!(rt; fault == ServeFault::Memory);
     if stage.events.is_empty() {
-        return Growth::NoHub;
+        seen.no_hub = true;
+    } else {
+        seen.no_session = true;
     }
-    Growth::NoSession
+    same(&fault, &ServeFault::Memory, &bytes)
 }
 
 /// Over heaps from empty to ample: want of memory by its name, and nothing else.
 #[test]
 fn want_of_memory_ends_a_run(rt: HostRuntime) -> Result<(), Fail> {
-    let settings = settings(rt.alloc(), 1, 1, 9)?;
-    let mut seen = [false; 3];
+    let settings = settings(rt.alloc(), (1, 1, 9))?;
+    let mut seen = NO_GROWTHS;
     for step in 0..300 {
-        let heap = LocalHeap::new(rt.alloc(), 32 * step)?;
-        match growth_in(&rt, &heap, &settings) {
-            Growth::NoHub => seen[0] = true,
-            Growth::NoSession => seen[1] = true,
-            Growth::Whole => seen[2] = true,
-        }
+        try_within(rt.alloc(), 32 * step, &settings, &mut seen)?;
     }
-    assert!(rt; seen == [true; 3], "each was seen");
-    Ok(())
+    seen.assert_all()
 }
 
 /// The fault of a run by these settings, before which nobody was asked.
-fn fault_of(rt: &(impl Abort + AllocGlobal), settings: &Settings) -> Option<ServeFault> {
-    let mut stage = Stage::new(rt.alloc(), ENDING);
-    let fault = serve(rt.alloc(), settings, &mut stage).err();
-    assert!(rt; stage.events.is_empty());
-    fault
+fn assert_fault(alloc: Global, settings: &Settings, want: ServeFault) -> Result<(), Fail> {
+    let mut stage = Stage::new(alloc, ENDING);
+    let fault = serve(alloc, settings, &mut stage).err();
+    same(&fault, &Some(want), &"the fault")?;
+    holds(stage.events.is_empty(), "nobody was asked")
 }
 
 #[test]
 fn faults_of_a_run_before_anybody_is_asked(rt: HostRuntime) -> Result<(), Fail> {
-    let mut wrong = settings(rt.alloc(), 0, 1, 9)?;
-    let sessions = fault_of(&rt, &wrong);
+    let mut wrong = settings(rt.alloc(), (0, 1, 9))?;
+    assert_fault(rt.alloc(), &wrong, ServeFault::Sessions)?;
     wrong.config.max_depth = 255;
-    let faults = [sessions, fault_of(&rt, &wrong)];
-    let want = [ServeFault::Sessions, ServeFault::Config(ConfigError::Depth)];
-    assert!(rt; faults == want.map(Some));
-    Ok(())
+    assert_fault(rt.alloc(), &wrong, ServeFault::Config(ConfigError::Depth))
+}
+
+/// A fault or a notice is told so.
+fn assert_text(alloc: Global, told: &impl Display, want: &str) -> Result<(), Fail> {
+    let text = told.to_string(alloc)?;
+    same(&text.as_str(), &want, &want)
 }
 
 #[test]
 fn texts_of_faults_and_notices(rt: HostRuntime) -> Result<(), Fail> {
-    let memory = ServeFault::Memory.to_string(rt.alloc())?;
-    assert!(rt; memory.as_str() == "out of memory");
-    let spent = Notice::TurnsSpent.to_string(rt.alloc())?;
-    assert!(rt; spent.as_str() == "turns spent");
-    let unreachable = Notice::CannotReach.to_string(rt.alloc())?;
-    assert!(rt; unreachable.as_str() == "cannot reach the server");
-    Ok(())
+    assert_text(rt.alloc(), &ServeFault::Memory, "out of memory")?;
+    assert_text(rt.alloc(), &Notice::TurnsSpent, "turns spent")?;
+    assert_text(rt.alloc(), &Notice::CannotReach, "cannot reach the server")
 }

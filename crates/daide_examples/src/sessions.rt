@@ -10,7 +10,7 @@ use daide_frame::side::Side::{Bot, Server};
 use daide_grammar::level::Level;
 use daide_session::config::{Config, ConfigError};
 use daide_session::session::{Deed, Note, Phase, Session, SessionError};
-use std::process::Abort;
+use daide_tests::rows::{holds, same};
 use std::test::Fail;
 
 /// An FM, and two EMs: one that is passed on, and the start of those that are made here.
@@ -35,11 +35,11 @@ const OPENS: &[Scene] = &[(
 
 #[test]
 fn opens_with_im_and_rm(rt: HostRuntime) -> Result<(), Fail> {
-    assert_scenes(&rt, false, OPENS)
+    assert_scenes(rt.alloc(), false, OPENS)
 }
 
 /// Limits that are wrong, by level, body and depth, and the fault that is told.
-const WRONG_LIMITS: [(u16, u16, u16, ConfigError); 6] = [
+const WRONG_LIMITS: &[(u16, u16, u16, ConfigError)] = &[
     (65, 511, 3, ConfigError::Level),
     (60, 511, 3, ConfigError::Body),
     (60, 510, 3, ConfigError::Body),
@@ -49,16 +49,17 @@ const WRONG_LIMITS: [(u16, u16, u16, ConfigError); 6] = [
 ];
 
 #[test]
-fn config_faults_in_order(rt: HostRuntime) {
-    for (top_level, max_body, max_depth, want) in &WRONG_LIMITS {
+fn config_faults_in_order(rt: HostRuntime) -> Result<(), Fail> {
+    for (top_level, max_body, max_depth, want) in WRONG_LIMITS {
         let config = Config {
             top_level: *top_level,
             max_body: *max_body,
             max_depth: *max_depth,
         };
         let fault = Session::new(rt.alloc(), config).err();
-        assert!(rt; fault == Some(SessionError::Config(*want)), "{want:?}");
+        same(&fault, &Some(SessionError::Config(*want)), max_depth)?;
     }
+    Ok(())
 }
 
 const OUT_OF_TURN: &[Scene] = &[
@@ -70,7 +71,7 @@ const OUT_OF_TURN: &[Scene] = &[
 
 #[test]
 fn frames_out_of_turn_end_the_session(rt: HostRuntime) -> Result<(), Fail> {
-    assert_scenes(&rt, true, OUT_OF_TURN)
+    assert_scenes(rt.alloc(), true, OUT_OF_TURN)
 }
 
 const FIRST_FRAMES: &[Scene] = &[
@@ -101,7 +102,7 @@ const FIRST_FRAMES: &[Scene] = &[
 
 #[test]
 fn faults_of_the_first_frame(rt: HostRuntime) -> Result<(), Fail> {
-    assert_scenes(&rt, false, FIRST_FRAMES)
+    assert_scenes(rt.alloc(), false, FIRST_FRAMES)
 }
 
 const BEFORE_THE_MAP: &[Scene] = &[
@@ -129,7 +130,7 @@ const BEFORE_THE_MAP: &[Scene] = &[
 
 #[test]
 fn messages_before_the_map_are_faults(rt: HostRuntime) -> Result<(), Fail> {
-    assert_scenes(&rt, false, BEFORE_THE_MAP)
+    assert_scenes(rt.alloc(), false, BEFORE_THE_MAP)
 }
 
 const FINALS: &[Scene] = &[
@@ -166,7 +167,7 @@ const FINALS: &[Scene] = &[
 
 #[test]
 fn finals_and_errors_go_on_once(rt: HostRuntime) -> Result<(), Fail> {
-    assert_scenes(&rt, true, FINALS)
+    assert_scenes(rt.alloc(), true, FINALS)
 }
 
 const BEFORE_THE_IM: &[Scene] = &[
@@ -197,7 +198,7 @@ const BEFORE_THE_IM: &[Scene] = &[
 
 #[test]
 fn each_event_before_the_im(rt: HostRuntime) -> Result<(), Fail> {
-    assert_scenes(&rt, false, BEFORE_THE_IM)
+    assert_scenes(rt.alloc(), false, BEFORE_THE_IM)
 }
 
 const BEFORE_THE_RM: &[Scene] = &[
@@ -241,7 +242,7 @@ const BEFORE_THE_RM: &[Scene] = &[
 
 #[test]
 fn each_event_before_the_rm(rt: HostRuntime) -> Result<(), Fail> {
-    assert_scenes(&rt, false, BEFORE_THE_RM)
+    assert_scenes(rt.alloc(), false, BEFORE_THE_RM)
 }
 
 /// An operator's level 30, and what the server says under it, one after the other, with the level after it.
@@ -313,7 +314,7 @@ const HLOS: &[Act] = &[
 
 #[test]
 fn only_a_relayed_hlo_of_the_server_sets_the_level(rt: HostRuntime) -> Result<(), Fail> {
-    assert_acts(&rt, AT_30, HLOS)
+    assert_acts(rt.alloc(), AT_30, HLOS)
 }
 
 /// The narrowest limits.
@@ -341,7 +342,7 @@ const BEYOND_LIMITS: &[Scene] = &[(
 
 #[test]
 fn operators_limits_hold(rt: HostRuntime) -> Result<(), Fail> {
-    assert_scenes_within(&rt, NARROWEST, false, BEYOND_LIMITS)
+    assert_scenes_within(rt.alloc(), NARROWEST, false, BEYOND_LIMITS)
 }
 
 const NOTES: &[Act] = &[
@@ -441,10 +442,12 @@ const DROPPED_EM: &[Act] = &[Tells(
 
 const EARLY_RM: &[Act] = &[Tells(Server, RM, Note::Fault(Code::UnknownMessage))];
 
+const NOTED: &[&[Act]] = &[NOTES, DROPPED_FM, DROPPED_EM, EARLY_RM];
+
 #[test]
 fn notes_name_what_became_of_a_frame(rt: HostRuntime) -> Result<(), Fail> {
-    for acts in [NOTES, DROPPED_FM, DROPPED_EM, EARLY_RM] {
-        assert_acts(&rt, WIDEST, acts)?;
+    for acts in NOTED {
+        assert_acts(rt.alloc(), WIDEST, acts)?;
     }
     Ok(())
 }
@@ -492,7 +495,7 @@ const PRESS_AND_HLO: &[Scene] = &[
 
 #[test]
 fn hlo_opens_press_at_its_level(rt: HostRuntime) -> Result<(), Fail> {
-    assert_scenes(&rt, true, PRESS_AND_HLO)
+    assert_scenes(rt.alloc(), true, PRESS_AND_HLO)
 }
 
 const ENDS_IN_THE_OPEN: &[Scene] = &[
@@ -520,18 +523,22 @@ const ENDS_AT_FIRST: &[Scene] = &[
 
 #[test]
 fn ends_and_timeouts(rt: HostRuntime) -> Result<(), Fail> {
-    assert_scenes(&rt, true, ENDS_IN_THE_OPEN)?;
-    assert_scenes(&rt, false, ENDS_AT_FIRST)
+    assert_scenes(rt.alloc(), true, ENDS_IN_THE_OPEN)?;
+    assert_scenes(rt.alloc(), false, ENDS_AT_FIRST)
+}
+
+/// The timer of a fresh session faults once, and it is over then.
+fn assert_timer(session: &mut Session) -> Result<(), Fail> {
+    holds(session.im_timeout() == Note::Fault(Code::ImTimeout), "once")?;
+    holds(session.im_timeout() == Note::Nothing, "not twice")?;
+    holds(session.is_over() && !session.ended(Bot), "over")?;
+    holds(session.room(Bot) == 0 && session.room(Server) == 0, "room")
 }
 
 #[test]
 fn timer_faults_once(rt: HostRuntime) -> Result<(), Fail> {
     let mut session = Session::new(rt.alloc(), WIDEST)?;
-    let notes = [session.im_timeout(), session.im_timeout()];
-    assert!(rt; notes == [Note::Fault(Code::ImTimeout), Note::Nothing]);
-    let rooms = [session.room(Bot), session.room(Server)];
-    assert!(rt; session.is_over() && !session.ended(Bot) && rooms == [0, 0]);
-    Ok(())
+    assert_timer(&mut session)
 }
 
 /// What the server says while a HUH waits for the bot.
@@ -570,7 +577,7 @@ const SLOW_WIRE: &[Scene] = &[(
 
 #[test]
 fn slow_wire_keeps_frames_whole(rt: HostRuntime) -> Result<(), Fail> {
-    assert_scenes(&rt, true, SLOW_WIRE)
+    assert_scenes(rt.alloc(), true, SLOW_WIRE)
 }
 
 const WAITING_AT_THE_END: &[Scene] = &[(
@@ -591,7 +598,7 @@ const WAITING_AT_THE_END: &[Scene] = &[(
 
 #[test]
 fn frames_that_wait_go_out_after_the_end(rt: HostRuntime) -> Result<(), Fail> {
-    assert_scenes(&rt, true, WAITING_AT_THE_END)
+    assert_scenes(rt.alloc(), true, WAITING_AT_THE_END)
 }
 
 const WAITING_FOR_A_LOST_WIRE: &[Scene] = &[
@@ -614,7 +621,7 @@ const WAITING_FOR_A_LOST_WIRE: &[Scene] = &[
 
 #[test]
 fn lost_wire_gets_nothing_more(rt: HostRuntime) -> Result<(), Fail> {
-    assert_scenes(&rt, true, WAITING_FOR_A_LOST_WIRE)
+    assert_scenes(rt.alloc(), true, WAITING_FOR_A_LOST_WIRE)
 }
 
 /// OBS of one token takes at most eight steps, and `GOF (` of two at most twelve.
@@ -632,7 +639,7 @@ const STEPS: &[Act] = &[
 
 #[test]
 fn steps_are_counted_by_message(rt: HostRuntime) -> Result<(), Fail> {
-    assert_acts(&rt, WIDEST, STEPS)
+    assert_acts(rt.alloc(), WIDEST, STEPS)
 }
 
 /// Of a message of 250 bytes, six of which came: two open brackets.
@@ -645,5 +652,5 @@ const HEAVY: &[Act] = &[
 
 #[test]
 fn weight_is_bounded(rt: HostRuntime) -> Result<(), Fail> {
-    assert_acts(&rt, WIDEST, HEAVY)
+    assert_acts(rt.alloc(), WIDEST, HEAVY)
 }

@@ -4,18 +4,22 @@
 
 use daide_gate::settings::{Settings, SettingsError, read_settings};
 use daide_grammar::level::Level;
+use daide_session::config::Config;
+use daide_tests::rows::{holds, same};
 use daide_token::token::Token;
 use daide_words::{Operand, Slot, Word};
-use std::fmt::Write;
-use std::process::Abort;
+use std::alloc::Global;
 use std::test::Fail;
 
 /// The two lines that must stand.
 const ADDRESSES: &str = "listen = \"127.0.0.1:16713\"\nserver = \"127.0.0.1:16714\"\n";
 
+/// A text, and the fault that it is, empty where it is none.
+type Row = (&'static str, &'static str);
+
 /// Whole documents, and the fault of each.
 #[rattlefmt::skip]
-const DOCUMENTS: [(&str, &str); 16] = [
+const DOCUMENTS: &[Row] = &[
     ("listen =", "settings are not TOML"),
     ("listen = \"a\"\nlisten = \"b\"", "settings are not TOML"),
     ("", "missing listen"),
@@ -36,7 +40,7 @@ const DOCUMENTS: [(&str, &str); 16] = [
 
 /// A line behind the two addresses, and the fault that it is, if it is one.
 #[rattlefmt::skip]
-const LINES: [(&str, &str); 48] = [
+const LINES: &[Row] = &[
     ("top_level = 0", ""),
     ("top_level = 60", ""),
     ("top_level = 25", "top_level out of range"),
@@ -89,7 +93,7 @@ const LINES: [(&str, &str); 48] = [
 
 /// What stands at `words`, and the fault that it is, if it is one.
 #[rattlefmt::skip]
-const WORDS: [(&str, &str); 27] = [
+const WORDS: &[Row] = &[
     ("[]", ""),
     ("[ { name = \"XYZ\", code = 0x4A40, slot = \"press\", level = 20, operand = \"power\" } ]", ""),
     ("[ { operand = \"power\", level = 20, slot = \"press\", code = 19008, name = \"XYZ\" } ]", ""),
@@ -122,7 +126,7 @@ const WORDS: [(&str, &str); 27] = [
 ];
 
 /// Whole lines with words, and their fault: words come last of all keys.
-const BESIDE_WORDS: [(&str, &str); 2] = [
+const BESIDE_WORDS: &[Row] = &[
     ("turns = 0\nwords = 1", "turns out of range"),
     (
         "words = [ { name = \"XYZ\" } ]\nturns = 0",
@@ -130,103 +134,117 @@ const BESIDE_WORDS: [(&str, &str); 2] = [
     ),
 ];
 
+/// Seventeen words, each of which would be accepted after the ones before it.
+const SEVENTEEN: &str = "words = [
+    { name = 'QQA', code = 0x4A50, slot = 'press', level = 20, operand = 'power' },
+    { name = 'QQB', code = 0x4A51, slot = 'press', level = 20, operand = 'power' },
+    { name = 'QQC', code = 0x4A52, slot = 'press', level = 20, operand = 'power' },
+    { name = 'QQD', code = 0x4A53, slot = 'press', level = 20, operand = 'power' },
+    { name = 'QQE', code = 0x4A54, slot = 'press', level = 20, operand = 'power' },
+    { name = 'QQF', code = 0x4A55, slot = 'press', level = 20, operand = 'power' },
+    { name = 'QQG', code = 0x4A56, slot = 'press', level = 20, operand = 'power' },
+    { name = 'QQH', code = 0x4A57, slot = 'press', level = 20, operand = 'power' },
+    { name = 'QQI', code = 0x4A58, slot = 'press', level = 20, operand = 'power' },
+    { name = 'QQJ', code = 0x4A59, slot = 'press', level = 20, operand = 'power' },
+    { name = 'QQK', code = 0x4A5A, slot = 'press', level = 20, operand = 'power' },
+    { name = 'QQL', code = 0x4A5B, slot = 'press', level = 20, operand = 'power' },
+    { name = 'QQM', code = 0x4A5C, slot = 'press', level = 20, operand = 'power' },
+    { name = 'QQN', code = 0x4A5D, slot = 'press', level = 20, operand = 'power' },
+    { name = 'QQO', code = 0x4A5E, slot = 'press', level = 20, operand = 'power' },
+    { name = 'QQP', code = 0x4A5F, slot = 'press', level = 20, operand = 'power' },
+    { name = 'QQQ', code = 0x4A60, slot = 'press', level = 20, operand = 'power' },
+    ]";
+
 /// The fault of a text as its line, empty where there is none.
-fn fault_of<R: AllocGlobal>(rt: &R, text: &str) -> Result<String, Fail> {
-    match read_settings(rt.alloc(), text) {
-        Ok(_) => Ok(String::new(rt.alloc())),
-        Err(fault) => Ok(fault.to_string(rt.alloc())?),
+fn fault_of(alloc: Global, text: &str) -> Result<String, Fail> {
+    match read_settings(alloc, text) {
+        Ok(_) => Ok(String::new(alloc)),
+        Err(fault) => Ok(fault.to_string(alloc)?),
     }
 }
 
-/// Seventeen words, each of which would be accepted after the ones before it.
-fn seventeen<R: AllocGlobal>(rt: &R) -> Result<String, Fail> {
-    let mut text = String::new(rt.alloc());
-    text.push_str("words = [")?;
-    for number in 0..17u16 {
-        let letter = char::from(b'A' + number as u8);
-        let code = 0x4A50 + number;
-        write!(
-            text,
-            " {{ name = \"QQ{letter}\", code = {code}, slot = \"press\", level = 20, operand = \"power\" }},"
-        )?;
-    }
-    text.push_str(" ]")?;
-    Ok(text)
+/// A text behind this front has this fault.
+fn assert_fault(alloc: Global, front: &str, text: &str, want: &str) -> Result<(), Fail> {
+    let mut whole = String::from_str(alloc, front)?;
+    whole.push_str(text)?;
+    whole.push_str("\n")?;
+    let fault = fault_of(alloc, whole.as_str())?;
+    same(&fault.as_str(), &want, &text)
 }
 
 /// Each row is a text behind this front, and its fault.
-fn assert_faults(
-    rt: &(impl Abort + AllocGlobal),
-    front: &str,
-    rows: &[(&str, &str)],
-) -> Result<(), Fail> {
+fn assert_faults(alloc: Global, front: &str, rows: &[Row]) -> Result<(), Fail> {
     for (text, fault) in rows {
-        let whole = format!(in rt.alloc(); "{front}{text}\n")?;
-        assert!(rt;
-            fault_of(rt, whole.as_str())?.as_str() == *fault,
-            "at {text}"
-        );
+        assert_fault(alloc, front, text, fault)?;
     }
     Ok(())
 }
 
 #[test]
 fn settings_faults_in_order(rt: HostRuntime) -> Result<(), Fail> {
-    assert_faults(&rt, "", &DOCUMENTS)?;
-    assert_faults(&rt, ADDRESSES, &LINES)
+    assert_faults(rt.alloc(), "", DOCUMENTS)?;
+    assert_faults(rt.alloc(), ADDRESSES, LINES)
 }
+
+/// The two lines that must stand, and words.
+const ADDRESSES_AND_WORDS: &str =
+    "listen = \"127.0.0.1:16713\"\nserver = \"127.0.0.1:16714\"\nwords = ";
 
 #[test]
 fn shape_of_all_words_before_their_range(rt: HostRuntime) -> Result<(), Fail> {
-    let front = format!(in rt.alloc(); "{ADDRESSES}words = ")?;
-    assert_faults(&rt, front.as_str(), &WORDS)?;
-    assert_faults(&rt, ADDRESSES, &BESIDE_WORDS)?;
-    let many = seventeen(&rt)?;
-    assert_faults(&rt, ADDRESSES, &[(many.as_str(), "words out of range")])
+    assert_faults(rt.alloc(), ADDRESSES_AND_WORDS, WORDS)?;
+    assert_faults(rt.alloc(), ADDRESSES, BESIDE_WORDS)?;
+    assert_fault(rt.alloc(), ADDRESSES, SEVENTEEN, "words out of range")
+}
+
+/// The rest of an address of so many bytes, and the end of its line.
+fn address_of(alloc: Global, count: usize) -> Result<String, Fail> {
+    let mut address = String::new(alloc);
+    for _ in 0..count {
+        address.push('a')?;
+    }
+    address.push('"')?;
+    Ok(address)
 }
 
 #[test]
 fn addresses_of_255_bytes_and_one_more(rt: HostRuntime) -> Result<(), Fail> {
-    let mut address = String::new(rt.alloc());
-    for _ in 0..255 {
-        address.push('a')?;
-    }
-    let longest = format!(in rt.alloc(); "listen = \"a\"\nserver = \"{address}\"")?;
-    let longer = format!(in rt.alloc(); "listen = \"a\"\nserver = \"b{address}\"")?;
-    let rows = [
-        (longest.as_str(), ""),
-        (longer.as_str(), "server out of range"),
-    ];
-    assert_faults(&rt, "", &rows)
+    let front = "listen = \"a\"\nserver = \"";
+    let longest = address_of(rt.alloc(), 255)?;
+    assert_fault(rt.alloc(), front, longest.as_str(), "")?;
+    let longer = address_of(rt.alloc(), 256)?;
+    assert_fault(rt.alloc(), front, longer.as_str(), "server out of range")
 }
 
-/// What the keys that are numbers stand at, in the order of docs/FORMATS.md, and how many words there are.
-fn numbers_of(settings: &Settings) -> [u64; 8] {
-    [
-        u64::from(settings.config.top_level),
-        u64::from(settings.config.max_body),
-        u64::from(settings.config.max_depth),
-        u64::from(settings.im_seconds),
-        settings.max_sessions as u64,
-        u64::from(settings.sessions),
-        settings.turns,
-        settings.words.names().len() as u64,
-    ]
+/// The addresses, the limits of a session and its time, and the limits of a run are these; and there are so many words.
+fn assert_settings(
+    settings: &Settings,
+    addresses: (&str, &str),
+    limits: (Config, u32),
+    run: (usize, u32, u64),
+    words: usize,
+) -> Result<(), Fail> {
+    let are_there = (settings.listen.as_str(), settings.server.as_str());
+    same(&are_there, &addresses, &"addresses")?;
+    same(&(settings.config, settings.im_seconds), &limits, &"limits")?;
+    let of_run = (settings.max_sessions, settings.sessions, settings.turns);
+    same(&of_run, &run, &"run")?;
+    same(&settings.words.names().len(), &words, &"words")
 }
 
-/// The addresses and the numbers of settings are these.
-fn assert_settings(rt: &impl Abort, settings: &Settings, addresses: [&str; 2], numbers: [u64; 8]) {
-    let are_there = [settings.listen.as_str(), settings.server.as_str()] == addresses;
-    assert!(rt; are_there && numbers_of(settings) == numbers);
-}
+/// The limits that stand where none are given.
+const DEFAULTS: Config = Config {
+    top_level: 60,
+    max_body: 65_526,
+    max_depth: 62,
+};
 
 #[test]
 fn two_addresses_give_the_defaults(rt: HostRuntime) -> Result<(), Fail> {
     let settings = read_settings(rt.alloc(), ADDRESSES)?;
-    let addresses = ["127.0.0.1:16713", "127.0.0.1:16714"];
-    let numbers = [60, 65_526, 62, 30, 16, 1, 1_000_000_000, 0];
-    assert_settings(&rt, &settings, addresses, numbers);
-    Ok(())
+    let addresses = ("127.0.0.1:16713", "127.0.0.1:16714");
+    let run = (16, 1, 1_000_000_000);
+    assert_settings(&settings, addresses, (DEFAULTS, 30), run, 0)
 }
 
 /// Each key with a value of its own, the last one first.
@@ -235,10 +253,17 @@ const EACH_KEY: &str =
     turns = 7\nsessions = 6\nmax_sessions = 5\nim_seconds = 4\nmax_depth = 13\nmax_body = 1024\n\
     top_level = 20\nserver = \"s\"\nlisten = \"l\"\n";
 
+/// The limits of a session there.
+const OWN_LIMITS: Config = Config {
+    top_level: 20,
+    max_body: 1024,
+    max_depth: 13,
+};
+
 #[test]
 fn each_key_sets_its_own_field(rt: HostRuntime) -> Result<(), Fail> {
     let settings = read_settings(rt.alloc(), EACH_KEY)?;
-    assert_settings(&rt, &settings, ["l", "s"], [20, 1_024, 13, 4, 5, 6, 7, 1]);
+    assert_settings(&settings, ("l", "s"), (OWN_LIMITS, 4), (5, 6, 7), 1)?;
     let word = Word {
         name: *b"XYZ",
         code: Token::from_code(0x4A40),
@@ -246,24 +271,26 @@ fn each_key_sets_its_own_field(rt: HostRuntime) -> Result<(), Fail> {
         level: Level::L20,
         operand: Operand::Power,
     };
-    assert!(rt; settings.words.get(0) == Some(word));
-    Ok(())
+    same(&settings.words.get(0), &Some(word), &"the word")
 }
+
+/// Texts, and why they are refused, if they are.
+const READ: &[(&str, Option<SettingsError>)] = &[
+    (ADDRESSES, None),
+    ("listen = \"a\"\ndepth = 5\n", Some(SettingsError::Unknown)),
+    ("listen =", Some(SettingsError::NotToml)),
+];
 
 /// Under `rt try --test --fail-alloc N` the Nth growth is refused: the answer is want of memory, or the
 /// right one where the growth was another's. `scripts/refused-memory` runs it so.
 #[test]
-fn settings_right_or_want_of_memory(rt: HostRuntime) {
-    let rows = [
-        (ADDRESSES, None),
-        ("listen = \"a\"\ndepth = 5\n", Some(SettingsError::Unknown)),
-        ("listen =", Some(SettingsError::NotToml)),
-    ];
-    for (text, want) in rows {
+fn settings_right_or_want_of_memory(rt: HostRuntime) -> Result<(), Fail> {
+    for (text, want) in READ {
         let refused = read_settings(rt.alloc(), text).err();
-        assert!(rt;
-            refused == want || refused == Some(SettingsError::Memory),
-            "at {text}"
-        );
+        holds(
+            refused == *want || refused == Some(SettingsError::Memory),
+            text,
+        )?;
     }
+    Ok(())
 }

@@ -4,13 +4,13 @@ use crate::messages::{Example, assert_verdicts, nested, verdict_on};
 use daide_grammar::level::Level::{L0, L10, L20, L30, L50, L60};
 use daide_grammar::side::Side2::{Client, ServerEnd};
 use daide_reader::verdict::Verdict::{Huh, Relay};
+use daide_tests::rows::same;
 use daide_token::token::Token;
-use std::process::Abort;
 use std::test::Fail;
 
 // side, level, message, verdict
 #[rattlefmt::skip]
-const ORDERS: [Example; 4] = [
+const ORDERS: &[Example] = &[
     (Client, L0, "SUB ( SPR 1901 ) ( ( ENG FLT NTH ) MTO ( STP NCS ) )", Relay),
     (Client, L0, "SUB ( ENG WVE )", Relay),
     (Client, L0, "TME ( -1 )", Relay),
@@ -19,24 +19,24 @@ const ORDERS: [Example; 4] = [
 
 #[test]
 fn orders_are_relayed(rt: HostRuntime) -> Result<(), Fail> {
-    assert_verdicts(&rt, &ORDERS)
+    assert_verdicts(rt.alloc(), ORDERS)
 }
 
 // side, level, message, verdict
 #[rattlefmt::skip]
-const REPLIES: [Example; 2] = [
+const REPLIES: &[Example] = &[
     (Client, L0, "YES ( MAP ( 'a' ) )", Relay),
     (Client, L0, "YES ( GOF )", Huh(2)),
 ];
 
 #[test]
 fn replies_are_no_requests(rt: HostRuntime) -> Result<(), Fail> {
-    assert_verdicts(&rt, &REPLIES)
+    assert_verdicts(rt.alloc(), REPLIES)
 }
 
 // side, level, message, verdict
 #[rattlefmt::skip]
-const BRACKETS_AND_BUILDS: [Example; 5] = [
+const BRACKETS_AND_BUILDS: &[Example] = &[
     (Client, L0, "NME ( 'a' ( ) 'b' )", Huh(3)),
     (ServerEnd, L0, "MIS ( FRA AMY BUR MRT ( PAR ( SPA SCS ) ) )", Relay),
     (ServerEnd, L0, "MIS ( -1 )", Relay),
@@ -46,12 +46,12 @@ const BRACKETS_AND_BUILDS: [Example; 5] = [
 
 #[test]
 fn brackets_inside_text_and_lists_of_builds(rt: HostRuntime) -> Result<(), Fail> {
-    assert_verdicts(&rt, &BRACKETS_AND_BUILDS)
+    assert_verdicts(rt.alloc(), BRACKETS_AND_BUILDS)
 }
 
 // side, level, message, verdict
 #[rattlefmt::skip]
-const SERVER: [Example; 5] = [
+const SERVER: &[Example] = &[
     (ServerEnd, L0, "HLO ( ENG ) ( 1234 ) ( ( LVL 10 ) )", Relay),
     (ServerEnd, L0, "MDF ( FRA ) ( ( ( FRA PAR ) ( UNO ) ) ( GAS ) ) ( ( PAR ( AMY GAS ) ) ( GAS ( \
         AMY PAR ) ( ( FLT NCS ) SPA ) ) )", Relay),
@@ -62,12 +62,12 @@ const SERVER: [Example; 5] = [
 
 #[test]
 fn server_messages_are_relayed(rt: HostRuntime) -> Result<(), Fail> {
-    assert_verdicts(&rt, &SERVER)
+    assert_verdicts(rt.alloc(), SERVER)
 }
 
 // side, level, message, verdict
 #[rattlefmt::skip]
-const UNDELIVERED: [Example; 5] = [
+const UNDELIVERED: &[Example] = &[
     (ServerEnd, L0, "CCD ( FRA ) ( SND ( FRA ) ( PRP ( PCE ( ENG FRA ) ) ) )", Huh(4)),
     (ServerEnd, L10, "CCD ( FRA ) ( SND ( FRA ) ( PRP ( PCE ( ENG FRA ) ) ) )", Relay),
     (ServerEnd, L10, "OUT ( FRA ) ( OBS )", Huh(5)),
@@ -77,12 +77,12 @@ const UNDELIVERED: [Example; 5] = [
 
 #[test]
 fn undelivered_press_comes_back_from_level_10(rt: HostRuntime) -> Result<(), Fail> {
-    assert_verdicts(&rt, &UNDELIVERED)
+    assert_verdicts(rt.alloc(), UNDELIVERED)
 }
 
 // side, level, message, verdict
 #[rattlefmt::skip]
-const PRESS: [Example; 4] = [
+const PRESS: &[Example] = &[
     (Client, L0, "SND ( FRA ) ( TRY ( DRW ) )", Huh(0)),
     (Client, L10, "SND ( FRA ) ( PRP ( XDO ( ( FRA AMY PAR ) HLD ) ) )", Huh(7)),
     (Client, L20, "SND ( FRA ) ( PRP ( XDO ( ( FRA AMY PAR ) HLD ) ) )", Relay),
@@ -91,24 +91,24 @@ const PRESS: [Example; 4] = [
 
 #[test]
 fn press_by_level(rt: HostRuntime) -> Result<(), Fail> {
-    assert_verdicts(&rt, &PRESS)
+    assert_verdicts(rt.alloc(), PRESS)
 }
 
 // side, level, message, verdict
 #[rattlefmt::skip]
-const NESTED: [Example; 2] = [
+const NESTED: &[Example] = &[
     (Client, L30, "SND ( FRA ) ( PRP ( AND ( AND ( DRW ) ( DRW ) ) ( DRW ) ) )", Huh(9)),
     (Client, L50, "SND ( FRA ) ( PRP ( AND ( AND ( DRW ) ( DRW ) ) ( DRW ) ) )", Relay),
 ];
 
 #[test]
 fn nested_and_needs_level_50(rt: HostRuntime) -> Result<(), Fail> {
-    assert_verdicts(&rt, &NESTED)
+    assert_verdicts(rt.alloc(), NESTED)
 }
 
 // side, level, message, verdict
 #[rattlefmt::skip]
-const FACTS: [Example; 4] = [
+const FACTS: &[Example] = &[
     (Client, L50, "SND ( FRA ) ( FCT ( NOT ( QRY ( DRW ) ) ) )", Huh(9)),
     (Client, L60, "SND ( FRA ) ( FCT ( NOT ( QRY ( DRW ) ) ) )", Relay),
     (Client, L60, "SND ( FRA ) ( FCT ( NOT ( NOT ( QRY ( DRW ) ) ) ) )", Relay),
@@ -117,22 +117,24 @@ const FACTS: [Example; 4] = [
 
 #[test]
 fn facts_by_level(rt: HostRuntime) -> Result<(), Fail> {
-    assert_verdicts(&rt, &FACTS)
+    assert_verdicts(rt.alloc(), FACTS)
 }
 
 #[test]
 fn one_bracket_too_deep_gets_huh(rt: HostRuntime) -> Result<(), Fail> {
-    let message = nested(&rt, 62)?;
-    assert!(rt; verdict_on(Client, L0, message.as_slice()) == Relay);
-    let message = nested(&rt, 63)?;
-    assert!(rt; verdict_on(Client, L0, message.as_slice()) == Huh(63));
-    Ok(())
+    let message = nested(rt.alloc(), 62)?;
+    same(&verdict_on(Client, L0, message.as_slice()), &Relay, &62)?;
+    let message = nested(rt.alloc(), 63)?;
+    same(&verdict_on(Client, L0, message.as_slice()), &Huh(63), &63)
 }
 
 #[test]
 fn longest_body_gets_huh(rt: HostRuntime) -> Result<(), Fail> {
-    let gof = Token::by_name("GOF").ok_or("a name")?;
+    let gof = Token::from_code(0x4803);
     let message = vec![in rt.alloc(); gof; 32_763]?;
-    assert!(rt; verdict_on(Client, L0, message.as_slice()) == Huh(1));
-    Ok(())
+    same(
+        &verdict_on(Client, L0, message.as_slice()),
+        &Huh(1),
+        &"GOF over and over",
+    )
 }

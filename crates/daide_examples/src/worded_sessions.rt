@@ -3,12 +3,12 @@
 //! XYZ is a press of a power from level 20 on.
 
 use crate::script::Act::Says;
-use crate::script::{WIDEST, script_over};
+use crate::script::{PIECES, Script, WIDEST, script_over};
 use crate::words::two_words;
 use daide_frame::side::Side::{self, Bot, Server};
 use daide_session::session::Session;
 use daide_words::Words;
-use std::process::Abort;
+use std::alloc::Global;
 use std::test::Fail;
 
 /// `HLO ( ENG ) ( 1234 ) ( ( LVL 10 ) )`, and the same of level 20.
@@ -46,7 +46,7 @@ type Row = (
 );
 
 #[rattlefmt::skip]
-const ROWS: [Row; 8] = [
+const ROWS: &[Row] = &[
     (true, HLO_20, Bot, SENT, "", SENT),
     (true, HLO_10, Bot, SENT, HUH_OF_SENT, ""),
     (true, HLO_10, Bot, TRIED, "", TRIED),
@@ -57,29 +57,41 @@ const ROWS: [Row; 8] = [
     (false, HLO_20, Server, HANDED_ON, "", HUH_OF_HANDED_ON),
 ];
 
-/// Plays a row in an open session, in pieces of so many bytes.
-fn assert_row(rt: &(impl Abort + AllocGlobal), row: &Row, piece: usize) -> Result<(), Fail> {
-    let (has_words, hlo, side, frame, to_bot, to_server) = row;
-    let words = if *has_words {
-        two_words()
-    } else {
-        Words::new()
-    };
-    let session = Session::with_words(rt.alloc(), WIDEST, words)?;
-    let mut script = script_over(rt, session);
-    script.open(rt, piece)?;
-    script.play(rt, Says(Server, hlo), piece)?;
-    script.assert_sent(rt, Bot, hlo)?;
-    script.play(rt, Says(*side, frame), piece)?;
-    script.assert_sent(rt, Bot, to_bot)?;
-    script.assert_sent(rt, Server, to_server)
+/// A session with an operator's words or without.
+fn script_with(alloc: Global, has_words: bool) -> Result<Script, Fail> {
+    let words = if has_words { two_words() } else { Words::new() };
+    Ok(script_over(alloc, Session::with_words(alloc, WIDEST, words)?))
+}
+
+/// Plays a row in a fresh session, in pieces of so many bytes.
+fn play_row(script: &mut Script, alloc: Global, row: &Row, piece: usize) -> Result<(), Fail> {
+    let (_, hlo, side, frame, to_bot, to_server) = row;
+    script.open(alloc, piece)?;
+    script.play(alloc, Says(Server, hlo), piece)?;
+    script.assert_sent(alloc, Bot, hlo)?;
+    script.play(alloc, Says(*side, frame), piece)?;
+    script.assert_sent(alloc, Bot, to_bot)?;
+    script.assert_sent(alloc, Server, to_server)
+}
+
+/// The same, in a session that has the row's words.
+fn assert_row(alloc: Global, row: &Row, piece: usize) -> Result<(), Fail> {
+    let mut script = script_with(alloc, row.0)?;
+    play_row(&mut script, alloc, row, piece)
+}
+
+/// Whole and byte by byte.
+fn assert_pieces(alloc: Global, row: &Row) -> Result<(), Fail> {
+    for piece in PIECES {
+        assert_row(alloc, row, *piece)?;
+    }
+    Ok(())
 }
 
 #[test]
 fn session_with_words_relays_what_one_without_answers(rt: HostRuntime) -> Result<(), Fail> {
-    for row in &ROWS {
-        assert_row(&rt, row, 65_530)?;
-        assert_row(&rt, row, 1)?;
+    for row in ROWS {
+        assert_pieces(rt.alloc(), row)?;
     }
     Ok(())
 }

@@ -13,10 +13,11 @@ use daide_grammar::side::Side2;
 use daide_reader::reader::Reader;
 use daide_reader::verdict::Verdict;
 use daide_reader::verdict::Verdict::{Huh, Relay};
+use daide_tests::rows::{holds, same};
 use daide_token::token::Token;
 use daide_words::{Extended, Operand, Slot, Word, Words};
 use linked_list_allocator::LocalHeap;
-use std::process::Abort;
+use std::alloc::{Allocator, Global};
 use std::test::Fail;
 
 /// The two words.
@@ -72,9 +73,11 @@ fn verdict_on_2048(words: Words, depth: u16, level: Level, message: &[Token]) ->
     read(&mut reader, level, message)
 }
 
-// a bot's message, #4a40 being XYZ and #4a41 QQQ; its level; its verdict with the words, and without
+/// A bot's message, #4a40 being XYZ and #4a41 QQQ; its level; its verdict with the words, and without.
+type Message = (&'static str, Level, Verdict, Verdict);
+
 #[rattlefmt::skip]
-const MESSAGES: [(&str, Level, Verdict, Verdict); 6] = [
+const MESSAGES: &[Message] = &[
     ("SND ( FRA ) ( #4a40 ( ENG ) )", L20, Relay, Huh(5)),
     ("SND ( FRA ) ( #4a40 ( ENG ) )", L10, Huh(5), Huh(5)),
     ("SND ( FRA ) ( TRY ( #4a40 ) )", L10, Relay, Relay),
@@ -83,41 +86,61 @@ const MESSAGES: [(&str, Level, Verdict, Verdict); 6] = [
     ("SND ( FRA ) ( PRP ( AND ( #4a41 ( AND ( DRW ) ( DRW ) ) ) ( DRW ) ) )", L50, Relay, Huh(9)),
 ];
 
+/// Readers of either room have the verdicts of a row.
+fn assert_message(alloc: Global, row: &Message) -> Result<(), Fail> {
+    let (text, level, with, without) = row;
+    let tokens = tokens_of_text(alloc, text)?;
+    let message = tokens.as_slice();
+    same(&verdict_on_512(two_words(), *level, message), with, row)?;
+    same(&verdict_on_512(Words::new(), *level, message), without, row)?;
+    same(
+        &verdict_on_2048(two_words(), 254, *level, message),
+        with,
+        row,
+    )?;
+    same(
+        &verdict_on_2048(Words::new(), 254, *level, message),
+        without,
+        row,
+    )
+}
+
 #[test]
 fn words_stand_from_their_level(rt: HostRuntime) -> Result<(), Fail> {
-    for (text, level, with, without) in MESSAGES {
-        let tokens = tokens_of_text(&rt, text)?;
-        let message = tokens.as_slice();
-        let verdicts = [
-            verdict_on_512(two_words(), level, message),
-            verdict_on_512(Words::new(), level, message),
-            verdict_on_2048(two_words(), 254, level, message),
-            verdict_on_2048(Words::new(), 254, level, message),
-        ];
-        assert!(rt; verdicts == [with, without, with, without], "{text}");
+    for row in MESSAGES {
+        assert_message(rt.alloc(), row)?;
     }
     Ok(())
 }
 
 /// How many brackets HUH has, and the verdict where 62 may be open, and where 254 may be.
-const DEPTHS: [(usize, Verdict, Verdict); 4] = [
+type Depth = (usize, Verdict, Verdict);
+
+const DEPTHS: &[Depth] = &[
     (62, Relay, Relay),
     (63, Huh(63), Relay),
     (254, Huh(63), Relay),
     (255, Huh(63), Huh(255)),
 ];
 
+/// Readers of either room have the verdicts of a row.
+fn assert_depth(alloc: Global, row: &Depth) -> Result<(), Fail> {
+    let (brackets, shallow, deep) = row;
+    let tokens = nested(alloc, *brackets)?;
+    let message = tokens.as_slice();
+    same(&verdict_on_512(Words::new(), L10, message), shallow, row)?;
+    same(
+        &verdict_on_2048(Words::new(), 62, L10, message),
+        shallow,
+        row,
+    )?;
+    same(&verdict_on_2048(Words::new(), 254, L10, message), deep, row)
+}
+
 #[test]
 fn as_deep_as_is_said_whatever_the_room(rt: HostRuntime) -> Result<(), Fail> {
-    for (brackets, shallow, deep) in DEPTHS {
-        let tokens = nested(&rt, brackets)?;
-        let message = tokens.as_slice();
-        let verdicts = [
-            verdict_on_512(Words::new(), L10, message),
-            verdict_on_2048(Words::new(), 62, L10, message),
-            verdict_on_2048(Words::new(), 254, L10, message),
-        ];
-        assert!(rt; verdicts == [shallow, shallow, deep], "{brackets}");
+    for row in DEPTHS {
+        assert_depth(rt.alloc(), row)?;
     }
     Ok(())
 }
@@ -125,8 +148,8 @@ fn as_deep_as_is_said_whatever_the_room(rt: HostRuntime) -> Result<(), Fail> {
 /// A bot's `SND ( FRA ) ( XYZ ( ENG ) )` as a frame.
 const SENT: &[u8] = b"02000014 48174000 41024001 4000 4A40 4000 4101 4001 4001";
 
-// its level, whether there are words, and what is shown
-const SHOWN: [(Level, bool, &str); 3] = [
+/// Its level, whether there are words, and what is shown.
+const SHOWN: &[(Level, bool, &str)] = &[
     (L20, true, "DM 20\nSND ( FRA ) ( XYZ ( ENG ) )\nrelay\n"),
     (
         L10,
@@ -140,47 +163,62 @@ const SHOWN: [(Level, bool, &str); 3] = [
     ),
 ];
 
-/// What is shown of the frame at a level, with the words or without, and whether it is relayed.
-fn shown_at(rt: &impl AllocGlobal, level: Level, has_words: bool) -> Result<(bool, Vec<u8>), Fail> {
-    let alloc = rt.alloc();
+/// Shows the frame at a level with the words; whether it is relayed.
+fn show_words<A: Allocator + Copy>(
+    alloc: A,
+    level: Level,
+    output: &mut Vec<u8>,
+) -> Result<bool, ShowFault> {
     let mut input = SENT;
+    show_with(alloc, Side::Bot, level, &two_words(), &mut input, output)
+}
+
+/// Shows the frame at a level with the words or without; whether it is relayed.
+fn show_frame(
+    alloc: Global,
+    level: Level,
+    has_words: bool,
+    output: &mut Vec<u8>,
+) -> Result<bool, ShowFault> {
+    if has_words {
+        return show_words(alloc, level, output);
+    }
+    let mut input = SENT;
+    show(alloc, Side::Bot, level, &mut input, output)
+}
+
+/// The frame is shown so at a level, with the words or without.
+fn assert_shown(alloc: Global, level: Level, has_words: bool, want: &str) -> Result<(), Fail> {
     let mut output = Vec::new(alloc);
-    let shown = if has_words {
-        show_with(
-            alloc,
-            Side::Bot,
-            level,
-            &two_words(),
-            &mut input,
-            &mut output,
-        )
-    } else {
-        show(alloc, Side::Bot, level, &mut input, &mut output)
-    };
-    Ok((shown == Ok(true), output))
+    let shown = show_frame(alloc, level, has_words, &mut output);
+    holds(output.as_slice() == want.as_bytes(), want)?;
+    same(&shown, &Ok(want.ends_with("relay\n")), &want)
 }
 
 #[test]
 fn words_are_shown_by_their_names(rt: HostRuntime) -> Result<(), Fail> {
     for (level, has_words, want) in SHOWN {
-        let (is_relay, output) = shown_at(&rt, level, has_words)?;
-        let is_right = output.as_slice() == want.as_bytes();
-        assert!(rt; is_right && is_relay == want.ends_with("relay\n"), "{want}");
+        assert_shown(rt.alloc(), *level, *has_words, want)?;
     }
     Ok(())
 }
 
 /// Shows the frame with the words on a heap of a size; whether memory sufficed.
-fn shows_on_heap(rt: &(impl Abort + AllocGlobal), size: usize) -> Result<bool, Fail> {
-    let heap = LocalHeap::new(rt.alloc(), size)?;
-    let mut input = SENT;
-    let mut output = Vec::new(rt.alloc());
-    let words = two_words();
-    let shown = show_with(&heap, Side::Bot, L20, &words, &mut input, &mut output);
-    let is_refused = shown == Err(ShowFault::Memory);
-    let is_right = shown == Ok(true) || (is_refused && output.is_empty());
-    assert!(rt; is_right && heap.used() == 0, "at {size}");
-    Ok(!is_refused)
+fn shows_on_heap(alloc: Global, size: usize) -> Result<bool, Fail> {
+    let heap = LocalHeap::new(alloc, size)?;
+    let mut output = Vec::new(alloc);
+    let shown = show_words(&heap, L20, &mut output);
+    holds(heap.used() == 0, "the heap")?;
+    match shown {
+        Ok(is_relay) => {
+            holds(is_relay, "the frame")?;
+            Ok(true)
+        }
+        Err(fault) => {
+            holds(fault == ShowFault::Memory && output.is_empty(), "refused")?;
+            Ok(false)
+        }
+    }
 }
 
 #[test]
@@ -193,10 +231,9 @@ fn growth_of_show_with_refused_in_turn(rt: HostRuntime) -> Result<(), Fail> {
         } else {
             64_896 + 16 * unit
         };
-        if !shows_on_heap(&rt, size)? {
+        if !shows_on_heap(rt.alloc(), size)? {
             refused = refused.wrapping_add(1);
         }
     }
-    assert!(rt; refused > 32 && refused < 96);
-    Ok(())
+    holds(refused > 32 && refused < 96, "how many were refused")
 }
