@@ -1,6 +1,5 @@
 //! The gateway at work, over real sockets on loopback.
 
-use crate::runs::holds;
 use crate::stage::Act::{
     Comes, Ends, Flooded, Floods, Hears, HearsEnd, Leave, Meets, MeetsNobody, Rests, Says,
 };
@@ -10,9 +9,10 @@ use daide_program::running::{RunFault, run_text};
 use daide_sockets::admission::Door;
 use daide_sockets::gateway::GatewayFault;
 use daide_sockets::watch::Watch;
+use daide_tests::rows::holds;
 use std::io;
 use std::io::{ErrorKind, Read, Write};
-use std::net::{Net, TcpListener, TcpStream};
+use std::net::{Net, SocketAddr, TcpListener, TcpStream};
 use std::test::Fail;
 use std::time::Duration;
 
@@ -287,7 +287,7 @@ const STAYS_SILENT: &[Act] = &[
 #[test]
 fn silent_bot_gets_em_01_after_its_time(rt: HostRuntime) -> Result<(), Fail> {
     let report = run_beside(&rt, "im_seconds = 1", STAYS_SILENT, None)?;
-    assert!(rt; report.rounds < 100);
+    holds(report.rounds < 100, "few rounds")?;
     check(&report, "")
 }
 
@@ -299,21 +299,30 @@ fn spent_turns_are_told(rt: HostRuntime) -> Result<(), Fail> {
     check(&report, "daide-gate: turns spent\n")
 }
 
+/// After an accept that fails none is made for a while, and then the bot that came is taken.
+fn check_door(watch: &Watch<&HostRuntime>, door: &Door<'_>) -> Result<(), Fail> {
+    watch.wait();
+    door.refused(watch, ErrorKind::Other);
+    holds(door.accept(watch).is_none(), "none is made")?;
+    watch.wait();
+    holds(door.accept(watch).is_some(), "the bot that came")
+}
+
+/// The same of a listener, in the one row of a table.
+fn check_listener(rt: &HostRuntime, listener: daide_sockets::TcpListener) -> Result<(), Fail> {
+    let watch = Watch::new(rt.alloc(), rt, rt, 1)?;
+    match Door::new(&watch, listener) {
+        Some(door) => check_door(&watch, &door),
+        None => Err(Fail::new("no row")),
+    }
+}
+
 /// Where an accept fails, as for want of descriptors, none is made for a while, and then the bot that came is taken.
 #[test]
 fn failed_accept_is_made_again(rt: HostRuntime) -> Result<(), Fail> {
     let listener = daide_sockets::TcpListener::bind(&rt, any_port())?;
     let _bot = TcpStream::connect(&rt, listener.local_addr()?)?;
-    let watch = Watch::new(rt.alloc(), &rt, &rt, 1)?;
-    let Some(door) = Door::new(&watch, listener) else {
-        return Err(Fail::from("no row"));
-    };
-    watch.wait();
-    door.refused(&watch, ErrorKind::Other);
-    assert!(rt; door.accept(&watch).is_none());
-    watch.wait();
-    assert!(rt; door.accept(&watch).is_some());
-    Ok(())
+    check_listener(&rt, listener)
 }
 
 /// An output at whose first line a bot comes, which sends an IM and an FM and stays.
@@ -369,15 +378,19 @@ fn brought_both(rt: &HostRuntime, server: &TcpListener) -> Result<bool, Fail> {
     Ok(bytes.starts_with(IM) && bytes.ends_with(FM))
 }
 
+/// A run at an address that is free, with a bot that comes once it listens, towards this one.
+fn serves_one_to(rt: &HostRuntime, to: SocketAddr) -> Result<(), Fail> {
+    let free = TcpListener::bind(rt, any_port())?.local_addr()?;
+    let at = free.to_string(rt.alloc())?;
+    let to = to.to_string(rt.alloc())?;
+    serves_one(rt, at.as_str(), to.as_str())
+}
+
 #[test]
 fn whole_run_listens_serves_and_ends(rt: HostRuntime) -> Result<(), Fail> {
     let server = TcpListener::bind(&rt, any_port())?;
-    let to = server.local_addr()?.to_string(rt.alloc())?;
-    let free = TcpListener::bind(&rt, any_port())?.local_addr()?;
-    let at = free.to_string(rt.alloc())?;
-    serves_one(&rt, at.as_str(), to.as_str())?;
-    assert!(rt; brought_both(&rt, &server)?);
-    Ok(())
+    serves_one_to(&rt, server.local_addr()?)?;
+    holds(brought_both(&rt, &server)?, "both frames")
 }
 
 /// Nothing can be listened on there, and nothing is printed.

@@ -1,32 +1,16 @@
 //! Runs and `show` where a read, a write or a growth is refused.
 
-use crate::runs::holds;
 use daide_frame::side::Side;
 use daide_gate::frame_view::{ShowFault, show};
 use daide_grammar::level::Level;
 use daide_program::answer;
+use daide_tests::fakes::{FailsAtRead, FailsAtWrite};
+use daide_tests::rows::{holds, same};
 use linked_list_allocator::LocalHeap;
+use std::alloc::Global;
 use std::io;
-use std::io::{ErrorKind, Read, Write};
+use std::io::{ErrorKind, Read};
 use std::test::Fail;
-
-/// An input that gives three bytes at a read, and fails at a read.
-#[derive(Drop)]
-struct FailsAtRead<'a> {
-    bytes: &'a [u8],
-    reads: usize,
-}
-
-impl Read for FailsAtRead<'_> {
-    fn read(&mut self, buffer: &mut [u8]) -> io::Result<usize> {
-        if self.reads == 0 {
-            return Err(io::Error::from(ErrorKind::Interrupted));
-        }
-        self.reads -= 1;
-        let room = buffer.len().min(3);
-        self.bytes.read(&mut buffer[..room])
-    }
-}
 
 /// An input without end, which counts what it gave.
 #[derive(Drop)]
@@ -43,84 +27,89 @@ impl Read for HasNoEnd {
     }
 }
 
-/// An output that takes four bytes at a write, and fails at a write.
-#[derive(Drop)]
-struct FailsAtWrite {
-    taken: Vec<u8>,
-    writes: usize,
-}
+/// What `show` answers.
+type Shown = Result<bool, ShowFault>;
 
-impl Write for FailsAtWrite {
-    fn write(&mut self, bytes: &[u8]) -> io::Result<usize> {
-        if self.writes == 0 {
-            return Err(io::Error::from(ErrorKind::Other));
-        }
-        self.writes -= 1;
-        let count = bytes.len().min(4);
-        self.taken.extend_from_slice(&bytes[..count])?;
-        Ok(count)
-    }
-
-    fn flush(&mut self) -> io::Result<()> {
-        Ok(())
-    }
-}
+/// A frame whose bracket never closes.
+const FRAME: &[u8] = b"0200000448034000";
 
 /// The text shown for the frame that the tests of refusals read.
 const SHOWN: &[u8] = b"DM 4\nGOF (\nPRN\nPRN ( GOF ( )\n";
 
-/// `show` of an unclosed bracket: its answer, and what it wrote.
-fn shown_of(rt: &HostRuntime, reads: usize) -> (Result<bool, ShowFault>, Vec<u8>) {
+/// `show` of an unclosed bracket, whose input fails at a read, has this answer, and writes this.
+fn check_reads(alloc: Global, reads: usize, want: Shown, written: &[u8]) -> Result<(), Fail> {
     let mut reader = FailsAtRead {
-        bytes: b"0200000448034000",
+        bytes: FRAME,
         reads,
+        kind: ErrorKind::Interrupted,
     };
-    let mut output = Vec::new(rt.alloc());
-    let answer = show(rt.alloc(), Side::Bot, Level::L0, &mut reader, &mut output);
-    (answer, output)
+    let mut output = Vec::new(alloc);
+    let answer = show(alloc, Side::Bot, Level::L0, &mut reader, &mut output);
+    same(&answer, &want, &reads)?;
+    same(&output.as_slice(), &written, &reads)
 }
 
 #[test]
-fn each_read_refused_in_turn(rt: HostRuntime) {
+fn each_read_refused_in_turn(rt: HostRuntime) -> Result<(), Fail> {
     for reads in 0..7 {
-        let (answer, output) = shown_of(&rt, reads);
-        assert!(rt; answer == Err(ShowFault::Read) && output.is_empty());
+        check_reads(rt.alloc(), reads, Err(ShowFault::Read), b"")?;
     }
-    let (answer, output) = shown_of(&rt, 7);
-    assert!(rt; answer == Ok(false) && output.as_slice() == SHOWN);
+    check_reads(rt.alloc(), 7, Ok(false), SHOWN)
 }
 
-/// `show` of the same frame onto an output: its answer, and what the output took.
-fn taken_of(rt: &HostRuntime, writes: usize) -> (Result<bool, ShowFault>, Vec<u8>) {
-    let mut reader = b"0200000448034000".as_slice();
+/// `show` of the same frame onto an output that fails at a write: its answer, and what the output took.
+fn taken_of(alloc: Global, writes: usize) -> (Shown, Vec<u8>) {
+    let mut reader = FRAME;
     let mut writer = FailsAtWrite {
-        taken: Vec::new(rt.alloc()),
+        taken: Vec::new(alloc),
         writes,
     };
-    let answer = show(rt.alloc(), Side::Bot, Level::L0, &mut reader, &mut writer);
+    let answer = show(alloc, Side::Bot, Level::L0, &mut reader, &mut writer);
     (answer, writer.taken)
 }
 
-#[test]
-fn each_write_refused_in_turn(rt: HostRuntime) {
-    for writes in 0..8 {
-        let (answer, taken) = taken_of(&rt, writes);
-        assert!(rt; answer == Err(ShowFault::Write) && SHOWN.starts_with(taken.as_slice()));
-    }
-    let (answer, taken) = taken_of(&rt, 8);
-    assert!(rt; answer == Ok(false) && taken.as_slice() == SHOWN);
+/// A write fails, and what was taken before is the start of what is shown.
+fn check_writes(alloc: Global, writes: usize) -> Result<(), Fail> {
+    let (answer, taken) = taken_of(alloc, writes);
+    same(&answer, &Err(ShowFault::Write), &writes)?;
+    holds(SHOWN.starts_with(taken.as_slice()), "the start")
 }
 
-/// Whether `show` finds memory on a heap of this size. Where it doesn't, it says so and writes nothing.
-fn is_shown_within(rt: &HostRuntime, size: usize) -> Result<bool, Fail> {
-    let heap = LocalHeap::new(rt.alloc(), size)?;
-    let mut reader = b"0200000448034000".as_slice();
-    let mut output = Vec::new(rt.alloc());
-    let answer = show(&heap, Side::Bot, Level::L0, &mut reader, &mut output);
-    let is_shown = answer == Ok(false);
-    let written = if is_shown { SHOWN } else { b"" };
-    holds(is_shown || answer == Err(ShowFault::Memory), "the answer")?;
-    holds(output.as_slice() == written, "the output")?;
+#[test]
+fn each_write_refused_in_turn(rt: HostRuntime) -> Result<(), Fail> {
+    for writes in 0..8 {
+        check_writes(rt.alloc(), writes)?;
+    }
+    let (answer, taken) = taken_of(rt.alloc(), 8);
+    same(&answer, &Ok(false), &8)?;
+    same(&taken.as_slice(), &SHOWN, &8)
+}
+
+/// `show` of the same frame on a heap.
+fn show_on(heap: &LocalHeap, output: &mut Vec<u8>) -> Shown {
+    let mut reader = FRAME;
+    show(heap, Side::Bot, Level::L0, &mut reader, output)
+}
+
+/// Whether `show` finds memory on a heap. Where it doesn't, it says so and writes nothing.
+fn is_shown_on(alloc: Global, heap: &LocalHeap) -> Result<bool, Fail> {
+    let mut output = Vec::new(alloc);
+    match show_on(heap, &mut output) {
+        Ok(is_relay) => {
+            holds(!is_relay && output.as_slice() == SHOWN, "shown")?;
+            Ok(true)
+        }
+        Err(fault) => {
+            holds(fault == ShowFault::Memory && output.is_empty(), "refused")?;
+            Ok(false)
+        }
+    }
+}
+
+/// The same on a heap of this size, which is empty again then.
+fn is_shown_within(alloc: Global, size: usize) -> Result<bool, Fail> {
+    let heap = LocalHeap::new(alloc, size)?;
+    let is_shown = is_shown_on(alloc, &heap)?;
     holds(heap.used() == 0, "the heap")?;
     Ok(is_shown)
 }
@@ -130,29 +119,30 @@ fn is_shown_within(rt: &HostRuntime, size: usize) -> Result<bool, Fail> {
 #[test]
 fn growth_refused_in_turn(rt: HostRuntime) -> Result<(), Fail> {
     for unit in 0..32usize {
-        assert!(rt; !is_shown_within(&rt, 16 * unit)?);
+        same(&is_shown_within(rt.alloc(), 16 * unit)?, &false, &unit)?;
     }
     for unit in 4088..4150usize {
-        is_shown_within(&rt, 16 * unit)?;
+        is_shown_within(rt.alloc(), 16 * unit)?;
     }
-    assert!(rt; is_shown_within(&rt, 16 * 4150)?);
-    Ok(())
+    same(&is_shown_within(rt.alloc(), 16 * 4150)?, &true, &4150)
 }
 
 #[test]
 fn want_of_memory_has_its_text(rt: HostRuntime) -> Result<(), Fail> {
     let text = ShowFault::Memory.to_string(rt.alloc())?;
-    assert!(rt; text.as_str() == "out of memory");
-    Ok(())
+    same(&text.as_str(), &"out of memory", &"memory")
 }
 
 #[test]
-fn input_without_end_is_left(rt: HostRuntime) {
+fn input_without_end_is_left(rt: HostRuntime) -> Result<(), Fail> {
     let mut reader = HasNoEnd { given: 0 };
     let mut output = Vec::new(rt.alloc());
     let answer = show(rt.alloc(), Side::Bot, Level::L0, &mut reader, &mut output);
-    assert!(rt; answer == Err(ShowFault::TooLong));
-    assert!(rt; output.is_empty() && reader.given == 200_001);
+    same(&answer, &Err(ShowFault::TooLong), &"no end")?;
+    holds(
+        output.is_empty() && reader.given == 200_001,
+        "what was read",
+    )
 }
 
 #[test]
@@ -160,13 +150,14 @@ fn failed_read_is_told(rt: HostRuntime) -> Result<(), Fail> {
     let mut reader = FailsAtRead {
         bytes: b"",
         reads: 0,
+        kind: ErrorKind::Interrupted,
     };
     let mut output = Vec::new(rt.alloc());
     let mut errors = Vec::new(rt.alloc());
     let status = answer(&rt, &["daide-gate"], &mut reader, &mut output, &mut errors)?;
-    assert!(rt; output.is_empty() && status == 1);
-    assert!(rt; errors.as_slice() == b"daide-gate: input could not be read\n".as_slice());
-    Ok(())
+    holds(output.is_empty() && status == 1, "the status")?;
+    let told = b"daide-gate: input could not be read\n".as_slice();
+    same(&errors.as_slice(), &told, &"told")
 }
 
 /// A write of this run fails, and is told.

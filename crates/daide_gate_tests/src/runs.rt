@@ -1,6 +1,8 @@
 //! Runs of the program, a row each.
 
 use daide_program::answer;
+use daide_tests::rows::{holds, same};
+use std::alloc::Global;
 use std::test::Fail;
 
 /// What a run printed, what it told on standard error, and its status.
@@ -11,22 +13,28 @@ struct Ran {
     status: u8,
 }
 
+/// What a run gives to these two outputs, and its status.
+fn answered(
+    rt: &HostRuntime,
+    words: &[&str],
+    input: &[u8],
+    output: &mut Vec<u8>,
+    errors: &mut Vec<u8>,
+) -> Result<u8, Fail> {
+    let mut bytes = input;
+    Ok(answer(rt, words, &mut bytes, output, errors)?)
+}
+
 /// Runs the program.
 fn run(rt: &HostRuntime, words: &[&str], input: &[u8]) -> Result<Ran, Fail> {
-    let mut bytes = input;
     let mut output = Vec::new(rt.alloc());
     let mut errors = Vec::new(rt.alloc());
-    let status = answer(rt, words, &mut bytes, &mut output, &mut errors)?;
+    let status = answered(rt, words, input, &mut output, &mut errors)?;
     Ok(Ran {
         printed: String::from_utf8(output)?,
         told: String::from_utf8(errors)?,
         status,
     })
-}
-
-/// A failure with this text, where something doesn't hold.
-pub fn holds(is_so: bool, text: &str) -> Result<(), Fail> {
-    if is_so { Ok(()) } else { Err(Fail::new(text)) }
 }
 
 /// Runs of the program: the words after its name | the input | what it prints, with `/` for the end
@@ -101,49 +109,59 @@ show --level=x --side=x | 02000002480F | | bad side | 2
 run no-such-file | | | settings could not be read | 1
 ";
 
-/// The line that tells a fault, if there is one, and nothing else.
-fn is_told(told: &str, fault: &str) -> bool {
-    match told.strip_prefix("daide-gate: ") {
-        Some(line) => line.strip_suffix("\n") == Some(fault) && !fault.is_empty(),
-        None => told.is_empty() && fault.is_empty(),
+/// The line that tells a fault, if there is one.
+fn line_of(alloc: Global, fault: &str) -> Result<String, Fail> {
+    let mut line = String::new(alloc);
+    if !fault.is_empty() {
+        line.push_str("daide-gate: ")?;
+        line.push_str(fault)?;
+        line.push_str("\n")?;
     }
+    Ok(line)
 }
 
 /// The words of a command line, the program's name before them.
-fn words_of<'a>(rt: &HostRuntime, text: &'a str) -> Result<Vec<&'a str>, Fail> {
-    let mut words = vec![in rt.alloc(); "daide-gate"]?;
+fn words_of(alloc: Global, text: &str) -> Result<Vec<&str>, Fail> {
+    let mut words = Vec::new(alloc);
+    words.push("daide-gate")?;
     for word in text.split_whitespace() {
         words.push(word)?;
     }
     Ok(words)
 }
 
-/// The fields of a row, which has five at most.
-fn fields_of(row: &str) -> [&str; 5] {
-    let mut fields = row.split('|');
-    let first = fields.next().unwrap_or("");
-    let second = fields.next().unwrap_or("");
-    let third = fields.next().unwrap_or("");
-    let fourth = fields.next().unwrap_or("");
-    [first, second, third, fourth, fields.next().unwrap_or("")]
+/// The first field of a row, and the fields after it.
+fn first_field(row: &str) -> (&str, &str) {
+    match row.split_once('|') {
+        Some(parts) => parts,
+        None => (row, ""),
+    }
 }
 
-/// What a run printed, with `/` for the end of a line, what it told, and its status are those.
-fn check_ran(rt: &HostRuntime, ran: &Ran, want: (&str, &str, &str)) -> Result<(), Fail> {
-    let (output, fault, status) = want;
-    let printed = ran.printed.replace(rt.alloc(), "\n", "/")?;
-    let ended = ran.status.to_string(rt.alloc())?;
-    holds(printed.as_str() == output.trim(), printed.as_str())?;
-    holds(is_told(ran.told.as_str(), fault.trim()), ran.told.as_str())?;
-    holds(ended.as_str() == status.trim(), ended.as_str())
+/// What a run printed, with `/` for the end of a line, what it told, and its status, without the blanks round them.
+fn check_ran(alloc: Global, ran: &Ran, want: &str) -> Result<(), Fail> {
+    let (output, rest) = first_field(want);
+    let (fault, status) = first_field(rest);
+    let printed = ran.printed.replace(alloc, "\n", "/")?;
+    same(&printed.as_str(), &output.trim(), &want)?;
+    let line = line_of(alloc, fault.trim())?;
+    same(&ran.told.as_str(), &line.as_str(), &want)?;
+    check_status(alloc, ran, status)
+}
+
+/// The status of a run is this number.
+fn check_status(alloc: Global, ran: &Ran, want: &str) -> Result<(), Fail> {
+    let status = ran.status.to_string(alloc)?;
+    same(&status.as_str(), &want.trim(), &"status")
 }
 
 /// Runs a row of the table.
 pub fn check_run(rt: &HostRuntime, row: &str) -> Result<(), Fail> {
-    let [words, input, output, fault, status] = fields_of(row);
-    let words = words_of(rt, words)?;
+    let (words, rest) = first_field(row);
+    let (input, want) = first_field(rest);
+    let words = words_of(rt.alloc(), words)?;
     let ran = run(rt, words.as_slice(), input.as_bytes())?;
-    check_ran(rt, &ran, (output, fault, status))
+    check_ran(rt.alloc(), &ran, want)
 }
 
 #[test]
@@ -170,10 +188,10 @@ daide-log 2/config 60 1024 16 2 1/word XYZ 4A40 press 20 power/1 bot 00000004000
 
 /// Runs a row of that table.
 fn check_report(rt: &HostRuntime, row: &str) -> Result<(), Fail> {
-    let [log, report, fault, status, _] = fields_of(row);
+    let (log, want) = first_field(row);
     let log = log.trim().replace(rt.alloc(), "/", "\n")?;
     let ran = run(rt, &["daide-gate", "check"], log.as_bytes())?;
-    check_ran(rt, &ran, (report, fault, status))
+    check_ran(rt.alloc(), &ran, want)
 }
 
 #[test]
@@ -222,23 +240,22 @@ show --level 0 --level 0 | error: the argument '--level <N>' cannot be used mult
 
 /// Whether the text stands in one stream, and the other is empty.
 fn is_usage(ran: &Ran, part: &str) -> bool {
-    if ran.status == 0 {
-        ran.printed.as_str().contains(part) && ran.told.is_empty()
+    let (used, other) = if ran.status == 0 {
+        (&ran.printed, &ran.told)
     } else {
-        ran.told.as_str().contains(part) && ran.printed.is_empty()
-    }
+        (&ran.told, &ran.printed)
+    };
+    other.is_empty() && used.as_str().contains(part)
 }
 
 /// Runs a row of that table.
 fn check_usage(rt: &HostRuntime, row: &str) -> Result<(), Fail> {
-    let [words, part, status, _, _] = fields_of(row);
-    let words = words_of(rt, words)?;
+    let (words, rest) = first_field(row);
+    let (part, status) = first_field(rest);
+    let words = words_of(rt.alloc(), words)?;
     let ran = run(rt, words.as_slice(), b"")?;
-    let ended = ran.status.to_string(rt.alloc())?;
-    holds(
-        is_usage(&ran, part.trim()) && ended.as_str() == status.trim(),
-        row,
-    )
+    holds(is_usage(&ran, part.trim()), row)?;
+    check_status(rt.alloc(), &ran, status)
 }
 
 #[test]
@@ -250,36 +267,52 @@ fn each_usage_is_a_row(rt: HostRuntime) -> Result<(), Fail> {
 }
 
 /// A frame of the longest body, `GOF` again and again.
-fn longest_frame(rt: &HostRuntime) -> Result<Vec<u8>, Fail> {
-    let mut digits = Vec::from_slice(rt.alloc(), b"0200FFF6".as_slice())?;
+fn longest_frame(alloc: Global) -> Result<Vec<u8>, Fail> {
+    let mut digits = Vec::from_slice(alloc, b"0200FFF6".as_slice())?;
     for _ in 0..32_763 {
         digits.extend_from_slice(b"4803")?;
     }
     Ok(digits)
 }
 
+/// It is shown, and is no message.
+fn check_longest(ran: &Ran) -> Result<(), Fail> {
+    let text = ran.printed.as_str();
+    holds(text.starts_with("DM 65526\nGOF GOF GOF "), "the frame")?;
+    holds(
+        text.contains(" GOF\nHUH at 1\nHUH ( GOF ERR GOF GOF "),
+        "HUH",
+    )?;
+    holds(ran.told.is_empty() && ran.status == 3, "the status")
+}
+
+/// It is shown, whatever blanks come after it.
+fn check_longest_input(rt: &HostRuntime, digits: &[u8]) -> Result<(), Fail> {
+    let ran = run(rt, &["daide-gate"], digits)?;
+    check_longest(&ran)
+}
+
+/// It is too long.
+fn check_too_long(rt: &HostRuntime, digits: &[u8]) -> Result<(), Fail> {
+    let ran = run(rt, &["daide-gate"], digits)?;
+    check_ran(rt.alloc(), &ran, " | input is too long | 1")
+}
+
 #[test]
 fn longest_frame_is_shown(rt: HostRuntime) -> Result<(), Fail> {
-    let ran = run(&rt, &["daide-gate"], longest_frame(&rt)?.as_slice())?;
-    let text = ran.printed.as_str();
-    assert!(rt; text.starts_with("DM 65526\nGOF GOF GOF "));
-    assert!(rt; text.contains(" GOF\nHUH at 1\nHUH ( GOF ERR GOF GOF "));
-    assert!(rt; ran.told.is_empty() && ran.status == 3);
-    Ok(())
+    let digits = longest_frame(rt.alloc())?;
+    check_longest_input(&rt, digits.as_slice())
 }
 
 #[test]
 fn longest_input_is_read(rt: HostRuntime) -> Result<(), Fail> {
-    let mut digits = longest_frame(&rt)?;
+    let mut digits = longest_frame(rt.alloc())?;
     for _ in digits.len()..200_000 {
         digits.push(b' ')?;
     }
-    let ran = run(&rt, &["daide-gate"], digits.as_slice())?;
-    assert!(rt; ran.printed.as_str().starts_with("DM 65526\nGOF GOF GOF "));
-    assert!(rt; ran.told.is_empty() && ran.status == 3);
+    check_longest_input(&rt, digits.as_slice())?;
     digits.push(b' ')?;
-    let ran = run(&rt, &["daide-gate"], digits.as_slice())?;
-    check_ran(&rt, &ran, ("", "input is too long", "1"))
+    check_too_long(&rt, digits.as_slice())
 }
 
 /// So many brackets, of a message of this length, have this verdict.

@@ -1,6 +1,8 @@
 //! The text of a file of settings: its bound, and what can't be read.
 
 use daide_streams::text::{TextFault, read_text};
+use daide_tests::rows::same;
+use std::alloc::Global;
 use std::io;
 use std::io::{ErrorKind, Read};
 use std::test::Fail;
@@ -16,25 +18,35 @@ impl Read for Fails {
 }
 
 /// Why a text of settings is refused, if it is.
-fn refusal(rt: &HostRuntime, input: &mut impl Read) -> Option<TextFault> {
-    read_text(rt.alloc(), input).err()
+fn refusal(alloc: Global, input: &mut impl Read) -> Option<TextFault> {
+    read_text(alloc, input).err()
+}
+
+/// Why a text is refused that can't be read to its end for an error of this kind.
+fn refusal_at(alloc: Global, kind: ErrorKind) -> Option<TextFault> {
+    refusal(alloc, &mut Fails(kind))
 }
 
 #[test]
 fn settings_have_a_longest_text(rt: HostRuntime) -> Result<(), Fail> {
     let mut text = vec![in rt.alloc(); b'#'; 65_536]?;
-    assert!(rt; refusal(&rt, &mut text.as_slice()).is_none());
+    same(&refusal(rt.alloc(), &mut text.as_slice()), &None, &65_536)?;
     text.push(b'#')?;
-    assert!(rt; refusal(&rt, &mut text.as_slice()) == Some(TextFault::Unreadable));
-    Ok(())
+    let unreadable = Some(TextFault::Unreadable);
+    same(
+        &refusal(rt.alloc(), &mut text.as_slice()),
+        &unreadable,
+        &65_537,
+    )
 }
 
 #[test]
-fn settings_that_cannot_be_read(rt: HostRuntime) {
+fn settings_that_cannot_be_read(rt: HostRuntime) -> Result<(), Fail> {
+    let unreadable = Some(TextFault::Unreadable);
     let mut not_text = b"listen = '\xff'".as_slice();
-    assert!(rt; refusal(&rt, &mut not_text) == Some(TextFault::Unreadable));
-    let other = refusal(&rt, &mut Fails(ErrorKind::Other));
-    assert!(rt; other == Some(TextFault::Unreadable));
-    let memory = refusal(&rt, &mut Fails(ErrorKind::OutOfMemory));
-    assert!(rt; memory == Some(TextFault::Memory));
+    same(&refusal(rt.alloc(), &mut not_text), &unreadable, &"no text")?;
+    let other = refusal_at(rt.alloc(), ErrorKind::Other);
+    same(&other, &unreadable, &"another error")?;
+    let memory = refusal_at(rt.alloc(), ErrorKind::OutOfMemory);
+    same(&memory, &Some(TextFault::Memory), &"want of memory")
 }

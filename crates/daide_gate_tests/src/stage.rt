@@ -12,6 +12,7 @@ use daide_sockets::ports::{Socket, SocketPorts};
 use daide_sockets::system::{Sockets, most_sockets};
 use daide_sockets::watch::{Place, Watch};
 use daide_sockets::{Interest, TcpListener, TcpStream};
+use std::alloc::Global;
 use std::net::{Net, Shutdown, SocketAddr};
 use std::rt::Clock;
 use std::test::Fail;
@@ -81,28 +82,55 @@ enum Played {
 #[derive(Drop)]
 struct Peer<'w> {
     socket: Socket<'w>,
+    /// What is read at once.
+    piece: Vec<u8>,
     heard: Vec<u8>,
     has_ended: bool,
 }
 
+/// How many bytes of an end are read at once.
+const PIECE: usize = 4096;
+
+/// An end of this connection, of which nothing was heard.
+fn peer_of(alloc: Global, socket: Socket<'_>) -> Option<Peer<'_>> {
+    let Ok(piece) = vec![in alloc; 0u8; PIECE] else {
+        return None;
+    };
+    Some(Peer {
+        socket,
+        piece,
+        heard: Vec::new(alloc),
+        has_ended: false,
+    })
+}
+
 impl Peer<'_> {
-    /// Takes what is there.
-    fn listen(&mut self) {
-        let mut piece = [0u8; 4096];
-        for _ in 0..64 {
-            match self.socket.pull(&mut piece) {
-                Pull::Got(count) => {
-                    let _ = self.heard.extend_from_slice(&piece[..count]);
-                }
-                Pull::Idle => return,
-                Pull::Ended => {
-                    self.has_ended = true;
-                    return;
-                }
+    /// Takes a piece of what is there, and tells whether more may be.
+    fn listen_once(&mut self) -> bool {
+        match self.socket.pull(self.piece.as_mut_slice()) {
+            Pull::Got(count) => {
+                let count = count.min(self.piece.len());
+                let _ = self.heard.extend_from_slice(&self.piece[..count]);
+                true
+            }
+            Pull::Idle => false,
+            Pull::Ended => {
+                self.has_ended = true;
+                false
             }
         }
     }
 
+    /// Takes what is there.
+    fn listen(&mut self) {
+        for _ in 0..64 {
+            if !self.listen_once() {
+                return;
+            }
+        }
+    }
+
+    /// Has heard just these bytes since it last did; not yet, where they are its start so far.
     fn hears(&mut self, want: &[u8]) -> Played {
         self.listen();
         if self.heard.as_slice() == want {
@@ -115,6 +143,7 @@ impl Peer<'_> {
         }
     }
 
+    /// Hears the end of the other's stream, and nothing before it.
     fn hears_end(&mut self) -> Played {
         self.listen();
         match (self.heard.is_empty(), self.has_ended) {
@@ -133,6 +162,7 @@ impl Peer<'_> {
         }
     }
 
+    /// Ends its stream.
     fn ends(&mut self) -> Played {
         match self.socket.stream.shutdown(Shutdown::Write) {
             Ok(()) => Played::Done,
@@ -169,6 +199,7 @@ struct Stage<'s, 'w, R: Clock + Net + AllocGlobal> {
     is_wrong: bool,
 }
 
+/// What the end of this number says, hears or ends.
 fn play_one(peers: &mut Vec<Peer<'_>>, number: usize, act: Act) -> Played {
     let Some(peer) = peers.get_mut(number) else {
         return Played::Wrong;
@@ -186,6 +217,19 @@ fn done_where(is_done: bool) -> Played {
     if is_done { Played::Done } else { Played::Wrong }
 }
 
+/// The row of the server's listener, whose moment is the end of the play's time.
+fn door_of<'w, R: Clock>(
+    watch: &'w Watch<&'w R>,
+    server: &mut TcpListener,
+) -> Result<Place<'w>, Fail> {
+    let Some(door) = watch.follow(server, Interest::READABLE) else {
+        return Err(Fail::new("no row"));
+    };
+    let end = watch.after(Duration::from_secs(MOST_SECONDS));
+    door.flags.due.set(end);
+    Ok(door)
+}
+
 impl<'s, 'w, R: Clock + Net + AllocGlobal> Stage<'s, 'w, R> {
     /// Nobody came yet.
     fn new(
@@ -196,12 +240,7 @@ impl<'s, 'w, R: Clock + Net + AllocGlobal> Stage<'s, 'w, R> {
         acts: &'s [Act],
     ) -> Result<Stage<'s, 'w, R>, Fail> {
         let mut server = server;
-        let Some(door) = watch.follow(&mut server, Interest::READABLE) else {
-            return Err(Fail::from("no row"));
-        };
-        door.flags
-            .due
-            .set(watch.after(Duration::from_secs(MOST_SECONDS)));
+        let door = door_of(watch, &mut server)?;
         Ok(Stage {
             rt,
             watch,
@@ -217,14 +256,15 @@ impl<'s, 'w, R: Clock + Net + AllocGlobal> Stage<'s, 'w, R> {
         })
     }
 
+    /// An end of a connection, if there is a row for it.
     fn peer(&self, stream: TcpStream) -> Option<Peer<'w>> {
-        Some(Peer {
-            socket: Socket::new(self.watch, stream)?,
-            heard: Vec::new(self.rt.alloc()),
-            has_ended: false,
-        })
+        match Socket::new(self.watch, stream) {
+            Some(socket) => peer_of(self.rt.alloc(), socket),
+            None => None,
+        }
     }
 
+    /// A bot connects.
     fn comes(&mut self) -> Played {
         let Ok(stream) = TcpStream::connect(self.rt, self.gate) else {
             return Played::Wrong;
@@ -235,6 +275,7 @@ impl<'s, 'w, R: Clock + Net + AllocGlobal> Stage<'s, 'w, R> {
         }
     }
 
+    /// The server accepts a connection, if one came.
     fn meets(&mut self) -> Played {
         let Ok((stream, _)) = self.server.accept() else {
             return Played::NotYet;
@@ -245,6 +286,7 @@ impl<'s, 'w, R: Clock + Net + AllocGlobal> Stage<'s, 'w, R> {
         }
     }
 
+    /// A bot begins to flood, for a second.
     fn begin_flood(&mut self, bot: usize) {
         self.flood = Some(Flood {
             bot,
@@ -259,11 +301,13 @@ impl<'s, 'w, R: Clock + Net + AllocGlobal> Stage<'s, 'w, R> {
             .is_some_and(|flood| self.watch.is_over(flood.until))
     }
 
+    /// All bots go.
     fn leave(&mut self) {
         self.flood = None;
         self.bots.clear();
     }
 
+    /// One act, as far as it can be done now.
     fn play(&mut self, act: Act, is_served: bool) -> Played {
         let is_done = match act {
             Act::Comes => return self.comes(),
