@@ -158,16 +158,18 @@ const SINGLE_BYTES: &[(&[u8], Step, usize)] = &[
     (&[0x0F], Step::Bodied, 0),
 ];
 
-/// Feeds pieces for each of which there is room, and holds each answer and the room after it against the table.
-fn feed_pieces<A: Allocator>(
-    cutter: &mut Cutter<A>,
-    pieces: &[(&[u8], Step, usize)],
-) -> Result<(), Fail> {
+/// The answer to a piece, if there is room for it.
+fn feed_piece(cutter: &mut Cutter, piece: &[u8]) -> Option<Step> {
+    if piece.len() > cutter.room() {
+        return None;
+    }
+    Some(cutter.feed(piece))
+}
+
+/// Feeds pieces, and holds each answer and the room after it against the table.
+fn feed_pieces(cutter: &mut Cutter, pieces: &[(&[u8], Step, usize)]) -> Result<(), Fail> {
     for (piece, step, room) in pieces {
-        if piece.len() > cutter.room() {
-            return Err(Fail::new("no room for a piece"));
-        }
-        same(&cutter.feed(piece), step, piece)?;
+        same(&feed_piece(cutter, piece), &Some(*step), piece)?;
         same(&cutter.room(), room, piece)?;
     }
     Ok(())

@@ -1,7 +1,8 @@
 //! Tests of one crate each: tables worked out by hand, and each public call once on its happy path.
 //!
-//! They stand apart, since a crate with tests is proved twice, with them and without; tests that cross crates are those of
-//! `daide_examples`. What is here to call is for tests alone: what a row is held against, and streams that fail.
+//! They stand apart, since a crate with tests is proved twice, with them and without; tests that cross crates are
+//! those of `daide_examples`. What is here to call is for tests alone: what a row is held against, and streams that
+//! fail.
 #![tactic(auto)]
 
 pub mod fakes;

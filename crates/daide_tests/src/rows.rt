@@ -1,7 +1,7 @@
 //! What a row of a table is held against.
 //!
-//! A test is proved, too. It says `holds` or `same` where it could say `assert!` or `assert_eq!`, since a call is proved
-//! in a fraction of the time that the lines take which the macros write.
+//! A test is proved, too. It says `holds` or `same` where it could say `assert!` or `assert_eq!`, since a call is
+//! proved in a fraction of the time that the lines take which the macros write.
 
 use std::fmt::Debug;
 use std::test::Fail;

@@ -114,12 +114,20 @@ fn interleaved(alloc: Global) -> Result<String, Fail> {
     Ok(log)
 }
 
+/// An event without the number of a session, where it is of that, and else `#`.
+fn push_event(own: &mut String, line: &str, number: &str) -> Result<(), Fail> {
+    match line.strip_prefix(number) {
+        Some(event) => own.push_str(event)?,
+        None => own.push_str("#")?,
+    }
+    Ok(own.push_str("\n")?)
+}
+
 /// The log of one session alone: its own lines without its number, and `#` for every other.
 fn own_log(alloc: Global, log: &str, number: &str) -> Result<String, Fail> {
     let mut own = String::from_str(alloc, "daide-log 1\nconfig 60 512 16\n")?;
     for line in log.lines().skip(2) {
-        own.push_str(line.strip_prefix(number).unwrap_or("#"))?;
-        own.push_str("\n")?;
+        push_event(&mut own, line, number)?;
     }
     Ok(own)
 }
