@@ -1,5 +1,5 @@
 -- A side's answer waits exactly where the side has one; and what a session sees of a side is what its fields say.
-use Rattle.std.proofs.Common.{◌≡◌, ℕ, zero, suc, ◌+◌, ◌<◌, ◌≤◌, false, length, Option, Some, None}
+use Rattle.std.proofs.Common.{◌≡◌, ℕ, zero, suc, ◌+◌, ◌<◌, ◌≤◌, false, List, [], ◌∷◌, length, map, Option, Some, None}
 use Rattle.std.proofs.Common.{refl, sym, ap, ◌∙◌, arith}
 use Rattle.std.specs.Prelude.{is_some, ◌||◌, nat_lt}
 use Rattle.daide_frame.specs.declared.side.Side.{Side}
@@ -7,9 +7,11 @@ use Rattle.daide_frame.specs.declared.side.Side.TheVariants.{Bot, Server}
 use Rattle.daide_reader.specs.declared.verdict.Verdict.{Verdict}
 use Rattle.daide_machine.specs.Events.{other}
 use Rattle.daide_machine.specs.Wires.{is_awaited}
+use Rattle.daide_traffic.specs.declared.wire.Waiting.{Waiting}
 use Rattle.daide_traffic.specs.Both.{at}
-use Rattle.daide_traffic.specs.Traffic.{Arrival, Traffic, Fields, IsSound, answer_at, answer_mark, arrival_of, count_of}
-use Rattle.daide_traffic.specs.Traffic.{holding, pending, pending_by, presence, traffic_of}
+use Rattle.daide_traffic.specs.Traffic.{Arrival, Traffic, Fields, IsSound, answer_at, answer_mark, arrival_of, behind}
+use Rattle.daide_traffic.specs.Traffic.{count_of, frame_of, holding, pending, pending_by, presence, traffic_of}
+use Rattle.daide_traffic.proofs.FrontLemmas.{waits_at}
 use Rattle.daide_traffic.proofs.MarksLemmas.{answers_wait, least, length_marks}
 use Rattle.daide_traffic.proofs.PartsLemmas.{below, not_below}
 
@@ -69,6 +71,23 @@ seen {f} {t} {side} {one} i is s = record {
     shown : (x : Side) → at (traffic_of f).sides x ≡ arrival_of (at f.sides x)
     shown Bot = refl
     shown Server = refl
+
+-- as many frames wait as the wire holds
+pub waits_len : {f : Fields} {t : Traffic} {side one : Side} → IsSeen f t side one →
+    length (at f.wires one).items ≡ length (at t.waiting side)
+waits_len {f} {t} {side} {one} h =
+    sym (counted (at f.wires one).written (at f.wires one).items) ∙ ap length (sym (waits_at f one))
+    ∙ ap (λ (s : Side). length (at (traffic_of f).waiting s)) (sym h.its)
+    ∙ ap (λ (v : Traffic). length (at v.waiting side)) h.is
+  where
+    mapped : (items : List Waiting) → length (map (frame_of one (answer_at f.sides)) items) ≡ length items
+    mapped [] = refl
+    mapped (x ∷ items) = ap suc (mapped items)
+
+    counted : (n : ℕ) (items : List Waiting) →
+        length (behind n (map (frame_of one (answer_at f.sides)) items)) ≡ length items
+    counted n [] = refl
+    counted n (x ∷ items) = ap suc (mapped items)
 
 -- The same where no answer to the side's frame waits: the bytes since its last whole frame are those that are held.
 pub record IsSeenFree (f : Fields) (t : Traffic) (side one : Side) : Type 0 where

@@ -1,6 +1,7 @@
 use Rattle.std.proofs.Common.{drop, sym, ap, ◌∙◌}
+use Rattle.daide_traffic.specs.Both.{both}
 use Rattle.daide_traffic.proofs.AwaitedLemmas.{seen_free}
-use Rattle.daide_traffic.proofs.SidesLemmas.{begun_sound, started, waiting_side}
+use Rattle.daide_traffic.proofs.SidesLemmas.{begun_sound, keeps_side, same_if_begun, started, waiting_side}
 use Rattle.daide_traffic.proofs.traffic.Traffic.begin.Goals as goal
 
 -- Bot
@@ -25,6 +26,12 @@ pub returns-in-Bot-clause-started : goal.returns-in-Bot-clause-started
 returns-in-Bot-clause-started g c =
     started (seen_free c.self.invariant c.self.view_is c.in-Bot.is c.requires.free) c.begin.ensures
 
+pub returns-in-Bot-clause-keeps : goal.returns-in-Bot-clause-keeps
+returns-in-Bot-clause-keeps g c =
+    keeps_side c.begin.new.self (both c.self.inside.to_bot c.self.inside.to_server)
+    (seen_free c.self.invariant c.self.view_is c.in-Bot.is c.requires.free).seen
+    (same_if_begun c.begin.ensures)
+
 -- Server
 
 pub begin-requires-in-Server-clause-free : goal.begin-requires-in-Server-clause-free
@@ -48,3 +55,9 @@ returns-in-Server-clause-waiting g c =
 pub returns-in-Server-clause-started : goal.returns-in-Server-clause-started
 returns-in-Server-clause-started g c =
     started (seen_free c.self.invariant c.self.view_is c.in-Server.is c.requires.free) c.begin-in-Server.ensures
+
+pub returns-in-Server-clause-keeps : goal.returns-in-Server-clause-keeps
+returns-in-Server-clause-keeps g c =
+    keeps_side c.begin-in-Server.new.self (both c.self.inside.to_bot c.self.inside.to_server)
+    (seen_free c.self.invariant c.self.view_is c.in-Server.is c.requires.free).seen
+    (same_if_begun c.begin-in-Server.ensures)

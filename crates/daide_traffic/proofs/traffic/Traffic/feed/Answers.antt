@@ -1,6 +1,8 @@
 use Rattle.std.proofs.Common.{length}
+use Rattle.daide_traffic.specs.Both.{both}
 use Rattle.daide_traffic.proofs.AwaitedLemmas.{seen_free}
-use Rattle.daide_traffic.proofs.SidesLemmas.{fits_side, grown, read_sound, told_of, waiting_side}
+use Rattle.daide_traffic.proofs.SidesLemmas.{fits_side, grown, keeps_side, raised_side, read_sound, same_if_read}
+use Rattle.daide_traffic.proofs.SidesLemmas.{told_of, waiting_side, whole_side}
 use Rattle.daide_traffic.proofs.traffic.Traffic.feed.Goals as goal
 
 -- Bot
@@ -39,6 +41,22 @@ returns-in-Bot-clause-whole g c =
     (seen_free c.self.invariant c.self.view_is c.in-Bot.is c.requires.free) e.reads
     (record { items = e.items; whole = e.whole })).whole
 
+pub returns-in-Bot-clause-keeps : goal.returns-in-Bot-clause-keeps
+returns-in-Bot-clause-keeps g c =
+    keeps_side c.feed.new.self (both c.self.inside.to_bot c.self.inside.to_server)
+    (seen_free c.self.invariant c.self.view_is c.in-Bot.is c.requires.free).seen
+    (same_if_read c.feed.ensures.reads)
+
+pub returns-in-Bot-clause-raised : goal.returns-in-Bot-clause-raised
+returns-in-Bot-clause-raised g c =
+    raised_side _ c.feed.new.self (both c.self.inside.to_bot c.self.inside.to_server)
+    (seen_free c.self.invariant c.self.view_is c.in-Bot.is c.requires.free).seen c.feed.ensures.raised
+
+pub returns-in-Bot-clause-full : goal.returns-in-Bot-clause-full
+returns-in-Bot-clause-full g c =
+    λ bodied. whole_side (seen_free c.self.invariant c.self.view_is c.in-Bot.is c.requires.free)
+    c.feed.ensures.reads (c.feed.ensures.full bodied)
+
 -- Server
 
 pub feed-requires-in-Server-clause-free : goal.feed-requires-in-Server-clause-free
@@ -74,3 +92,19 @@ returns-in-Server-clause-whole g c =
     (told_of c.feed-in-Server.new.self c.args.piece.now c.feed-in-Server.result
     (seen_free c.self.invariant c.self.view_is c.in-Server.is c.requires.free) e.reads
     (record { items = e.items; whole = e.whole })).whole
+
+pub returns-in-Server-clause-keeps : goal.returns-in-Server-clause-keeps
+returns-in-Server-clause-keeps g c =
+    keeps_side c.feed-in-Server.new.self (both c.self.inside.to_bot c.self.inside.to_server)
+    (seen_free c.self.invariant c.self.view_is c.in-Server.is c.requires.free).seen
+    (same_if_read c.feed-in-Server.ensures.reads)
+
+pub returns-in-Server-clause-raised : goal.returns-in-Server-clause-raised
+returns-in-Server-clause-raised g c =
+    raised_side _ c.feed-in-Server.new.self (both c.self.inside.to_bot c.self.inside.to_server)
+    (seen_free c.self.invariant c.self.view_is c.in-Server.is c.requires.free).seen c.feed-in-Server.ensures.raised
+
+pub returns-in-Server-clause-full : goal.returns-in-Server-clause-full
+returns-in-Server-clause-full g c =
+    λ bodied. whole_side (seen_free c.self.invariant c.self.view_is c.in-Server.is c.requires.free)
+    c.feed-in-Server.ensures.reads (c.feed-in-Server.ensures.full bodied)
