@@ -1,5 +1,5 @@
 -- What is handed to a wire next is a front of the first frame that waits for it.
-use Rattle.std.proofs.Common.{◌≡◌, ℕ, ◌-◌, ◌≤◌, List, [], ◌∷◌, drop, Some}
+use Rattle.std.proofs.Common.{◌≡◌, ℕ, ◌-◌, ◌≤◌, List, [], ◌∷◌, drop, Some, None}
 use Rattle.std.proofs.Common.{refl, sym, ap, ◌∙◌, subst, arith, length-drop, append-nil}
 use Rattle.daide_frame.specs.declared.side.Side.{Side}
 use Rattle.daide_frame.specs.declared.side.Side.TheVariants.{Bot, Server}
@@ -69,6 +69,11 @@ front_some sides gone (one ∷ items) item e =
     alone (Answer side) = refl
     alone Fm = refl
     alone (Em code) = refl
+
+pub front_none : (sides : Both Inbound) (gone : ℕ) (items : List Waiting) → first_of items ≡ None →
+    [] ≡ front_of sides gone items
+front_none sides gone [] e = refl
+front_none sides gone (one ∷ items) e = absurd (cc)
 
 -- what `front` says of the bytes that it hands out, where t is the value that the fields stand for
 pub record IsFrontFor (t : Traffic) (to : Side) (xs : List ℕ) : Type 0 where

@@ -1,21 +1,22 @@
 -- Frames that waited are gone: bytes of the first, the first, or all of them.
 use Rattle.std.proofs.Common.{◌≡◌, ℕ, ◌+◌, ◌<◌, ◌≤◌, Bool, true, false, List, [], ◌∷◌, length, drop}
 use Rattle.std.proofs.Common.{refl, sym, ap, ◌∙◌, subst, arith, length-drop, zero, suc}
-use Rattle.std.proofs.lemmas.List.{drop_all}
+use Rattle.std.proofs.lemmas.List.{drop_all, drop-append-le}
 use Rattle.std.specs.Prelude.{◌||◌}
 use Rattle.daide_frame.specs.declared.side.Side.{Side}
 use Rattle.daide_frame.specs.declared.side.Side.TheVariants.{Bot, Server}
 use Rattle.daide_machine.specs.Machine.{Sent}
-use Rattle.daide_machine.specs.Wires.{Holding, has_answer, is_awaited, first_len}
+use Rattle.daide_machine.specs.Wires.{Holding, bytes_of, has_answer, is_awaited, first_len, without}
 use Rattle.daide_traffic.specs.declared.wire.Waiting.{Waiting}
 use Rattle.daide_traffic.specs.Both.{Both, at, put}
 use Rattle.daide_traffic.specs.Wire.{Queue}
 use Rattle.daide_traffic.specs.Traffic.{Arrival, Fields, IsBegun, IsSound, LetsGo, Traffic, answer_at, answer_mark}
 use Rattle.daide_traffic.specs.Traffic.{behind, bytes_in, count_of, end_mark}
 use Rattle.daide_traffic.specs.Traffic.{frames_of, frames_to, holding, others, presence, traffic_of}
-use Rattle.daide_traffic.proofs.BothLemmas.{put_all}
+use Rattle.daide_traffic.proofs.BothLemmas.{at_put, put_all}
 use Rattle.daide_traffic.proofs.FrontLemmas.{waits_at}
 use Rattle.daide_traffic.proofs.MarksLemmas.{answer_behind}
+use Rattle.daide_traffic.proofs.PartsLemmas.{below}
 
 -- ---- bytes of the first frame
 
@@ -93,6 +94,26 @@ pub lets_none_go : (old new : Traffic) (to : Side) (n : ℕ) → new.cap ≡ old
     new.sides ≡ old.sides → new.waiting ≡ put old.waiting to (behind n (at old.waiting to)) → LetsGo old new
 lets_none_go old new to n cap rules sides waiting =
     lets_nothing old new cap rules sides (behind_same old new to n waiting)
+
+-- ---- bytes that a wire took, which are not all of the first frame
+
+without_less : (n : ℕ) (frames : List Sent) → n < first_len frames → behind n frames ≡ without n frames
+without_less n [] l = refl
+without_less n (frame ∷ frames) l = rw (below n (length frame.bytes) l) refl
+
+bytes_less : (n : ℕ) (frames : List Sent) → n < first_len frames → bytes_of (behind n frames) ≡ drop n (bytes_of frames)
+bytes_less n [] l = absurd (omega arith)
+bytes_less n (frame ∷ frames) l = sym (drop-append-le n frame.bytes (bytes_of frames) (omega arith))
+
+pub wrote_less : (old new : Both (List Sent)) (to : Side) (n : ℕ) → n < first_len (at old to) →
+    new ≡ put old to (behind n (at old to)) → new ≡ put old to (without n (at old to))
+wrote_less old new to n l e = e ∙ ap (put old to) (without_less n (at old to) l)
+
+pub wrote_bytes : (old new : Both (List Sent)) (to : Side) (n : ℕ) → n < first_len (at old to) →
+    new ≡ put old to (behind n (at old to)) → bytes_of (at new to) ≡ drop n (bytes_of (at old to))
+wrote_bytes old new to n l e =
+    ap (λ (w : Both (List Sent)). bytes_of (at w to)) e ∙ ap bytes_of (at_put old to (behind n (at old to)))
+    ∙ bytes_less n (at old to) l
 
 -- ---- one call after the other
 

@@ -1,6 +1,6 @@
 -- What more bytes of a frame are to its reader.
-use Rattle.std.proofs.Common.{◌≡◌, ℕ, ◌+◌, ◌-◌, ◌*◌, ◌/◌, ◌<◌, ◌≤◌, Bool, true, false, List, [], ◌∷◌, ◌++◌, length}
-use Rattle.std.proofs.Common.{take, drop}
+use Rattle.std.proofs.Common.{◌≡◌, ℕ, ◌+◌, ◌-◌, ◌*◌, ◌/◌, ◌%◌, ◌^◌, ◌<◌, ◌≤◌, Bool, true, false, List, [], ◌∷◌, ◌++◌}
+use Rattle.std.proofs.Common.{length, take, drop}
 use Rattle.std.proofs.Common.{Option, None, refl, sym, ap, ◌∙◌, subst, arith, length-append, length-drop, append_assoc}
 use Rattle.std.proofs.Common.{append-nil}
 use Rattle.std.specs.Prelude.{nat_lt, if◌then◌else◌}
@@ -24,7 +24,7 @@ use Rattle.daide_reader.specs.declared.verdict.Verdict.{Verdict}
 use Rattle.daide_reader.specs.declared.verdict.Verdict.TheVariants.{Relay}
 use Rattle.daide_reader.specs.Verdict.{IsPlaceIn}
 use Rattle.daide_reader.specs.Verdict.{HasVerdict}
-use Rattle.daide_traffic.specs.Inbound.{Inbound, Rules, IsReadOn, HasPlace, Reads, inbound_of, rules_of}
+use Rattle.daide_traffic.specs.Inbound.{Begins, Inbound, Rules, IsReadOn, HasPlace, Reads, inbound_of, rules_of}
 use Rattle.daide_reader.proofs.BodyLemmas.{tokens_of-length, tokens_of-all}
 
 -- a piece makes the bytes longer, by no more than itself
@@ -232,12 +232,73 @@ right_other rules side level head body v e h = rw e h
 pub raised_most : (a b old new : ℕ) → a ≤ b → IsRaised a old new → IsRaised b old new
 raised_most a b old new le h = record { by = h.by; few = (let few = h.few in omega arith); sum = h.sum }
 
+pub raised_none : (most n : ℕ) → IsRaised most n n
+raised_none most n = record { by = 0; few = omega arith; sum = ap (λ (k : ℕ). k % 2 ^ 64) (omega arith) }
+
 -- a frame was judged: how far its message is read then, and what becomes of the frame
-pub record IsJudged {T : Type 0} (table : Ghosts T) (asked : T → ℕ) (old : Inbound) (side : Side) (level : Level)
-    (cut : Cut) (v : Reading T) (head : Head) (verdict : Verdict) : Type 0 where
+pub record IsJudged {T : Type 0} (table : Ghosts T) (words : T → Words) (asked : T → ℕ) (old : Inbound) (side : Side)
+    (level : Level) (cut : Cut) (v : Reading T) (head : Head) (verdict : Verdict) : Type 0 where
   pub capped : cut.cap ≤ 65526
   pub place : IsPlaceIn (drop 4 cut.bytes) verdict
   pub stands : StandsAfter table (table.words v.table) (opening_of (side2_of side) level) v.max_depth v
       (tokens_held cut.cap cut.bytes)
   pub uncounted : is_dm_head (head_in cut.cap cut.bytes) ≡ false → v.asked_before ≡ asked v.table
   pub right : IsRight old.rules.words old.rules.max_depth (question_of old.side old.level head (drop 4 old.held)) verdict
+  pub same_side : side ≡ old.side
+  pub same_cap : cut.cap ≡ old.cap
+  pub same_level : level ≡ old.level
+  pub same_held : cut.bytes ≡ old.held
+  pub same_rules : rules_of words v ≡ old.rules
+  pub base : v.asked_before ≡ old.total_before
+  pub raised : IsRaised 4 old.total (asked v.table)
+  pub no_message : is_dm head.kind ≡ false → asked v.table ≡ old.total
+
+-- ---- a message begins anew
+
+-- where no byte of a body is held, no token is
+pub none_begun : (limit : ℕ) (b : List ℕ) → drop 4 b ≡ [] → tokens_held limit b ≡ []
+none_begun limit b e =
+    ap (λ (x : List ℕ). if is_dm_head (head_in limit b) then tokens_of x else []) e ∙ go (is_dm_head (head_in limit b))
+  where
+    go : (k : Bool) → (if k then tokens_of [] else []) ≡ []
+    go true = refl
+    go false = refl
+
+-- a reader stands at the start of a message of which no token is held
+pub fresh_on : {T : Type 0} (table : Ghosts T) (asked : T → ℕ) (side : Side) (level : Level) (cut : Cut)
+    (v w : Reading T) (header : List ℕ) (now : Option Verdict) → length header ≡ 4 → cut.cap ≤ 65526 →
+    drop 4 cut.bytes ≡ [] → HasPlace cut.bytes now → w.table ≡ v.table → w.asked_before ≡ asked v.table →
+    w.finished ≡ false →
+    StandsAfter table (table.words v.table) (opening_of (side2_of side) level) v.max_depth w [] →
+    IsReadOn table asked side level cut w header now
+fresh_on table asked side level cut v w header now four capped none place kept base goes_on stands = record {
+  four = four;
+  place = place;
+  capped = capped;
+  stands = stands_deep table side level v w cut stands.depth_kept stands.words_kept
+      (subst (λ (p : List ℕ). StandsAfter table (table.words v.table) (opening_of (side2_of side) level) v.max_depth
+      w p) (sym (none_begun cut.cap cut.bytes none)) stands);
+  unfinished = λ free. goes_on;
+  uncounted = λ no. base ∙ ap asked (sym kept);
+}
+
+pub rules_set : {T : Type 0} (words : T → Words) (w : Reading T) (most : ℕ) (all : Words) → w.max_depth ≡ most →
+    words w.table ≡ all → rules_of words w ≡ record { max_depth = most; words = all }
+rules_set words w most all depth same = rw (depth, same) refl
+
+pub begins_of : {T : Type 0} (words : T → Words) (asked : T → ℕ) (side : Side) (before after level : Level)
+    (old cut : Cut) (v w : Reading T) (header : List ℕ) (verdict now : Option Verdict) (bytes : List ℕ) (t : Inbound) →
+    inbound_of words asked side before old v header verdict ≡ t → after ≡ level → cut.cap ≡ old.cap →
+    cut.bytes ≡ bytes → now ≡ None → w.max_depth ≡ v.max_depth → w.table ≡ v.table → w.asked_before ≡ asked v.table →
+    Begins t level bytes (inbound_of words asked side after cut w header now)
+begins_of words asked side before after level old cut v w header verdict now bytes t is set same are none depth kept base =
+    subst (λ (x : Inbound). Begins x level bytes (inbound_of words asked side after cut w header now)) is (record {
+      side = refl;
+      cap = same;
+      rules = rules_kept words v w depth (ap words kept);
+      level_set = set;
+      held = are;
+      unanswered = none;
+      total = ap asked kept;
+      base = base;
+    })

@@ -7,6 +7,7 @@ pub mod GoneLemmas
 pub mod HeadLemmas
 pub mod InboundLemmas
 pub mod MarksLemmas
+pub mod NewLemmas
 pub mod PartsLemmas
 pub mod SidesLemmas
 pub mod WaitingLemmas

@@ -13,7 +13,8 @@ use Rattle.daide_reader.specs.declared.verdict.Verdict.{Verdict}
 use Rattle.daide_traffic.specs.Both.{Both, at, put}
 use Rattle.daide_traffic.specs.Inbound.{Answers, Inbound, Begins, Reads, answer_of}
 use Rattle.daide_traffic.specs.Traffic.{Arrival, Traffic, Fields, IsSound, IsAnswered, IsCleared, IsGrown, IsStarted}
-use Rattle.daide_traffic.specs.Traffic.{Keeps, answer_at, arrival_of, holding, pending, pending_by, presence, traffic_of}
+use Rattle.daide_traffic.specs.Traffic.{Keeps, answer_at, arrival_of, holding, pending, pending_by, presence}
+use Rattle.daide_traffic.specs.Traffic.{traffic_of}
 use Rattle.daide_traffic.specs.Wire.{Queue}
 use Rattle.daide_traffic.proofs.AwaitedLemmas.{IsSeen, IsSeenFree, silent}
 use Rattle.daide_traffic.proofs.BothLemmas.{put_all}
@@ -29,7 +30,8 @@ pub record IsSameSide (old new : Inbound) : Type 0 where
   pub rules : new.rules ≡ old.rules
 
 -- it is after each call
-pub same_if_begun : {old new : Inbound} {level : Level} {bytes : List ℕ} → Begins old level bytes new → IsSameSide old new
+pub same_if_begun : {old new : Inbound} {level : Level} {bytes : List ℕ} → Begins old level bytes new →
+    IsSameSide old new
 same_if_begun b = record { side = b.side; cap = b.cap; rules = b.rules }
 
 pub same_if_read : {old new : Inbound} {bytes : List ℕ} → Reads old bytes new → IsSameSide old new
@@ -137,7 +139,8 @@ keeps_side {f} {t} {side} {one} x w h e = record {
     ruled Bot same = same
     ruled Server same = refl
 
-    there : (here : Side) → at (traffic_of (with_both f here x w)).sides (other here) ≡ at (traffic_of f).sides (other here)
+    there : (here : Side) →
+        at (traffic_of (with_both f here x w)).sides (other here) ≡ at (traffic_of f).sides (other here)
     there Bot = refl
     there Server = refl
 

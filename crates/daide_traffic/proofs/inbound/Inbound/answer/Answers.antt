@@ -1,4 +1,4 @@
-use Rattle.std.proofs.Common.{◌≡◌, ℕ, List, [], true, false, drop, sym, ap, ◌∙◌, subst, refl, arith, length}
+use Rattle.std.proofs.Common.{◌≡◌, ℕ, List, true, false, drop, sym, ap, ◌∙◌, subst, refl, arith, length}
 use Rattle.daide_token.specs.Token.{tokens_of}
 use Rattle.daide_frame.specs.Frames.{head_in}
 use Rattle.daide_frame.specs.Head.{head_bytes}
@@ -10,13 +10,15 @@ use Rattle.daide_words.specs.OverWords.{spoken}
 use Rattle.daide_machine.specs.Machine.{IsRight, question_of, is_dm, side2_of}
 use Rattle.daide_machine.specs.Weight.{tokens_held}
 use Rattle.daide_machine.specs.Wires.{is_dm_head}
+use Rattle.daide_reader.specs.Reading.{IsRaised}
 use Rattle.daide_reader.specs.Verdict.{HasVerdict}
 use Rattle.daide_reader.specs.declared.verdict.Verdict.TheVariants.{Relay}
 use Rattle.daide_reader.proofs.BodyLemmas.{place_in}
 use Rattle.daide_traffic.specs.Inbound.{Inbound, rules_of, words_in}
 use Rattle.daide_traffic.proofs.WordedVerdicts.{spoken_verdicts}
 use Rattle.daide_traffic.proofs.HeadLemmas.{head_capped}
-use Rattle.daide_traffic.proofs.InboundLemmas.{IsJudged, all_held, right_message, right_other, stands_deep}
+use Rattle.daide_traffic.proofs.InboundLemmas.{IsJudged, all_held, raised_none, right_message, right_other, rules_kept}
+use Rattle.daide_traffic.proofs.InboundLemmas.{stands_deep}
 use Rattle.daide_traffic.proofs.inbound.Inbound.answer.Given as given
 use Rattle.daide_traffic.proofs.inbound.Inbound.answer.Goals as goal
 use Rattle.daide_traffic.proofs.inbound.Inbound.answer.Goals.{then-is_message, else-is_message}
@@ -32,7 +34,7 @@ answer_head-requires g c =
 
 -- what the verdict is, and what was read
 judged : (g : given.Over) (c : goal.After-self-2-1 g) →
-    IsJudged ghosts answers_given c.args.self.now c.if-is_message.self-inside.side
+    IsJudged ghosts words_in answers_given c.args.self.now c.if-is_message.self-inside.side
     c.if-is_message.self-inside.level c.if-is_message.self-inside.cutter c.if-is_message.self-inside.reader c.args.head
     c.if-is_message.verdict
 judged g c = elim c.if-is_message.branch [
@@ -68,6 +70,16 @@ judged g c = elim c.if-is_message.branch [
             (right_message (rules_of words_in i.reader) i.side i.level c.args.head
             (drop 4 i.cutter.bytes) w.finish-verdict.result dm
             right);
+        same_side = ap (λ (v : Inbound). v.side) c.self.view_is;
+        same_cap = ap (λ (v : Inbound). v.cap) c.self.view_is;
+        same_level = ap (λ (v : Inbound). v.level) c.self.view_is;
+        same_held = ap (λ (v : Inbound). v.held) c.self.view_is;
+        same_rules = rules_kept words_in i.reader w.finish-verdict.new.self w.finish-verdict.ensures.depth
+            (ap spoken w.finish-verdict.ensures.words) ∙ ap (λ (v : Inbound). v.rules) c.self.view_is;
+        base = w.finish-verdict.ensures.base ∙ ap (λ (v : Inbound). v.total_before) c.self.view_is;
+        raised = subst (λ (v : Inbound). IsRaised 4 v.total (answers_given w.finish-verdict.new.self.table))
+            c.self.view_is w.finish-verdict.ensures.raised;
+        no_message = λ no. absurd (cc);
       })
   | else-is_message w ↦ rw (w.self-inside-is, w.verdict-is) (
       let i = c.self.inside in
@@ -81,6 +93,15 @@ judged g c = elim c.if-is_message.branch [
             (question_of v.side v.level c.args.head (drop 4 v.held)) Relay)
             c.self.view_is
             (right_other (rules_of words_in i.reader) i.side i.level c.args.head (drop 4 i.cutter.bytes) Relay dm refl);
+        same_side = ap (λ (v : Inbound). v.side) c.self.view_is;
+        same_cap = ap (λ (v : Inbound). v.cap) c.self.view_is;
+        same_level = ap (λ (v : Inbound). v.level) c.self.view_is;
+        same_held = ap (λ (v : Inbound). v.held) c.self.view_is;
+        same_rules = ap (λ (v : Inbound). v.rules) c.self.view_is;
+        base = ap (λ (v : Inbound). v.total_before) c.self.view_is;
+        raised = subst (λ (v : Inbound). IsRaised 4 v.total (answers_given i.reader.table)) c.self.view_is
+            (raised_none 4 (answers_given i.reader.table));
+        no_message = λ _. ap (λ (v : Inbound). v.total) c.self.view_is;
       })
 ]
 
@@ -99,3 +120,23 @@ invariant_of-self g c =
 
 pub returns-clause-right : goal.returns-clause-right
 returns-clause-right g c = (judged g c).right
+
+pub returns-clause-answers : goal.returns-clause-answers
+returns-clause-answers g c =
+    let j = judged g c in
+    record {
+      side = j.same_side;
+      cap = j.same_cap;
+      rules = j.same_rules;
+      level = j.same_level;
+      held = j.same_held;
+      header = c.write_head-self-inside.ensures ∙ ap head_bytes c.answer_head.ensures;
+      verdict_set = refl;
+      base = j.base;
+    }
+
+pub returns-clause-raised : goal.returns-clause-raised
+returns-clause-raised g c = (judged g c).raised
+
+pub returns-clause-no_message : goal.returns-clause-no_message
+returns-clause-no_message g c = (judged g c).no_message

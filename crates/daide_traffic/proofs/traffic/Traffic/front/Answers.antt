@@ -1,4 +1,4 @@
-use Rattle.std.proofs.Common.{◌≡◌, Some, sym, ap, ◌∙◌}
+use Rattle.std.proofs.Common.{◌≡◌, [], Some, sym, ap, ◌∙◌}
 use Rattle.daide_frame.specs.declared.side.Side.{Side}
 use Rattle.daide_frame.specs.declared.side.Side.TheVariants.{Bot, Server}
 use Rattle.daide_traffic.specs.declared.wire.Waiting.{Waiting}
@@ -6,8 +6,24 @@ use Rattle.daide_traffic.specs.declared.wire.Waiting.TheVariants.{Answer}
 use Rattle.daide_traffic.specs.Inbound.{front_after}
 use Rattle.daide_traffic.specs.Traffic.{fields}
 use Rattle.daide_traffic.specs.Wire.{first_of}
-use Rattle.daide_traffic.proofs.FrontLemmas.{front_for, front_some}
+use Rattle.daide_traffic.proofs.FrontLemmas.{front_for, front_none, front_some}
 use Rattle.daide_traffic.proofs.traffic.Traffic.front.Goals as goal
+
+pub returns-in-None-clause-value : goal.returns-in-None-clause-value
+returns-in-None-clause-value g c =
+    let d = c.self.inside in
+    let f = fields d.bot d.server d.to_bot d.to_server in
+    let wire = c.toward-wire.result.now in
+    (front_for f c.args.self.now c.args.to wire [] c.self.view_is c.self.invariant c.toward-wire.ensures
+    (front_none f.sides wire.written wire.items (sym c.first.ensures ∙ c.in-None.is))).value
+
+pub returns-in-None-clause-front : goal.returns-in-None-clause-front
+returns-in-None-clause-front g c =
+    let d = c.self.inside in
+    let f = fields d.bot d.server d.to_bot d.to_server in
+    let wire = c.toward-wire.result.now in
+    (front_for f c.args.self.now c.args.to wire [] c.self.view_is c.self.invariant c.toward-wire.ensures
+    (front_none f.sides wire.written wire.items (sym c.first.ensures ∙ c.in-None.is))).front
 
 pub returns-in-Some-Answer-Bot-clause-front : goal.returns-in-Some-Answer-Bot-clause-front
 returns-in-Some-Answer-Bot-clause-front g c =

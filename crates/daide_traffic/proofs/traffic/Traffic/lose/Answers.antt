@@ -17,8 +17,6 @@ returns-clause-lets_go g c = c.loop.invariant.0.goes
 
 pub returns-clause-waiting : goal.returns-clause-waiting
 returns-clause-waiting g c =
-    let all = c.count-end.ensures.value in
-    let past = c.loop-test.false in
     lost_all c.args.self.now c.loop.self c.args.to c.loop.counter c.loop.invariant.0 (omega arith)
 
 pub returns-clause-other_front : goal.returns-clause-other_front

@@ -1,0 +1,38 @@
+use Rattle.std.proofs.Common.{[], refl, ap, ◌∙◌, drop, subst, arith}
+use Rattle.daide_grammar.specs.declared.level.Level.TheVariants.{L0}
+use Rattle.daide_grammar.specs.declared.side.Side2.{Side2}
+use Rattle.daide_grammar.specs.Symbols.{opening_of}
+use Rattle.daide_reader.specs.Reading.{StandsAfter}
+use Rattle.daide_words.specs.contracts.extended.ExtendedPredict.TheImpl.{ghosts}
+use Rattle.daide_words.specs.Extended.{answers_given, spoken_words}
+use Rattle.daide_words.specs.OverWords.{spoken}
+use Rattle.daide_traffic.specs.Inbound.{words_in}
+use Rattle.daide_traffic.proofs.InboundLemmas.{fresh_on, rules_set}
+use Rattle.daide_traffic.proofs.inbound.Inbound.new.Goals as goal
+
+pub invariant_of-result : goal.invariant_of-result
+invariant_of-result g c =
+    let v = c.new-reader.result in
+    let e = c.start.ensures in
+    let cap = c.in_ok-cutter.ensures.cap in
+    fresh_on ghosts answers_given c.args.side L0 c.in_ok-cutter.cutter v c.start.new.self _ _ refl (omega arith)
+    (ap (drop 4) c.in_ok-cutter.ensures.empty) tt e.table e.base e.unfinished
+    (subst (λ (s : Side2). StandsAfter ghosts (spoken_words v.table) (opening_of s L0) v.max_depth c.start.new.self [])
+    c.side2_of.ensures e.stands_after)
+
+pub returns-clause-limits : goal.returns-clause-limits
+returns-clause-limits g c = (c.in_ok-cutter.ensures.cap, refl)
+
+pub returns-clause-rules : goal.returns-clause-rules
+returns-clause-rules g c =
+    let e = c.start.ensures in
+    let made = c.new-reader.ensures in
+    let table = e.table ∙ made.table in
+    rules_set words_in c.start.new.self _ _ (e.stands_after.depth_kept ∙ made.stands_after.depth_kept)
+    (ap words_in table ∙ ap spoken c.new-2.ensures.words ∙ c.new-2.ensures.all_spoken)
+
+pub returns-clause-empty : goal.returns-clause-empty
+returns-clause-empty g c = (c.in_ok-cutter.ensures.empty, refl)
+
+pub returns-clause-unasked : goal.returns-clause-unasked
+returns-clause-unasked g c = ap answers_given (c.start.ensures.table ∙ c.new-reader.ensures.table) ∙ c.new-2.ensures.asked
