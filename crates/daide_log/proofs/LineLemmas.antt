@@ -8,6 +8,7 @@ use Rattle.std.specs.Io.KnownBytes.{Consumes, Keeps}
 use Rattle.daide_log.specs.Log.{IsUnbroken, longest_line, most_lines}
 use Rattle.daide_log.specs.declared.fault.LogFault.{LogFault}
 use Rattle.daide_log.specs.declared.fault.LogFault.TheVariants as Faults
+use Rattle.daide_log.specs.declared.lines.Found.TheVariants.{Last}
 use Rattle.daide_log.specs.Lines.{Reads, Scans, HasMore, IsFound, block_size}
 
 pub unbroken_append : (a b : List ℕ) → IsUnbroken a → IsUnbroken b → IsUnbroken (a ++ b)
@@ -117,6 +118,24 @@ found_too_long old held now text block after rest turn count h s long fits = (
   fits,
   refl,
   s.5 h.short,
+)
+
+-- the log ended behind a line without a line feed
+pub found_last : (old : Option (List ℕ)) (held : List ℕ) (now : Option (List ℕ)) (text : List ℕ) (turn : ℕ)
+    (new : Option (List ℕ)) (block : List ℕ) (count : ℕ) → HasEmptied old held now text turn → Reads now new block (Ok false) →
+    0 < length text → count < most_lines → IsFound old held count (Ok Last) text new block
+found_last old held now text turn new block count h r some fits = (
+  (
+    h.given,
+    subst (Consumes old new) (append-nil h.given) (consumes_more old now new h.given [] h.consumed r.0),
+    h.whole ∙ sym (append-nil text) ∙ ap (λ (l : List ℕ). text ++ l) (sym r.1),
+  ),
+  r.1,
+  r.2,
+  h.unbroken,
+  h.short,
+  some,
+  fits,
 )
 
 pub failed_read : (old : Option (List ℕ)) (held : List ℕ) (now : Option (List ℕ)) (text : List ℕ) (turn : ℕ)
