@@ -11,7 +11,7 @@ abbrev is_token : Option ℕ → ℕ → Bool
 is_token None t = false
 is_token (Some u) t = u == t
 
-abbrev is_name : Option (List ℕ) → List ℕ → Bool
+abbrev pub is_name : Option (List ℕ) → List ℕ → Bool
 is_name None name = false
 is_name (Some other) name = bytes_eq other name
 
@@ -19,7 +19,7 @@ is_token-same : (o : Option ℕ) (t : ℕ) → is_token o t ≡ true → o ≡ S
 is_token-same None t e = absurd (cc)
 is_token-same (Some u) t e = ap Some (eqb-true u t e)
 
-is_name-same : (o : Option (List ℕ)) (name : List ℕ) → is_name o name ≡ true → o ≡ Some name
+pub is_name-same : (o : Option (List ℕ)) (name : List ℕ) → is_name o name ≡ true → o ≡ Some name
 is_name-same None name e = absurd (cc)
 is_name-same (Some other) name e = ap Some ((bytes_eq-Decides other name).0 e)
 
@@ -27,14 +27,14 @@ is_name-same (Some other) name e = ap Some ((bytes_eq-Decides other name).0 e)
 abbrev has_token : Named → Bool
 has_token row = is_token (token_named row.1) row.0
 
-abbrev has_name : Named → Bool
+abbrev pub has_name : Named → Bool
 has_name row = is_name (name_of row.0) row.1
 
 each_token_back : list_all has_token names ≡ true
 unfolding names token_named
 each_token_back = refl
 
-each_name_back : list_all has_name names ≡ true
+pub each_name_back : list_all has_name names ≡ true
 unfolding names name_of
 each_name_back = refl
 

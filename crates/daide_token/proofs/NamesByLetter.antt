@@ -1,14 +1,15 @@
--- A name is found among those that begin with its letter.
-use Rattle.std.proofs.Common.{◌≡◌, ◌⊎◌, ℕ, ◌+◌, ◌<◌, ◌==◌, ◌&&◌, nat_le, Bool, true, false, bytes_eq, cond, List, [], ◌∷◌, get_or, map, Option, None, Some, option_map, refl, sym, ap, ◌∙◌, arith}
+-- A name is found among the tokens whose names begin with its letter.
+use Rattle.std.proofs.Common.{◌≡◌, ◌⊎◌, ℕ, ◌+◌, ◌<◌, ◌==◌, ◌&&◌, nat_le, Bool, true, false, bytes_eq, cond, List, [], ◌∷◌, get_or, map, Some, option_map, unwrap_or, refl, sym, ap, ◌∙◌, arith}
 use Rattle.std.proofs.Math.ListN.{get_or-map}
 use Rattle.std.proofs.lemmas.Bool.{and_parts}
 use Rattle.std.proofs.lemmas.Bool.Decides.{nat_tests}
 use Rattle.std.proofs.lemmas.Slice.Eq.{bytes_eq-Decides}
 use Rattle.std.proofs.lemmas.List.FromFn.{get_or-map-range_with_len}
 use Rattle.std.specs.List.{filter, find, list_all, range_with_len}
+use Rattle.daide_token.proofs.NameLaws.{each_name_back, has_name, is_name-same}
 use Rattle.daide_token.proofs.TableLemmas.{find_in_map}
-use Rattle.daide_token.specs.Names.{Named, names, token_named}
-use Rattle.daide_token.specs.NamesByLetter.{first_letter, named_with}
+use Rattle.daide_token.specs.Names.{Named, name_of, names, token_named}
+use Rattle.daide_token.specs.NamesByLetter.{codes_with, first_letter, is_named, named_with}
 
 -- one item more, by whether it is kept and whether it is found
 kept : {X : Type 0} (p q : X → Bool) (x : X) (xs : List X) (b c : Bool) → p x ≡ b → q x ≡ c
@@ -48,32 +49,46 @@ none_kept q r (x ∷ xs) all never =
     let parts = and_parts (r x) (list_all r xs) all in
     ap (λ b. cond b (x ∷ filter q xs) (filter q xs)) (never x parts.0) ∙ none_kept q r xs parts.1 never
 
--- the names at each place of a list by letters
-pub at_letter : {R : Type 0} (seen : R → List Named) (rows : List R) (k letter : ℕ) (d : R) →
-    map seen rows ≡ map named_with (range_with_len 0x41 26) → k < 26 → 0x41 + k ≡ letter →
-    seen (get_or rows k d) ≡ named_with letter
+-- a row is found by any test that each row passes alike
+alike_first : {X : Type 0} (p r : X → Bool) (x : X) (xs : List X) (b : Bool) → p x ≡ r x → find p xs ≡ find r xs →
+    find p (cond b (x ∷ xs) xs) ≡ find r (cond b (x ∷ xs) xs)
+alike_first p r x xs true here below =
+    ap (λ c. cond c (Some x) (find p xs)) here ∙ ap (λ rest. cond (r x) (Some x) rest) below
+alike_first p r x xs false here below = below
+
+alike : {X : Type 0} (p r s q : X → Bool) (xs : List X) → list_all s xs ≡ true →
+    ((x : X) → s x ≡ true → p x ≡ r x) → find p (filter q xs) ≡ find r (filter q xs)
+alike p r s q [] all same = refl
+alike p r s q (x ∷ xs) all same =
+    let parts = and_parts (s x) (list_all s xs) all in
+    alike_first p r x (filter q xs) (q x) (same x parts.0) (alike p r s q xs parts.1 same)
+
+-- the tokens at each place of a list by letters
+pub at_letter : {R : Type 0} (seen : R → List ℕ) (rows : List R) (k letter : ℕ) (d : R) →
+    map seen rows ≡ map codes_with (range_with_len 0x41 26) → k < 26 → 0x41 + k ≡ letter →
+    seen (get_or rows k d) ≡ codes_with letter
 at_letter seen rows k letter d same less at =
     sym (get_or-map seen rows k d)
-    ∙ ap (λ (xs : List (List Named)). get_or xs k (seen d)) same
-    ∙ get_or-map-range_with_len named_with 0x41 26 k letter (seen d) less at
+    ∙ ap (λ (xs : List (List ℕ)). get_or xs k (seen d)) same
+    ∙ get_or-map-range_with_len codes_with 0x41 26 k letter (seen d) less at
 
-pub no_other_letter : (letter : ℕ) → (letter < 0x41) ⊎ (0x5A < letter) → named_with letter ≡ []
+pub no_other_letter : (letter : ℕ) → (letter < 0x41) ⊎ (0x5A < letter) → codes_with letter ≡ []
 no_other_letter letter out =
-    none_kept (λ row. first_letter row.1 == letter) begins_well names all_begin_well
-    (λ row well. grind (arith, nat_tests))
+    ap (map (λ (row : Named). row.0))
+    (none_kept (λ row. first_letter row.1 == letter) begins_well names all_begin_well
+    (λ row well. grind (arith, nat_tests)))
 
-twice : {X Y Z : Type 0} (f : Y → Z) (g : X → Y) (o : Option X) →
-    option_map (λ x. f (g x)) o ≡ option_map f (option_map g o)
-twice f g None = refl
-twice f g (Some x) = refl
+-- a row's token has the row's name and no other
+own_name : (name : List ℕ) (row : Named) → has_name row ≡ true → is_named name row.0 ≡ bytes_eq row.1 name
+own_name name row back =
+    ap (λ o. unwrap_or (option_map (λ own. bytes_eq own name) o) false) (is_name-same (name_of row.0) row.1 back)
 
--- so the token of a name is the one beside it among those that begin as it does
-pub told_by_letter : {R : Type 0} (seen : R → Named) (rows : List R) (name : List ℕ) →
-    map seen rows ≡ named_with (first_letter name) →
-    option_map (λ row. (seen row).0) (find (λ row. bytes_eq (seen row).1 name) rows) ≡ token_named name
+-- so the token of a name is the one of those that begin as it does which has it
+pub told_by_letter : (name : List ℕ) → find (is_named name) (codes_with (first_letter name)) ≡ token_named name
 unfolding token_named
-told_by_letter seen rows name same =
-    let test : Named → Bool = λ row. bytes_eq row.1 name in
-    twice (λ (row : Named). row.0) seen (find (λ row. test (seen row)) rows)
+told_by_letter name =
+    let begins : Named → Bool = λ row. first_letter row.1 == first_letter name in
+    find_in_map (λ (row : Named). row.0) (is_named name) (named_with (first_letter name))
     ∙ ap (option_map (λ (row : Named). row.0))
-    (sym (find_in_map seen test rows) ∙ ap (find test) same ∙ found_with name)
+    (alike (λ row. is_named name row.0) (λ row. bytes_eq row.1 name) has_name begins names each_name_back (own_name name)
+    ∙ found_with name)

@@ -1,10 +1,9 @@
 -- The names and classes of tokens listed a second time, by category and second byte, and held against the tables: a row
 -- of theirs that is shifted, swapped or missing does not check. Written from the protocol's table of categories.
 use Prim.Native.String.{String}
-use Rattle.std.proofs.Common.{◌≡◌, ℕ, ◌+◌, ◌*◌, ◌-◌, nat_le, Bool, true, false, codes, refl}
+use Rattle.std.proofs.Common.{◌≡◌, ℕ, ◌+◌, ◌*◌, ◌-◌, nat_le, true, false, codes, refl}
 use Rattle.std.proofs.Common.{List, [], ◌∷◌, ◌++◌, map, replicate, Some, option_map}
-use Rattle.std.specs.Option.{is_none}
-use Rattle.std.specs.List.{filter, range_with_len}
+use Rattle.std.specs.List.{range_with_len}
 use Rattle.daide_token.specs.declared.class.Class.{Class}
 use Rattle.daide_token.specs.declared.class.Class.TheVariants.{Bra, Ket, Amy, Flt, Cto, Cvy, Hld, Mto, Sup, Via, Dsb}
 use Rattle.daide_token.specs.declared.class.Class.TheVariants.{Rto, Bld, Rem, Wve, Ccd, Drw, Frm, Gof, Hlo, Hst, Huh}
@@ -16,7 +15,7 @@ use Rattle.daide_token.specs.declared.class.Class.TheVariants.{Vss, Xdo}
 use Rattle.daide_token.specs.declared.class.Class.TheVariants.{Num, Power, Note, Outcome, Coast}
 use Rattle.daide_token.specs.declared.class.Class.TheVariants.{Season, Text, Province, Param, Other, Alien}
 use Rattle.daide_token.specs.Class.{class_of}
-use Rattle.daide_token.specs.Names.{Named, names, name_of, token_named}
+use Rattle.daide_token.specs.Names.{Named, names, token_named}
 
 -- ---- names
 
@@ -98,24 +97,30 @@ own-classes = refl
 abbrev tokens_in : ℕ → List ℕ
 tokens_in category = range_with_len (category * 256) 256
 
--- the classes of the tokens of a category that pass a test
-abbrev classes_where : (ℕ → Bool) → ℕ → List Class
-classes_where test category = map class_of (filter test (tokens_in category))
-
--- where each listed token has its own class, the others have no rule; but each unlisted parameter is one
-unlisted : (classes_where (λ t. is_none (name_of t)) 0x40 ≡ replicate 254 Other)
-    × (classes_where (λ t. is_none (name_of t)) 0x42 ≡ replicate 254 Other)
-    × (classes_where (λ t. is_none (name_of t)) 0x43 ≡ replicate 245 Other)
-    × (classes_where (λ t. is_none (name_of t)) 0x48 ≡ replicate 225 Other)
-    × (classes_where (λ t. is_none (name_of t)) 0x4A ≡ replicate 237 Other)
-    × (classes_where (λ t. is_none (name_of t)) 0x49 ≡ replicate 243 Param)
-unfolding class_of name_of names
-unlisted = (refl, refl, refl, refl, refl, refl)
-
--- every token of these categories is of its kind, listed or not
+-- the classes of a category, from its first code to its last
 abbrev whole : ℕ → List Class
 whole category = map class_of (tokens_in category)
 
+-- some tokens without a rule
+abbrev others : ℕ → List Class
+others n = replicate n Other
+
+-- where tokens have a class to themselves, each stands at its code, and the others have no rule; but each other
+-- parameter is one
+at-codes : (whole 0x40 ≡ Bra ∷ Ket ∷ others 254)
+    × (whole 0x42 ≡ Amy ∷ Flt ∷ others 254)
+    × (whole 0x43 ≡ others 32 ++ Cto ∷ Cvy ∷ Hld ∷ Mto ∷ Sup ∷ Via ∷ others 26 ++ Dsb ∷ Rto ∷ others 62
+    ++ Bld ∷ Rem ∷ Wve ∷ others 125)
+    × (whole 0x48 ≡ Ccd ∷ Drw ∷ Frm ∷ Gof ∷ Hlo ∷ Hst ∷ Huh ∷ Iam ∷ Lod ∷ Map ∷ Mdf ∷ Mis ∷ Nme ∷ Not ∷ Now ∷ Obs
+    ∷ Off ∷ Ord ∷ Out ∷ Prn ∷ Rej ∷ Sco ∷ Slo ∷ Snd ∷ Sub ∷ Sve ∷ Thx ∷ Tme ∷ Yes ∷ Adm ∷ Smr ∷ others 225)
+    × (whole 0x4A ≡ Aly ∷ And ∷ Bwx ∷ Dmz ∷ others 2 ++ Fct ∷ others 3 ++ Idk ∷ others 1 ++ Ins ∷ others 1
+    ++ Occ ∷ Orr ∷ Pce ∷ others 2 ++ Prp ∷ Qry ∷ Scd ∷ Sry ∷ Sug ∷ Thk ∷ others 1 ++ Try ∷ others 1
+    ++ Vss ∷ others 2 ++ Xdo ∷ others 224)
+    × (whole 0x49 ≡ replicate 3 Param ++ Lvl ∷ Mrt ∷ replicate 6 Param ++ Uno ∷ replicate 244 Param)
+unfolding class_of
+at-codes = (refl, refl, refl, refl, refl, refl)
+
+-- every token of these categories is of its kind, listed or not
 kinds : (whole 0x41 ≡ replicate 256 Power) × (whole 0x44 ≡ replicate 256 Note) × (whole 0x45 ≡ replicate 256 Outcome)
     × (whole 0x46 ≡ replicate 256 Coast) × (whole 0x47 ≡ replicate 256 Season) × (whole 0x4B ≡ replicate 256 Text)
 unfolding class_of

@@ -1,10 +1,10 @@
 //! The names of tokens, by category and code, and the tokens by the first letters of their names.
 
-ghost use Rattle.std.specs.Prelude.{◌≡◌, ◌<◌, ◌+◌, ◌*◌, ℕ, bytes_eq, map, option_map};
-ghost use Rattle.daide_token.specs.NamePages.{name_on, names_in, names_on};
+ghost use Rattle.std.specs.Prelude.{◌≡◌, ◌<◌, ◌+◌, ◌*◌, ℕ, true, length, map, option_map};
+ghost use Rattle.daide_token.specs.NamePages.{Page, are_short, name_on, rows_on};
 ghost use Rattle.std.specs.List.{find, range_with_len};
-ghost use Rattle.daide_token.specs.Names.{Named, name_of, token_named};
-ghost use Rattle.daide_token.specs.NamesByLetter.{first_letter, named_with};
+ghost use Rattle.daide_token.specs.Names.{name_of, names, token_named};
+ghost use Rattle.daide_token.specs.NamesByLetter.{codes_with, first_letter, is_named};
 
 /// Category 40, brackets, from 00 on.
 #[rattlefmt::skip]
@@ -153,88 +153,82 @@ static PAGES: [(u8, &[&str]); 24] = [
     (0x48, &BICOASTAL_CENTRES),
 ];
 
-/// The tokens of the names that begin with each letter from A to Z, in the order of the tokens.
+/// The tokens whose names begin with each letter from A to Z, in the order of the tokens.
 #[rattlefmt::skip]
-static LETTERS: [&[(&str, u16)]; 26] = [
+static LETTERS: [&[u16]; 26] = [
+    // A
     &[
-        ("AUS", 0x4100), ("AMY", 0x4200), ("AUT", 0x4703), ("ADM", 0x481D), ("AOA", 0x4900), ("ALY", 0x4A00),
-        ("AND", 0x4A01), ("ADR", 0x520E), ("AEG", 0x520F), ("ALB", 0x5421), ("APU", 0x5422), ("ARM", 0x5423),
-        ("ANK", 0x5530),
+        0x4100, 0x4200, 0x4703, 0x481D, 0x4900, 0x4A00, 0x4A01, 0x520E, 0x520F, 0x5421, 0x5422, 0x5423,
+        0x5530,
     ],
+    // B
     &[
-        ("BRA", 0x4000), ("BLD", 0x4380), ("BNC", 0x4501), ("BTL", 0x4901), ("BWX", 0x4A02), ("BOH", 0x5000),
-        ("BUR", 0x5001), ("BUD", 0x5107), ("BAL", 0x5210), ("BAR", 0x5211), ("BLA", 0x5212), ("BEL", 0x5531),
-        ("BER", 0x5532), ("BRE", 0x5533), ("BUL", 0x5748),
+        0x4000, 0x4380, 0x4501, 0x4901, 0x4A02, 0x5000, 0x5001, 0x5107, 0x5210, 0x5211, 0x5212, 0x5531,
+        0x5532, 0x5533, 0x5748,
     ],
-    &[
-        ("CTO", 0x4320), ("CVY", 0x4321), ("CST", 0x4402), ("CUT", 0x4502), ("CCD", 0x4800), ("CLY", 0x5424),
-        ("CON", 0x5534),
-    ],
-    &[("DSB", 0x4340), ("DSR", 0x4503), ("DRW", 0x4801), ("DSD", 0x490D), ("DMZ", 0x4A03), ("DEN", 0x5535)],
-    &[
-        ("ENG", 0x4101), ("ESC", 0x4403), ("ECS", 0x4604), ("ERR", 0x4902), ("EAS", 0x5213), ("ECH", 0x5214),
-        ("EDI", 0x5536),
-    ],
-    &[
-        ("FRA", 0x4102), ("FLT", 0x4201), ("FAR", 0x4404), ("FLD", 0x4504), ("FAL", 0x4702), ("FRM", 0x4802),
-        ("FCT", 0x4A06), ("FIN", 0x5425),
-    ],
-    &[
-        ("GER", 0x4103), ("GOF", 0x4803), ("GAL", 0x5002), ("GOB", 0x5215), ("GOL", 0x5216), ("GAS", 0x5426),
-        ("GRE", 0x5537),
-    ],
-    &[
-        ("HLD", 0x4322), ("HSC", 0x4405), ("HLO", 0x4804), ("HST", 0x4805), ("HUH", 0x4806), ("HEL", 0x5217),
-        ("HOL", 0x5538),
-    ],
-    &[("ITA", 0x4104), ("IAM", 0x4807), ("IDK", 0x4A0A), ("INS", 0x4A0C), ("ION", 0x5218), ("IRI", 0x5219)],
+    // C
+    &[0x4320, 0x4321, 0x4402, 0x4502, 0x4800, 0x5424, 0x5534],
+    // D
+    &[0x4340, 0x4503, 0x4801, 0x490D, 0x4A03, 0x5535],
+    // E
+    &[0x4101, 0x4403, 0x4604, 0x4902, 0x5213, 0x5214, 0x5536],
+    // F
+    &[0x4102, 0x4201, 0x4404, 0x4504, 0x4702, 0x4802, 0x4A06, 0x5425],
+    // G
+    &[0x4103, 0x4803, 0x5002, 0x5215, 0x5216, 0x5426, 0x5537],
+    // H
+    &[0x4322, 0x4405, 0x4804, 0x4805, 0x4806, 0x5217, 0x5538],
+    // I
+    &[0x4104, 0x4807, 0x4A0A, 0x4A0C, 0x5218, 0x5219],
+    // J
     &[],
-    &[("KET", 0x4001), ("KIE", 0x5539)],
-    &[("LOD", 0x4808), ("LVL", 0x4903), ("LVN", 0x5427), ("LON", 0x553A), ("LVP", 0x553B)],
+    // K
+    &[0x4001, 0x5539],
+    // L
+    &[0x4808, 0x4903, 0x5427, 0x553A, 0x553B],
+    // M
+    &[0x4323, 0x4400, 0x4809, 0x480A, 0x480B, 0x4904, 0x4905, 0x5108, 0x5109, 0x521A, 0x553C],
+    // N
     &[
-        ("MTO", 0x4323), ("MBV", 0x4400), ("MAP", 0x4809), ("MDF", 0x480A), ("MIS", 0x480B), ("MRT", 0x4904),
-        ("MTL", 0x4905), ("MOS", 0x5108), ("MUN", 0x5109), ("MAO", 0x521A), ("MAR", 0x553C),
+        0x4406, 0x4407, 0x4408, 0x4409, 0x440A, 0x440B, 0x440C, 0x440D, 0x440E, 0x4410, 0x4411, 0x4412,
+        0x4505, 0x4600, 0x4602, 0x460E, 0x480C, 0x480D, 0x480E, 0x4906, 0x4907, 0x521B, 0x521C, 0x521D,
+        0x5428, 0x553D, 0x553E,
     ],
+    // O
+    &[0x480F, 0x4810, 0x4811, 0x4812, 0x4A0E, 0x4A0F],
+    // P
+    &[0x4813, 0x4908, 0x4909, 0x4A10, 0x4A13, 0x510A, 0x5429, 0x542A, 0x542B, 0x553F],
+    // Q
+    &[0x4A14],
+    // R
+    &[0x4105, 0x4341, 0x4381, 0x4506, 0x4814, 0x490A, 0x5003, 0x5540, 0x5541],
+    // S
     &[
-        ("NAS", 0x4406), ("NMB", 0x4407), ("NMR", 0x4408), ("NRN", 0x4409), ("NRS", 0x440A), ("NSA", 0x440B),
-        ("NSC", 0x440C), ("NSF", 0x440D), ("NSP", 0x440E), ("NSU", 0x4410), ("NVR", 0x4411), ("NYU", 0x4412),
-        ("NSO", 0x4505), ("NCS", 0x4600), ("NEC", 0x4602), ("NWC", 0x460E), ("NME", 0x480C), ("NOT", 0x480D),
-        ("NOW", 0x480E), ("NPB", 0x4906), ("NPR", 0x4907), ("NAO", 0x521B), ("NTH", 0x521C), ("NWG", 0x521D),
-        ("NAF", 0x5428), ("NAP", 0x553D), ("NWY", 0x553E),
+        0x4324, 0x4500, 0x4606, 0x4608, 0x460A, 0x4700, 0x4701, 0x4815, 0x4816, 0x4817, 0x4818, 0x4819,
+        0x481E, 0x4A15, 0x4A16, 0x4A17, 0x5004, 0x510B, 0x521E, 0x542C, 0x5542, 0x5543, 0x5544, 0x5749,
+        0x574A,
     ],
-    &[("OBS", 0x480F), ("OFF", 0x4810), ("ORD", 0x4811), ("OUT", 0x4812), ("OCC", 0x4A0E), ("ORR", 0x4A0F)],
-    &[
-        ("PRN", 0x4813), ("PDA", 0x4908), ("PTL", 0x4909), ("PCE", 0x4A10), ("PRP", 0x4A13), ("PAR", 0x510A),
-        ("PIC", 0x5429), ("PIE", 0x542A), ("PRU", 0x542B), ("POR", 0x553F),
-    ],
-    &[("QRY", 0x4A14)],
-    &[
-        ("RUS", 0x4105), ("RTO", 0x4341), ("REM", 0x4381), ("RET", 0x4506), ("REJ", 0x4814), ("RTL", 0x490A),
-        ("RUH", 0x5003), ("ROM", 0x5540), ("RUM", 0x5541),
-    ],
-    &[
-        ("SUP", 0x4324), ("SUC", 0x4500), ("SEC", 0x4606), ("SCS", 0x4608), ("SWC", 0x460A), ("SPR", 0x4700),
-        ("SUM", 0x4701), ("SCO", 0x4815), ("SLO", 0x4816), ("SND", 0x4817), ("SUB", 0x4818), ("SVE", 0x4819),
-        ("SMR", 0x481E), ("SCD", 0x4A15), ("SRY", 0x4A16), ("SUG", 0x4A17), ("SIL", 0x5004), ("SER", 0x510B),
-        ("SKA", 0x521E), ("SYR", 0x542C), ("SEV", 0x5542), ("SMY", 0x5543), ("SWE", 0x5544), ("SPA", 0x5749),
-        ("STP", 0x574A),
-    ],
-    &[
-        ("TUR", 0x4106), ("THX", 0x481A), ("TME", 0x481B), ("THK", 0x4A18), ("TRY", 0x4A1A), ("TYR", 0x5005),
-        ("TYS", 0x521F), ("TUS", 0x542D), ("TRI", 0x5545), ("TUN", 0x5546),
-    ],
-    &[("UNO", 0x490B), ("UKR", 0x5006)],
-    &[("VIA", 0x4325), ("VSS", 0x4A1C), ("VIE", 0x510C), ("VEN", 0x5547)],
-    &[("WVE", 0x4382), ("WCS", 0x460C), ("WIN", 0x4704), ("WAR", 0x510D), ("WES", 0x5220), ("WAL", 0x542E)],
-    &[("XDO", 0x4A1F)],
-    &[("YSC", 0x4413), ("YES", 0x481C), ("YOR", 0x542F)],
+    // T
+    &[0x4106, 0x481A, 0x481B, 0x4A18, 0x4A1A, 0x5005, 0x521F, 0x542D, 0x5545, 0x5546],
+    // U
+    &[0x490B, 0x5006],
+    // V
+    &[0x4325, 0x4A1C, 0x510C, 0x5547],
+    // W
+    &[0x4382, 0x460C, 0x4704, 0x510D, 0x5220, 0x542E],
+    // X
+    &[0x4A1F],
+    // Y
+    &[0x4413, 0x481C, 0x542F],
+    // Z
     &[],
 ];
 
-/// The pages of the categories from 40 to 57.
+/// The pages of the categories from 40 to 57: their rows are those of the table.
 fn pages() -> &'static [(u8, &'static [&'static str])]
-    ensures { map (λ page. names_on page.0 (map (λ cell. cell.now) page.1.now)) result.now
-        ≡ map names_in (range_with_len 0x40 24) }
+    ensures rows { rows_on 0x40 (map (λ page. let told : Page = (page.0, map (λ cell. cell.now) page.1.now) in told) result.now) ≡ names }
+    ensures short { are_short (map (λ page. let told : Page = (page.0, map (λ cell. cell.now) page.1.now) in told) result.now) ≡ true }
+    ensures count { length result.now ≡ 24 }
 {
     &PAGES
 }
@@ -270,17 +264,16 @@ pub(crate) fn name_of(code: u16) -> Option<&'static str>
     name_on(first, cells, code)
 }
 
-/// The names by their letters from A to Z.
-fn letters() -> &'static [&'static [(&'static str, u16)]]
-    ensures { map (λ rows. map (λ row. let named : Named = (row.1, row.0.now) in named) rows.now) result.now
-        ≡ map named_with (range_with_len 0x41 26) }
+/// The tokens by the first letters of their names, from A to Z.
+fn letters() -> &'static [&'static [u16]]
+    ensures { map (λ codes. codes.now) result.now ≡ map codes_with (range_with_len 0x41 26) }
 {
     &LETTERS
 }
 
-/// The names that begin with a letter.
-fn names_with(letter: u8) -> &'static [(&'static str, u16)]
-    ensures { map (λ row. let named : Named = (row.1, row.0.now) in named) result.now ≡ named_with letter }
+/// The tokens whose names begin with a letter.
+fn codes_with(letter: u8) -> &'static [u16]
+    ensures { result.now ≡ codes_with letter }
 {
     if letter < b'A' || letter > b'Z' {
         return &[];
@@ -298,16 +291,26 @@ fn first_letter(name: &str) -> u8
     }
 }
 
-/// The token beside a name.
-fn code_in(rows: &[(&'static str, u16)], name: &str) -> Option<u16>
-    ensures { result ≡ option_map (λ row. row.1) (find (λ row. bytes_eq row.0.now name.now) rows.now) }
+/// Whether a token has this name.
+fn is_named(code: u16, name: &str) -> bool
+    ensures { result ≡ is_named name.now code }
 {
-    rows.iter().find(|row| row.0 == name).map(|row| row.1)
+    match name_of(code) {
+        Some(own) => own == name,
+        None => false,
+    }
+}
+
+/// The first of some tokens that has this name.
+fn code_in(codes: &[u16], name: &str) -> Option<u16>
+    ensures { result ≡ find (is_named name.now) codes.now }
+{
+    codes.iter().copied().find(|code| is_named(*code, name))
 }
 
 /// The token of a name.
 pub(crate) fn token_named(name: &str) -> Option<u16>
     ensures { result ≡ token_named name.now }
 {
-    code_in(names_with(first_letter(name)), name)
+    code_in(codes_with(first_letter(name)), name)
 }

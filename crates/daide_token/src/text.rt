@@ -22,7 +22,7 @@ const MOST_GATHERED: usize = 240;
 const CHARACTERS: u8 = 0x4B;
 
 /// What was written last.
-#[derive(Clone, Copy, Debug)]
+#[derive(Clone, Copy)]
 enum Place {
     /// Nothing yet.
     Start,

@@ -10,5 +10,6 @@ returns-then-category-lt64 c = λ code low.
 
 pub returns : goal.returns
 returns c =
-    cell_told (λ page. page.0) (λ page. map (λ cell. cell.now) page.1.now) c.pages.result.now _ c.args.category _
-    c.pages.ensures (omega (arith, c.if-category-gt87.false)) (omega (arith, c.if-category-lt64.false))
+    cell_told (λ page. (page.0, map (λ cell. cell.now) page.1.now)) c.pages.result.now _ c.args.category _
+    c.pages.ensures.rows c.pages.ensures.short c.pages.ensures.count (omega (arith, c.if-category-gt87.false))
+    (omega (arith, c.if-category-lt64.false))

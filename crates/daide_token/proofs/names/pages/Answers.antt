@@ -1,7 +1,13 @@
 use Rattle.std.proofs.Common.{refl}
-use Rattle.daide_token.specs.Names.{name_of, names}
+use Rattle.daide_token.specs.Names.{names}
 use Rattle.daide_token.proofs.names.pages.Goals as goal
 
-pub returns : goal.returns
-unfolding name_of names
-returns c = refl
+pub returns-clause-rows : goal.returns-clause-rows
+unfolding names
+returns-clause-rows c = refl
+
+pub returns-clause-short : goal.returns-clause-short
+returns-clause-short c = refl
+
+pub returns-clause-count : goal.returns-clause-count
+returns-clause-count c = refl

@@ -1,11 +1,11 @@
 use Rattle.std.proofs.Common.{ap, ◌∙◌}
+use Rattle.std.specs.List.{find}
 use Rattle.daide_token.proofs.NamesByLetter.{told_by_letter}
-use Rattle.daide_token.specs.Names.{Named}
-use Rattle.daide_token.specs.NamesByLetter.{named_with}
+use Rattle.daide_token.specs.NamesByLetter.{codes_with, is_named}
 use Rattle.daide_token.proofs.names.token_named.Goals as goal
 
 pub returns : goal.returns
 returns c =
     c.code_in.ensures
-    ∙ told_by_letter (λ row. let named : Named = (row.1, row.0.now) in named) c.names_with.result.now c.args.name.now
-    (c.names_with.ensures ∙ ap named_with c.first_letter.ensures)
+    ∙ ap (find (is_named c.args.name.now)) (c.codes_with.ensures ∙ ap codes_with c.first_letter.ensures)
+    ∙ told_by_letter c.args.name.now
