@@ -1,10 +1,10 @@
-pub mod TableLemmas
-pub mod NameLaws
-pub mod NamePages
-pub mod NamesByLetter
-pub mod NumberText
-pub mod TokenLemmas
-pub mod WholeText
+mod TableLemmas
+mod NameLaws
+mod NamePages
+mod NamesByLetter
+mod NumberText
+mod TokenLemmas
+mod WholeText
 pub mod ClassNumbers
 mod StandardFacts
 mod SecondListing
