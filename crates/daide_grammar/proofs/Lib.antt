@@ -20,5 +20,6 @@ pub mod ColumnsAgree
 pub mod RulesFit
 pub mod RowsAgree
 pub mod PlainRules
+pub mod OtherClasses
 pub mod OneEntry
 pub mod Starts

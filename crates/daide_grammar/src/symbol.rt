@@ -5,7 +5,7 @@
 //! is a symbol of its own, a `..Group`, so that no rest of a prediction holds an opening bracket. A
 //! symbol that may be empty stands last in its brackets, or last of all.
 
-ghost use Rattle.std.specs.Prelude.{◌≡◌, ◌<◌};
+ghost use Rattle.std.specs.Prelude.{◌≡◌, ◌+◌, ◌<◌, ◌≤◌};
 ghost use Rattle.daide_grammar.specs.Numbers.{level_place, symbol_number, symbol_at};
 
 use crate::level::Level;
@@ -13,7 +13,7 @@ use crate::table::names::SYMBOLS;
 use std::marker::Model;
 
 /// What the reader still expects. A symbol holds its level where the level matters.
-#[derive(Clone, Copy, Debug)]
+#[derive(Clone, Copy)]
 pub enum Sym {
     // single tokens
     /// `)`
@@ -313,6 +313,14 @@ pub(crate) fn level_place(level: Level) -> u8
     }
 }
 
+/// The number of a symbol with a level, from that of level 0.
+fn leveled(first: u8, level: Level) -> u8
+    requires { first ≤ 195 }
+    ensures { result ≡ first + level_place level }
+{
+    first + level_place(level)
+}
+
 /// The symbol's place in the list of symbols.
 fn number_of(sym: Sym) -> u8
     ensures { result ≡ symbol_number sym }
@@ -394,23 +402,23 @@ fn number_of(sym: Sym) -> u8
         Sym::CivilDisorder => 73,
         Sym::Players => 74,
         Sym::OnePlayer => 75,
-        Sym::ArrangementGroup(level) => 76 + level_place(level),
-        Sym::Arrangement(level) => 83 + level_place(level),
-        Sym::FactGroup(level) => 90 + level_place(level),
-        Sym::Fact(level) => 97 + level_place(level),
-        Sym::OperandGroup(level) => 104 + level_place(level),
-        Sym::Operands(level) => 111 + level_place(level),
-        Sym::Operand(level) => 118 + level_place(level),
-        Sym::PressGroup(level) => 125 + level_place(level),
-        Sym::Press(level) => 132 + level_place(level),
-        Sym::SendGroup(level) => 139 + level_place(level),
-        Sym::MaybeSendGroup(level) => 146 + level_place(level),
-        Sym::Send(level) => 153 + level_place(level),
-        Sym::SendTail(level) => 160 + level_place(level),
-        Sym::SendFirst(level) => 167 + level_place(level),
-        Sym::Client(level) => 174 + level_place(level),
-        Sym::RequestGroup(level) => 181 + level_place(level),
-        Sym::Request(level) => 188 + level_place(level),
-        Sym::Server(level) => 195 + level_place(level),
+        Sym::ArrangementGroup(level) => leveled(76, level),
+        Sym::Arrangement(level) => leveled(83, level),
+        Sym::FactGroup(level) => leveled(90, level),
+        Sym::Fact(level) => leveled(97, level),
+        Sym::OperandGroup(level) => leveled(104, level),
+        Sym::Operands(level) => leveled(111, level),
+        Sym::Operand(level) => leveled(118, level),
+        Sym::PressGroup(level) => leveled(125, level),
+        Sym::Press(level) => leveled(132, level),
+        Sym::SendGroup(level) => leveled(139, level),
+        Sym::MaybeSendGroup(level) => leveled(146, level),
+        Sym::Send(level) => leveled(153, level),
+        Sym::SendTail(level) => leveled(160, level),
+        Sym::SendFirst(level) => leveled(167, level),
+        Sym::Client(level) => leveled(174, level),
+        Sym::RequestGroup(level) => leveled(181, level),
+        Sym::Request(level) => leveled(188, level),
+        Sym::Server(level) => leveled(195, level),
     }
 }
