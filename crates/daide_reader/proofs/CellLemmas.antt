@@ -1,6 +1,15 @@
--- A rest on the cells of a stack.
-use Rattle.std.proofs.Common.{◌≡◌, ℕ, zero, suc, ◌+◌, ◌≤◌, List, [], ◌∷◌, ◌++◌, length, take, refl, sym, ap, ◌∙◌, arith}
-use Rattle.std.proofs.lemmas.List.{take-take}
+-- One symbol of a stack that lies in cells, and a rest on them.
+use Rattle.std.proofs.Common.{◌≡◌, ℕ, zero, suc, ◌+◌, ◌-◌, ◌%◌, ◌^◌, ◌<◌, ◌≤◌, true, false, Option, Some, None, IfSome}
+use Rattle.std.proofs.Common.{List, [], ◌∷◌, ◌++◌, length, get_or, take, reverse, refl, sym, ap, ◌∙◌, subst, arith}
+use Rattle.std.proofs.lemmas.List.{take-take, reverse-append, reverse-reverse, length-append, length-reverse}
+use Rattle.std.proofs.lemmas.List.{length-take-le}
+use Rattle.std.proofs.Math.Seq.{take-suc}
+use Rattle.daide_token.specs.declared.class.Class.{Class}
+use Rattle.daide_grammar.specs.declared.symbol.Sym.{Sym}
+use Rattle.daide_grammar.specs.Answers.{Answer, Take, Skip, Stop}
+use Rattle.daide_grammar.specs.Rules.{is_take, is_stop, rest_of}
+use Rattle.daide_grammar.specs.Stacks.{stack_after}
+use Rattle.daide_reader.specs.Stack.{steps_at}
 
 -- a front that reaches into the second of two lists
 take-past : {X : Type 0} (n top : ℕ) (old rest : List X) → top ≤ length old →
@@ -22,3 +31,89 @@ rest_put {X = X} top n new old rest turned few inside put is =
     let less : top + n ≤ top + 8 = omega arith in
     sym (take-take (top + n) (top + 8) new less) ∙ ap (take (top + n)) put ∙ take-past n top old rest inside
     ∙ ap (λ (xs : List X). take top old ++ xs) is
+
+-- the last of the first cells is the top of the stack
+pub on_top : (cells : List Sym) (left : ℕ) (blank : Sym) → 0 < left → left ≤ length cells
+    → reverse (take left cells) ≡ get_or cells (left - 1) blank ∷ reverse (take (left - 1) cells)
+on_top cells zero blank some inside = absurd (omega arith)
+on_top cells (suc top) blank some inside =
+    let less : suc top - 1 ≡ top = omega arith in
+    rw less (ap reverse (take-suc cells top blank (omega arith))
+    ∙ reverse-append (take top cells) (get_or cells top blank ∷ []))
+
+-- the stack with a rest put on it
+pub put_on_top : (new old rest : List Sym) (cells : List Sym) (top n k : ℕ)
+    → take (top + n) new ≡ take top old ++ take n cells → n ≡ length rest → k ≡ length rest
+    → take (length rest) cells ≡ reverse rest
+    → reverse (take (top + k) new) ≡ rest ++ reverse (take top old)
+put_on_top new old rest cells top n k put here there is =
+    let same : k ≡ n = there ∙ sym here in
+    let turned : take n cells ≡ reverse rest = ap (λ (i : ℕ). take i cells) here ∙ is in
+    ap (λ (i : ℕ). reverse (take (top + i) new)) same ∙ ap reverse put
+    ∙ reverse-append (take top old) (take n cells)
+    ∙ ap (λ (xs : List Sym). xs ++ reverse (take top old)) (ap reverse turned ∙ reverse-reverse rest)
+
+-- what a symbol's answer makes of the stack, and how many questions there are
+module _ (moves : Sym → Class → Answer) (class : Class) (s : Sym) (below : List Sym) where
+  pub after_taken : (a : Answer) → moves s class ≡ a → is_take a ≡ true
+      → stack_after moves class (s ∷ below) ≡ Some (rest_of a ++ below)
+  after_taken (Take rest) is takes = rw (is, stack_after) refl
+  after_taken Skip is takes = absurd (cc)
+  after_taken Stop is takes = absurd (cc)
+
+  pub after_stopped : (a : Answer) → moves s class ≡ a → is_stop a ≡ true → stack_after moves class (s ∷ below) ≡ None
+  after_stopped (Take rest) is stops = absurd (cc)
+  after_stopped Skip is stops = absurd (cc)
+  after_stopped Stop is stops = rw (is, stack_after) refl
+
+  pub after_skipped : (a : Answer) → moves s class ≡ a → is_take a ≡ false → is_stop a ≡ false
+      → stack_after moves class (s ∷ below) ≡ stack_after moves class below
+  after_skipped (Take rest) is takes stops = absurd (cc)
+  after_skipped Skip is takes stops = rw (is, stack_after) refl
+  after_skipped Stop is takes stops = absurd (cc)
+
+  pub steps_taken : (a : Answer) → moves s class ≡ a → is_take a ≡ true → steps_at moves class (s ∷ below) ≡ 1
+  steps_taken (Take rest) is takes = rw (is, steps_at) refl
+  steps_taken Skip is takes = absurd (cc)
+  steps_taken Stop is takes = absurd (cc)
+
+  pub steps_stopped : (a : Answer) → moves s class ≡ a → is_stop a ≡ true → steps_at moves class (s ∷ below) ≡ 1
+  steps_stopped (Take rest) is stops = absurd (cc)
+  steps_stopped Skip is stops = absurd (cc)
+  steps_stopped Stop is stops = rw (is, steps_at) refl
+
+  pub steps_skipped : (a : Answer) → moves s class ≡ a → is_take a ≡ false → is_stop a ≡ false
+      → steps_at moves class (s ∷ below) ≡ 1 + steps_at moves class below
+  steps_skipped (Take rest) is takes stops = absurd (cc)
+  steps_skipped Skip is takes stops = rw (is, steps_at) refl
+  steps_skipped Stop is takes stops = absurd (cc)
+
+-- the stack after a token that is taken has room
+pub room_after : (o : Option (List Sym)) (rest cells : List Sym) (top size : ℕ) → top ≤ length cells
+    → o ≡ Some (rest ++ reverse (take top cells)) → IfSome o (λ after. length after ≤ size)
+    → top + length rest ≤ size
+room_after o rest cells top size inside is room =
+    let fits : length (rest ++ reverse (take top cells)) ≤ size =
+    subst (λ (x : Option (List Sym)). IfSome x (λ after. length after ≤ size)) is room in
+    let below : length (reverse (take top cells)) ≡ top =
+    length-reverse (take top cells) ∙ length-take-le top cells inside in
+    let all = length-append rest (reverse (take top cells)) in
+    omega (arith, fits, below, all)
+
+-- one question more, of those that are due
+pub asked_one : (before now due sum : ℕ) → now ≡ (before + 1) % 2 ^ 64 → due ≡ 1 → (before + due) % 2 ^ 64 ≡ sum
+    → now % 2 ^ 64 ≡ sum
+asked_one before now due sum is one all =
+    let same : now % 2 ^ 64 ≡ (before + due) % 2 ^ 64 = omega arith in
+    same ∙ all
+
+pub asked_all : (now due sum : ℕ) → due ≡ 0 → (now + due) % 2 ^ 64 ≡ sum → now % 2 ^ 64 ≡ sum
+asked_all now due sum none all =
+    let same : now % 2 ^ 64 ≡ (now + due) % 2 ^ 64 = omega arith in
+    same ∙ all
+
+pub asked_more : (before now due left sum : ℕ) → now ≡ (before + 1) % 2 ^ 64 → due ≡ 1 + left
+    → (before + due) % 2 ^ 64 ≡ sum → (now + left) % 2 ^ 64 ≡ sum
+asked_more before now due left sum is more all =
+    let same : (now + left) % 2 ^ 64 ≡ (before + due) % 2 ^ 64 = omega arith in
+    same ∙ all

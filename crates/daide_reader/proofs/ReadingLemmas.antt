@@ -497,6 +497,15 @@ pub raised_by : {most : ℕ} (n now old new : ℕ) → n ≤ most → now ≡ ol
     → IsRaised most old new
 raised_by n now old new few same sum = record { by = n; few = few; sum = rw same at sum }
 
+-- raised by fewer
+pub raised_within : (few most before old new : ℕ) → few ≤ most → before ≡ old → IsRaised few before new →
+    IsRaised most old new
+raised_within few most before old new less same h = record {
+  by = h.by;
+  few = (let k = h.few in omega arith);
+  sum = rw (← same) h.sum;
+}
+
 -- raised by two calls
 pub raised_more : (a b most old mid new : ℕ) → a + b ≤ most → IsRaised a old mid → IsRaised b mid new
     → IsRaised most old new

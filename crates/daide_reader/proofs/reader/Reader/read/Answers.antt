@@ -8,7 +8,7 @@ use Rattle.daide_reader.specs.Outline.{IsOutlineOf, outline_on}
 use Rattle.daide_reader.specs.Reading.{Reading, tokens_read}
 use Rattle.daide_reader.proofs.BodyLemmas.{tokens_of-length}
 use Rattle.daide_reader.proofs.OutlineLemmas.{outline_on-is, plain_before}
-use Rattle.daide_reader.proofs.ReadingLemmas.{raised_none, none_from_test}
+use Rattle.daide_reader.proofs.ReadingLemmas.{raised_none, raised_within, none_from_test}
 use Rattle.daide_reader.proofs.SliceLemmas.{as_reading, count_all-end, count_is, counts_past, counts_up, more_tokens}
 use Rattle.daide_reader.proofs.SliceLemmas.{stands_before, stands_on, stands_report_on, stands_still, steady_on}
 use Rattle.daide_reader.proofs.reader.Reader.read.Goals as goal
@@ -18,6 +18,27 @@ pub returns-then-read-body-clause-stands_after : goal.returns-then-read-body-cla
 returns-then-read-body-clause-stands_after g c = λ words first max_depth h.
     stands_still g.T.Predict words first max_depth _ _ c.args.body.now c.self.view_is
     (c.if-read-body.true ∙ sym (tokens_of-length c.args.body.now)) h
+
+pub returns-then-read-body-clause-tokens : goal.returns-then-read-body-clause-tokens
+returns-then-read-body-clause-tokens g c = sym (ap (λ (v : Reading g.row.T.Denot). tokens_read v) c.self.view_is) ∙ c.if-read-body.true
+
+pub returns-then-read-body-clause-raised : goal.returns-then-read-body-clause-raised
+returns-then-read-body-clause-raised g c = raised_none _ _ refl
+
+pub returns-then-read-body-clause-unchanged : goal.returns-then-read-body-clause-unchanged
+returns-then-read-body-clause-unchanged g c = λ _. refl
+
+pub returns-then-read-body-clause-words : goal.returns-then-read-body-clause-words
+returns-then-read-body-clause-words g c = refl
+
+pub returns-then-read-body-clause-depth : goal.returns-then-read-body-clause-depth
+returns-then-read-body-clause-depth g c = refl
+
+pub returns-then-read-body-clause-base : goal.returns-then-read-body-clause-base
+returns-then-read-body-clause-base g c = refl
+
+pub returns-then-read-body-clause-unfinished : goal.returns-then-read-body-clause-unfinished
+returns-then-read-body-clause-unfinished g c = c.requires.unfinished
 
 -- the message begins with PRN
 pub invariant_of-self : goal.invariant_of-self
@@ -51,6 +72,24 @@ returns-then-self-clause-tokens g c =
 pub returns-then-self-clause-raised : goal.returns-then-self-clause-raised
 returns-then-self-clause-raised g c =
     raised_none _ _ (ap (λ (v : Reading g.row.T.Denot). g.T.Predict.asked v.table) c.self.view_is)
+
+pub returns-then-self-clause-unchanged : goal.returns-then-self-clause-unchanged
+returns-then-self-clause-unchanged g c = λ all.
+    absurd (c.if-read-body.false (ap (λ (v : Reading g.row.T.Denot). tokens_read v) c.self.view_is ∙ all))
+
+pub returns-then-self-clause-words : goal.returns-then-self-clause-words
+returns-then-self-clause-words g c =
+    ap (λ (v : Reading g.row.T.Denot). g.T.Predict.words v.table) c.self.view_is
+
+pub returns-then-self-clause-depth : goal.returns-then-self-clause-depth
+returns-then-self-clause-depth g c = ap (λ (v : Reading g.row.T.Denot). v.max_depth) c.self.view_is
+
+pub returns-then-self-clause-base : goal.returns-then-self-clause-base
+returns-then-self-clause-base g c = ap (λ (v : Reading g.row.T.Denot). v.asked_before) c.self.view_is
+
+pub returns-then-self-clause-unfinished : goal.returns-then-self-clause-unfinished
+returns-then-self-clause-unfinished g c =
+    ap (λ (v : Reading g.row.T.Denot). v.finished) c.self.view_is ∙ c.requires.unfinished
 
 -- a place was found before
 pub invariant_of-self-then-is_some : goal.invariant_of-self-then-is_some
@@ -97,6 +136,36 @@ returns-then-is_some-clause-tokens g c =
 pub returns-then-is_some-clause-raised : goal.returns-then-is_some-clause-raised
 returns-then-is_some-clause-raised g c =
     raised_none _ _ (ap (λ (v : Reading g.row.T.Denot). g.T.Predict.asked v.table) c.self.view_is)
+
+pub returns-then-is_some-clause-unchanged : goal.returns-then-is_some-clause-unchanged
+returns-then-is_some-clause-unchanged g c = λ all.
+    absurd (c.if-read-body.false (ap (λ (v : Reading g.row.T.Denot). tokens_read v) c.self.view_is ∙ all))
+
+pub returns-then-is_some-clause-words : goal.returns-then-is_some-clause-words
+returns-then-is_some-clause-words g c =
+    ap (λ (v : Reading g.row.T.Denot). g.T.Predict.words v.table) c.self.view_is
+
+pub returns-then-is_some-clause-depth : goal.returns-then-is_some-clause-depth
+returns-then-is_some-clause-depth g c = ap (λ (v : Reading g.row.T.Denot). v.max_depth) c.self.view_is
+
+pub returns-then-is_some-clause-base : goal.returns-then-is_some-clause-base
+returns-then-is_some-clause-base g c = ap (λ (v : Reading g.row.T.Denot). v.asked_before) c.self.view_is
+
+pub returns-then-is_some-clause-unfinished : goal.returns-then-is_some-clause-unfinished
+returns-then-is_some-clause-unfinished g c =
+    ap (λ (v : Reading g.row.T.Denot). v.finished) c.self.view_is ∙ c.requires.unfinished
+
+pub count_from-self-inside-requires-clause-room : goal.count_from-self-inside-requires-clause-room
+count_from-self-inside-requires-clause-room g c = c.requires.room
+
+pub count_from-self-inside-requires-clause-next : goal.count_from-self-inside-requires-clause-next
+count_from-self-inside-requires-clause-next g c =
+    let same = ap (λ (v : Reading g.row.T.Denot). tokens_read v) c.self.view_is in
+    let within = c.requires.read_before in
+    omega (arith, same, within)
+
+pub count_from-self-inside-requires-clause-few : goal.count_from-self-inside-requires-clause-few
+count_from-self-inside-requires-clause-few g c = c.self.invariant.counts
 
 -- the reader is in locals
 pub run-reached-requires : goal.run-reached-requires
@@ -194,3 +263,38 @@ returns-clause-stands_after g c = λ words first max_depth h.
 pub returns-clause-tokens : goal.returns-clause-tokens
 returns-clause-tokens g c =
     ap (λ (o : Outline). o.tokens) c.on-self-inside.ensures ∙ tokens_of-length c.args.body.now
+
+pub count_from-self-inside-requires-2-clause-room : goal.count_from-self-inside-requires-2-clause-room
+count_from-self-inside-requires-2-clause-room g c = c.requires.room
+
+pub count_from-self-inside-requires-2-clause-next : goal.count_from-self-inside-requires-2-clause-next
+count_from-self-inside-requires-2-clause-next g c = c.run-reached.ensures.tokens
+
+pub count_from-self-inside-requires-2-clause-few : goal.count_from-self-inside-requires-2-clause-few
+count_from-self-inside-requires-2-clause-few g c = c.run-reached.ensures.counts
+
+pub returns-clause-unchanged : goal.returns-clause-unchanged
+returns-clause-unchanged g c = λ all.
+    absurd (c.if-read-body.false (ap (λ (v : Reading g.row.T.Denot). tokens_read v) c.self.view_is ∙ all))
+
+pub returns-clause-words : goal.returns-clause-words
+returns-clause-words g c =
+    c.run-reached.ensures.words ∙ ap (λ (v : Reading g.row.T.Denot). g.T.Predict.words v.table) c.self.view_is
+
+pub returns-clause-depth : goal.returns-clause-depth
+returns-clause-depth g c = ap (λ (v : Reading g.row.T.Denot). v.max_depth) c.self.view_is
+
+pub returns-clause-base : goal.returns-clause-base
+returns-clause-base g c = ap (λ (v : Reading g.row.T.Denot). v.asked_before) c.self.view_is
+
+pub returns-clause-unfinished : goal.returns-clause-unfinished
+returns-clause-unfinished g c =
+    ap (λ (v : Reading g.row.T.Denot). v.finished) c.self.view_is ∙ c.requires.unfinished
+
+pub returns-clause-raised : goal.returns-clause-raised
+returns-clause-raised g c =
+    let same = ap (λ (v : Reading g.row.T.Denot). tokens_read v) c.self.view_is in
+    let tokens = c.run-reached.ensures.tokens in
+    raised_within _ _ _ _ _ (omega (arith, same, tokens))
+    (ap (λ (v : Reading g.row.T.Denot). g.T.Predict.asked v.table) c.self.view_is)
+    c.run-reached.ensures.raised
