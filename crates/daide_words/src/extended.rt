@@ -26,7 +26,7 @@ use daide_token::token::Token;
 const OTHER: usize = 77;
 
 /// Predicts by the constant table and the words of an operator, and counts its answers.
-#[derive(Debug, Drop)]
+#[derive(Drop)]
 pub struct Extended {
     words: Words,
     table: Dense,

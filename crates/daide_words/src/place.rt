@@ -18,7 +18,7 @@ use daide_grammar::predict::Move;
 use daide_grammar::symbol::Sym;
 
 /// Where the grammar has a place for words.
-#[derive(Clone, Copy, Debug, PartialEq, Eq)]
+#[derive(Clone, Copy)]
 pub(crate) enum Place {
     /// Among the presses.
     Press,
