@@ -1,14 +1,16 @@
 -- One symbol of a stack that lies in cells, and a rest on them.
-use Rattle.std.proofs.Common.{◌≡◌, ℕ, zero, suc, ◌+◌, ◌-◌, ◌%◌, ◌^◌, ◌<◌, ◌≤◌, true, false, Option, Some, None, IfSome}
+use Rattle.std.proofs.Common.{◌≡◌, ℕ, zero, suc, ◌+◌, ◌-◌, ◌%◌, ◌^◌, ◌<◌, ◌≤◌, Bool, true, false, Option, Some, None}
+use Rattle.std.proofs.Common.{IfSome}
 use Rattle.std.proofs.Common.{List, [], ◌∷◌, ◌++◌, length, get_or, take, reverse, refl, sym, ap, ◌∙◌, subst, arith}
 use Rattle.std.proofs.lemmas.List.{take-take, reverse-append, reverse-reverse, length-append, length-reverse}
 use Rattle.std.proofs.lemmas.List.{length-take-le}
+use Rattle.std.specs.List.{list_all}
 use Rattle.std.proofs.Math.Seq.{take-suc}
 use Rattle.daide_token.specs.declared.class.Class.{Class}
 use Rattle.daide_grammar.specs.declared.symbol.Sym.{Sym}
 use Rattle.daide_grammar.specs.Answers.{Answer, Take, Skip, Stop}
 use Rattle.daide_grammar.specs.Rules.{is_take, is_stop, rest_of}
-use Rattle.daide_grammar.specs.Stacks.{stack_after}
+use Rattle.daide_grammar.specs.Stacks.{stack_after, ends_asked}
 use Rattle.daide_reader.specs.Stack.{steps_at}
 
 -- a front that reaches into the second of two lists
@@ -87,6 +89,20 @@ module _ (moves : Sym → Class → Answer) (class : Class) (s : Sym) (below : L
   steps_skipped (Take rest) is takes stops = absurd (cc)
   steps_skipped Skip is takes stops = rw (is, steps_at) refl
   steps_skipped Stop is takes stops = absurd (cc)
+
+-- at a message's end: whether a symbol may be empty, and how many questions there are
+module _ (ends : Sym → Bool) (s : Sym) (below : List Sym) where
+  pub all_more : ends s ≡ true → list_all ends (s ∷ below) ≡ list_all ends below
+  all_more is = rw (is, list_all) refl
+
+  pub all_stopped : ends s ≡ false → list_all ends (s ∷ below) ≡ false
+  all_stopped is = rw (is, list_all) refl
+
+  pub ends_more : ends s ≡ true → ends_asked ends (s ∷ below) ≡ 1 + ends_asked ends below
+  ends_more is = rw (is, ends_asked) refl
+
+  pub ends_stopped : ends s ≡ false → ends_asked ends (s ∷ below) ≡ 1
+  ends_stopped is = rw (is, ends_asked) refl
 
 -- the stack after a token that is taken has room
 pub room_after : (o : Option (List Sym)) (rest cells : List Sym) (top size : ℕ) → top ≤ length cells

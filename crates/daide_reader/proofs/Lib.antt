@@ -8,3 +8,4 @@ pub mod PlainVerdicts
 pub mod SomeVerdict
 pub mod SliceLemmas
 pub mod CellLemmas
+pub mod Sizes

@@ -1,10 +1,13 @@
 -- A reader that is in locals, after one more token of a body.
 use Rattle.std.proofs.Common.{◌≡◌, ◌≢◌, ℕ, zero, suc, ◌+◌, ◌*◌, ◌/◌, ◌%◌, ◌^◌, ◌≤◌, ◌<◌, Bool, true, false, List, []}
-use Rattle.std.proofs.Common.{◌∷◌, ◌++◌, length, get_or, take, Option, None, Some, IfSome, IsSome, drop, refl, sym, ◌∙◌}
-use Rattle.std.proofs.Common.{ap, subst, arith, ◌⊎◌, append_assoc, append-nil, add-zero}
+use Rattle.std.proofs.Common.{◌∷◌, ◌++◌, length, get_or, take, Option, None, Some, IfSome, IfNone, IsSome, drop}
+use Rattle.std.proofs.Common.{reverse, refl, sym, ◌∙◌}
+use Rattle.std.proofs.Common.{ap, subst, arith, ◌⊎◌, inr, append_assoc, append-nil, add-zero}
 use Rattle.std.proofs.lemmas.List.{length-append, length-drop}
 use Rattle.std.proofs.Math.Seq.{drop-length, take-length}
 use Rattle.daide_token.specs.Token.{tokens_of}
+use Rattle.daide_token.specs.declared.class.Class.{Class}
+use Rattle.daide_grammar.specs.Answers.{Answer}
 use Rattle.daide_grammar.specs.declared.symbol.Sym.{Sym}
 use Rattle.daide_grammar.specs.declared.predict.Predict.{Ghosts}
 use Rattle.daide_grammar.specs.Words.{Words}
@@ -310,3 +313,18 @@ pub counts_past : (n : ℕ) (m : List ℕ) → n ≤ length m → (u : Option �
 counts_past n m inside u few =
     let size : n + length (drop n m) ≡ length m = rw length-drop (omega arith) in
     subst (λ (k : ℕ). IfSome (count_all u (drop n m)) (λ j. j ≤ k)) size (count_all-few u n (drop n m) few)
+
+-- the stack after a token, by the class that a table tells of it
+pub taken_at : (moves : Sym → Class → Answer) (told class : Class) (stack : List Sym)
+    (left : Option ℕ) (cells : List Sym)
+    → told ≡ class
+    → IfSome left (λ n. stack_after moves told stack ≡ Some (reverse (take n cells)))
+    → IfSome left (λ n. stack_after moves class stack ≡ Some (reverse (take n cells)))
+taken_at moves told class stack left cells same h =
+    subst (λ (k : Class). IfSome left (λ n. stack_after moves k stack ≡ Some (reverse (take n cells)))) same h
+
+pub refused_by : (why : Type 0) (moves : Sym → Class → Answer) (told class : Class) (stack : List Sym) (left : Option ℕ)
+    → told ≡ class → IfNone left (stack_after moves told stack ≡ None)
+    → IfNone left (why ⊎ (stack_after moves class stack ≡ None))
+refused_by why moves told class stack None same h = inr (ap (λ (k : Class). stack_after moves k stack) (sym same) ∙ h)
+refused_by why moves told class stack (Some n) same h = tt

@@ -1,4 +1,5 @@
-use Rattle.std.proofs.Common.{◌≡◌, ℕ, ◌+◌, ◌-◌, ◌∷◌, ◌++◌, List, Some, get_or, take, reverse, refl, sym, ap, ◌∙◌, rules, arith}
+use Rattle.std.proofs.Common.{◌≡◌, ◌≤◌, ◌%◌, ◌^◌, Option, None, IfSome, IfNone, length, subst, ℕ, ◌+◌, ◌-◌, ◌∷◌, ◌++◌}
+use Rattle.std.proofs.Common.{List, Some, get_or, take, reverse, sym, ap, ◌∙◌, rules, arith}
 use Rattle.std.proofs.lemmas.List.{reverse-append, reverse-reverse}
 use Rattle.daide_grammar.specs.declared.symbol.Sym.{Sym}
 use Rattle.daide_grammar.specs.Words.{Words}
@@ -91,7 +92,8 @@ returns-then-is_take-clause-steps g c =
     ap (λ (w : Words). g.T.Predict.moves w s c.args.class) (sym inv.words) ∙ sym c.predict-answer.ensures.answer in
     let top : reverse (take c.loop-top.left cells) ≡ s ∷ below =
     on_top cells c.loop-top.left c.index-cells-top.result (omega arith) (omega arith) in
-    let due = ap (steps_at moves c.args.class) top ∙ steps_taken moves c.args.class s below a is (sym c.is_take.ensures ∙ c.if-is_take.true) in
+    let due = ap (steps_at moves c.args.class) top
+    ∙ steps_taken moves c.args.class s below a is (sym c.is_take.ensures ∙ c.if-is_take.true) in
     asked_one _ _ _ _ c.predict-answer.ensures.counts_each_answer due inv.steps
 
 pub returns-then-is_stop-clause-refused : goal.returns-then-is_stop-clause-refused
@@ -124,5 +126,50 @@ returns-then-is_stop-clause-steps g c =
     ap (λ (w : Words). g.T.Predict.moves w s c.args.class) (sym inv.words) ∙ sym c.predict-answer.ensures.answer in
     let top : reverse (take c.loop-top.left cells) ≡ s ∷ below =
     on_top cells c.loop-top.left c.index-cells-top.result (omega arith) (omega arith) in
-    let due = ap (steps_at moves c.args.class) top ∙ steps_stopped moves c.args.class s below a is (sym c.is_stop.ensures ∙ c.if-is_stop.true) in
+    let due = ap (steps_at moves c.args.class) top
+    ∙ steps_stopped moves c.args.class s below a is (sym c.is_stop.ensures ∙ c.if-is_stop.true) in
     asked_one _ _ _ _ c.predict-answer.ensures.counts_each_answer due inv.steps
+
+-- near the end of the cells
+pub follow_slowly-requires : goal.follow_slowly-requires
+follow_slowly-requires g c =
+    let inv = c.loop-top.invariant in
+    let same = ap (λ (w : Words). stack_after (g.T.Predict.moves w) c.args.class
+    (reverse (take c.loop-top.left c.loop-top.cells))) inv.words ∙ inv.stack in (
+      search rules,
+      (
+        c.requires.size,
+        (
+          inv.count,
+          subst (λ (o : Option (List Sym)). IfSome o (λ after. length after ≤ g.row.N)) (sym same) c.requires.room,
+        ),
+      ),
+    )
+
+pub returns-clause-taken : goal.returns-clause-taken
+returns-clause-taken g c =
+    let inv = c.loop-top.invariant in
+    let same = ap (λ (w : Words). stack_after (g.T.Predict.moves w) c.args.class
+    (reverse (take c.loop-top.left c.loop-top.cells))) inv.words ∙ inv.stack in
+    subst (λ (o : Option (List Sym)). IfSome c.follow_slowly.result
+    (λ left. o ≡ Some (reverse (take left c.follow_slowly.new.cells)))) same c.follow_slowly.ensures.taken
+
+pub returns-clause-inside : goal.returns-clause-inside
+returns-clause-inside g c = c.follow_slowly.ensures.inside
+
+pub returns-clause-refused : goal.returns-clause-refused
+returns-clause-refused g c =
+    let inv = c.loop-top.invariant in
+    let same = ap (λ (w : Words). stack_after (g.T.Predict.moves w) c.args.class
+    (reverse (take c.loop-top.left c.loop-top.cells))) inv.words ∙ inv.stack in
+    subst (λ (o : Option (List Sym)). IfNone c.follow_slowly.result (o ≡ None)) same c.follow_slowly.ensures.refused
+
+pub returns-clause-words : goal.returns-clause-words
+returns-clause-words g c = c.follow_slowly.ensures.words ∙ c.loop-top.invariant.words
+
+pub returns-clause-steps : goal.returns-clause-steps
+returns-clause-steps g c =
+    let inv = c.loop-top.invariant in
+    c.follow_slowly.ensures.steps
+    ∙ (ap (λ (w : Words). (g.T.Predict.asked c.loop-top.table + steps_at (g.T.Predict.moves w) c.args.class
+    (reverse (take c.loop-top.left c.loop-top.cells))) % 2 ^ 64) inv.words ∙ inv.steps)

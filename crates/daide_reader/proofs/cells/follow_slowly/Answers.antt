@@ -1,4 +1,4 @@
-use Rattle.std.proofs.Common.{◌≡◌, ℕ, ◌+◌, ◌-◌, ◌%◌, ◌^◌, ◌∷◌, List, Some, get_or, take, reverse, refl, sym, ap, ◌∙◌, rules, arith}
+use Rattle.std.proofs.Common.{◌≡◌, ℕ, ◌-◌, ◌∷◌, List, Some, get_or, take, reverse, sym, ap, ◌∙◌, rules, arith}
 use Rattle.daide_grammar.specs.declared.symbol.Sym.{Sym}
 use Rattle.daide_grammar.specs.Words.{Words}
 use Rattle.daide_grammar.specs.Rules.{rest_of}
@@ -102,7 +102,8 @@ returns-then-is_take-clause-steps g c =
     ap (λ (w : Words). g.T.Predict.moves w s c.args.class) (sym inv.words) ∙ sym c.predict-answer.ensures.answer in
     let top : reverse (take c.loop-left.left cells) ≡ s ∷ below =
     on_top cells c.loop-left.left c.index-cells-left.result (omega arith) (omega arith) in
-    let due = ap (steps_at moves c.args.class) top ∙ steps_taken moves c.args.class s below a is (sym c.is_take.ensures ∙ c.if-is_take.true) in
+    let due = ap (steps_at moves c.args.class) top
+    ∙ steps_taken moves c.args.class s below a is (sym c.is_take.ensures ∙ c.if-is_take.true) in
     asked_one _ _ _ _ c.predict-answer.ensures.counts_each_answer due inv.steps
 
 pub returns-then-is_stop-clause-refused : goal.returns-then-is_stop-clause-refused
@@ -135,7 +136,8 @@ returns-then-is_stop-clause-steps g c =
     ap (λ (w : Words). g.T.Predict.moves w s c.args.class) (sym inv.words) ∙ sym c.predict-answer.ensures.answer in
     let top : reverse (take c.loop-left.left cells) ≡ s ∷ below =
     on_top cells c.loop-left.left c.index-cells-left.result (omega arith) (omega arith) in
-    let due = ap (steps_at moves c.args.class) top ∙ steps_stopped moves c.args.class s below a is (sym c.is_stop.ensures ∙ c.if-is_stop.true) in
+    let due = ap (steps_at moves c.args.class) top
+    ∙ steps_stopped moves c.args.class s below a is (sym c.is_stop.ensures ∙ c.if-is_stop.true) in
     asked_one _ _ _ _ c.predict-answer.ensures.counts_each_answer due inv.steps
 
 pub returns-clause-refused : goal.returns-clause-refused

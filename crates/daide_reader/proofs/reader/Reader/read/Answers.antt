@@ -20,7 +20,8 @@ returns-then-read-body-clause-stands_after g c = λ words first max_depth h.
     (c.if-read-body.true ∙ sym (tokens_of-length c.args.body.now)) h
 
 pub returns-then-read-body-clause-tokens : goal.returns-then-read-body-clause-tokens
-returns-then-read-body-clause-tokens g c = sym (ap (λ (v : Reading g.row.T.Denot). tokens_read v) c.self.view_is) ∙ c.if-read-body.true
+returns-then-read-body-clause-tokens g c =
+    sym (ap (λ (v : Reading g.row.T.Denot). tokens_read v) c.self.view_is) ∙ c.if-read-body.true
 
 pub returns-then-read-body-clause-raised : goal.returns-then-read-body-clause-raised
 returns-then-read-body-clause-raised g c = raised_none _ _ refl
