@@ -7,6 +7,7 @@ pub mod code;
 pub mod cutter;
 pub mod head;
 pub mod initial_message;
+pub mod kind;
 pub mod laws;
 pub mod side;
 
