@@ -12,15 +12,17 @@ use Rattle.daide_frame.proofs.ListLemmas.{eqb_same}
 use Rattle.daide_machine.specs.Machine.{SessionState, Effect, Runs, opening}
 use Rattle.daide_session.specs.declared.config.Config.{Config}
 use Rattle.daide_session.specs.Session.{limits_with}
-use Rattle.daide_log.specs.declared.fault.LogFault.{LogFault}
+use Rattle.daide_lines.specs.declared.fault.LogFault.{LogFault}
 use Rattle.daide_log.specs.declared.heading.Version.{Version}
 use Rattle.daide_log.specs.declared.heading.Version.TheVariants.{Single, Match}
-use Rattle.daide_log.specs.declared.match_line.MatchConfig.{MatchConfig}
+use Rattle.daide_log.specs.declared.config_line.MatchConfig.{MatchConfig}
 use Rattle.daide_log.specs.declared.report.Summary.{Summary}
-use Rattle.daide_log.specs.LogLine.{LogEvent, Traffic, EndOf, TimeOver, Silence, Parted, is_comment, event_of_line}
-use Rattle.daide_log.specs.LogLine.{plain_number, parted_at_space, config_of_line}
-use Rattle.daide_log.specs.MatchLine.{MatchEvent, Of, Quiet, loud, within, event_of_session, match_event_of_parts}
-use Rattle.daide_log.specs.MatchLine.{match_event_of_line, match_config_of_line}
+use Rattle.daide_lines.specs.LogLine.{LogEvent, Traffic, EndOf, TimeOver, Silence, Parted, is_comment, event_of_line}
+use Rattle.daide_lines.specs.LogLine.{plain_number, parted_at_space}
+use Rattle.daide_log.specs.ConfigLine.{config_of_line}
+use Rattle.daide_lines.specs.MatchLine.{MatchEvent, Of, Quiet, loud, within, event_of_session, match_event_of_parts}
+use Rattle.daide_lines.specs.MatchLine.{match_event_of_line}
+use Rattle.daide_log.specs.ConfigLine.{match_config_of_line}
 use Rattle.daide_log.specs.Heading.{Head, Heading, Unnamed, Named, Headed, alone, heading_after}
 use Rattle.daide_log.specs.Report.{Entry, events_of, side_of, entries_of, lines_of, counted_all, nothing_counted, summary_line}
 use Rattle.daide_log.specs.Log.{Stage, Opening, Playing, begun, stage_at, source_in, IsPlayed, GoesOn, Reports, ReportsAll, IsReport}

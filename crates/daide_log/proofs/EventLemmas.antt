@@ -10,18 +10,19 @@ use Rattle.daide_machine.specs.Wires.{Gateway, IsNew}
 use Rattle.daide_log.specs.declared.heading.Version.{Version}
 use Rattle.daide_log.specs.declared.report.Source.{Source}
 use Rattle.daide_log.specs.declared.report.Summary.{Summary}
-use Rattle.daide_log.specs.declared.lines.Found.{Found}
-use Rattle.daide_log.specs.declared.lines.Found.TheVariants.{Line, Last, End}
-use Rattle.daide_log.specs.declared.fault.LogFault.{LogFault}
-use Rattle.daide_log.specs.declared.fault.LogFault.TheVariants as Faults
-use Rattle.daide_log.specs.LogLine.{LogEvent}
-use Rattle.daide_log.specs.MatchLine.{Of, Quiet}
+use Rattle.daide_lines.specs.declared.lines.Found.{Found}
+use Rattle.daide_lines.specs.declared.lines.Found.TheVariants.{Line, Last, End}
+use Rattle.daide_lines.specs.declared.fault.LogFault.{LogFault}
+use Rattle.daide_lines.specs.declared.fault.LogFault.TheVariants as Faults
+use Rattle.daide_lines.specs.LogLine.{LogEvent}
+use Rattle.daide_lines.specs.MatchLine.{Of, Quiet}
 use Rattle.daide_log.specs.Report.{Entry, events_of, side_of, entries_of, lines_of, counted_all, nothing_counted, summary_line}
-use Rattle.daide_log.specs.Log.{Playing, event_in, source_in, most_lines}
-use Rattle.daide_log.specs.Lines.{IsFound, is_end, is_last}
+use Rattle.daide_lines.specs.LogLine.{most_lines}
+use Rattle.daide_log.specs.Log.{Playing, event_in, source_in}
+use Rattle.daide_lines.specs.Lines.{IsFound, is_end, is_last}
 use Rattle.daide_log.specs.Told.{HasRoom, IsMoreBy, IsIdle, Tells}
 use Rattle.daide_log.specs.Progress.{HasRead, IsFaultOf, IsFaultAfter, Reported, IsPlaying, Judges, states_of}
-use Rattle.daide_log.proofs.PageLemmas.{appends_and_keeps}
+use Rattle.daide_lines.proofs.PageLemmas.{appends_and_keeps}
 use Rattle.daide_log.proofs.PlayLemmas.{appends_more, appends_none, lines_of-append, counted_all-append}
 use Rattle.daide_log.proofs.LogLemmas.{line_read, last_read, end_read, bad_line, bad_last, fault_found, fault_after, finished}
 

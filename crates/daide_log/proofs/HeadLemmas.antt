@@ -3,10 +3,10 @@ use Rattle.std.proofs.Common.{◌≡◌, ℕ, ◌+◌, ◌≤◌, Bool, true, fa
 use Rattle.std.proofs.Common.{refl, sym, ap, subst, arith, ◌≢◌, OnOk, IfErr, IfSome}
 use Rattle.std.specs.Prelude.{option_map, not}
 use Rattle.std.proofs.lemmas.Option.{same_Some}
-use Rattle.daide_log.specs.declared.lines.Found.{Found}
-use Rattle.daide_log.specs.declared.lines.Found.TheVariants.{Line, Last, End}
-use Rattle.daide_log.specs.declared.fault.LogFault.{LogFault}
-use Rattle.daide_log.specs.declared.fault.LogFault.TheVariants as Faults
+use Rattle.daide_lines.specs.declared.lines.Found.{Found}
+use Rattle.daide_lines.specs.declared.lines.Found.TheVariants.{Line, Last, End}
+use Rattle.daide_lines.specs.declared.fault.LogFault.{LogFault}
+use Rattle.daide_lines.specs.declared.fault.LogFault.TheVariants as Faults
 use Rattle.daide_log.specs.declared.opening.Opened.{Opened}
 use Rattle.daide_log.specs.declared.opening.Step.{Step}
 use Rattle.daide_log.specs.declared.opening.Step.TheVariants.{More}
@@ -16,8 +16,9 @@ use Rattle.daide_log.specs.declared.heading.Heading.TheVariants as Variants
 use Rattle.daide_log.specs.Heading.{Headed, HasSessions, heading_after, is_whole}
 use Rattle.daide_log.specs.Held.{head_of, heading_of, IsHeld, whole, further, at_last, after_line}
 use Rattle.std.specs.Io.KnownBytes.{Keeps}
-use Rattle.daide_log.specs.Log.{Opening, stage_at, begun, most_lines}
-use Rattle.daide_log.specs.Lines.{IsFound}
+use Rattle.daide_lines.specs.LogLine.{most_lines}
+use Rattle.daide_log.specs.Log.{Opening, stage_at, begun}
+use Rattle.daide_lines.specs.Lines.{IsFound}
 use Rattle.daide_log.specs.Progress.{HasRead, HasReadAll, IsStep, IsOpened, IsOpenedBy, IsFaultAfter}
 use Rattle.daide_log.proofs.LogLemmas.{line_read, last_read, end_read, bad_line, bad_last, ends_early, fault_found}
 

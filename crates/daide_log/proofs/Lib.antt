@@ -1,12 +1,9 @@
-pub mod PartedLemmas
 pub mod OneMove
-pub mod PageLemmas
 pub mod ReportLemmas
+pub mod Played
 pub mod StandardFacts
 pub mod MatchFacts
 pub mod PlayLemmas
-pub mod LineLemmas
-pub mod DigitLemmas
 pub mod LogLemmas
 pub mod HeadLemmas
 pub mod EventLemmas

@@ -5,16 +5,17 @@ use Rattle.std.specs.Io.KnownBytes.{Consumes, Keeps, Appends, IsAtEnd, append_kn
 use Rattle.daide_machine.specs.Machine.{SessionState}
 use Rattle.daide_log.specs.declared.heading.Version.{Version}
 use Rattle.daide_log.specs.declared.report.Summary.{Summary}
-use Rattle.daide_log.specs.declared.lines.Found.TheVariants.{Line, Last, End}
-use Rattle.daide_log.specs.declared.fault.LogFault.{LogFault}
-use Rattle.daide_log.specs.declared.fault.LogFault.TheVariants as Faults
+use Rattle.daide_lines.specs.declared.lines.Found.TheVariants.{Line, Last, End}
+use Rattle.daide_lines.specs.declared.fault.LogFault.{LogFault}
+use Rattle.daide_lines.specs.declared.fault.LogFault.TheVariants as Faults
 use Rattle.daide_log.specs.Heading.{Unnamed}
 use Rattle.daide_log.specs.Report.{Entry, lines_of, counted_all, nothing_counted, summary_line}
-use Rattle.daide_log.specs.Log.{Stage, Opening, Playing, GoesOn, IsBad, IsOpening, Reports, ReportsAll, IsReport, longest_line}
-use Rattle.daide_log.specs.Lines.{LooksAt, IsFound, block_size}
+use Rattle.daide_lines.specs.LogLine.{longest_line}
+use Rattle.daide_log.specs.Log.{Stage, Opening, Playing, GoesOn, IsBad, IsOpening, Reports, ReportsAll, IsReport}
+use Rattle.daide_lines.specs.Lines.{LooksAt, IsFound, block_size}
 use Rattle.daide_log.specs.Progress.{HasRead, HasReadAll, StopsBehind, IsFaultOf, IsFaultAfter, Reported}
-use Rattle.daide_log.proofs.LineLemmas.{consumes_more, consumes_none}
-use Rattle.daide_log.proofs.PageLemmas.{keeps_more, keeps_appends, keeps_and_appends, appends_and_keeps, none_held}
+use Rattle.daide_lines.proofs.LineLemmas.{consumes_more, consumes_none}
+use Rattle.daide_lines.proofs.PageLemmas.{keeps_more, keeps_appends, keeps_and_appends, appends_and_keeps, none_held}
 use Rattle.daide_log.proofs.PlayLemmas.{appends_more}
 
 -- ---- what was looked at

@@ -1,21 +1,16 @@
 -- Lines of the log of a match and of its report, computed from the definitions, so that a wrong one does not check.
 use Rattle.std.proofs.Common.{◌≡◌, [], ◌∷◌, ◌++◌, Some, None, refl, codes}
 use Rattle.std.specs.Fmt.{digits}
-use Rattle.hex.specs.Hex.{decode_pairs}
 use Rattle.daide_frame.specs.declared.side.Side.TheVariants.{Bot, Server}
 use Rattle.daide_frame.specs.declared.head.Kind.TheVariants.{Im}
-use Rattle.daide_grammar.specs.declared.level.Level.TheVariants.{L20}
 use Rattle.daide_machine.specs.declared.note.Deed.TheVariants.{Relayed}
 use Rattle.daide_machine.specs.declared.note.Note.TheVariants.{Nothing, Frame}
 use Rattle.daide_session.specs.declared.config.Config.{Config}
 use Rattle.daide_token.specs.Names.{name_of, token_named, names}
-use Rattle.daide_words.specs.declared.slot.Slot.TheVariants.{Press}
-use Rattle.daide_words.specs.declared.operand.Operand.TheVariants.{Power}
-use Rattle.daide_words.specs.declared.word.Word.{Word}
 use Rattle.daide_log.specs.declared.heading.Version.TheVariants.{Single, Match}
-use Rattle.daide_log.specs.LogLine.{EndOf, TimeOver, Traffic, parted_at_space, plain_number, event_of_line}
-use Rattle.daide_log.specs.MatchLine.{Of, Quiet, match_config_of_line, match_event_of_line}
-use Rattle.daide_log.specs.WordLine.{word_of_line}
+use Rattle.daide_lines.specs.LogLine.{parted_at_space, plain_number}
+use Rattle.daide_lines.proofs.LineFacts.{xyz, gof}
+use Rattle.daide_log.specs.ConfigLine.{match_config_of_line}
 use Rattle.daide_log.specs.Heading.{version_of, with_word}
 use Rattle.daide_log.specs.Report.{source_text, told_text, move_line}
 use Rattle.daide_log.specs.Laws.{own_line}
@@ -46,42 +41,13 @@ sessions_and_words = (refl, refl, refl, refl, refl, refl, refl, refl, refl, refl
 
 -- ---- words
 
-unfoldable pub xyz : Word
-xyz = record { name = codes "XYZ"; code = 0x4A40; slot = Press; level = L20; operand = Power }
-
-gof : Word
-gof = record { name = codes "GOF"; code = 0x4A40; slot = Press; level = L20; operand = Power }
-
-words : (word_of_line (codes "word XYZ 4A40 press 20 power") ≡ Some xyz)
-    × (word_of_line (codes "word XYZ 4a40 press 20 power") ≡ Some xyz)
-    × (word_of_line (codes "word GOF 4A40 press 20 power") ≡ Some gof)
-    × (word_of_line (codes "word XYZ 4A4 press 20 power") ≡ None)
-    × (word_of_line (codes "word XYZ 4A40 pres 20 power") ≡ None)
-    × (word_of_line (codes "word XYZ 4A40 press 020 power") ≡ None)
-    × (word_of_line (codes "word XYZ 4A40 press 25 power") ≡ None)
-    × (word_of_line (codes "word XYZ 4A40 press 20 power ") ≡ None)
-    × (word_of_line (codes "word XY 4A40 press 20 power") ≡ None)
-unfolding word_of_line parted_at_space plain_number decode_pairs xyz gof
-words = (refl, refl, refl, refl, refl, refl, refl, refl, refl)
-
 -- a name of the protocol's is no operator's, and a word stands once
 accepted : (with_word [] (Some xyz) ≡ Some (xyz ∷ [])) × (with_word [] (Some gof) ≡ None)
     × (with_word (xyz ∷ []) (Some xyz) ≡ None)
 unfolding name_of token_named names xyz gof
 accepted = (refl, refl, refl)
 
--- ---- events
-
-events : (match_event_of_line 2 (codes "2 timer") ≡ Some (Of 2 TimeOver))
-    × (match_event_of_line 2 (codes "1 end bot") ≡ Some (Of 1 (EndOf Bot)))
-    × (match_event_of_line 2 (codes "1 server 0100") ≡ Some (Of 1 (Traffic Server (1 ∷ 0 ∷ []))))
-    × (match_event_of_line 2 [] ≡ Some Quiet) × (match_event_of_line 2 (codes "# 3 timer") ≡ Some Quiet)
-    × (match_event_of_line 2 (codes "3 timer") ≡ None) × (match_event_of_line 2 (codes "0 timer") ≡ None)
-    × (match_event_of_line 2 (codes "01 timer") ≡ None) × (match_event_of_line 2 (codes "1 ") ≡ None)
-    × (match_event_of_line 2 (codes "1 #") ≡ None) × (match_event_of_line 2 (codes "1") ≡ None)
-    × (match_event_of_line 2 (codes "timer") ≡ None) × (match_event_of_line 2 (codes "1  timer") ≡ None)
-unfolding match_event_of_line parted_at_space plain_number event_of_line decode_pairs
-events = (refl, refl, refl, refl, refl, refl, refl, refl, refl, refl, refl, refl, refl)
+-- ---- lines
 
 -- what is a session's own
 own_lines : (own_line 2 (codes "2 timer") ≡ codes "timer") × (own_line 2 (codes "12 timer") ≡ codes "#")

@@ -1,8 +1,7 @@
 -- A whole log of a match in which no message is judged, computed from the definitions, so that a wrong one does not
 -- check. The tests have logs with messages.
-use Rattle.std.proofs.Common.{◌≡◌, ℕ, ◌+◌, ◌-◌, ◌<◌, ◌≤◌, true, List, [], ◌∷◌, ◌++◌, length, set, codes}
+use Rattle.std.proofs.Common.{◌≡◌, ℕ, List, [], ◌∷◌, ◌++◌, codes}
 use Rattle.std.proofs.Common.{Some, Ok, Err, refl, arith}
-use Rattle.std.specs.Prelude.{slice_get}
 use Rattle.std.specs.Fmt.{digits}
 use Rattle.hex.specs.Hex.{decode_pairs, encode_with}
 use Rattle.daide_frame.specs.declared.side.Side.TheVariants.{Bot}
@@ -10,21 +9,28 @@ use Rattle.daide_frame.specs.Head.{head_of}
 use Rattle.daide_frame.specs.InitialMessage.{im_of}
 use Rattle.daide_frame.specs.Frames.{is_alien, first_items, last_items}
 use Rattle.daide_token.specs.Names.{name_of, token_named, names}
-use Rattle.daide_machine.specs.Machine.{SessionState, opening}
+use Rattle.daide_frame.specs.declared.head.Kind.TheVariants.{Im}
+use Rattle.daide_frame.specs.declared.code.Code.TheVariants.{ImTimeout}
+use Rattle.daide_machine.specs.declared.note.Deed.TheVariants.{Relayed}
+use Rattle.daide_machine.specs.declared.note.Note.TheVariants.{Frame, Fault}
+use Rattle.daide_machine.specs.declared.phase.Phase.{Phase}
+use Rattle.daide_machine.specs.declared.phase.Phase.TheVariants.{WaitIm, WaitRm, Over}
+use Rattle.daide_machine.specs.Machine.{SessionState}
 use Rattle.daide_session.specs.Session.{limits_with}
 use Rattle.daide_words.specs.declared.word.Word.{Word}
-use Rattle.daide_log.specs.declared.fault.LogFault.TheVariants.{BadLine}
+use Rattle.daide_lines.specs.declared.fault.LogFault.TheVariants.{BadLine}
 use Rattle.daide_log.specs.declared.heading.Version.TheVariants.{Match}
-use Rattle.daide_log.specs.declared.match_line.MatchConfig.{MatchConfig}
-use Rattle.daide_log.specs.LogLine.{LogEvent, Traffic, TimeOver, without_cr, parted_at_space, plain_number, event_of_line}
-use Rattle.daide_log.specs.MatchLine.{Of, match_config_of_line, match_event_of_line}
-use Rattle.daide_log.specs.WordLine.{word_of_line}
+use Rattle.daide_lines.specs.LogLine.{LogEvent, Traffic, TimeOver, parted_at_space, plain_number, event_of_line}
+use Rattle.daide_lines.specs.MatchLine.{match_event_of_line}
+use Rattle.daide_log.specs.ConfigLine.{match_config_of_line}
+use Rattle.daide_lines.specs.WordLine.{word_of_line}
 use Rattle.daide_log.specs.Heading.{Head, Unnamed, Named, Headed}
-use Rattle.daide_log.specs.Report.{Entry, source_text, told_text, move_line, summary_line, entries_of, lines_of, events_of}
-use Rattle.daide_log.specs.Report.{side_of, counted_all, nothing_counted}
+use Rattle.daide_log.specs.Report.{Entry, source_text, told_text, move_line, summary_line, events_of}
 use Rattle.daide_log.specs.Log.{Opening, Playing, source_in, Reports, ReportsAll, IsReport}
-use Rattle.daide_log.proofs.MatchFacts.{limits, xyz}
-use Rattle.daide_log.proofs.StandardFacts.{quiet_state, quiet_moves, AsksNothing, quiet_run, has_no_feed, unbroken}
+use Rattle.daide_lines.proofs.LineFacts.{xyz}
+use Rattle.daide_log.proofs.MatchFacts.{limits}
+use Rattle.daide_log.proofs.Played.{Played, state_at, played, verdict_on, entries_by}
+use Rattle.daide_log.proofs.Played.{has_no_feed, unbroken, line_played}
 
 -- ---- the head: two sessions and one word
 
@@ -41,8 +47,9 @@ head_with words = record {
   words = words;
 }
 
-first : SessionState
-first = opening (limits_with limits (xyz ∷ []))
+-- a session of these limits, with the word, in a phase
+abbrev session_in : Phase → SessionState
+session_in phase = state_at (limits_with limits (xyz ∷ [])) phase
 
 named : Reports (codes "daide-log 2" ++ 10 ∷ []) 1 [] (Opening (Named Match))
 unfolding has_no_feed
@@ -57,44 +64,16 @@ headed =
     (Opening (Headed (head_with []))) (omega arith) (unbroken (codes "config 60 1024 16 2 1") refl) (omega arith)
     (Headed (head_with []), refl, refl, refl)
 
-opened : Reports head_lines 3 [] (Playing Match (first ∷ first ∷ []))
-unfolding first_lines head_lines head_with first limits xyz word_of_line parted_at_space plain_number decode_pairs
+opened : Reports head_lines 3 [] (Playing Match (session_in WaitIm ∷ session_in WaitIm ∷ []))
+unfolding first_lines head_lines head_with limits xyz word_of_line parted_at_space plain_number decode_pairs
     name_of token_named names has_no_feed
 opened =
     Reports.line first_lines 2 [] (Opening (Headed (head_with []))) headed (codes "word XYZ 4A40 press 20 power") []
-    (Playing Match (first ∷ first ∷ [])) (omega arith) (unbroken (codes "word XYZ 4A40 press 20 power") refl)
-    (omega arith)
+    (Playing Match (session_in WaitIm ∷ session_in WaitIm ∷ [])) (omega arith)
+    (unbroken (codes "word XYZ 4A40 press 20 power") refl) (omega arith)
     (Headed (head_with (xyz ∷ [])), refl, refl, refl)
 
 -- ---- its lines
-
--- one line more, by which no message is judged
-quiet_line : (bytes : List ℕ) (number : ℕ) (told : List Entry) (states : List SessionState) →
-    Reports bytes number told (Playing Match states) → (line : List ℕ) (session : ℕ) (event : LogEvent)
-    (state : SessionState) → has_no_feed line ≡ true → length line ≤ 2100 → number < 1000000 →
-    match_event_of_line (length states) (without_cr line) ≡ Some (Of session event) →
-    slice_get states (session - 1) ≡ Some state → AsksNothing state (events_of event) →
-    Reports (bytes ++ line ++ 10 ∷ []) (number + 1)
-    (told ++ entries_of (source_in Match (number + 1) session) (side_of event) (quiet_moves state (events_of event)))
-    (Playing Match (set states (session - 1) (quiet_state state (events_of event))))
-quiet_line bytes number told states reports line session event state whole short few is_event place quiet =
-    Reports.line bytes number told (Playing Match states) reports line
-    (entries_of (source_in Match (number + 1) session) (side_of event) (quiet_moves state (events_of event)))
-    (Playing Match (set states (session - 1) (quiet_state state (events_of event)))) few (unbroken line whole) short (
-      Of session event,
-      is_event,
-      set states (session - 1) (quiet_state state (events_of event)),
-      (
-        state,
-        quiet_state state (events_of event),
-        quiet_moves state (events_of event),
-        place,
-        quiet_run state (events_of event) quiet,
-        refl,
-        refl,
-      ),
-      refl,
-    )
 
 im : LogEvent
 im = Traffic Bot (0 ∷ 0 ∷ 0 ∷ 4 ∷ 0 ∷ 1 ∷ 218 ∷ 16 ∷ [])
@@ -102,41 +81,46 @@ im = Traffic Bot (0 ∷ 0 ∷ 0 ∷ 4 ∷ 0 ∷ 1 ∷ 218 ∷ 16 ∷ [])
 after_im : List ℕ
 after_im = head_lines ++ codes "1 bot 000000040001DA10" ++ 10 ∷ []
 
-im_told : List Entry
-im_told = [] ++ entries_of (source_in Match 4 1) Bot (quiet_moves first (events_of im))
+im_passes : Played
+im_passes = record { state = session_in WaitRm; told = Frame (record { kind = Im; len = 4 }) Relayed ∷ [] }
 
-im_relayed : Reports after_im 4 im_told (Playing Match (quiet_state first (events_of im) ∷ first ∷ []))
-unfolding im im_told after_im first limits match_event_of_line parted_at_space plain_number event_of_line decode_pairs
-    quiet_state quiet_moves AsksNothing has_no_feed last_items first_items head_of is_alien im_of
+im_played : played (events_of im) (session_in WaitIm) ≡ Some im_passes
+unfolding im im_passes limits xyz played verdict_on last_items first_items head_of is_alien im_of
+im_played = refl
+
+im_told : List Entry
+im_told = entries_by (source_in Match 4 1) Bot im_passes.told
+
+im_relayed : Reports after_im 4 im_told (Playing Match (session_in WaitRm ∷ session_in WaitIm ∷ []))
+unfolding im im_told im_passes after_im match_event_of_line parted_at_space plain_number event_of_line decode_pairs
+    has_no_feed
 im_relayed =
-    quiet_line head_lines 3 [] (first ∷ first ∷ []) opened (codes "1 bot 000000040001DA10") 1 im first refl (omega arith)
-    (omega arith) refl refl
-    (refl, (refl, (refl, (refl, (refl, (refl, (refl, (refl, tt))))))))
+    line_played head_lines 3 [] Match (session_in WaitIm ∷ session_in WaitIm ∷ []) opened
+    (codes "1 bot 000000040001DA10") 1 im (session_in WaitIm) im_passes refl (omega arith) (omega arith) refl refl
+    im_played
 
 -- the initial message of the first session is passed on, and the second has none
 two_sessions : IsReport (after_im ++ codes "2 timer" ++ 10 ∷ [])
     (((codes "4 1 bot IM 4 relay" ++ 10 ∷ []) ++ codes "5 2 bot fault 01" ++ 10 ∷ [])
     ++ codes "relayed 1 prn 0 huh 0 faults 1" ++ 10 ∷ [])
     (Ok (record { relayed = 1; prn = 0; huh = 0; faults = 1 }))
-unfolding im im_told first limits match_event_of_line parted_at_space plain_number event_of_line move_line source_text
-    told_text summary_line digits encode_with decode_pairs quiet_state quiet_moves AsksNothing has_no_feed last_items
-    first_items head_of is_alien im_of
+unfolding im_told im_passes match_event_of_line parted_at_space plain_number event_of_line move_line source_text
+    told_text summary_line digits encode_with entries_by played verdict_on has_no_feed
 two_sessions =
-    let states : List SessionState = quiet_state first (events_of im) ∷ first ∷ [] in
-    let told : List Entry = im_told ++ entries_of (source_in Match 5 2) Bot (quiet_moves first (events_of TimeOver)) in
-    IsReport.whole (after_im ++ codes "2 timer" ++ 10 ∷ []) 5 told Match
-    (set states 1 (quiet_state first (events_of TimeOver)))
-    (ReportsAll.ended (after_im ++ codes "2 timer" ++ 10 ∷ []) 5 told
-    (Playing Match (set states 1 (quiet_state first (events_of TimeOver))))
-    (quiet_line after_im 4 im_told states im_relayed (codes "2 timer") 2 TimeOver first refl (omega arith) (omega arith)
-    refl refl (refl, tt)))
+    let late : Played = record { state = session_in Over; told = Fault ImTimeout ∷ [] } in
+    let states : List SessionState = session_in WaitRm ∷ session_in Over ∷ [] in
+    let told : List Entry = im_told ++ entries_by (source_in Match 5 2) Bot late.told in
+    IsReport.whole (after_im ++ codes "2 timer" ++ 10 ∷ []) 5 told Match states
+    (ReportsAll.ended (after_im ++ codes "2 timer" ++ 10 ∷ []) 5 told (Playing Match states)
+    (line_played after_im 4 im_told Match (session_in WaitRm ∷ session_in WaitIm ∷ []) im_relayed (codes "2 timer") 2
+    TimeOver (session_in WaitIm) late refl (omega arith) (omega arith) refl refl refl))
 
 -- a third session there is none, and the report of the lines before is out
 third_session : IsReport (after_im ++ codes "3 timer" ++ 10 ∷ []) (codes "4 1 bot IM 4 relay" ++ 10 ∷ []) (Err (BadLine 5))
-unfolding im im_told first limits match_event_of_line parted_at_space plain_number move_line source_text told_text
-    digits quiet_state quiet_moves has_no_feed last_items first_items head_of is_alien im_of
+unfolding im_told im_passes match_event_of_line parted_at_space plain_number move_line source_text told_text digits
+    entries_by has_no_feed
 third_session =
-    IsReport.bad after_im 4 im_told (Playing Match (quiet_state first (events_of im) ∷ first ∷ [])) im_relayed
+    IsReport.bad after_im 4 im_told (Playing Match (session_in WaitRm ∷ session_in WaitIm ∷ [])) im_relayed
     (codes "3 timer") [] (omega arith) (unbroken (codes "3 timer") refl) (omega arith) refl
 
 -- the word is missing

@@ -1,10 +1,11 @@
 -- A log line by line.
 use Rattle.std.proofs.Common.{◌≡◌, ℕ, ◌+◌, ◌<◌, ◌≤◌, inl, inr, List, [], ◌∷◌, ◌++◌, length}
 use Rattle.std.proofs.Common.{refl, sym, ap, ◌∙◌, subst, arith, append-nil, append_assoc, length-append}
-use Rattle.daide_log.specs.LogLine.{without_cr}
+use Rattle.daide_lines.specs.LogLine.{without_cr}
 use Rattle.daide_log.specs.Heading.{Unnamed}
 use Rattle.daide_log.specs.Report.{Entry}
-use Rattle.daide_log.specs.Log.{Stage, Opening, GoesOn, Reports, ReportsAll, IsUnbroken, most_lines}
+use Rattle.daide_lines.specs.LogLine.{IsUnbroken, most_lines}
+use Rattle.daide_log.specs.Log.{Stage, Opening, GoesOn, Reports, ReportsAll}
 use Rattle.daide_log.specs.Laws.{IsLines}
 
 -- by these lines, behind so many, a log goes on, with these moves told

@@ -7,10 +7,11 @@ use Rattle.daide_words.specs.Accepted.{word_fault}
 use Rattle.daide_session.specs.declared.config.Config.{Config}
 use Rattle.daide_log.specs.declared.heading.Version.{Version}
 use Rattle.daide_log.specs.declared.heading.Version.TheVariants.{Single, Match}
-use Rattle.daide_log.specs.declared.match_line.MatchConfig.{MatchConfig}
-use Rattle.daide_log.specs.LogLine.{is_name, config_of_line}
-use Rattle.daide_log.specs.MatchLine.{is_match_name, match_config_of_line}
-use Rattle.daide_log.specs.WordLine.{word_of_line}
+use Rattle.daide_log.specs.declared.config_line.MatchConfig.{MatchConfig}
+use Rattle.daide_lines.specs.LogLine.{is_name}
+use Rattle.daide_lines.specs.MatchLine.{is_match_name}
+use Rattle.daide_lines.specs.WordLine.{word_of_line}
+use Rattle.daide_log.specs.ConfigLine.{config_of_line, match_config_of_line}
 
 -- ---- what a head sets
 

@@ -1,10 +1,10 @@
 -- What the code holds of a log's head, and what it knows behind a line of it. (own)
 use Rattle.std.specs.Prelude.{⊤, ℕ, ◌+◌, true, false, if◌then◌else◌, Option, Some, None, Result, Ok, Err}
 use Rattle.daide_words.specs.Words.{words_of}
-use Rattle.daide_log.specs.declared.fault.LogFault.{LogFault}
-use Rattle.daide_log.specs.declared.fault.LogFault.TheVariants.{BadLine}
-use Rattle.daide_log.specs.declared.lines.Found.{Found}
-use Rattle.daide_log.specs.declared.lines.Found.TheVariants.{Line, Last, End}
+use Rattle.daide_lines.specs.declared.fault.LogFault.{LogFault}
+use Rattle.daide_lines.specs.declared.fault.LogFault.TheVariants.{BadLine}
+use Rattle.daide_lines.specs.declared.lines.Found.{Found}
+use Rattle.daide_lines.specs.declared.lines.Found.TheVariants.{Line, Last, End}
 use Rattle.daide_log.specs.declared.heading.Head as heads
 use Rattle.daide_log.specs.declared.heading.Heading as headings
 use Rattle.daide_log.specs.declared.heading.Heading.TheVariants as Variants

@@ -1,13 +1,8 @@
-pub mod LogLine
-pub mod Digits
-pub mod MatchLine
-pub mod WordLine
+pub mod ConfigLine
 pub mod Heading
 pub mod Held
 pub mod Report
 pub mod Told
-pub mod MatchTold
 pub mod Log
-pub mod Lines
 pub mod Progress
 pub mod Laws

@@ -1,33 +1,20 @@
 -- The report of a log: what is written for its lines, each judged by its session as the lines before it left that, with
 -- each answer taken at once. docs/FORMATS.md, "The log" and "The log, version 2". (own)
-use Rattle.std.specs.Prelude.{◌≡◌, ◌≢◌, ⊤, ℕ, ◌+◌, ◌-◌, ◌<◌, ◌≤◌, if◌then◌else◌, List, [], ◌∷◌, ◌++◌, length}
+use Rattle.std.specs.Prelude.{◌≡◌, ⊤, ℕ, ◌+◌, ◌-◌, ◌<◌, ◌≤◌, if◌then◌else◌, List, [], ◌∷◌, ◌++◌, length}
 use Rattle.std.specs.Prelude.{replicate, slice_get, slice_set, Option, Some, None, option_map, Result, Ok, Err}
-use Rattle.std.specs.List.{AllByRecursion}
 use Rattle.daide_machine.specs.Machine.{SessionState, Effect, Runs, opening}
 use Rattle.daide_session.specs.Session.{limits_with}
 use Rattle.daide_log.specs.declared.heading.Version.{Version}
 use Rattle.daide_log.specs.declared.heading.Version.TheVariants.{Single, Match}
 use Rattle.daide_log.specs.declared.report.Source.{Source}
 use Rattle.daide_log.specs.declared.report.Summary.{Summary}
-use Rattle.daide_log.specs.declared.fault.LogFault.{LogFault}
-use Rattle.daide_log.specs.declared.fault.LogFault.TheVariants.{BadLine, LineTooLong, TooManyLines}
-use Rattle.daide_log.specs.LogLine.{event_of_line, without_cr}
-use Rattle.daide_log.specs.MatchLine.{MatchEvent, Of, Quiet, match_event_of_line}
+use Rattle.daide_lines.specs.declared.fault.LogFault.{LogFault}
+use Rattle.daide_lines.specs.declared.fault.LogFault.TheVariants.{BadLine, LineTooLong, TooManyLines}
+use Rattle.daide_lines.specs.LogLine.{IsUnbroken, most_lines, longest_line, event_of_line, without_cr}
+use Rattle.daide_lines.specs.MatchLine.{MatchEvent, Of, Quiet, match_event_of_line}
 use Rattle.daide_log.specs.Heading.{Head, Heading, Unnamed, Named, Headed, heading_after, is_whole}
 use Rattle.daide_log.specs.Report.{Entry, events_of, side_of, entries_of, lines_of}
 use Rattle.daide_log.specs.Report.{counted_all, nothing_counted, summary_line}
-
--- the most lines of a log
-abbrev pub most_lines : ℕ
-most_lines = 1000000
-
--- the most bytes of a line
-abbrev pub longest_line : ℕ
-longest_line = 2100
-
--- no line feed is among the bytes
-abbrev pub IsUnbroken : List ℕ → Type 0
-IsUnbroken bytes = AllByRecursion (λ b. b ≢ 10) bytes
 
 -- ---- events
 

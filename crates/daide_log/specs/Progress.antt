@@ -5,8 +5,9 @@ use Rattle.std.specs.Io.KnownBytes.{Consumes, Keeps, Appends, IsAtEnd}
 use Rattle.daide_machine.specs.Machine.{SessionState}
 use Rattle.daide_machine.specs.Wires.{Gateway}
 use Rattle.daide_log.specs.declared.report.Summary.{Summary}
-use Rattle.daide_log.specs.declared.fault.LogFault.{LogFault}
-use Rattle.daide_log.specs.declared.fault.LogFault.TheVariants.{BadLine, LineTooLong, TooManyLines, Read, Write, Memory}
+use Rattle.daide_lines.specs.declared.fault.LogFault.{LogFault}
+use Rattle.daide_lines.specs.declared.fault.LogFault.TheVariants.{BadLine, LineTooLong, TooManyLines}
+use Rattle.daide_lines.specs.declared.fault.LogFault.TheVariants.{Read, Write, Memory}
 use Rattle.daide_log.specs.declared.heading.Version.{Version}
 use Rattle.daide_log.specs.declared.opening.Opened.{Opened}
 use Rattle.daide_log.specs.declared.opening.Step.{Step}
@@ -14,9 +15,9 @@ use Rattle.daide_log.specs.declared.opening.Step.TheVariants as Steps
 use Rattle.daide_log.specs.Heading.{Head}
 use Rattle.daide_log.specs.Held.{head_of, heading_of}
 use Rattle.daide_log.specs.Report.{Entry, lines_of, counted_all, nothing_counted}
-use Rattle.daide_log.specs.Log.{Stage, Opening, Playing, begun, GoesOn, Reports, ReportsAll, IsUnbroken, IsReport}
-use Rattle.daide_log.specs.Log.{longest_line, most_lines}
-use Rattle.daide_log.specs.Lines.{block_size}
+use Rattle.daide_log.specs.Log.{Stage, Opening, Playing, begun, GoesOn, Reports, ReportsAll, IsReport}
+use Rattle.daide_lines.specs.LogLine.{IsUnbroken, longest_line, most_lines}
+use Rattle.daide_lines.specs.Lines.{block_size}
 
 -- These lines of what was read are reported, and these bytes are held.
 pub record HasRead (old new : Option (List ℕ)) (held : List ℕ) (number : ℕ) (told : List Entry) (stage : Stage) : Type 0

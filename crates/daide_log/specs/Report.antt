@@ -5,9 +5,8 @@ use Rattle.std.specs.Fmt.{decimal}
 use Rattle.hex.specs.Hex.{encode_upper}
 use Rattle.daide_frame.specs.declared.side.Side.{Side}
 use Rattle.daide_frame.specs.declared.side.Side.TheVariants.{Bot, Server}
-use Rattle.daide_frame.specs.declared.head.Kind.{Kind}
-use Rattle.daide_frame.specs.declared.head.Kind.TheVariants.{Im, Rm, Dm, Fm, Em}
 use Rattle.daide_frame.specs.Code.{code_number}
+use Rattle.daide_frame.specs.Kind.{name_of_kind}
 use Rattle.daide_machine.specs.declared.note.Deed.{Deed}
 use Rattle.daide_machine.specs.declared.note.Deed.TheVariants.{Relayed, Dropped, Prn, Huh}
 use Rattle.daide_machine.specs.declared.note.Note.{Note}
@@ -16,7 +15,7 @@ use Rattle.daide_machine.specs.Events.{Event, Ends, Pops, bytes_come}
 use Rattle.daide_machine.specs.Machine.{Effect}
 use Rattle.daide_log.specs.declared.report.Source.{Source}
 use Rattle.daide_log.specs.declared.report.Summary.{Summary}
-use Rattle.daide_log.specs.LogLine.{LogEvent, Traffic, EndOf, TimeOver, Silence}
+use Rattle.daide_lines.specs.LogLine.{LogEvent, Traffic, EndOf, TimeOver, Silence}
 
 -- ---- what a line of the log tells the session
 
@@ -39,14 +38,6 @@ side_of Silence = Bot
 abbrev pub name_of_side : Side → List ℕ
 name_of_side Bot = codes "bot"
 name_of_side Server = codes "server"
-
--- a kind by the two letters of the protocol
-abbrev pub name_of_kind : Kind → List ℕ
-name_of_kind Im = codes "IM"
-name_of_kind Rm = codes "RM"
-name_of_kind Dm = codes "DM"
-name_of_kind Fm = codes "FM"
-name_of_kind Em = codes "EM"
 
 -- what became of a frame
 abbrev pub deed_text : Deed → List ℕ

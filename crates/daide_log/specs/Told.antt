@@ -1,8 +1,6 @@
--- What the code holds of a line's event: the bytes of traffic lie at the front of a buffer.
-use Rattle.std.specs.Prelude.{◌≡◌, ⊤, ◌≢◌, ℕ, ◌+◌, ◌<◌, ◌≤◌, ◌^◌, List, [], ◌∷◌, take, Option}
+-- What is told of a session's moves, and counted.
+use Rattle.std.specs.Prelude.{◌≡◌, ◌≢◌, ℕ, ◌+◌, ◌<◌, ◌≤◌, ◌^◌, List, [], ◌∷◌, Option}
 use Rattle.std.specs.Io.KnownBytes.{Appends}
-use Rattle.daide_log.specs.declared.event_line.Told.{Told}
-use Rattle.daide_log.specs.declared.event_line.Told.TheVariants as Variants
 use Rattle.daide_frame.specs.declared.side.Side.{Side}
 use Rattle.daide_machine.specs.declared.note.Note.{Note}
 use Rattle.daide_machine.specs.declared.note.Note.TheVariants as Notes
@@ -12,20 +10,6 @@ use Rattle.daide_machine.specs.Wires.{Gateway}
 use Rattle.daide_log.specs.declared.report.Source.{Source}
 use Rattle.daide_log.specs.declared.report.Summary.{Summary}
 use Rattle.daide_log.specs.Report.{move_line, entries_of, lines_of, counted_all}
-use Rattle.daide_log.specs.LogLine.{LogEvent, Traffic, EndOf, TimeOver, Silence}
-
-abbrev pub event_told : List ℕ → Told → LogEvent
-event_told bytes (Variants.Traffic side count) = Traffic side (take count bytes)
-event_told bytes (Variants.EndOf side) = EndOf side
-event_told bytes Variants.TimeOver = TimeOver
-event_told bytes Variants.Silence = Silence
-
--- they lie within it
-abbrev pub IsWithin : Told → Type 0
-IsWithin (Variants.Traffic side count) = count ≤ 1024
-IsWithin (Variants.EndOf side) = ⊤
-IsWithin Variants.TimeOver = ⊤
-IsWithin Variants.Silence = ⊤
 
 -- ---- counts
 

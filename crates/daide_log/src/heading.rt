@@ -2,15 +2,15 @@
 
 ghost use Rattle.std.specs.Prelude.{◌≡◌, IfSome, option_map};
 ghost use Rattle.daide_words.specs.Words.{words_of};
-ghost use Rattle.daide_log.specs.LogLine.{is_name as has_name};
+ghost use Rattle.daide_lines.specs.LogLine.{is_name as has_name};
 ghost use Rattle.daide_log.specs.Heading.{version_of, limits_in, alone, with_word, heading_after, is_whole};
 ghost use Rattle.daide_log.specs.Heading.{HasSessions};
-ghost use Rattle.daide_log.specs.WordLine.{word_of_line};
+ghost use Rattle.daide_lines.specs.WordLine.{word_of_line};
 ghost use Rattle.daide_log.specs.Held.{head_of, heading_of, IsHeld, whole};
 
-use crate::config_line::read_config;
-use crate::match_line::{MatchConfig, is_match_name, read_match_config};
-use crate::word_line::read_word;
+use crate::config_line::{MatchConfig, read_config, read_match_config};
+use daide_lines::match_line::is_match_name;
+use daide_lines::word_line::read_word;
 use daide_words::{Word, Words};
 
 /// Of what a log is.

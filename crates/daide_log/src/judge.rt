@@ -4,17 +4,18 @@ ghost use Rattle.std.specs.Prelude.{◌≡◌, ◌⊎◌, ◌≤◌, All, length
 ghost use Rattle.std.specs.Io.KnownBytes.{append_known};
 ghost use Rattle.daide_log.specs.Report.{events_of, side_of};
 ghost use Rattle.daide_log.specs.Log.{event_in, source_in};
-ghost use Rattle.daide_log.specs.Told.{HasRoom, IsMoreBy, IsIdle, IsWithin, Tells, event_told};
-ghost use Rattle.daide_log.specs.MatchTold.{IsMatchWithin, match_event_told};
+ghost use Rattle.daide_lines.specs.Told.{IsWithin, event_told};
+ghost use Rattle.daide_log.specs.Told.{HasRoom, IsMoreBy, IsIdle, Tells};
+ghost use Rattle.daide_lines.specs.MatchTold.{IsMatchWithin, match_event_told};
 ghost use Rattle.daide_log.specs.Progress.{Judges, states_of};
 
-use crate::event_line::{MOST, Told, read_event};
-use crate::fault::LogFault;
 use crate::heading::Version;
-use crate::match_line::{MatchTold, read_match_event};
-use crate::page::Page;
 use crate::play::{end, feed_all, time_out};
 use crate::report::{Source, Summary};
+use daide_lines::event_line::{MOST, Told, read_event};
+use daide_lines::fault::LogFault;
+use daide_lines::match_line::{MatchTold, read_match_event};
+use daide_lines::page::Page;
 use daide_session::Session;
 use std::alloc::Allocator;
 use std::io;

@@ -1,32 +1,15 @@
-//! The end of a report, which is handed to the writer in blocks.
+//! Lines of a report, put behind what is held back of it.
 
-ghost use Rattle.std.specs.Prelude.{◌≡◌, [], OnOk};
+ghost use Rattle.std.specs.Prelude.{◌≡◌, OnOk};
 ghost use Rattle.std.specs.Io.KnownBytes.{Appends, Keeps, append_known};
 ghost use Rattle.daide_log.specs.Report.{move_line, summary_line};
 
 use crate::report::{LINE, Source, Summary, write_move, write_summary};
-use arrayvec::ArrayVec;
 use daide_frame::Side;
+use daide_lines::page::{Page, hand_over};
 use daide_machine::Note;
 use std::io;
 use std::io::Write;
-
-/// How many bytes are held back at most.
-const PAGE: usize = 8192;
-
-/// The lines of a report that were not handed to the writer yet.
-pub type Page = ArrayVec<u8, PAGE>;
-
-/// Hands all that is held to the writer.
-pub fn hand_over<W: Write>(page: &mut Page, writer: &mut W) -> io::Result<()>
-    ensures emptied { OnOk result (page.new.items ≡ []) }
-    ensures written { OnOk result (Keeps (append_known (W.contents writer.old) page.old.items)
-        (append_known (W.contents writer.new) page.new.items)) }
-{
-    writer.write_all(page.as_slice())?;
-    page.clear();
-    Ok(())
-}
 
 /// Hands what is held to the writer where a line more might not find room.
 fn make_room<W: Write>(page: &mut Page, writer: &mut W) -> io::Result<()>

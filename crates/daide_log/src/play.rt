@@ -9,9 +9,10 @@ ghost use Rattle.daide_machine.specs.Wires.{waiting, room_of};
 ghost use Rattle.daide_log.specs.Report.{counted};
 ghost use Rattle.daide_log.specs.Told.{HasRoom, IsMoreBy, IsIdle, Moves, Tells, told_lines};
 
-use crate::page::{Page, put_move};
+use crate::page::put_move;
 use crate::report::{Source, Summary};
 use daide_frame::Side;
+use daide_lines::page::Page;
 use daide_machine::Note;
 use daide_session::Session;
 use std::alloc::Allocator;

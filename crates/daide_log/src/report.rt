@@ -5,13 +5,13 @@ ghost use Rattle.std.specs.Fmt.{decimal};
 ghost use Rattle.std.specs.Io.KnownBytes.{Appends};
 ghost use Rattle.hex.specs.Hex.{encode_upper};
 ghost use Rattle.daide_frame.specs.Code.{code_number};
-ghost use Rattle.daide_log.specs.Report.{name_of_side, name_of_kind, move_text, source_text, told_text, move_line};
+ghost use Rattle.daide_log.specs.Report.{name_of_side, move_text, source_text, told_text, move_line};
 ghost use Rattle.daide_log.specs.Report.{counted, nothing_counted};
 ghost use Rattle.daide_log.specs.Report.{summary_line as last_line};
 ghost use Rattle.daide_log.specs.Told.{HasRoom, IsMoreBy};
 
 use arrayvec::ArrayVec;
-use daide_frame::{Code, Head, Kind, Side};
+use daide_frame::{Code, Head, Side};
 use daide_machine::{Deed, Note};
 use std::io;
 use std::io::Write;
@@ -42,19 +42,6 @@ pub struct Summary {
     pub huh: u64,
     /// Faults, each of which ended the session.
     pub faults: u64,
-}
-
-/// A kind by the two letters of the protocol.
-pub fn kind_name(kind: Kind) -> &'static str
-    ensures { result.now ≡ name_of_kind kind }
-{
-    match kind {
-        Kind::Im => "IM",
-        Kind::Rm => "RM",
-        Kind::Dm => "DM",
-        Kind::Fm => "FM",
-        Kind::Em => "EM",
-    }
 }
 
 /// Puts text behind a line.
@@ -120,7 +107,7 @@ fn put_frame(head: Head, deed: Deed, line: &mut Line)
     requires { length line.old.items ≤ 49 }
     ensures { line.new.items ≡ line.old.items ++ move_text (Note.Frame head deed) ++ 10 ∷ [] }
 {
-    put(kind_name(head.kind).as_bytes(), line);
+    put(head.kind.name().as_bytes(), line);
     line.push(b' ');
     put_number(head.len as u64, line);
     match deed {

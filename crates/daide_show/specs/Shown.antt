@@ -13,6 +13,7 @@ use Rattle.daide_frame.specs.declared.head.Head.{Head}
 use Rattle.daide_frame.specs.declared.head.Kind.{Kind}
 use Rattle.daide_frame.specs.declared.head.Kind.TheVariants.{Im, Rm, Dm, Fm, Em}
 use Rattle.daide_frame.specs.Code.{code_number}
+use Rattle.daide_frame.specs.Kind.{name_of_kind}
 use Rattle.daide_frame.specs.InitialMessage.{im_of}
 use Rattle.daide_frame.specs.Frames.{Item, Begun, Whole, Wrong, first_items, items_of}
 use Rattle.daide_grammar.specs.declared.side.Side2.{Side2}
@@ -25,7 +26,6 @@ use Rattle.daide_reader.specs.declared.verdict.Verdict.{Verdict}
 use Rattle.daide_reader.specs.declared.verdict.Verdict.TheVariants.{Relay, Prn, Huh}
 use Rattle.daide_machine.specs.Bounds.{longest_body, deepest}
 use Rattle.daide_machine.specs.Machine.{side2_of}
-use Rattle.daide_log.specs.Report.{name_of_kind}
 use Rattle.daide_show.specs.Input.{limit, bytes_of}
 use Rattle.daide_show.specs.declared.frame_view.ShowFault.{ShowFault}
 use Rattle.daide_show.specs.declared.frame_view.ShowFault.TheVariants.{Read, TooLong, NotHex, NotOneFrame}

@@ -14,7 +14,6 @@ ghost use Rattle.daide_frame.specs.InitialMessage.{im_of};
 use super::verdict_of::verdict_of;
 use daide_frame::{Code, Head, Kind, check_im};
 use daide_grammar::{Level, Side2};
-use daide_log::report::kind_name;
 use daide_machine::answers::{CLOSE_WORD, ERR_WORD, HUH_OPEN, PRN_OPEN};
 use daide_reader::Verdict;
 use daide_token::write_text_with;
@@ -27,7 +26,7 @@ use std::io::Write;
 fn write_kind<A: Allocator>(head: Head, text: &mut Vec<u8, A>) -> io::Result<()>
     ensures { OnOk result (text.new.items ≡ text.old.items ++ kind_line head.kind head.len) }
 {
-    let kind = kind_name(head.kind);
+    let kind = head.kind.name();
     let len = head.len;
     writeln!(text, "{kind} {len}")
 }

@@ -2,10 +2,9 @@
 
 use crate::rows::same;
 use daide_frame::Side;
-use daide_log::event_line::{MOST, Told};
-use daide_log::match_line::{
-    MatchConfig, MatchTold, is_match_name, read_match_config, read_match_event,
-};
+use daide_lines::event_line::{MOST, Told};
+use daide_lines::match_line::{MatchTold, is_match_name, read_match_event};
+use daide_log::config_line::{MatchConfig, read_match_config};
 use daide_session::Config;
 use std::test::Fail;
 

@@ -1,9 +1,9 @@
 use Rattle.std.proofs.Common.{◌≡◌, ◌+◌, sym, ◌∙◌, subst, Ok, None, List, ℕ, ◌⊎◌, length}
 use Rattle.std.specs.Io.KnownBytes.{append_known}
-use Rattle.daide_log.specs.declared.lines.Found.{Found}
-use Rattle.daide_log.specs.declared.fault.LogFault.TheVariants.{BadLine, Write}
+use Rattle.daide_lines.specs.declared.lines.Found.{Found}
+use Rattle.daide_lines.specs.declared.fault.LogFault.TheVariants.{BadLine, Write}
 use Rattle.daide_log.specs.Log.{event_in}
-use Rattle.daide_log.specs.Lines.{IsFound}
+use Rattle.daide_lines.specs.Lines.{IsFound}
 use Rattle.daide_log.specs.Progress.{Judges, states_of}
 use Rattle.daide_log.proofs.EventLemmas.{plays_first, plays_more, plays_kept, finished_at_end, finished_at_last, fault_in_play}
 use Rattle.daide_log.proofs.EventLemmas.{bad_in_play, at_end, at_last_line, at_line}

@@ -6,7 +6,7 @@ use Rattle.daide_words.specs.Words.{words_of}
 use Rattle.std.specs.Prelude.{replicate}
 use Rattle.daide_log.specs.Log.{Playing}
 use Rattle.daide_log.specs.Progress.{HasRead}
-use Rattle.daide_log.proofs.PageLemmas.{keeps_appends}
+use Rattle.daide_lines.proofs.PageLemmas.{keeps_appends}
 use Rattle.daide_log.proofs.LogLemmas.{finished, reported_from, refused_from}
 use Rattle.daide_log.proofs.HeadLemmas.{opened_last, opened_more, memory_wanted}
 use Rattle.daide_log.proofs.check.report.Goals as goal

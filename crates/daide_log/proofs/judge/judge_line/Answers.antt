@@ -1,7 +1,7 @@
 use Rattle.std.proofs.Common.{◌≡◌, ◌∙◌, sym, ap, length, ℕ, arith}
 use Rattle.std.specs.Io.KnownBytes.{append_known}
 use Rattle.daide_log.specs.Log.{event_in}
-use Rattle.daide_log.specs.Told.{event_told}
+use Rattle.daide_lines.specs.Told.{event_told}
 use Rattle.daide_log.proofs.EventLemmas.{session_judged, nothing_judged, on_ok}
 use Rattle.daide_log.proofs.judge.judge_line.Goals as goal
 

@@ -5,7 +5,7 @@ use Rattle.daide_log.specs.Heading.{Unnamed, heading_after}
 use Rattle.daide_log.specs.Held.{heading_of}
 use Rattle.daide_log.specs.Log.{Opening}
 use Rattle.daide_log.specs.Progress.{HasRead, IsStep}
-use Rattle.daide_log.proofs.PageLemmas.{keeps_all, keeps_more}
+use Rattle.daide_lines.proofs.PageLemmas.{keeps_all, keeps_more}
 use Rattle.daide_log.proofs.LogLemmas.{nothing_read}
 use Rattle.daide_log.proofs.HeadLemmas.{head_judged, step_kept, fault_keeps, next_is, next_held}
 use Rattle.daide_log.proofs.opening.read_head.Goals as goal

@@ -1,0 +1,217 @@
+-- Digits are read to the bytes that they stand for.
+use Rattle.std.proofs.Common.{◌≡◌, ℕ, zero, suc, ◌+◌, ◌*◌, ◌%◌, ◌<◌, ◌≤◌, ◌-◌, ◌==◌, ◌&&◌, ◌⊎◌, inl, inr, Bool, true, false, if◌then◌else◌, List, [], ◌∷◌, ◌++◌, length, take, drop, get_or, set, drop-cons, Option, Some, None, Result, Ok, Err, refl, sym, ap, ◌∙◌, subst, arith, add-one, append_assoc}
+use Rattle.std.specs.Prelude.{unwrap_or, is_some, slice_range}
+use Rattle.std.proofs.Math.Seq.{take-add}
+use Rattle.std.proofs.lemmas.Bool.{and_parts, cases_eq}
+use Rattle.std.proofs.lemmas.Bool.Decides.{nat_tests}
+use Rattle.std.proofs.lemmas.List.{take_more_set, get_or-set_same, get_or-set_other, take-take, take-append-drop, length-take, length-take-le, length-drop}
+use Rattle.std.proofs.lemmas.List.Folds.{list_all-append, list_all_more}
+use Rattle.std.specs.List.{list_all}
+use Rattle.hex.specs.Hex.{◌>>=◌, decode_of, decode_pairs, digit_or_error, hex_digit_value, is_hex_digit}
+use Rattle.hex.specs.declared.error.FromHexError.{FromHexError}
+use Rattle.hex.specs.declared.error.FromHexError.TheVariants.{OddLength}
+use Rattle.daide_lines.specs.Digits.{bytes_in, value_of, IsRead}
+
+-- two digits and what follows them, decoded
+abbrev pair_then : Result ℕ FromHexError → Result ℕ FromHexError → Result (List ℕ) FromHexError → Result (List ℕ) FromHexError
+pair_then high low rest =
+    (high >>= (λ h. low >>= (λ l. Ok (h * 16 + l)))) >>= (λ byte. rest >>= (λ bytes. Ok (byte ∷ bytes)))
+
+-- both are digits, or one is none
+pair_read : (high low : Option ℕ) (c d i j : ℕ) (rest : Result (List ℕ) FromHexError) (bytes : List ℕ) →
+    is_some high ≡ true → is_some low ≡ true → rest ≡ Ok bytes →
+    pair_then (digit_or_error c i high) (digit_or_error d j low) rest ≡ Ok ((unwrap_or high 0 * 16 + unwrap_or low 0) ∷ bytes)
+pair_read (Some h) (Some l) c d i j rest bytes a b e =
+    ap (λ (r : Result (List ℕ) FromHexError). r >>= (λ bytes. Ok ((h * 16 + l) ∷ bytes))) e
+pair_read (Some h) None c d i j rest bytes a b e = absurd (cc)
+pair_read None low c d i j rest bytes a b e = absurd (cc)
+
+rest_refused : (byte : ℕ) (rest : Result (List ℕ) FromHexError) (bytes : List ℕ) → IsRead false rest bytes →
+    IsRead false (rest >>= (λ bytes. Ok (byte ∷ bytes))) bytes
+rest_refused byte (Ok decoded) bytes e = absurd e
+rest_refused byte (Err fault) bytes e = tt
+
+pair_refused : (high low : Option ℕ) (c d i j : ℕ) (rest : Result (List ℕ) FromHexError) (bytes : List ℕ) (others : Bool) →
+    (is_some high && (is_some low && others)) ≡ false → (others ≡ false → IsRead false rest bytes) →
+    IsRead false (pair_then (digit_or_error c i high) (digit_or_error d j low) rest) bytes
+pair_refused None low c d i j rest bytes others e further = tt
+pair_refused (Some h) None c d i j rest bytes others e further = tt
+pair_refused (Some h) (Some l) c d i j rest bytes others e further = rest_refused (h * 16 + l) rest bytes (further e)
+
+decode_pairs-read : (digits : List ℕ) (n i : ℕ) → length digits ≡ 2 * n → list_all is_hex_digit digits ≡ true →
+    decode_pairs i digits ≡ Ok (bytes_in digits)
+unfolding decode_pairs
+decode_pairs-read [] n i twice all = refl
+decode_pairs-read (digit ∷ []) n i twice all = absurd (omega arith)
+decode_pairs-read (high ∷ low ∷ digits) zero i twice all = absurd (omega arith)
+decode_pairs-read (high ∷ low ∷ digits) (suc n) i twice all =
+    let first = and_parts (is_hex_digit high) (list_all is_hex_digit (low ∷ digits)) all in
+    let second = and_parts (is_hex_digit low) (list_all is_hex_digit digits) first.1 in
+    pair_read (hex_digit_value high) (hex_digit_value low) high low i (i + 1) (decode_pairs (i + 2) digits) (bytes_in digits)
+    first.0 second.0 (decode_pairs-read digits n (i + 2) (omega arith) second.1)
+
+decode_pairs-refused : (digits bytes : List ℕ) (n i : ℕ) → length digits ≡ 2 * n → list_all is_hex_digit digits ≡ false →
+    IsRead false (decode_pairs i digits) bytes
+unfolding decode_pairs
+decode_pairs-refused [] bytes n i twice all = absurd (cc)
+decode_pairs-refused (digit ∷ []) bytes n i twice all = absurd (omega arith)
+decode_pairs-refused (high ∷ low ∷ digits) bytes zero i twice all = absurd (omega arith)
+decode_pairs-refused (high ∷ low ∷ digits) bytes (suc n) i twice all =
+    pair_refused (hex_digit_value high) (hex_digit_value low) high low i (i + 1) (decode_pairs (i + 2) digits) bytes
+    (list_all is_hex_digit digits) all (λ e. decode_pairs-refused digits bytes n (i + 2) (omega arith) e)
+
+even : (digits : List ℕ) (n : ℕ) → length digits ≡ 2 * n → decode_of digits ≡ decode_pairs 0 digits
+even digits n twice =
+    let whole : (length digits % 2 == 1) ≡ false = grind (arith, nat_tests) in
+    ap (λ b. if b then Err OddLength else decode_pairs 0 digits) whole
+
+digits_read : (digits : List ℕ) (n : ℕ) → length digits ≡ 2 * n → list_all is_hex_digit digits ≡ true →
+    decode_of digits ≡ Ok (bytes_in digits)
+digits_read digits n twice all = even digits n twice ∙ decode_pairs-read digits n 0 twice all
+
+digits_refused : (digits bytes : List ℕ) (n : ℕ) → length digits ≡ 2 * n → list_all is_hex_digit digits ≡ false →
+    IsRead false (decode_of digits) bytes
+digits_refused digits bytes n twice all =
+    subst (λ (r : Result (List ℕ) FromHexError). IsRead false r bytes) (sym (even digits n twice))
+    (decode_pairs-refused digits bytes n 0 twice all)
+
+-- what was read, by whether all are digits
+pub is_read : (digits bytes : List ℕ) (n : ℕ) (all : Bool) → length digits ≡ 2 * n →
+    all ≡ list_all is_hex_digit digits → (all ≡ true → bytes ≡ bytes_in digits) → IsRead all (decode_of digits) bytes
+is_read digits bytes n true twice e read =
+    digits_read digits n twice (sym e) ∙ ap Ok (sym (read refl))
+is_read digits bytes n false twice e read = digits_refused digits bytes n twice (sym e)
+
+-- ---- two digits
+
+value_few : (digit : ℕ) → value_of digit < 16
+value_few digit = grind (arith, nat_tests)
+
+-- no bit of a digit is lost
+pub byte_of : (high low h l : ℕ) → h ≡ value_of high → l ≡ value_of low →
+    (h * 16 % 256 + l) % 256 ≡ value_of high * 16 + value_of low
+byte_of high low h l e f = omega (arith, value_few high, value_few low)
+
+-- a byte more is read
+pub read_more : (bytes digits : List ℕ) (i v : ℕ) → i < length bytes → length digits ≡ 2 * length bytes →
+    take i bytes ++ bytes_in (drop (2 * i) digits) ≡ bytes_in digits →
+    v ≡ value_of (get_or digits (2 * i) 0) * 16 + value_of (get_or digits (2 * i + 1) 0) →
+    take (i + 1) (set bytes i v) ++ bytes_in (drop (2 * (i + 1)) digits) ≡ bytes_in digits
+read_more bytes digits i v less twice so_far here =
+    let high = get_or digits (2 * i) 0 in
+    let low = get_or digits (2 * i + 1) 0 in
+    let further : suc (2 * i + 1) ≡ 2 * (i + 1) = omega arith in
+    let apart : drop (2 * i) digits ≡ high ∷ low ∷ drop (2 * (i + 1)) digits =
+    drop-cons digits (2 * i) 0 (omega (arith, less, twice))
+    ∙ ap (λ (rest : List ℕ). high ∷ rest)
+    (ap (λ (n : ℕ). drop n digits) (sym (add-one (2 * i))) ∙ drop-cons digits (2 * i + 1) 0 (omega (arith, less, twice))
+    ∙ ap (λ (n : ℕ). low ∷ drop n digits) further) in
+    ap (λ (front : List ℕ). front ++ bytes_in (drop (2 * (i + 1)) digits)) (take_more_set bytes i v less)
+    ∙ append_assoc (take i bytes) (v ∷ []) (bytes_in (drop (2 * (i + 1)) digits))
+    ∙ ap (λ (byte : ℕ). take i bytes ++ byte ∷ bytes_in (drop (2 * (i + 1)) digits)) here
+    ∙ ap (λ (rest : List ℕ). take i bytes ++ bytes_in rest) (sym apart)
+    ∙ so_far
+
+-- ---- digits that are read together
+
+value_at : (values digits : List ℕ) (j v k : ℕ) → j < length values →
+    ((i : ℕ) → i < j → get_or values i 0 ≡ value_of (get_or digits i 0)) → v ≡ value_of (get_or digits j 0) →
+    k < j + 1 → (k ≡ j) ⊎ (k ≡ j → ⊥) → get_or (set values j v) k 0 ≡ value_of (get_or digits k 0)
+value_at values digits j v k room before here less (inl same) =
+    ap (λ (i : ℕ). get_or (set values j v) i 0) same ∙ get_or-set_same values j v 0 room ∙ here
+    ∙ ap (λ (i : ℕ). value_of (get_or digits i 0)) (sym same)
+value_at values digits j v k room before here less (inr other) =
+    get_or-set_other values j k v 0 other ∙ before k (omega arith)
+
+-- the value of one digit more
+pub values_more : (values digits : List ℕ) (j v : ℕ) → j < length values → j < length digits →
+    (list_all is_hex_digit (take j digits) ≡ true → (k : ℕ) → k < j →
+    get_or values k 0 ≡ value_of (get_or digits k 0)) →
+    (is_hex_digit (get_or digits j 0) ≡ true → v ≡ value_of (get_or digits j 0)) →
+    list_all is_hex_digit (take (j + 1) digits) ≡ true → (k : ℕ) → k < j + 1 →
+    get_or (set values j v) k 0 ≡ value_of (get_or digits k 0)
+values_more values digits j v room less before here all k below =
+    let both = and_parts (list_all is_hex_digit (take j digits)) (is_hex_digit (get_or digits j 0))
+    (sym (list_all_more is_hex_digit digits j 0 less) ∙ all) in
+    value_at values digits j v k room (before both.0) (here both.1) below (cases_eq k j)
+
+-- ---- digits behind digits
+
+bytes_in-append : (front back : List ℕ) (n : ℕ) → length front ≡ 2 * n →
+    bytes_in (front ++ back) ≡ bytes_in front ++ bytes_in back
+bytes_in-append [] back n twice = refl
+bytes_in-append (digit ∷ []) back n twice = absurd (omega arith)
+bytes_in-append (high ∷ low ∷ front) back zero twice = absurd (omega arith)
+bytes_in-append (high ∷ low ∷ front) back (suc n) twice =
+    ap (λ (bytes : List ℕ). (value_of high * 16 + value_of low) ∷ bytes) (bytes_in-append front back n (omega arith))
+
+take-bytes_in : (digits : List ℕ) (n m : ℕ) → m ≡ 2 * n → take n (bytes_in digits) ≡ bytes_in (take m digits)
+take-bytes_in digits zero zero twice = refl
+take-bytes_in digits zero (suc m) twice = absurd (omega arith)
+take-bytes_in digits (suc n) zero twice = absurd (omega arith)
+take-bytes_in digits (suc n) (suc zero) twice = absurd (omega arith)
+take-bytes_in [] (suc n) (suc (suc m)) twice = refl
+take-bytes_in (digit ∷ []) (suc n) (suc (suc m)) twice = refl
+take-bytes_in (high ∷ low ∷ digits) (suc n) (suc (suc m)) twice =
+    ap (λ (bytes : List ℕ). (value_of high * 16 + value_of low) ∷ bytes) (take-bytes_in digits n m (omega arith))
+
+pub part_is : (digits : List ℕ) (from to n k : ℕ) → from ≡ n → to ≡ n + k →
+    slice_range digits from to ≡ take k (drop n digits)
+part_is digits from to n k same end =
+    let count : to - from ≡ k = omega arith in
+    ap (λ (i : ℕ). take i (drop from digits)) count ∙ ap (λ (i : ℕ). take k (drop i digits)) same
+
+pub part_length : (bytes new : List ℕ) (i k n : ℕ) → k ≡ n → i + n ≤ length bytes →
+    length new ≡ length (take k (drop i bytes)) → length new ≡ n
+part_length bytes new i k n same within e = omega (arith, length-take k (drop i bytes), length-drop i bytes)
+
+-- of digits up to a place and digits from there on
+pub all_more : (digits : List ℕ) (n k : ℕ) (all more : Bool) → all ≡ list_all is_hex_digit (take n digits) →
+    more ≡ list_all is_hex_digit (take k (drop n digits)) → (all && more) ≡ list_all is_hex_digit (take (n + k) digits)
+all_more digits n k all more e f =
+    ap (λ (b : Bool). b && more) e ∙ ap (λ (b : Bool). list_all is_hex_digit (take n digits) && b) f
+    ∙ sym (list_all-append is_hex_digit (take n digits) (take k (drop n digits)))
+    ∙ ap (λ (l : List ℕ). list_all is_hex_digit l) (sym (take-add n k digits))
+
+pub bytes_more : (digits bytes part : List ℕ) (i n k : ℕ) → n ≡ 2 * i → n ≤ length digits →
+    take i bytes ≡ bytes_in (take n digits) → part ≡ bytes_in (take k (drop n digits)) →
+    take i bytes ++ part ≡ bytes_in (take (n + k) digits)
+bytes_more digits bytes part i n k twice within e f =
+    ap (λ (l : List ℕ). l ++ part) e ∙ ap (λ (l : List ℕ). bytes_in (take n digits) ++ l) f
+    ∙ sym (bytes_in-append (take n digits) (take k (drop n digits)) i (length-take-le n digits within ∙ twice))
+    ∙ ap bytes_in (sym (take-add n k digits))
+
+-- of digits up to a place and digits from an earlier place on
+twice_looked_at : (x y z : Bool) → ((x && y) && (y && z)) ≡ (x && (y && z))
+twice_looked_at true true z = refl
+twice_looked_at true false z = refl
+twice_looked_at false y z = refl
+
+pub all_covered : (digits : List ℕ) (n k : ℕ) (all last : Bool) → all ≡ list_all is_hex_digit (take (n + k) digits) →
+    last ≡ list_all is_hex_digit (drop n digits) → (all && last) ≡ list_all is_hex_digit digits
+all_covered digits n k all last e f =
+    let x = list_all is_hex_digit (take n digits) in
+    let y = list_all is_hex_digit (take k (drop n digits)) in
+    let z = list_all is_hex_digit (drop k (drop n digits)) in
+    let front : list_all is_hex_digit (take (n + k) digits) ≡ (x && y) =
+    ap (λ (l : List ℕ). list_all is_hex_digit l) (take-add n k digits)
+    ∙ list_all-append is_hex_digit (take n digits) (take k (drop n digits)) in
+    let back : list_all is_hex_digit (drop n digits) ≡ (y && z) =
+    ap (λ (l : List ℕ). list_all is_hex_digit l) (sym (take-append-drop k (drop n digits)))
+    ∙ list_all-append is_hex_digit (take k (drop n digits)) (drop k (drop n digits)) in
+    let whole : list_all is_hex_digit digits ≡ (x && list_all is_hex_digit (drop n digits)) =
+    ap (λ (l : List ℕ). list_all is_hex_digit l) (sym (take-append-drop n digits))
+    ∙ list_all-append is_hex_digit (take n digits) (drop n digits) in
+    ap (λ (b : Bool). b && last) (e ∙ front) ∙ ap (λ (b : Bool). (x && y) && b) (f ∙ back) ∙ twice_looked_at x y z
+    ∙ ap (λ (b : Bool). x && b) (sym back) ∙ sym whole
+
+pub bytes_covered : (digits bytes last : List ℕ) (i n j m : ℕ) → n ≡ 2 * i → i ≤ j → n ≤ m → n ≤ length digits →
+    take j bytes ≡ bytes_in (take m digits) → last ≡ bytes_in (drop n digits) →
+    take i bytes ++ last ≡ bytes_in digits
+bytes_covered digits bytes last i n j m twice below within room e f =
+    ap (λ (l : List ℕ). l ++ last)
+    (sym (take-take i j bytes below) ∙ ap (λ (l : List ℕ). take i l) e ∙ take-bytes_in (take m digits) i n twice
+    ∙ ap bytes_in (take-take n m digits within))
+    ∙ ap (λ (l : List ℕ). bytes_in (take n digits) ++ l) f
+    ∙ sym (bytes_in-append (take n digits) (drop n digits) i (length-take-le n digits room ∙ twice))
+    ∙ ap bytes_in (take-append-drop n digits)

@@ -1,0 +1,5 @@
+pub mod PartedLemmas
+pub mod DigitLemmas
+pub mod PageLemmas
+pub mod LineLemmas
+pub mod LineFacts

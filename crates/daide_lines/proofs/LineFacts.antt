@@ -1,0 +1,79 @@
+-- Lines of a log, computed from the definitions, so that a wrong one does not check.
+use Rattle.std.proofs.Common.{◌≡◌, true, false, [], ◌∷◌, ◌++◌, Some, None, refl, codes}
+use Rattle.hex.specs.Hex.{decode_pairs}
+use Rattle.daide_frame.specs.declared.side.Side.TheVariants.{Bot, Server}
+use Rattle.daide_grammar.specs.declared.level.Level.TheVariants.{L20}
+use Rattle.daide_words.specs.declared.slot.Slot.TheVariants.{Press}
+use Rattle.daide_words.specs.declared.operand.Operand.TheVariants.{Power}
+use Rattle.daide_words.specs.declared.word.Word.{Word}
+use Rattle.daide_lines.specs.LogLine.{Traffic, EndOf, TimeOver, Silence, without_cr, is_name, plain_number}
+use Rattle.daide_lines.specs.LogLine.{parted_at_space, event_of_line}
+use Rattle.daide_lines.specs.MatchLine.{Of, Quiet, match_event_of_line}
+use Rattle.daide_lines.specs.WordLine.{word_of_line}
+
+-- ---- names and numbers
+
+names : (is_name (codes "daide-log 1") ≡ true) × (is_name (codes "daide-log 2") ≡ false)
+    × (is_name (codes "daide-log 1 ") ≡ false) × (is_name [] ≡ false)
+names = (refl, refl, refl, refl)
+
+numbers : (plain_number (codes "0") ≡ Some 0) × (plain_number (codes "65535") ≡ Some 65535)
+    × (plain_number (codes "65536") ≡ None) × (plain_number (codes "060") ≡ None) × (plain_number [] ≡ None)
+    × (plain_number (codes "+1") ≡ None)
+unfolding plain_number
+numbers = (refl, refl, refl, refl, refl, refl)
+
+-- ---- further lines
+
+traffic : (event_of_line (codes "server 01000000") ≡ Some (Traffic Server (1 ∷ 0 ∷ 0 ∷ 0 ∷ [])))
+    × (event_of_line (codes "bot 0aFf") ≡ Some (Traffic Bot (10 ∷ 255 ∷ [])))
+    × (event_of_line (codes "bot 02000") ≡ None) × (event_of_line (codes "bot ") ≡ None)
+    × (event_of_line (codes "bot 0g") ≡ None) × (event_of_line (codes "bot 00 ") ≡ None)
+unfolding event_of_line decode_pairs
+traffic = (refl, refl, refl, refl, refl, refl)
+
+other_lines : (event_of_line (codes "end bot") ≡ Some (EndOf Bot))
+    × (event_of_line (codes "end server") ≡ Some (EndOf Server))
+    × (event_of_line (codes "timer") ≡ Some TimeOver) × (event_of_line [] ≡ Some Silence)
+    × (event_of_line (codes "# bot 0") ≡ Some Silence) × (event_of_line (codes "timer ") ≡ None)
+    × (event_of_line (codes "end") ≡ None) × (event_of_line (codes " ") ≡ None)
+unfolding event_of_line
+other_lines = (refl, refl, refl, refl, refl, refl, refl, refl)
+
+-- one carriage return is dropped, where it stands last
+carriage_returns : (without_cr (codes "timer" ++ 13 ∷ []) ≡ codes "timer") × (without_cr (13 ∷ []) ≡ [])
+    × (without_cr (13 ∷ 13 ∷ []) ≡ 13 ∷ []) × (without_cr (13 ∷ 65 ∷ []) ≡ 13 ∷ 65 ∷ [])
+carriage_returns = (refl, refl, refl, refl)
+
+-- ---- words
+
+unfoldable pub xyz : Word
+xyz = record { name = codes "XYZ"; code = 0x4A40; slot = Press; level = L20; operand = Power }
+
+unfoldable pub gof : Word
+gof = record { name = codes "GOF"; code = 0x4A40; slot = Press; level = L20; operand = Power }
+
+words : (word_of_line (codes "word XYZ 4A40 press 20 power") ≡ Some xyz)
+    × (word_of_line (codes "word XYZ 4a40 press 20 power") ≡ Some xyz)
+    × (word_of_line (codes "word GOF 4A40 press 20 power") ≡ Some gof)
+    × (word_of_line (codes "word XYZ 4A4 press 20 power") ≡ None)
+    × (word_of_line (codes "word XYZ 4A40 pres 20 power") ≡ None)
+    × (word_of_line (codes "word XYZ 4A40 press 020 power") ≡ None)
+    × (word_of_line (codes "word XYZ 4A40 press 25 power") ≡ None)
+    × (word_of_line (codes "word XYZ 4A40 press 20 power ") ≡ None)
+    × (word_of_line (codes "word XY 4A40 press 20 power") ≡ None)
+unfolding word_of_line parted_at_space plain_number decode_pairs xyz gof
+words = (refl, refl, refl, refl, refl, refl, refl, refl, refl)
+
+-- ---- the events of a match
+
+match_events : (match_event_of_line 2 (codes "2 timer") ≡ Some (Of 2 TimeOver))
+    × (match_event_of_line 2 (codes "1 end bot") ≡ Some (Of 1 (EndOf Bot)))
+    × (match_event_of_line 2 (codes "1 server 0100") ≡ Some (Of 1 (Traffic Server (1 ∷ 0 ∷ []))))
+    × (match_event_of_line 2 [] ≡ Some Quiet) × (match_event_of_line 2 (codes "# 3 timer") ≡ Some Quiet)
+    × (match_event_of_line 2 (codes "3 timer") ≡ None) × (match_event_of_line 2 (codes "0 timer") ≡ None)
+    × (match_event_of_line 2 (codes "01 timer") ≡ None) × (match_event_of_line 2 (codes "1 ") ≡ None)
+    × (match_event_of_line 2 (codes "1 #") ≡ None) × (match_event_of_line 2 (codes "1") ≡ None)
+    × (match_event_of_line 2 (codes "timer") ≡ None) × (match_event_of_line 2 (codes "1  timer") ≡ None)
+unfolding match_event_of_line parted_at_space plain_number event_of_line decode_pairs
+match_events = (refl, refl, refl, refl, refl, refl, refl, refl, refl, refl, refl, refl, refl)

@@ -1,0 +1,266 @@
+-- The lines of a log, as they are read.
+use Rattle.std.proofs.Common.{◌≡◌, ℕ, zero, suc, ◌+◌, ◌-◌, ◌<◌, ◌≤◌, Bool, true, false, List, [], ◌∷◌, ◌++◌, length, take, drop}
+use Rattle.std.proofs.Common.{Option, Some, None, Result, Ok, Err, refl, sym, ap, ◌∙◌, subst, arith, ◌⊎◌, inl, inr, append-nil, append_assoc}
+use Rattle.std.proofs.Common.{length-append, length-drop, length-take, get_or, add-one}
+use Rattle.std.proofs.lemmas.List.{drop-take, drop-drop, take-append-drop, length-take-le}
+use Rattle.std.proofs.Math.Seq.{take-append-add, take-length}
+use Rattle.std.specs.Io.KnownBytes.{Consumes, Keeps}
+use Rattle.daide_lines.specs.LogLine.{IsUnbroken, longest_line, most_lines}
+use Rattle.daide_lines.specs.declared.fault.LogFault.{LogFault}
+use Rattle.daide_lines.specs.declared.fault.LogFault.TheVariants as Faults
+use Rattle.daide_lines.specs.declared.lines.Found.TheVariants.{Last}
+use Rattle.daide_lines.specs.Lines.{Reads, Scans, HasMore, IsFound, block_size}
+
+pub unbroken_append : (a b : List ℕ) → IsUnbroken a → IsUnbroken b → IsUnbroken (a ++ b)
+unbroken_append [] b h k = k
+unbroken_append (x ∷ a) b h k = (h.0, unbroken_append a b h.1 k)
+
+-- so many items and so many more are the former and those behind them
+pub take-further : (xs : List ℕ) (n k : ℕ) → n ≤ length xs → take (n + k) xs ≡ take n xs ++ take k (drop n xs)
+take-further xs n k fits =
+    let size : length (take n xs) ≡ n = omega (arith, length-take n xs) in
+    ap (λ (l : List ℕ). take (n + k) l) (sym (take-append-drop n xs))
+    ∙ ap (λ (m : ℕ). take (m + k) (take n xs ++ drop n xs)) (sym size)
+    ∙ take-append-add (take n xs) (drop n xs) k
+
+pub consumes_more : (old now new : Option (List ℕ)) (a b : List ℕ) → Consumes old now a → Consumes now new b →
+    Consumes old new (a ++ b)
+consumes_more None now new a b h k = tt
+consumes_more (Some x) None new a b h k = absurd h
+consumes_more (Some x) (Some y) None a b h k = absurd k
+consumes_more (Some x) (Some y) (Some z) a b h k = h ∙ ap (λ (l : List ℕ). a ++ l) k ∙ sym (append_assoc a b z)
+
+pub consumes_none : (a : Option (List ℕ)) → Consumes a a []
+consumes_none None = tt
+consumes_none (Some x) = refl
+
+pub keeps_consumes : (old new : Option (List ℕ)) → Keeps old new → Consumes old new []
+keeps_consumes None new h = tt
+keeps_consumes (Some x) None h = absurd h
+keeps_consumes (Some x) (Some y) h = sym h
+
+-- Of what was held and given so far the text was taken, and this is held; each turn but the first took a byte.
+pub record HasScanned (old : Option (List ℕ)) (held : List ℕ) (now : Option (List ℕ)) (text block : List ℕ) (turn : ℕ) : Type 0
+  where
+    pub given : List ℕ
+    pub consumed : Consumes old now given
+    pub whole : held ++ given ≡ text ++ block
+    pub unbroken : IsUnbroken text
+    pub short : length text ≤ longest_line
+    pub turns : turn ≤ length text + 1
+    pub some : 0 < turn → 0 < length block
+
+-- and nothing is held any more
+pub record HasEmptied (old : Option (List ℕ)) (held : List ℕ) (now : Option (List ℕ)) (text : List ℕ) (turn : ℕ) : Type 0 where
+  pub given : List ℕ
+  pub consumed : Consumes old now given
+  pub whole : held ++ given ≡ text
+  pub unbroken : IsUnbroken text
+  pub short : length text ≤ longest_line
+  pub turns : turn ≤ length text
+
+pub emptied : (old : Option (List ℕ)) (held : List ℕ) (now : Option (List ℕ)) (text block after rest : List ℕ) (turn : ℕ) →
+    HasScanned old held now text block turn → Scans block text false rest after → (length after ≡ 2101 → ⊥) →
+    length after ≤ 2101 → HasEmptied old held now after turn
+emptied old held now text block after rest turn h s short fits = go s.4
+  where
+    go : (rest ≡ []) ⊎ (longest_line < length after) → HasEmptied old held now after turn
+    go (inr long) = absurd (short (omega arith))
+    go (inl none) =
+        let all : block ≡ s.0 = s.1 ∙ ap (λ (l : List ℕ). s.0 ++ l) none ∙ append-nil s.0 in
+        let size = ap length s.3 ∙ length-append text s.0 in
+        let some = h.some in
+        let turns = h.turns in
+        let grown = ap length all in
+        record {
+          given = h.given;
+          consumed = h.consumed;
+          whole = h.whole ∙ ap (λ (l : List ℕ). text ++ l) all ∙ sym s.3;
+          unbroken = subst IsUnbroken (sym s.3) (unbroken_append text s.0 h.unbroken s.2);
+          short = omega arith;
+          turns = later turn turns some size grown;
+        }
+      where
+        later : (n : ℕ) → n ≤ length text + 1 → (0 < n → 0 < length block) → length after ≡ length text + length s.0 →
+            length block ≡ length s.0 → n ≤ length after
+        later zero t k e f = omega arith
+        later (suc n) t k e f = let b = k (omega arith) in omega arith
+
+pub scanned_on : (old : Option (List ℕ)) (held : List ℕ) (now : Option (List ℕ)) (text : List ℕ) (turn : ℕ)
+    (new : Option (List ℕ)) (block : List ℕ) → HasEmptied old held now text turn → Reads now new block (Ok true) →
+    HasScanned old held new text block (turn + 1)
+scanned_on old held now text turn new block h r =
+    let turns = h.turns in
+    record {
+      given = h.given ++ block;
+      consumed = consumes_more old now new h.given block h.consumed r.0;
+      whole = sym (append_assoc held h.given block) ∙ ap (λ (l : List ℕ). l ++ block) h.whole;
+      unbroken = h.unbroken;
+      short = h.short;
+      turns = omega arith;
+      some = λ _. r.1;
+    }
+
+-- the line has a byte too many
+pub found_too_long : (old : Option (List ℕ)) (held : List ℕ) (now : Option (List ℕ)) (text block after rest : List ℕ)
+    (turn count : ℕ) → HasScanned old held now text block turn → Scans block text false rest after →
+    length after ≡ 2101 → count < most_lines → IsFound old held count (Err (Faults.LineTooLong (count + 1))) after now rest
+found_too_long old held now text block after rest turn count h s long fits = (
+  after,
+  (
+    h.given,
+    h.consumed,
+    h.whole ∙ ap (λ (l : List ℕ). text ++ l) s.1 ∙ sym (append_assoc text s.0 rest)
+        ∙ ap (λ (l : List ℕ). l ++ rest) (sym s.3),
+  ),
+  subst IsUnbroken (sym s.3) (unbroken_append text s.0 h.unbroken s.2),
+  long,
+  fits,
+  refl,
+  s.5 h.short,
+)
+
+-- the log ended behind a line without a line feed
+pub found_last : (old : Option (List ℕ)) (held : List ℕ) (now : Option (List ℕ)) (text : List ℕ) (turn : ℕ)
+    (new : Option (List ℕ)) (block : List ℕ) (count : ℕ) → HasEmptied old held now text turn → Reads now new block (Ok false) →
+    0 < length text → count < most_lines → IsFound old held count (Ok Last) text new block
+found_last old held now text turn new block count h r some fits = (
+  (
+    h.given,
+    subst (Consumes old new) (append-nil h.given) (consumes_more old now new h.given [] h.consumed r.0),
+    h.whole ∙ sym (append-nil text) ∙ ap (λ (l : List ℕ). text ++ l) (sym r.1),
+  ),
+  r.1,
+  r.2,
+  h.unbroken,
+  h.short,
+  some,
+  fits,
+)
+
+pub failed_read : (old : Option (List ℕ)) (held : List ℕ) (now : Option (List ℕ)) (text : List ℕ) (turn : ℕ)
+    (new : Option (List ℕ)) (block : List ℕ) (count : ℕ) (fault : LogFault) → HasEmptied old held now text turn →
+    Reads now new block (Err fault) → IsFound old held count (Err fault) text new block
+failed_read old held now text turn new block count (Faults.BadLine n) h r = absurd r
+failed_read old held now text turn new block count (Faults.LineTooLong n) h r = absurd r
+failed_read old held now text turn new block count Faults.TooManyLines h r = absurd r
+failed_read old held now text turn new block count Faults.Write h r = tt
+failed_read old held now text turn new block count Faults.Memory h r = absurd r
+failed_read old held now text turn new block count Faults.Read h r = (
+  text,
+  (
+    h.given,
+    subst (Consumes old new) (append-nil h.given)
+        (consumes_more old now new h.given [] h.consumed (keeps_consumes now new r.0)),
+    h.whole ∙ sym (append-nil text) ∙ ap (λ (l : List ℕ). text ++ l) (sym r.1),
+  ),
+  r.1,
+  h.unbroken,
+  h.short,
+)
+
+-- what is held where nothing was, and a byte is looked for
+pub more_read : (old new : Option (List ℕ)) (held block : List ℕ) (more : Result Bool LogFault) → held ≡ [] →
+    Reads old new block more → HasMore old held more new block
+more_read old new held block (Ok true) e r = ((block, r.0, ap (λ (l : List ℕ). l ++ block) e), r.1, r.2)
+more_read old new held block (Ok false) e r = (([], r.0, ap (λ (l : List ℕ). l ++ []) e ∙ sym r.1), r.1, r.2)
+more_read old new held block (Err (Faults.BadLine n)) e r = absurd r
+more_read old new held block (Err (Faults.LineTooLong n)) e r = absurd r
+more_read old new held block (Err Faults.TooManyLines) e r = absurd r
+more_read old new held block (Err Faults.Write) e r = tt
+more_read old new held block (Err Faults.Memory) e r = absurd r
+more_read old new held block (Err Faults.Read) e r =
+    (([], keeps_consumes old new r.0, ap (λ (l : List ℕ). l ++ []) e ∙ sym r.1), r.1)
+
+-- ---- a line feed
+
+pub unbroken_one : (bytes : List ℕ) (n : ℕ) → n < length bytes → IsUnbroken (take n bytes) → (get_or bytes n 0 ≡ 10 → ⊥) →
+    IsUnbroken (take (n + 1) bytes)
+unbroken_one [] n l h k = absurd (omega arith)
+unbroken_one (x ∷ bytes) zero l h k = (k, tt)
+unbroken_one (x ∷ bytes) (suc n) l h k = rw add-one (h.0, let g = unbroken_one bytes n (omega arith) h.1 k in rw add-one at g)
+
+pub end_here : (bytes : List ℕ) (n : ℕ) → n < length bytes → get_or bytes n 0 ≡ 10 →
+    bytes ≡ take n bytes ++ 10 ∷ drop (n + 1) bytes
+end_here [] n l e = absurd (omega arith)
+end_here (x ∷ bytes) zero l e = ap (λ (y : ℕ). y ∷ bytes) e
+end_here (x ∷ bytes) (suc n) l e =
+    ap (λ (t : List ℕ). x ∷ t) (end_here bytes n (omega arith) e) ∙ rw (add-one, add-one) refl
+
+pub unbroken_all : (bytes : List ℕ) → IsUnbroken (take (length bytes) bytes) → IsUnbroken bytes
+unbroken_all bytes h = subst IsUnbroken (take-length bytes) h
+
+-- ---- a block
+
+front_few : (n : ℕ) (l : List ℕ) → length (take n l) ≤ n
+front_few zero l = omega arith
+front_few (suc n) [] = omega arith
+front_few (suc n) (x ∷ l) = omega (arith, front_few n l)
+
+pub skipped : (bytes : List ℕ) (from to n : ℕ) → n ≤ length (take (to - from) (drop from bytes)) →
+    take (to - (from + n)) (drop (from + n) bytes) ≡ drop n (take (to - from) (drop from bytes))
+skipped bytes from to n h =
+    let few = front_few (to - from) (drop from bytes) in
+    let size : to - from ≡ n + (to - (from + n)) = omega arith in
+    ap (take (to - (from + n))) (sym (drop-drop n from bytes))
+    ∙ sym (drop-take n (to - (from + n)) (drop from bytes))
+    ∙ ap (λ (k : ℕ). drop n (take k (drop from bytes))) (sym size)
+
+-- ---- a scan
+
+drop_in_front : (a b : List ℕ) (n : ℕ) → n ≤ length a → drop n (a ++ b) ≡ drop n a ++ b
+drop_in_front a b zero h = refl
+drop_in_front [] b (suc n) h = absurd (omega arith)
+drop_in_front (x ∷ a) b (suc n) h = drop_in_front a b n (omega arith)
+
+pub line_scanned : (held text : List ℕ) (k n : ℕ) (rest after : List ℕ) → k ≤ length held → k + length text ≤ 2101 →
+    n < length (take k held) → IsUnbroken (take n (take k held)) →
+    take k held ≡ take n (take k held) ++ 10 ∷ drop (n + 1) (take k held) → rest ≡ drop (n + 1) held →
+    after ≡ text ++ take n (take k held) → Scans held text true rest after
+line_scanned held text k n rest after fits room here unbroken split left grown =
+    let front : List ℕ = take k held in
+    let tail : List ℕ = drop k held in
+    let size : length front ≡ k = length-take-le k held fits in
+    let few = front_few n front in
+    let more : drop (n + 1) held ≡ drop (n + 1) front ++ tail =
+    ap (drop (n + 1)) (sym (take-append-drop k held)) ∙ drop_in_front front tail (n + 1) (omega arith) in (
+      take n front,
+      sym (take-append-drop k held) ∙ ap (λ (l : List ℕ). l ++ tail) split
+          ∙ append_assoc (take n front) (10 ∷ drop (n + 1) front) tail
+          ∙ ap (λ (l : List ℕ). take n front ++ 10 ∷ l) (sym (left ∙ more)),
+      unbroken,
+      grown,
+      omega (arith, ap length grown, length-append text (take n front)),
+    )
+
+pub part_scanned : (held text : List ℕ) (k : ℕ) (rest after : List ℕ) → k ≤ length held →
+    (k < length held → k + length text ≡ 2101) → IsUnbroken (take k held) → rest ≡ drop (length (take k held)) held →
+    after ≡ text ++ take k held → length held ≤ block_size → Scans held text false rest after
+part_scanned held text k rest after fits room unbroken left grown few = (
+  take k held,
+  sym (take-append-drop k held) ∙ ap (λ (l : List ℕ). take k held ++ l) (sym here),
+  unbroken,
+  grown,
+  by_rest rest here,
+  less rest here,
+)
+  where
+    size : length (take k held) ≡ k
+    size = length-take-le k held fits
+
+    here : rest ≡ drop k held
+    here = left ∙ ap (λ (n : ℕ). drop n held) size
+
+    by_rest : (l : List ℕ) → l ≡ drop k held → (l ≡ []) ⊎ (longest_line < length after)
+    by_rest [] e = inl refl
+    by_rest (x ∷ l) e =
+        let some = ap length e ∙ length-drop k held in
+        let whole = room (omega arith) in
+        inr (omega (arith, ap length grown, length-append text (take k held), size))
+
+    less : (l : List ℕ) → l ≡ drop k held → length text ≤ longest_line → length l < block_size
+    less [] e short = omega arith
+    less (x ∷ l) e short =
+        let some = ap length e ∙ length-drop k held in
+        let whole = room (omega arith) in
+        omega (arith, some, whole)

@@ -1,0 +1,32 @@
+use Rattle.std.proofs.Common.{◌≡◌, ◌+◌, ◌*◌, ◌∙◌, sym, get_or, length-set, arith}
+use Rattle.std.proofs.lemmas.List.Folds.{list_all_more}
+use Rattle.hex.specs.Hex.{is_hex_digit}
+use Rattle.daide_lines.proofs.DigitLemmas.{byte_of, read_more, values_more}
+use Rattle.daide_lines.proofs.digits.read_together.Goals as goal
+
+pub loop-j-preserved : goal.loop-j-preserved
+loop-j-preserved c =
+    let digits = c.args.digits.now in
+    let j = c.loop-j.j in
+    let here : c.read_digit-is_digit.result.0 ≡ is_hex_digit (get_or digits j 0) = c.read_digit-is_digit.ensures.digit in
+    let more = list_all_more is_hex_digit digits j 0 c.loop-j-test.true in
+    record {
+      room = length-set c.loop-j.values j _ ∙ c.loop-j.invariant.room;
+      all = cc;
+      values = values_more c.loop-j.values digits j _ (omega arith) c.loop-j-test.true c.loop-j.invariant.values
+          c.read_digit-is_digit.ensures.value;
+    }
+
+pub loop-i-preserved : goal.loop-i-preserved
+loop-i-preserved c =
+    let digits = c.args.digits.now in
+    let i = c.loop-i.i in
+    let values = c.loop-j.values in
+    record {
+      same = length-set c.loop-i.bytes i _ ∙ c.loop-i.invariant.same;
+      bytes = λ all.
+          let known = c.loop-j.invariant.values (sym c.loop-j.invariant.all ∙ all) in
+          read_more c.loop-i.bytes digits i _ (omega arith) (omega arith) (c.loop-i.invariant.bytes all)
+          (byte_of (get_or digits (2 * i) 0) (get_or digits (2 * i + 1) 0) (get_or values (2 * i) 0)
+          (get_or values (2 * i + 1) 0) (known (2 * i) (omega arith)) (known (2 * i + 1) (omega arith)));
+    }

@@ -1,0 +1,51 @@
+use Rattle.std.proofs.Common.{arith, rules, ap, sym, ◌∙◌, subst, length, Ok}
+use Rattle.daide_lines.specs.Lines.{Reads}
+use Rattle.daide_lines.proofs.LineLemmas.{emptied, scanned_on, failed_read, found_last, found_too_long}
+use Rattle.daide_lines.proofs.PageLemmas.{keeps_more}
+use Rattle.daide_frame.proofs.FeedingLemmas.{not_empty}
+use Rattle.daide_lines.proofs.lines.next_line.Goals as goal
+
+pub returns-then-len-eq-TOO_LONG-clause-found : goal.returns-then-len-eq-TOO_LONG-clause-found
+returns-then-len-eq-TOO_LONG-clause-found g c =
+    found_too_long (g.R.Read.remaining c.args.reader.now) c.args.block.now (g.R.Read.remaining c.loop-turn.reader)
+    c.loop-turn.text.items c.loop-turn.block c.scan.new.text.items c.scan.new.block c.loop-turn._turn c.args.count
+    c.loop-turn.invariant.0 c.if-scan.ensures (sym c.len.ensures.value ∙ c.if-len-eq-TOO_LONG.true) (omega arith)
+
+pub returns-in-Ok-false-2-clause-found : goal.returns-in-Ok-false-2-clause-found
+returns-in-Ok-false-2-clause-found g c =
+    found_last (g.R.Read.remaining c.args.reader.now) c.args.block.now (g.R.Read.remaining c.loop-turn.reader)
+    c.scan.new.text.items c.loop-turn._turn (g.R.Read.remaining c.read_on.new.reader) c.read_on.new.block c.args.count
+    (emptied (g.R.Read.remaining c.args.reader.now) c.args.block.now (g.R.Read.remaining c.loop-turn.reader)
+    c.loop-turn.text.items c.loop-turn.block c.scan.new.text.items c.scan.new.block c.loop-turn._turn
+    c.loop-turn.invariant.0 c.if-scan.ensures (λ e. c.if-len-eq-TOO_LONG.false (c.len.ensures.value ∙ e))
+    (omega (arith, c.len.ensures.value, c.len.ensures.fits)))
+    (search rules)
+    (not_empty (length c.scan.new.text.items) (sym c.is_empty.ensures ∙ c.if-is_empty.false)) (omega arith)
+
+pub returns-in-Err-clause-found : goal.returns-in-Err-clause-found
+returns-in-Err-clause-found g c =
+    failed_read (g.R.Read.remaining c.args.reader.now) c.args.block.now (g.R.Read.remaining c.loop-turn.reader)
+    c.scan.new.text.items c.loop-turn._turn (g.R.Read.remaining c.read_on.new.reader) c.read_on.new.block c.args.count
+    c.in-Err.fault
+    (emptied (g.R.Read.remaining c.args.reader.now) c.args.block.now (g.R.Read.remaining c.loop-turn.reader)
+    c.loop-turn.text.items c.loop-turn.block c.scan.new.text.items c.scan.new.block c.loop-turn._turn
+    c.loop-turn.invariant.0 c.if-scan.ensures (λ e. c.if-len-eq-TOO_LONG.false (c.len.ensures.value ∙ e))
+    (omega (arith, c.len.ensures.value, c.len.ensures.fits)))
+    (subst (Reads (g.R.Read.remaining c.loop-turn.reader) (g.R.Read.remaining c.read_on.new.reader) c.read_on.new.block)
+    c.in-Err.is c.read_on.ensures.read)
+
+pub loop-turn-preserved : goal.loop-turn-preserved
+loop-turn-preserved g c = (
+  scanned_on (g.R.Read.remaining c.args.reader.now) c.args.block.now (g.R.Read.remaining c.loop-turn.reader)
+      c.scan.new.text.items c.loop-turn._turn (g.R.Read.remaining c.read_on.new.reader) c.read_on.new.block
+      (emptied (g.R.Read.remaining c.args.reader.now) c.args.block.now (g.R.Read.remaining c.loop-turn.reader)
+      c.loop-turn.text.items c.loop-turn.block c.scan.new.text.items c.scan.new.block c.loop-turn._turn
+      c.loop-turn.invariant.0 c.if-scan.ensures (λ e. c.if-len-eq-TOO_LONG.false (c.len.ensures.value ∙ e))
+      (omega (arith, c.len.ensures.value, c.len.ensures.fits)))
+      (subst (Reads (g.R.Read.remaining c.loop-turn.reader) (g.R.Read.remaining c.read_on.new.reader) c.read_on.new.block)
+      (c.in-Ok-true.is ∙ ap Ok c.in-Ok-true.field-0-test) c.read_on.ensures.read),
+  keeps_more _ _ _ c.loop-turn.invariant.1 c.in-Ok-true.ensures.kept,
+)
+
+pub unreachable-requires : goal.unreachable-requires
+unreachable-requires g c = let t = c.loop-turn.invariant.0.turns in let s = c.loop-turn.invariant.0.short in omega arith

@@ -1,0 +1,87 @@
+-- What the parts of the code read of a log.
+use Rattle.std.specs.Prelude.{⊤, ◌≡◌, ℕ, ◌+◌, ◌<◌, ◌≤◌, ◌⊎◌, Bool, true, false, List, [], ◌∷◌, ◌++◌, length, take, drop}
+use Rattle.std.specs.Prelude.{Option, Some, None, Result, Ok, Err}
+use Rattle.std.specs.Io.KnownBytes.{Consumes, Keeps, IsAtEnd}
+use Rattle.daide_lines.specs.declared.lines.Found.{Found}
+use Rattle.daide_lines.specs.declared.lines.Found.TheVariants.{Line, Last, End}
+use Rattle.daide_lines.specs.declared.fault.LogFault.{LogFault}
+use Rattle.daide_lines.specs.declared.fault.LogFault.TheVariants as Faults
+use Rattle.daide_lines.specs.LogLine.{most_lines, longest_line, IsUnbroken, without_cr}
+
+-- the most bytes that are read at once
+abbrev pub block_size : ℕ
+block_size = 8192
+
+-- one read: these bytes came, or the reader has none left, or it failed; or the report could not be handed over first
+abbrev pub Reads : Option (List ℕ) → Option (List ℕ) → List ℕ → Result Bool LogFault → Type 0
+Reads old new bytes (Ok true) = Consumes old new bytes × (0 < length bytes) × (length bytes ≤ block_size)
+Reads old new bytes (Ok false) = Consumes old new [] × (bytes ≡ []) × IsAtEnd new
+Reads old new bytes (Err Faults.Read) = Keeps old new × (bytes ≡ [])
+Reads old new bytes (Err Faults.Write) = ⊤
+Reads old new bytes (Err Faults.Memory) = ⊥
+Reads old new bytes (Err (Faults.BadLine n)) = ⊥
+Reads old new bytes (Err (Faults.LineTooLong n)) = ⊥
+Reads old new bytes (Err Faults.TooManyLines) = ⊥
+
+-- Of the bytes that were held and those that the reader gave, these were looked at, and the rest is held.
+abbrev pub LooksAt : Option (List ℕ) → List ℕ → List ℕ → Option (List ℕ) → List ℕ → Type 0
+LooksAt old held bytes new rest =
+    (given : List ℕ) × Consumes old new given × (held ++ given ≡ bytes ++ rest)
+
+-- A line with its line feed, or the last one without, or none; and whether it may be the next in number.
+abbrev pub IsFound : Option (List ℕ) → List ℕ → ℕ → Result Found LogFault → List ℕ → Option (List ℕ) → List ℕ → Type 0
+IsFound old held count (Ok Line) text new rest =
+    (line : List ℕ) × LooksAt old held (line ++ 10 ∷ []) new rest × IsUnbroken line × (length line ≤ longest_line)
+    × (count < most_lines) × (text ≡ without_cr line)
+IsFound old held count (Ok Last) text new rest =
+    LooksAt old held text new rest × (rest ≡ []) × IsAtEnd new × IsUnbroken text × (length text ≤ longest_line)
+    × (0 < length text) × (count < most_lines)
+IsFound old held count (Ok End) text new rest = LooksAt old held [] new rest × (rest ≡ []) × IsAtEnd new
+IsFound old held count (Err (Faults.LineTooLong n)) text new rest =
+    (line : List ℕ) × LooksAt old held line new rest × IsUnbroken line × (length line ≡ longest_line + 1)
+    × (count < most_lines) × (n ≡ count + 1) × (length rest < block_size)
+IsFound old held count (Err Faults.TooManyLines) text new rest =
+    LooksAt old held [] new rest × (0 < length rest) × (count ≡ most_lines) × (length rest ≤ block_size)
+IsFound old held count (Err Faults.Read) text new rest =
+    (line : List ℕ) × LooksAt old held line new rest × (rest ≡ []) × IsUnbroken line × (length line ≤ longest_line)
+IsFound old held count (Err (Faults.BadLine n)) text new rest = ⊥
+IsFound old held count (Err Faults.Write) text new rest = ⊤
+IsFound old held count (Err Faults.Memory) text new rest = ⊥
+
+-- whether the log ended, and whether its last line came
+abbrev pub is_end : Found → Bool
+is_end End = true
+is_end Line = false
+is_end Last = false
+
+abbrev pub is_last : Found → Bool
+is_last Last = true
+is_last Line = false
+is_last End = false
+
+-- the place of the first line feed, if there is one
+abbrev pub IsLineEnd : List ℕ → Option ℕ → Type 0
+IsLineEnd bytes None = IsUnbroken bytes
+IsLineEnd bytes (Some n) =
+    (n < length bytes) × IsUnbroken (take n bytes) × (bytes ≡ take n bytes ++ 10 ∷ drop (n + 1) bytes)
+
+-- What was held of a line went behind the text: all up to its line feed, or all that was held, or as much as makes the
+-- text too long; less than a block is then left, as a byte of a line that was short went.
+abbrev pub Scans : List ℕ → List ℕ → Bool → List ℕ → List ℕ → Type 0
+Scans held before true rest after =
+    (front : List ℕ) × (held ≡ front ++ 10 ∷ rest) × IsUnbroken front × (after ≡ before ++ front)
+    × (length after ≤ longest_line)
+Scans held before false rest after =
+    (front : List ℕ) × (held ≡ front ++ rest) × IsUnbroken front × (after ≡ before ++ front)
+    × ((rest ≡ []) ⊎ (longest_line < length after)) × (length before ≤ longest_line → length rest < block_size)
+
+-- whether a byte is left of what is held and what the reader has
+abbrev pub HasMore : Option (List ℕ) → List ℕ → Result Bool LogFault → Option (List ℕ) → List ℕ → Type 0
+HasMore old held (Ok true) new rest = LooksAt old held [] new rest × (0 < length rest) × (length rest ≤ block_size)
+HasMore old held (Ok false) new rest = LooksAt old held [] new rest × (rest ≡ []) × IsAtEnd new
+HasMore old held (Err Faults.Read) new rest = LooksAt old held [] new rest × (rest ≡ [])
+HasMore old held (Err (Faults.BadLine n)) new rest = ⊥
+HasMore old held (Err (Faults.LineTooLong n)) new rest = ⊥
+HasMore old held (Err Faults.TooManyLines) new rest = ⊥
+HasMore old held (Err Faults.Write) new rest = ⊤
+HasMore old held (Err Faults.Memory) new rest = ⊥

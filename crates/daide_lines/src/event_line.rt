@@ -1,0 +1,74 @@
+//! The lines of a log from the third on: what each tells.
+
+ghost use Rattle.std.specs.Prelude.{◌≡◌, IfSome, option_map};
+ghost use Rattle.daide_lines.specs.LogLine.{event_of_line, traffic_of as told_traffic, event_of_word};
+ghost use Rattle.daide_lines.specs.Told.{event_told, IsWithin};
+
+use crate::digits::read_digits;
+use daide_frame::Side;
+
+/// The most bytes that a line has.
+pub const MOST: usize = 1024;
+
+/// What a line tells.
+#[derive(Clone, Copy, Debug, PartialEq, Eq)]
+pub enum Told {
+    /// So many bytes of a side came.
+    Traffic(Side, usize),
+    /// A side's stream ended.
+    EndOf(Side),
+    /// The time for the initial message is over.
+    TimeOver,
+    /// Nothing.
+    Silence,
+}
+
+/// Bytes of a side, in hexadecimal digits.
+fn read_traffic(side: Side, digits: &[u8], bytes: &mut [u8; MOST]) -> Option<Told>
+    ensures told { option_map (event_told bytes.new) result ≡ told_traffic side digits.now }
+    ensures within { IfSome result IsWithin }
+{
+    let count = digits.len() / 2;
+    if count == 0 || digits.len() > 2 * MOST {
+        return None;
+    }
+    if digits.len() % 2 == 0 && read_digits(digits, &mut bytes[..count]) {
+        return Some(Told::Traffic(side, count));
+    }
+    None
+}
+
+/// A line that has no bytes of a side.
+fn read_word(line: &[u8], bytes: &[u8; MOST]) -> Option<Told>
+    ensures told { option_map (event_told bytes.now) result ≡ event_of_word line.now }
+    ensures within { IfSome result IsWithin }
+{
+    if line.is_empty() || line[0] == b'#' {
+        return Some(Told::Silence);
+    }
+    if line == b"timer".as_slice() {
+        return Some(Told::TimeOver);
+    }
+    if line == b"end bot".as_slice() {
+        return Some(Told::EndOf(Side::Bot));
+    }
+    if line == b"end server".as_slice() {
+        return Some(Told::EndOf(Side::Server));
+    }
+    None
+}
+
+/// What a line tells, with the bytes of traffic at the front of the buffer.
+#[tactic(auto, unfolding(crate::specs::LogLine::event_of_line))]
+pub fn read_event(line: &[u8], bytes: &mut [u8; MOST]) -> Option<Told>
+    ensures told { option_map (event_told bytes.new) result ≡ event_of_line line.now }
+    ensures within { IfSome result IsWithin }
+{
+    if let Some(digits) = line.strip_prefix(b"bot ") {
+        return read_traffic(Side::Bot, digits, bytes);
+    }
+    if let Some(digits) = line.strip_prefix(b"server ") {
+        return read_traffic(Side::Server, digits, bytes);
+    }
+    read_word(line, bytes)
+}

@@ -1,0 +1,195 @@
+//! The lines of a log, one after the other.
+
+ghost use Rattle.std.specs.Prelude.{◌≡◌, ◌≢◌, ◌+◌, ◌≤◌, [], drop, length, take, true, OnOk, IfErr};
+ghost use Rattle.std.specs.Io.KnownBytes.{Keeps, append_known};
+ghost use Rattle.daide_lines.specs.LogLine.{IsUnbroken, most_lines, without_cr};
+ghost use Rattle.daide_lines.specs.Lines.{IsFound, IsLineEnd, Scans, HasMore, Reads};
+
+use crate::block::Block;
+use crate::fault::LogFault;
+use crate::page::{Page, hand_over};
+use arrayvec::ArrayVec;
+use std::io::{Read, Write};
+
+/// The most lines of a log.
+const MOST_LINES: u32 = 1_000_000;
+
+/// One byte more than the most bytes of a line.
+const TOO_LONG: usize = 2101;
+
+/// How many bytes are looked at together.
+const TOGETHER: usize = 16;
+
+/// The bytes of a line.
+pub type Text = ArrayVec<u8, TOO_LONG>;
+
+/// What stands next in a log.
+#[derive(Clone, Copy, Debug, PartialEq, Eq)]
+pub enum Found {
+    /// A line, which a line feed ended.
+    Line,
+    /// The last line, which the end of the log ended.
+    Last,
+    /// The end of the log.
+    End,
+}
+
+/// Whether none of the bytes from one on that are looked at together is a line feed. All are looked at, whatever the
+/// others are.
+fn are_unbroken(bytes: &[u8], first: usize) -> bool
+    requires { first + 16 ≤ length bytes.now }
+    ensures { result ≡ true → IsUnbroken (take 16 (drop first bytes.now)) }
+{
+    let mut unbroken = true;
+    for k in 0..TOGETHER {
+        unbroken &= bytes[first + k] != b'\n';
+    }
+    unbroken
+}
+
+/// How many bytes stand before the first line feed, at least: as many as were looked at together with no line feed
+/// among them.
+fn unbroken_front(bytes: &[u8]) -> usize
+    ensures within { result ≤ length bytes.now }
+    ensures unbroken { IsUnbroken (take result bytes.now) }
+{
+    let mut i = 0;
+    while bytes.len() - i >= TOGETHER {
+        if !are_unbroken(bytes, i) {
+            return i;
+        }
+        i += TOGETHER;
+    }
+    i
+}
+
+/// Where the first line feed of some bytes stands.
+fn line_end(bytes: &[u8]) -> Option<usize>
+    ensures { IsLineEnd bytes.now result }
+{
+    for i in unbroken_front(bytes)..bytes.len() {
+        if bytes[i] == b'\n' {
+            return Some(i);
+        }
+    }
+    None
+}
+
+/// Takes what is held of a line: up to its line feed, or all, or as much as makes it too long. Answers whether its
+/// line feed came.
+fn scan(block: &mut Block, text: &mut Text) -> bool
+    ensures { Scans block.old text.old.items result block.new text.new.items }
+{
+    let room = TOO_LONG - text.len();
+    let held = block.as_slice();
+    let front = &held[..held.len().min(room)];
+    match line_end(front) {
+        Some(n) => {
+            text.try_extend_from_slice(&front[..n]).unwrap();
+            block.skip(n + 1);
+            true
+        }
+        None => {
+            let count = front.len();
+            text.try_extend_from_slice(front).unwrap();
+            block.skip(count);
+            false
+        }
+    }
+}
+
+/// Drops a carriage return from the end of a line.
+fn drop_cr(text: &mut Text)
+    ensures { text.new.items ≡ without_cr text.old.items }
+{
+    if text.as_slice().strip_suffix(b"\r").is_some() {
+        text.pop();
+    }
+}
+
+/// Hands over what is held back of the report, and reads more.
+fn read_on<R: Read, W: Write>(
+    block: &mut Block,
+    page: &mut Page,
+    reader: &mut R,
+    writer: &mut W,
+) -> Result<bool, LogFault>
+    requires { block.old ≡ [] }
+    ensures read { Reads (R.remaining reader.old) (R.remaining reader.new) block.new result }
+    ensures kept { OnOk result (Keeps (append_known (W.contents writer.old) page.old.items)
+        (append_known (W.contents writer.new) page.new.items)) }
+    ensures kept_at_fault { IfErr result (λ fault. fault ≢ LogFault.Write →
+        Keeps (append_known (W.contents writer.old) page.old.items)
+        (append_known (W.contents writer.new) page.new.items)) }
+{
+    match hand_over(page, writer) {
+        Ok(()) => block.refill(reader, page),
+        Err(_) => Err(LogFault::Write),
+    }
+}
+
+/// Whether any byte of a log is left, of which a first one is read if none is held.
+fn has_more<R: Read, W: Write>(
+    block: &mut Block,
+    page: &mut Page,
+    reader: &mut R,
+    writer: &mut W,
+) -> Result<bool, LogFault>
+    ensures more { HasMore (R.remaining reader.old) block.old result (R.remaining reader.new) block.new }
+    ensures kept { OnOk result (Keeps (append_known (W.contents writer.old) page.old.items)
+        (append_known (W.contents writer.new) page.new.items)) }
+    ensures kept_at_fault { IfErr result (λ fault. fault ≢ LogFault.Write →
+        Keeps (append_known (W.contents writer.old) page.old.items)
+        (append_known (W.contents writer.new) page.new.items)) }
+{
+    if !block.as_slice().is_empty() {
+        return Ok(true);
+    }
+    read_on(block, page, reader, writer)
+}
+
+/// Takes the next line of a log, behind so many lines. A line that is too long is told at the byte by which it is, and
+/// one line too many at its first byte, with nothing read further. What is held back of the report is handed over
+/// before each read.
+pub fn next_line<R: Read, W: Write>(
+    block: &mut Block,
+    text: &mut Text,
+    count: u32,
+    page: &mut Page,
+    reader: &mut R,
+    writer: &mut W,
+) -> Result<Found, LogFault>
+    requires { count ≤ most_lines }
+    ensures found { IsFound (R.remaining reader.old) block.old count result text.new.items
+        (R.remaining reader.new) block.new }
+    ensures kept { OnOk result (Keeps (append_known (W.contents writer.old) page.old.items)
+        (append_known (W.contents writer.new) page.new.items)) }
+    ensures kept_at_fault { IfErr result (λ fault. fault ≢ LogFault.Write →
+        Keeps (append_known (W.contents writer.old) page.old.items)
+        (append_known (W.contents writer.new) page.new.items)) }
+{
+    text.clear();
+    if count == MOST_LINES {
+        return if has_more(block, page, reader, writer)? {
+            Err(LogFault::TooManyLines)
+        } else {
+            Ok(Found::End)
+        };
+    }
+    for _turn in 0..=TOO_LONG {
+        if scan(block, text) {
+            drop_cr(text);
+            return Ok(Found::Line);
+        }
+        if text.len() == TOO_LONG {
+            return Err(LogFault::LineTooLong(count + 1));
+        }
+        match read_on(block, page, reader, writer) {
+            Ok(true) => {}
+            Ok(false) if text.is_empty() => return Ok(Found::End),
+            Ok(false) => return Ok(Found::Last),
+            Err(fault) => return Err(fault),
+        }
+    }
+    unreachable!()
+}

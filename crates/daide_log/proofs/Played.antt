@@ -1,0 +1,186 @@
+-- Runs of the machine that are computed: the verdict on a message is the one that the table of the grammar has, which
+-- is the grammar's where no words were added.
+use Rattle.std.proofs.Common.{◌≡◌, ℕ, ◌+◌, ◌-◌, ◌<◌, ◌≤◌, Bool, true, false, List, [], ◌∷◌, ◌++◌, length, map}
+use Rattle.std.proofs.Common.{Option, Some, None}
+use Rattle.std.proofs.Common.{refl, sym, ap, ◌∙◌, subst, eqb, ◌⊎◌, inl, inr}
+use Rattle.std.specs.Prelude.{if◌then◌else◌, slice_get, slice_set}
+use Rattle.std.proofs.lemmas.Bool.Decides.{eqb_tells}
+use Rattle.std.proofs.lemmas.List.{map-append}
+use Rattle.std.proofs.lemmas.Option.{same_Some}
+use Rattle.daide_frame.specs.declared.side.Side.{Side}
+use Rattle.daide_grammar.specs.declared.level.Level.TheVariants.{L0}
+use Rattle.daide_grammar.specs.Words.{Words}
+use Rattle.daide_reader.specs.declared.verdict.Verdict.{Verdict}
+use Rattle.daide_reader.specs.declared.verdict.Verdict.TheVariants.{Relay}
+use Rattle.daide_reader.proofs.SomeVerdict.{plain_verdict, plain_verdict_right}
+use Rattle.daide_machine.specs.declared.note.Note.{Note}
+use Rattle.daide_machine.specs.declared.phase.Phase.{Phase}
+use Rattle.daide_machine.specs.Events.{Event}
+use Rattle.daide_machine.specs.Machine.{Limits, SessionState, Effect, Outcome, Question, Runs, IsRight, event_outcome}
+use Rattle.daide_machine.specs.Machine.{question, side2_of}
+use Rattle.daide_lines.specs.LogLine.{LogEvent, IsUnbroken, without_cr}
+use Rattle.daide_lines.specs.MatchLine.{Of}
+use Rattle.daide_log.specs.declared.heading.Version.{Version}
+use Rattle.daide_log.specs.declared.report.Source.{Source}
+use Rattle.daide_log.specs.Report.{Entry, entries_of, events_of, side_of}
+use Rattle.daide_log.specs.Log.{Playing, Reports, event_in, source_in}
+
+-- a session between two messages, of which no level but 0 was told
+abbrev pub state_at : Limits → Phase → SessionState
+state_at limits phase = record {
+  limits = limits;
+  phase = phase;
+  level = L0;
+  bot = record { pending = []; noted = L0 };
+  server = record { pending = []; noted = L0 };
+}
+
+-- ---- a run
+
+-- the verdict, where it can be computed
+unfoldable pub verdict_on : Words → ℕ → Option Question → Option Verdict
+verdict_on words depth None = Some Relay
+verdict_on [] depth (Some q) = Some (plain_verdict (side2_of q.side) q.level depth q.message)
+verdict_on (word ∷ words) depth (Some q) = None
+
+verdict_right : (words : Words) (depth : ℕ) (q : Option Question) (v : Verdict) → verdict_on words depth q ≡ Some v →
+    IsRight words depth q v
+unfolding verdict_on
+verdict_right words depth None v e = sym (same_Some Relay v e)
+verdict_right [] depth (Some q) v e =
+    subst (λ (verdict : Verdict). IsRight [] depth (Some q) verdict) (same_Some _ v e)
+    (plain_verdict_right (side2_of q.side) q.level depth q.message)
+verdict_right (word ∷ words) depth (Some q) v e = absurd (cc)
+
+-- the state after a run, and what is told of its moves
+pub record Played : Type 0 where
+  pub state : SessionState
+  pub told : List Note
+
+abbrev told_first : List Effect → Option Played → Option Played
+told_first moves None = None
+told_first moves (Some later) =
+    Some (record { state = later.state; told = map (λ move. move.told) moves ++ later.told })
+
+abbrev then_played : (SessionState → Option Played) → Outcome → Option Played
+then_played later outcome = told_first outcome.effects (later outcome.state)
+
+abbrev played_by : (SessionState → Option Played) → SessionState → Event → Option Verdict → Option Played
+played_by later s event None = None
+played_by later s event (Some v) = then_played later (event_outcome s event v)
+
+unfoldable pub played : List Event → SessionState → Option Played
+played [] s = Some (record { state = s; told = [] })
+played (event ∷ events) s =
+    played_by (played events) s event (verdict_on s.limits.words s.limits.max_depth (question s event))
+
+-- it is one of the machine's
+abbrev pub AreRuns : List Event → Type 0
+AreRuns events =
+    (s : SessionState) (p : Played) → played events s ≡ Some p →
+    (moves : List Effect) × Runs s events moves p.state × (map (λ move. move.told) moves ≡ p.told)
+
+pub played_runs : (events : List Event) → AreRuns events
+unfolding played
+played_runs [] s p e =
+    let same : record { state = s; told = [] } ≡ p = same_Some _ p e in
+    ([], (refl, ap (λ (q : Played). q.state) (sym same)), ap (λ (q : Played). q.told) same)
+played_runs (event ∷ events) s p e =
+    by_verdict (λ t q was. played_runs events t q was)
+    (verdict_on s.limits.words s.limits.max_depth (question s event)) refl e
+  where
+    behind : AreRuns events → (v : Verdict) → verdict_on s.limits.words s.limits.max_depth (question s event) ≡ Some v →
+        (o : Option Played) → played events (event_outcome s event v).state ≡ o →
+        told_first (event_outcome s event v).effects o ≡ Some p →
+        (moves : List Effect) × Runs s (event ∷ events) moves p.state × (map (λ move. move.told) moves ≡ p.told)
+    behind runs v is None was e = absurd (cc)
+    behind runs v is (Some later) was e =
+        let out : Outcome = event_outcome s event v in
+        let rest = runs out.state later was in
+        let same : record { state = later.state; told = map (λ move. move.told) out.effects ++ later.told } ≡ p =
+        same_Some _ p e in (
+          out.effects ++ rest.0,
+          (
+            out.state,
+            out.effects,
+            rest.0,
+            record {
+              verdict = v;
+              right = verdict_right s.limits.words s.limits.max_depth (question s event) v is;
+              outcome = refl;
+            },
+            subst (λ (new : SessionState). Runs out.state events rest.0 new) (ap (λ (q : Played). q.state) same) rest.1,
+            refl,
+          ),
+          map-append (λ (move : Effect). move.told) out.effects rest.0
+              ∙ ap (λ (l : List Note). map (λ move. move.told) out.effects ++ l) rest.2
+              ∙ ap (λ (q : Played). q.told) same,
+        )
+
+    by_verdict : AreRuns events → (o : Option Verdict) →
+        verdict_on s.limits.words s.limits.max_depth (question s event) ≡ o →
+        played_by (played events) s event o ≡ Some p →
+        (moves : List Effect) × Runs s (event ∷ events) moves p.state × (map (λ move. move.told) moves ≡ p.told)
+    by_verdict runs None is e = absurd (cc)
+    by_verdict runs (Some v) is e = behind runs v is (played events (event_outcome s event v).state) refl e
+
+-- ---- what is told of it
+
+-- these moves of a side
+unfoldable pub entries_by : Source → Side → List Note → List Entry
+entries_by source side [] = []
+entries_by source side (told ∷ notes) =
+    record { source = source; side = side; told = told } ∷ entries_by source side notes
+
+entries_told : (source : Source) (side : Side) (moves : List Effect) →
+    entries_by source side (map (λ move. move.told) moves) ≡ entries_of source side moves
+unfolding entries_by
+entries_told source side [] = refl
+entries_told source side (move ∷ moves) =
+    ap (λ (l : List Entry). record { source = source; side = side; told = move.told } ∷ l)
+    (entries_told source side moves)
+
+-- ---- a line more
+
+unfoldable pub has_no_feed : List ℕ → Bool
+has_no_feed [] = true
+has_no_feed (b ∷ bytes) = if eqb b 10 then false else has_no_feed bytes
+
+pub unbroken : (bytes : List ℕ) → has_no_feed bytes ≡ true → IsUnbroken bytes
+unfolding has_no_feed
+unbroken [] h = tt
+unbroken (b ∷ bytes) h = go (eqb_tells b 10) (unbroken bytes)
+  where
+    go : ((eqb b 10 ≡ true) × (b ≡ 10)) ⊎ ((eqb b 10 ≡ false) × (b ≡ 10 → ⊥)) →
+        (has_no_feed bytes ≡ true → IsUnbroken bytes) → IsUnbroken (b ∷ bytes)
+    go (inl t) later = let wrong : false ≡ true = (rw t.0 at h) in absurd (cc)
+    go (inr t) later = (t.1, later (rw t.0 at h))
+
+pub line_played : (bytes : List ℕ) (number : ℕ) (told : List Entry) (version : Version) (states : List SessionState) →
+    Reports bytes number told (Playing version states) → (line : List ℕ) (session : ℕ) (event : LogEvent)
+    (state : SessionState) (p : Played) → has_no_feed line ≡ true → length line ≤ 2100 → number < 1000000 →
+    event_in version (length states) (without_cr line) ≡ Some (Of session event) →
+    slice_get states (session - 1) ≡ Some state → played (events_of event) state ≡ Some p →
+    Reports (bytes ++ line ++ 10 ∷ []) (number + 1)
+    (told ++ entries_by (source_in version (number + 1) session) (side_of event) p.told)
+    (Playing version (slice_set states (session - 1) p.state))
+line_played bytes number told version states reports line session event state p whole short few is_event place is =
+    let run = played_runs (events_of event) state p is in
+    let source : Source = source_in version (number + 1) session in
+    Reports.line bytes number told (Playing version states) reports line
+    (entries_by source (side_of event) p.told) (Playing version (slice_set states (session - 1) p.state)) few
+    (unbroken line whole) short (
+      Of session event,
+      is_event,
+      slice_set states (session - 1) p.state,
+      (
+        state,
+        p.state,
+        run.0,
+        place,
+        run.1,
+        ap (entries_by source (side_of event)) (sym run.2) ∙ entries_told source (side_of event) run.0,
+        refl,
+      ),
+      refl,
+    )
