@@ -5,12 +5,13 @@ use Rattle.std.specs.Prelude.{◌&&◌}
 use Rattle.daide_frame.specs.declared.side.Side.{Side}
 use Rattle.daide_frame.specs.declared.side.Side.TheVariants.{Bot, Server}
 use Rattle.daide_machine.specs.Machine.{Limits, Sent, is_over}
-use Rattle.daide_machine.specs.Wires.{Gateway, waiting, bytes_of, is_closed, no_frame}
+use Rattle.daide_machine.specs.Wires.{Gateway, IsNew, waiting, bytes_of, is_closed, no_frame}
 use Rattle.daide_session.specs.Record.{PortAnswer, Moved, Relays, has_failed}
-use Rattle.daide_session.specs.Turn.{Then}
+use Rattle.daide_session.specs.Turn.{Then, Turn}
 use Rattle.daide_session.specs.Bounds.{IsWithinBounds}
-use Rattle.daide_session.specs.Headline.{untouched, IsBoundedAndExact, Headline}
+use Rattle.daide_session.specs.Headline.{untouched, Stands, IsBoundedAndExact, Headline, WholeTurn}
 use Rattle.daide_session.proofs.Stretches.{relays_append}
+use Rattle.daide_session.proofs.TurnLemmas.{turn_relays}
 
 -- ---- nothing waits for a wire of a closed session
 
@@ -51,6 +52,30 @@ headline_of a xs b within r limits history stands =
       sends = all;
       all_sent = λ closed side ok. moved_all (has_failed side (history ++ xs)) (is_over b.state.phase) _ _ _ _ ok
           (nothing_waited limits side) (ap bytes_of (closed_wire b closed side)) (all.wires side);
+    }
+
+-- a new session stands at a run's opening
+pub new_stands : (limits : Limits) (g : Gateway) → IsNew limits g → Stands limits [] g
+new_stands limits g n = record {
+  effects = [];
+  run = (refl, n.state);
+  wires = λ side. wire side n.to_bot n.to_server;
+}
+  where
+    wire : (side : Side) → g.to_bot ≡ [] → g.to_server ≡ [] →
+        ◌≡◌ {A = List ℕ} (bytes_of (waiting (untouched limits) side) ++ []) (bytes_of (waiting g side))
+    wire Bot e f = sym (ap bytes_of e)
+    wire Server e f = sym (ap bytes_of f)
+
+-- all that a turn's answers do
+pub one_turn : (a : Gateway) (xs : List PortAnswer) (b : Gateway) → IsWithinBounds b → Turn a xs b → WholeTurn a xs b
+one_turn a xs b within t =
+    let relays = turn_relays a xs b t in
+    record {
+      in_order = t;
+      delivered = relays;
+      bounds = within;
+      headline = headline_of a xs b within relays;
     }
 
 -- one headline after another is a headline of both stretches

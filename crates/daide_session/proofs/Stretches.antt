@@ -10,7 +10,7 @@ use Rattle.daide_machine.proofs.OneRun.{one_run, runs_join}
 use Rattle.daide_machine.proofs.PieceRuns.{over_stays}
 use Rattle.daide_machine.proofs.WireLemmas.{sent_to-append, bytes_of-append}
 use Rattle.daide_session.specs.Record.{PortAnswer, event_of, events_of, took, taken, fails, has_failed, Moved, Relays}
-use Rattle.daide_session.specs.Record.{Carries, Tells}
+use Rattle.daide_session.specs.Record.{BecomesBy, Carries, Tells}
 use Rattle.daide_session.specs.Turn.{Then}
 
 -- ---- lists along an append
@@ -105,46 +105,60 @@ relays_nil a = record {
   wires = λ side. append-nil (bytes_of (waiting a side));
 }
 
+-- ---- what is told, step after step
+
+module _ {A : Type 0} where
+  pub tells_nil : (s : Option (List A)) → Tells s [] s
+  tells_nil None = tt
+  tells_nil (Some r) = (r, refl, sym (append-nil r))
+
+  unwrapped : (x y : List A) → Some x ≡ Some y → x ≡ y
+  unwrapped x y e = ap (λ (o : Option (List A)). unwrap_or o []) e
+
+  pub tells_then : (s t u : Option (List A)) (xs ys : List A) → Tells s xs t → Tells t ys u → Tells s (xs ++ ys) u
+  tells_then s t None xs ys h k = tt
+  tells_then s t (Some after) xs ys h k = told_at t h k
+    where
+      told_at : (t : Option (List A)) → Tells s xs t → Tells t ys (Some after) → Tells s (xs ++ ys) (Some after)
+      told_at None h k = absurd (let e = k.1 in cc)
+      told_at (Some mid) h k =
+          let same : mid ≡ k.0 = unwrapped mid k.0 k.1 in
+          (h.0, h.1, k.2 ∙ ap (λ (x : List A). x ++ ys) (sym same ∙ h.2) ∙ append_assoc h.0 xs ys)
+
+-- what tells each answer tells all of them
+pub answers_tell : {P : Type 0} (told : P → Option (List PortAnswer)) (xs : List PortAnswer) (p q : P) →
+    BecomesBy (λ old answer new. Tells (told old) (answer ∷ []) (told new)) p xs q → Tells (told p) xs (told q)
+answers_tell {P} told [] p q h =
+    subst (λ (r : P). Tells (told p) [] (told r)) (sym h) (tells_nil (told p))
+answers_tell told (x ∷ xs) p q h =
+    tells_then (told p) (told h.0) (told q) (x ∷ []) xs h.1 (answers_tell told xs h.0 q h.2)
+
 -- ---- calls in a row
 
-unwrapped : (x y : List PortAnswer) → Some x ≡ Some y → x ≡ y
-unwrapped x y e = ap (λ (o : Option (List PortAnswer)). unwrap_or o []) e
+module _ {P : Type 0} (becomes : P → PortAnswer → P → Type 0) where
+  pub becomes_then : (xs ys : List PortAnswer) (p q r : P) → BecomesBy becomes p xs q → BecomesBy becomes q ys r →
+      BecomesBy becomes p (xs ++ ys) r
+  becomes_then [] ys p q r h k = subst (λ (x : P). BecomesBy becomes x ys r) h k
+  becomes_then (x ∷ xs) ys p q r h k = (h.0, h.1, becomes_then xs ys h.0 q r h.2 k)
 
-pub carries_then : (K L : Gateway → List PortAnswer → Gateway → Type 0) (a : Gateway) (s : Option (List PortAnswer))
-    (b : Gateway) (t : Option (List PortAnswer)) (c : Gateway) (u : Option (List PortAnswer)) →
-    Carries K a s b t → Carries L b t c u → Carries (Then K L) a s c u
-carries_then K L a s b t c None h k = tt
-carries_then K L a s b t c (Some after) h k = joined_at t h k
-  where
-    joined_at : (t : Option (List PortAnswer)) → Carries K a s b t → Carries L b t c (Some after) →
-        Carries (Then K L) a s c (Some after)
-    joined_at None h k = absurd (let e = k.1 in cc)
-    joined_at (Some mid) h k =
-        let same : mid ≡ k.0 = unwrapped mid k.0 k.1 in (
-          h.0,
-          h.1,
-          (
-            h.2.0 ++ k.2.0,
-            k.2.1 ∙ ap (λ (x : List PortAnswer). x ++ k.2.0) (sym same ∙ h.2.1) ∙ append_assoc h.0 h.2.0 k.2.0,
-            (b, h.2.0, k.2.0, refl, h.2.2, k.2.2),
-          ),
-        )
+  pub carries_then : (K L : Gateway → List PortAnswer → Gateway → Type 0) (a b c : Gateway × P) →
+      Carries becomes K a b → Carries becomes L b c → Carries becomes (Then K L) a c
+  carries_then K L a b c h k = record {
+    call = h.call ++ k.call;
+    session = (b.0, h.call, k.call, refl, h.session, k.session);
+    ports = becomes_then h.call k.call a.1 b.1 c.1 h.ports k.ports;
+  }
 
-pub carries_weaker : (K L : Gateway → List PortAnswer → Gateway → Type 0) (a : Gateway) (s : Option (List PortAnswer))
-    (b : Gateway) (t : Option (List PortAnswer)) → ((xs : List PortAnswer) → K a xs b → L a xs b) →
-    Carries K a s b t → Carries L a s b t
-carries_weaker K L a s b None f h = tt
-carries_weaker K L a s b (Some after) f h = (h.0, h.1, (h.2.0, h.2.1, f h.2.0 h.2.2))
+  pub carries_weaker : (K L : Gateway → List PortAnswer → Gateway → Type 0) (a b : Gateway × P) →
+      ((xs : List PortAnswer) → K a.0 xs b.0 → L a.0 xs b.0) → Carries becomes K a b → Carries becomes L a b
+  carries_weaker K L a b f h = record { call = h.call; session = f h.call h.session; ports = h.ports }
 
--- the ports were asked nothing
-pub carries_nothing : (K : Gateway → List PortAnswer → Gateway → Type 0) (a : Gateway) (s : Option (List PortAnswer))
-    (b : Gateway) → K a [] b → Carries K a s b s
-carries_nothing K a None b h = tt
-carries_nothing K a (Some xs) b h = (xs, refl, ([], sym (append-nil xs), h))
+  -- the ports were asked nothing
+  pub carries_nothing : (K : Gateway → List PortAnswer → Gateway → Type 0) (a b : Gateway) (p : P) →
+      K a [] b → Carries becomes K (a, p) (b, p)
+  carries_nothing K a b p h = record { call = []; session = h; ports = refl }
 
--- the ports answered once
-pub carries_one : (K : Gateway → List PortAnswer → Gateway → Type 0) (a : Gateway) (s : Option (List PortAnswer))
-    (b : Gateway) (t : Option (List PortAnswer)) (answer : PortAnswer) → Tells s answer t → K a (answer ∷ []) b →
-    Carries K a s b t
-carries_one K a s b None answer told h = tt
-carries_one K a s b (Some after) answer told h = (told.0, told.1, (answer ∷ [], told.2, h))
+  -- the ports answered once
+  pub carries_one : (K : Gateway → List PortAnswer → Gateway → Type 0) (a b : Gateway) (p q : P) (answer : PortAnswer) →
+      becomes p answer q → K a (answer ∷ []) b → Carries becomes K (a, p) (b, q)
+  carries_one K a b p q answer given h = record { call = answer ∷ []; session = h; ports = (q, given, refl) }

@@ -8,6 +8,7 @@ use Rattle.daide_machine.specs.Machine.{Limits, opening}
 use Rattle.daide_machine.specs.Wires.{Gateway, Holding, sent_to, bytes_of, is_closed}
 use Rattle.daide_session.specs.Bounds.{IsWithinBounds}
 use Rattle.daide_session.specs.Record.{PortAnswer, Relays, taken, has_failed}
+use Rattle.daide_session.specs.Turn.{Turn}
 
 -- ---- where a session stands
 
@@ -27,14 +28,14 @@ untouched limits = record {
   server = nothing_held;
 }
 
--- The session stands where a run from its opening stands, by all that its ports told since it was made: its
+-- The session stands where a run from its opening stands, by all that its ports answered since it was made: its
 -- state is the machine's, and each wire took the machine's answers, but for what waits.
 abbrev pub Stands : Limits → List PortAnswer → Gateway → Type 0
 Stands limits history g = Relays (untouched limits) history g
 
 -- ---- the headline
 
--- what holds of a session after all that its ports told since it was made
+-- what holds of a session after all that its ports answered since it was made
 pub record IsBoundedAndExact (limits : Limits) (history : List PortAnswer) (g : Gateway) : Type 0 where
   -- it keeps in each direction at most one message's announced length, capped, and eight stack entries for
   -- each open bracket plus sixteen, with 64 further entries in all, takes at most four table steps a token,
@@ -46,8 +47,16 @@ pub record IsBoundedAndExact (limits : Limits) (history : List PortAnswer) (g : 
   pub all_sent : is_closed g ≡ true → (side : Side) → has_failed side history ≡ false →
       taken side history ≡ bytes_of (sent_to side sends.effects)
 
--- Whatever the ports tell in a call, and whatever they told before: a session that stood where a run from its
+-- Whatever the ports answer in a call, and whatever they answered before: a session that stood where a run from its
 -- opening stands is bounded and exact, by all of it.
 abbrev pub Headline : Gateway → List PortAnswer → Gateway → Type 0
 Headline old call new = (limits : Limits) (history : List PortAnswer) →
     Stands limits history old → IsBoundedAndExact limits (history ++ call) new
+
+-- what one turn does, all of it by the same answers: the ports were asked in order, what each wire took and what waits
+-- are the machine's answers, the session is within its bounds then, and it has the headline
+pub record WholeTurn (old : Gateway) (call : List PortAnswer) (new : Gateway) : Type 0 where
+  pub in_order : Turn old call new
+  pub delivered : Relays old call new
+  pub bounds : IsWithinBounds new
+  pub headline : Headline old call new

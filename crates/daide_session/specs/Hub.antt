@@ -1,6 +1,6 @@
 -- Many sessions in one loop: what a hub holds, and what each of its calls does to one session alone.
 use Rattle.std.specs.Prelude.{◌≡◌, ℕ, ◌+◌, ◌*◌, ◌<◌, ◌≤◌, ◌⊎◌, true, List, [], ◌∷◌, ◌++◌, length}
-use Rattle.std.specs.Prelude.{Option, Some, Ok, Err, slice_get, slice_set, remove, All}
+use Rattle.std.specs.Prelude.{Some, Ok, Err, slice_get, slice_set, remove, All}
 use Rattle.daide_words.specs.declared.word.Word.{Word}
 use Rattle.daide_machine.specs.Machine.{Limits}
 use Rattle.daide_machine.specs.Wires.{Gateway, IsNew, is_closed}
@@ -12,9 +12,9 @@ use Rattle.daide_session.specs.declared.hub.HubError.{HubError}
 use Rattle.daide_session.specs.declared.hub.HubError.TheVariants as Errors
 use Rattle.daide_session.specs.Config.{config_fault}
 use Rattle.daide_session.specs.Session.{limits_with}
-use Rattle.daide_session.specs.Record.{PortAnswer, Carries, Relays}
-use Rattle.daide_session.specs.Turn.{Turn, AsksAtMost, turn_steps}
-use Rattle.daide_session.specs.Headline.{Headline}
+use Rattle.daide_session.specs.Record.{PortAnswer, Carries}
+use Rattle.daide_session.specs.Turn.{AsksAtMost, turn_steps}
+use Rattle.daide_session.specs.Headline.{WholeTurn}
 
 -- what a hub holds: the limits of its sessions, how many it has room for, and at each place a session and its
 -- ports
@@ -74,13 +74,11 @@ Changes {P} Kind old i new =
     × (new ≡ with_places old (slice_set old.places i after)) × Kind before after
 
 -- what a turn does to a session and its ports: all that `turn` promises
-pub record IsTurned {P : Type 0} (told : P → Option (List PortAnswer)) (old new : Gateway × P) : Type 0 where
-  pub in_order : Carries Turn old.0 (told old.1) new.0 (told new.1)
-  pub delivered : Carries Relays old.0 (told old.1) new.0 (told new.1)
+pub record IsTurned {P : Type 0} (becomes : P → PortAnswer → P → Type 0) (old new : Gateway × P) : Type 0 where
+  pub exchange : Carries becomes WholeTurn old new
   pub asked : AsksAtMost turn_steps old.0 new.0
   pub weight : weight_of new.0 ≤ weight_bound new.0
   pub limits : new.0.state.limits ≡ old.0.state.limits
-  pub headline : Carries Headline old.0 (told old.1) new.0 (told new.1)
 
 -- ---- the weight
 

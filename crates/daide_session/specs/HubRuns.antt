@@ -1,10 +1,10 @@
 -- Whole runs of a hub: what its calls, in whatever order, make of each session.
-use Rattle.std.specs.Prelude.{◌≡◌, ℕ, zero, suc, ◌<◌, true, List, [], ◌∷◌, ◌++◌, map, length, Option, Some}
+use Rattle.std.specs.Prelude.{◌≡◌, ℕ, zero, suc, ◌<◌, true, List, [], ◌∷◌, ◌++◌, map, length, Some}
 use Rattle.std.specs.Prelude.{slice_get, remove}
 use Rattle.daide_machine.specs.Machine.{Limits}
 use Rattle.daide_machine.specs.Wires.{Gateway, IsNew, is_closed}
-use Rattle.daide_session.specs.Record.{PortAnswer, Carries}
-use Rattle.daide_session.specs.Headline.{Headline}
+use Rattle.daide_session.specs.Record.{PortAnswer, BecomesBy, Carries}
+use Rattle.daide_session.specs.Headline.{Stands, Headline}
 use Rattle.daide_session.specs.Hub.{Hosting, Adds, Removes, Changes, IsTurned}
 
 -- ---- the calls
@@ -16,15 +16,15 @@ pub data HubCall (P : Type 0) : Type 0 where
   Removed : ℕ → P → HubCall P
 
 -- what one call does, as its contract says
-abbrev pub HubStep : {P : Type 0} → (P → Option (List PortAnswer)) → Hosting P → HubCall P → Hosting P → Type 0
-HubStep told old (Added ports) new = Adds old ports new
-HubStep told old (Turned i) new = Changes (IsTurned told) old i new
-HubStep told old (Removed i ports) new = Removes old i ports new
+abbrev pub HubStep : {P : Type 0} → (P → PortAnswer → P → Type 0) → Hosting P → HubCall P → Hosting P → Type 0
+HubStep becomes old (Added ports) new = Adds old ports new
+HubStep becomes old (Turned i) new = Changes (IsTurned becomes) old i new
+HubStep becomes old (Removed i ports) new = Removes old i ports new
 
 -- what calls do, one after another
-abbrev pub HubRuns : {P : Type 0} → (P → Option (List PortAnswer)) → Hosting P → List (HubCall P) → Hosting P → Type 0
-HubRuns told old [] new = new ≡ old
-HubRuns {P} told old (call ∷ calls) new = (mid : Hosting P) × HubStep told old call mid × HubRuns told mid calls new
+abbrev pub HubRuns : {P : Type 0} → (P → PortAnswer → P → Type 0) → Hosting P → List (HubCall P) → Hosting P → Type 0
+HubRuns becomes old [] new = new ≡ old
+HubRuns {P} becomes old (call ∷ calls) new = (mid : Hosting P) × HubStep becomes old call mid × HubRuns becomes mid calls new
 
 -- ---- the places
 
@@ -71,9 +71,9 @@ lives_of hub calls = lives_after_all calls (map (λ place. fresh_life (Stood pla
 -- ---- alone
 
 -- a session and its ports went on by n turns of its own, and by nothing else
-abbrev pub TurnsAlone : {P : Type 0} → (P → Option (List PortAnswer)) → ℕ → Gateway × P → Gateway × P → Type 0
-TurnsAlone told zero old new = new ≡ old
-TurnsAlone {P} told (suc n) old new = (mid : Gateway × P) × TurnsAlone told n old mid × IsTurned told mid new
+abbrev pub TurnsAlone : {P : Type 0} → (P → PortAnswer → P → Type 0) → ℕ → Gateway × P → Gateway × P → Type 0
+TurnsAlone becomes zero old new = new ≡ old
+TurnsAlone {P} becomes (suc n) old new = (mid : Gateway × P) × TurnsAlone becomes n old mid × IsTurned becomes mid new
 
 -- a session and its ports at their beginning
 abbrev pub BeginsAs : {P : Type 0} → Limits → Beginning P → Gateway × P → Type 0
@@ -81,37 +81,45 @@ BeginsAs limits (Stood place) first = first ≡ place
 BeginsAs limits (Opened ports) first = IsNew limits first.0 × (first.1 ≡ ports)
 
 -- from its beginning on a session went on by as many turns of its own as calls turned it, and by nothing else
-abbrev pub WentAlone : {P : Type 0} → (P → Option (List PortAnswer)) → Limits → Life P → Gateway × P → Type 0
-WentAlone {P} told limits life now =
-    (first : Gateway × P) × BeginsAs limits life.begun first × TurnsAlone told life.turns first now
+abbrev pub WentAlone : {P : Type 0} → (P → PortAnswer → P → Type 0) → Limits → Life P → Gateway × P → Type 0
+WentAlone {P} becomes limits life now =
+    (first : Gateway × P) × BeginsAs limits life.begun first × TurnsAlone becomes life.turns first now
 
 -- the sessions of a hub are those of these lives, each at its place, and each went alone
-pub record AreApart {P : Type 0} (told : P → Option (List PortAnswer)) (limits : Limits) (lives : List (Life P))
+pub record AreApart {P : Type 0} (becomes : P → PortAnswer → P → Type 0) (limits : Limits) (lives : List (Life P))
     (places : List (Gateway × P)) : Type 0 where
   pub counted : length places ≡ length lives
   pub alone : (i : ℕ) (life : Life P) (now : Gateway × P) → slice_get lives i ≡ Some life →
-      slice_get places i ≡ Some now → WentAlone told limits life now
+      slice_get places i ≡ Some now → WentAlone becomes limits life now
 
 -- Whatever calls are made of a hub, no session knows of another: each went on by the turns of its own place alone, of
 -- those that the hub had as of those that were added.
-abbrev pub SessionsAreApart : {P : Type 0} → (P → Option (List PortAnswer)) → Type 0
-SessionsAreApart {P} told = (calls : List (HubCall P)) (old new : Hosting P) → HubRuns told old calls new →
-    AreApart told old.limits (lives_of old calls) new.places
+abbrev pub SessionsAreApart : {P : Type 0} → (P → PortAnswer → P → Type 0) → Type 0
+SessionsAreApart {P} becomes = (calls : List (HubCall P)) (old new : Hosting P) → HubRuns becomes old calls new →
+    AreApart becomes old.limits (lives_of old calls) new.places
 
 -- So did each that is taken out: the ports that are handed back are as its own turns left them.
-abbrev pub PortsComeBackApart : {P : Type 0} → (P → Option (List PortAnswer)) → Type 0
-PortsComeBackApart {P} told = (calls : List (HubCall P)) (i : ℕ) (ports : P) (old new : Hosting P) →
-    HubRuns told old (calls ++ Removed i ports ∷ []) new →
+abbrev pub PortsComeBackApart : {P : Type 0} → (P → PortAnswer → P → Type 0) → Type 0
+PortsComeBackApart {P} becomes = (calls : List (HubCall P)) (i : ℕ) (ports : P) (old new : Hosting P) →
+    HubRuns becomes old (calls ++ Removed i ports ∷ []) new →
     (life : Life P) × (session : Gateway) × (slice_get (lives_of old calls) i ≡ Some life)
-    × (is_closed session ≡ true) × WentAlone told old.limits life (session, ports)
+    × (is_closed session ≡ true) × WentAlone becomes old.limits life (session, ports)
 
 -- ---- the headline of each
 
 -- Whatever calls are made of a hub, each of its sessions that they turned is bounded and exact, by all that its ports
--- told from its beginning on.
-abbrev pub EachHasItsHeadline : {P : Type 0} → (P → Option (List PortAnswer)) → Type 0
-EachHasItsHeadline {P} told = (calls : List (HubCall P)) (old new : Hosting P) → HubRuns told old calls new →
+-- answered from its beginning on.
+abbrev pub EachHasItsHeadline : {P : Type 0} → (P → PortAnswer → P → Type 0) → Type 0
+EachHasItsHeadline {P} becomes = (calls : List (HubCall P)) (old new : Hosting P) → HubRuns becomes old calls new →
     (i : ℕ) (life : Life P) (now : Gateway × P) → slice_get (lives_of old calls) i ≡ Some life →
     slice_get new.places i ≡ Some now → 0 < life.turns →
     (first : Gateway × P) × BeginsAs old.limits life.begun first
-    × Carries Headline first.0 (told first.1) now.0 (told now.1)
+    × Carries becomes Headline first now
+
+-- Each that they added stands where a run from its opening stands, by all that its ports answered since they were
+-- handed in.
+abbrev pub OpenedSessionsStand : {P : Type 0} → (P → PortAnswer → P → Type 0) → Type 0
+OpenedSessionsStand {P} becomes = (calls : List (HubCall P)) (old new : Hosting P) → HubRuns becomes old calls new →
+    (i : ℕ) (life : Life P) (ports : P) (now : Gateway × P) → slice_get (lives_of old calls) i ≡ Some life →
+    slice_get new.places i ≡ Some now → life.begun ≡ Opened ports →
+    (history : List PortAnswer) × Stands old.limits history now.0 × BecomesBy becomes ports history now.1

@@ -37,11 +37,17 @@ abbrev pub IsPutWithin : Put → ℕ → Type 0
 IsPutWithin (Took n) len = n ≤ len
 IsPutWithin Failed len = Unit {0}
 
--- Ports that tell a record afterwards told one before, and this answer is all that came to it. Ports that tell
--- none afterwards owe nothing.
-abbrev pub Tells : Option (List PortAnswer) → PortAnswer → Option (List PortAnswer) → Type 0
-Tells old answer new =
-    IfSome new (λ after. (before : List PortAnswer) × (old ≡ Some before) × (after ≡ before ++ answer ∷ []))
+-- Ports went from old to new by these answers, one call for each, told or not; `becomes` is what one call does to them
+-- by its answer.
+abbrev pub BecomesBy : {P : Type 0} → (P → PortAnswer → P → Type 0) → P → List PortAnswer → P → Type 0
+BecomesBy becomes old [] new = new ≡ old
+BecomesBy {P} becomes old (answer ∷ answers) new =
+    (mid : P) × becomes old answer mid × BecomesBy becomes mid answers new
+
+-- What tells a record afterwards told one before, and these answers are all that came to it. What tells none
+-- afterwards owes nothing.
+abbrev pub Tells : {A : Type 0} → Option (List A) → List A → Option (List A) → Type 0
+Tells {A} old answers new = IfSome new (λ after. (before : List A) × (old ≡ Some before) × (after ≡ before ++ answers))
 
 -- ---- the events
 
@@ -103,10 +109,10 @@ pub record Relays (old : Gateway) (answers : List PortAnswer) (new : Gateway) : 
 
 -- ---- a call
 
--- Where the ports tell a record after a call, they told one before it, and the answers that came to it during
--- the call are of this kind.
-abbrev pub Carries : (Gateway → List PortAnswer → Gateway → Type 0) → Gateway → Option (List PortAnswer) → Gateway →
-    Option (List PortAnswer) → Type 0
-Carries Kind old told_old new told_new = IfSome told_new (λ after.
-    (before : List PortAnswer) × (told_old ≡ Some before)
-    × ((call : List PortAnswer) × (after ≡ before ++ call) × Kind old call new))
+-- A call of this kind: by the answers of the ports in it, told or not, the session and the ports went from one pair to
+-- the other.
+pub record Carries {P : Type 0} (becomes : P → PortAnswer → P → Type 0)
+    (Kind : Gateway → List PortAnswer → Gateway → Type 0) (old new : Gateway × P) : Type 0 where
+  pub call : List PortAnswer
+  pub session : Kind old.0 call new.0
+  pub ports : BecomesBy becomes old.1 call new.1

@@ -10,9 +10,9 @@ ghost use Rattle.daide_reader.specs.Reading.{IsRaised};
 ghost use Rattle.daide_machine.specs.Events.{other};
 ghost use Rattle.daide_machine.specs.Wires.{holding, room_of, AsksNothing};
 ghost use Rattle.daide_machine.specs.Weight.{weight_of, weight_bound};
-ghost use Rattle.daide_session.specs.Record.{Carries, Relays};
-ghost use Rattle.daide_session.specs.Turn.{AsksClock, Puts, Pulls, Turn, AsksAtMost, turn_steps};
-ghost use Rattle.daide_session.specs.Headline.{Headline};
+ghost use Rattle.daide_session.specs.Record.{Carries};
+ghost use Rattle.daide_session.specs.Turn.{AsksClock, Puts, Pulls, AsksAtMost, turn_steps};
+ghost use Rattle.daide_session.specs.Headline.{WholeTurn};
 
 use crate::ports::{Ports, Pull, Put};
 use crate::session::Session;
@@ -24,7 +24,7 @@ const BUFFER: usize = 512;
 
 /// Tells the session where the time for its initial message is over.
 fn ask_clock<A: Allocator, P: Ports>(session: &mut Session<A>, ports: &mut P)
-    ensures clock { Carries AsksClock session.old (P.told ports.old) session.new (P.told ports.new) }
+    ensures clock { Carries P.becomes AsksClock (session.old, ports.old) (session.new, ports.new) }
     ensures asks_nothing { AsksNothing session.old session.new }
     ensures limits { session.new.state.limits ≡ session.old.state.limits }
 {
@@ -35,7 +35,7 @@ fn ask_clock<A: Allocator, P: Ports>(session: &mut Session<A>, ports: &mut P)
 
 /// Hands the whole front of what waits for a wire to that wire.
 fn put_front<A: Allocator, P: Ports>(session: &mut Session<A>, ports: &mut P, side: Side)
-    ensures puts { Carries (Puts side) session.old (P.told ports.old) session.new (P.told ports.new) }
+    ensures puts { Carries P.becomes (Puts side) (session.old, ports.old) (session.new, ports.new) }
     ensures asks_nothing { AsksNothing session.old session.new }
     ensures limits { session.new.state.limits ≡ session.old.state.limits }
 {
@@ -58,7 +58,7 @@ fn pull_into<A: Allocator, P: Ports>(
 )
     requires room { 0 < room_of session.old side }
     requires len { length buffer.old ≡ min (room_of session.old side) 512 }
-    ensures pulls { Carries (Pulls side) session.old (P.told ports.old) session.new (P.told ports.new) }
+    ensures pulls { Carries P.becomes (Pulls side) (session.old, ports.old) (session.new, ports.new) }
     ensures asked { IsRaised turn_steps (holding session.old side).total (holding session.new side).total }
     ensures other_side { (holding session.new (other side)).total ≡ (holding session.old (other side)).total }
     ensures limits { session.new.state.limits ≡ session.old.state.limits }
@@ -76,7 +76,7 @@ fn pull_into<A: Allocator, P: Ports>(
 
 /// Reads what a side sent, as much as the session has room for and the buffer holds.
 fn pull<A: Allocator, P: Ports>(session: &mut Session<A>, ports: &mut P, side: Side)
-    ensures pulls { Carries (Pulls side) session.old (P.told ports.old) session.new (P.told ports.new) }
+    ensures pulls { Carries P.becomes (Pulls side) (session.old, ports.old) (session.new, ports.new) }
     ensures asked { IsRaised turn_steps (holding session.old side).total (holding session.new side).total }
     ensures other_side { (holding session.new (other side)).total ≡ (holding session.old (other side)).total }
     ensures limits { session.new.state.limits ≡ session.old.state.limits }
@@ -93,12 +93,10 @@ fn pull<A: Allocator, P: Ports>(session: &mut Session<A>, ports: &mut P, side: S
 /// One turn: the clock, then one put to each wire for which something waits, then one pull from each side that
 /// there is room for, the bot first each time.
 pub fn turn<A: Allocator, P: Ports>(session: &mut Session<A>, ports: &mut P)
-    ensures in_order { Carries Turn session.old (P.told ports.old) session.new (P.told ports.new) }
-    ensures delivered { Carries Relays session.old (P.told ports.old) session.new (P.told ports.new) }
+    ensures exchange { Carries P.becomes WholeTurn (session.old, ports.old) (session.new, ports.new) }
     ensures asked { AsksAtMost turn_steps session.old session.new }
     ensures weight { weight_of session.new ≤ weight_bound session.new }
     ensures limits { session.new.state.limits ≡ session.old.state.limits }
-    ensures headline { Carries Headline session.old (P.told ports.old) session.new (P.told ports.new) }
 {
     ask_clock(session, ports);
     put_front(session, ports, Side::Bot);

@@ -144,7 +144,7 @@ impl<P: Ports, A: Allocator + Copy> Hub<P, A> {
     /// One turn of the session at a place, with its ports.
     pub fn turn(&mut self, i: usize)
         requires { i < length self.old.places }
-        ensures { Changes (IsTurned P.told) self.old i self.new }
+        ensures { Changes (IsTurned P.becomes) self.old i self.new }
     {
         let place = &mut self.places[i];
         turn(&mut place.session, &mut place.ports);

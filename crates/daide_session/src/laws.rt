@@ -1,11 +1,12 @@
-//! Laws of what ports tell: functions with no parameters and an empty body, whose contracts are the laws.
+//! Laws of what ports answer: functions with no parameters and an empty body, whose contracts are the laws.
 
 ghost use Rattle.daide_session.specs.Laws.{RelaysJoin, NewSessionsStand, HeadlinesJoin};
 ghost use Rattle.daide_session.specs.HubRuns.{SessionsAreApart, PortsComeBackApart, EachHasItsHeadline};
+ghost use Rattle.daide_session.specs.HubRuns.{OpenedSessionsStand};
 
 use crate::ports::Ports;
 
-/// What the ports told in two calls, one after the other, moves a session as if it were told in one.
+/// What ports answered in two calls, one after the other, moves a session as if it were answered in one.
 pub fn relays_join()
     ensures { RelaysJoin }
 {}
@@ -15,18 +16,20 @@ pub fn new_sessions_stand()
     ensures { NewSessionsStand }
 {}
 
-/// Relaying twice is relaying once, with both records: the headline of the one call and that of the next are
+/// Relaying twice is relaying once, by the answers of both: the headline of the one call and that of the next are
 /// the headline of both.
-pub fn headlines_join()
-    ensures { HeadlinesJoin }
+pub fn headlines_join<P: Ports>()
+    ensures { HeadlinesJoin P.becomes }
 {}
 
 /// Whatever calls are made of a hub, in whatever order: the session at each place, however it moved, went on by turns
 /// of its own alone, as many as calls of `turn` were made of it, from its opening or from where it stood before. So
 /// its answers, and what its ports were asked, are those that it would have had with no other session beside it; and
-/// so are those of one that is taken out, whose ports come back. Each that was turned has the headline.
+/// so are those of one that is taken out, whose ports come back. Each that was turned has the headline,
+/// and each that was added stands where a run from its opening stands, by the answers of its ports since then.
 pub fn sessions_are_apart<P: Ports>()
-    ensures kept { SessionsAreApart P.told }
-    ensures taken_out { PortsComeBackApart P.told }
-    ensures headline { EachHasItsHeadline P.told }
+    ensures kept { SessionsAreApart P.becomes }
+    ensures taken_out { PortsComeBackApart P.becomes }
+    ensures headline { EachHasItsHeadline P.becomes }
+    ensures stands { OpenedSessionsStand P.becomes }
 {}

@@ -185,9 +185,11 @@ impl<'a, A: Allocator + Copy> MemoryPorts<'a, A> {
 }
 
 impl<'a, A: Allocator + Copy> Ports for MemoryPorts<'a, A> {
+    ghost use Rattle.std.specs.Prelude.{[], ◌∷◌};
+    ghost use Rattle.daide_session.specs.Record.{Tells};
     ghost use Rattle.daide_session.specs.MemoryPorts.{answers_stored};
 
-    ghost told = { λ ports. answers_stored ports.calls };
+    ghost becomes = { λ old answer new. Tells (answers_stored old.calls) (answer ∷ []) (answers_stored new.calls) };
 
     fn pull(&mut self, side: Side, buffer: &mut [u8]) -> Pull {
         let pull = match side {

@@ -1,7 +1,7 @@
 //! The two wires and the clock, as a turn asks them.
 
-ghost use Rattle.std.specs.Prelude.{ℕ, List, Option, length, take};
-ghost use Rattle.daide_session.specs.Record.{PortAnswer, Clock, Pulled, Offered, Tells, IsPullWithin, IsPutWithin};
+ghost use Rattle.std.specs.Prelude.{length, take};
+ghost use Rattle.daide_session.specs.Record.{PortAnswer, Clock, Pulled, Offered, IsPullWithin, IsPutWithin};
 ghost use Rattle.daide_session.specs.Record.{pulled_len};
 
 use daide_frame::side::Side;
@@ -28,24 +28,24 @@ pub enum Put {
 
 /// The wires toward a bot and a server, and the clock of the initial message.
 ///
-/// Ports may tell a record of their answers. Contracts of what drives them speak of this record, so ports that
-/// tell nothing, as those over sockets, owe nothing, and nothing is said of them.
+/// Each call answers, and contracts of what drives ports speak of the answers of its calls. What an answer says of the
+/// ports is theirs to say: those that keep a record say that the answer came to it, and those over sockets say nothing.
 pub trait Ports: Drop {
-    /// The answers so far, in order; `None` of ports that tell nothing.
-    ghost told: { Self → Option (List PortAnswer) };
+    /// What a call with this answer does to the ports.
+    ghost becomes: { Self → PortAnswer → Self → Type 0 };
 
     /// Reads what a side sent, into the front of the buffer.
     fn pull(&mut self, side: Side, buffer: &mut [u8]) -> Pull
         ensures within { IsPullWithin result (length buffer.old) }
-        ensures told { Tells (told self.old) (Pulled side (length buffer.old) result
-            (take (pulled_len result) buffer.new)) (told self.new) };
+        ensures becomes { becomes self.old (Pulled side (length buffer.old) result
+            (take (pulled_len result) buffer.new)) self.new };
 
     /// Hands bytes to the wire toward a side, which may take fewer.
     fn put(&mut self, side: Side, bytes: &[u8]) -> Put
         ensures within { IsPutWithin result (length bytes.now) }
-        ensures told { Tells (told self.old) (Offered side bytes.now result) (told self.new) };
+        ensures becomes { becomes self.old (Offered side bytes.now result) self.new };
 
     /// Whether the time for the initial message is over.
     fn clock_popped(&mut self) -> bool
-        ensures { Tells (told self.old) (Clock result) (told self.new) };
+        ensures { becomes self.old (Clock result) self.new };
 }

@@ -1,6 +1,6 @@
 -- The first frame that waits for a wire is gone, and with it the frame that it answered.
 use Rattle.std.proofs.Common.{◌≡◌, ℕ, ◌+◌, ◌<◌, ◌≤◌, Bool, true, false, List, [], ◌∷◌, length, map, Option, Some, None}
-use Rattle.std.proofs.Common.{refl, sym, ap, ◌∙◌, subst, arith}
+use Rattle.std.proofs.Common.{refl, sym, ap, ◌∙◌, subst, arith, take}
 use Rattle.std.specs.Prelude.{is_some, if◌then◌else◌}
 use Rattle.daide_frame.specs.declared.side.Side.{Side}
 use Rattle.daide_frame.specs.declared.side.Side.TheVariants.{Bot, Server}
@@ -12,13 +12,14 @@ use Rattle.daide_traffic.specs.declared.wire.Waiting.{Waiting}
 use Rattle.daide_traffic.specs.declared.wire.Waiting.TheVariants.{Answer, Em, Fm}
 use Rattle.daide_traffic.specs.Both.{Both, at, put}
 use Rattle.daide_traffic.specs.Inbound.{Begins, Inbound, answer_of, front_after}
+use Rattle.daide_traffic.specs.Fronts.{fresh_front}
 use Rattle.daide_traffic.specs.Wire.{Queue, first_of, tail_of}
 use Rattle.daide_traffic.specs.Traffic.{Arrival, Fields, IsBegun, IsReleased, IsSound, LetsGo, Traffic, answer_at, answer_mark}
 use Rattle.daide_traffic.specs.Traffic.{answered_by, arrival_of, behind, count_of, end_mark, frame_of, frames_of}
 use Rattle.daide_traffic.specs.Traffic.{front_of, others, pending_by, presence, traffic_of}
 use Rattle.daide_traffic.proofs.AwaitedLemmas.{IsSeen, seen}
-use Rattle.daide_traffic.proofs.BothLemmas.{both_same, put_all, put_each, put_there}
-use Rattle.daide_traffic.proofs.FrontLemmas.{front_at}
+use Rattle.daide_traffic.proofs.BothLemmas.{at_put, both_same, put_all, put_each, put_there}
+use Rattle.daide_traffic.proofs.FrontLemmas.{front_at, waits_at}
 use Rattle.daide_traffic.proofs.MarksLemmas.{Agree, both_frames, least, mark_is, same_begun, same_frames}
 use Rattle.daide_traffic.proofs.SidesLemmas.{IsSameSide}
 
@@ -154,10 +155,20 @@ after old new gone one r some = go (is_answer one gone) refl
 
 -- ---- what is left
 
+next_first : (b : Both Inbound) (to : Side) (items : List Waiting) →
+    ((side : Side) → 0 < count_of (answer_mark side) items → front_after (at b side) 0 ≡ take 4 (answer_at b side)) →
+    front_of b 0 items ≡ fresh_front (frames_of to (answer_at b) (record { written = 0; items = items }))
+next_first b to [] h = refl
+next_first b to (Fm ∷ items) h = refl
+next_first b to (Em code ∷ items) h = refl
+next_first b to (Answer Bot ∷ items) h = h Bot (omega arith)
+next_first b to (Answer Server ∷ items) h = h Server (omega arith)
+
 pub record IsLeft (t : Traffic) (n : Fields) (to : Side) : Type 0 where
   pub sound : IsSound n
   pub goes : LetsGo t (traffic_of n)
   pub waiting : (traffic_of n).waiting ≡ put t.waiting to (others (at t.waiting to))
+  pub own_front : at (traffic_of n).fronts to ≡ fresh_front (at (traffic_of n).waiting to)
   pub other_front : at (traffic_of n).fronts (other to) ≡ at t.fronts (other to)
 
 abbrev after_drop : Fields → Both Inbound → Side → Fields
@@ -194,6 +205,11 @@ module _ (f : Fields) (b : Both Inbound) (to : Side) (i : IsSound f)
         let count = (side one).count in
         rw ((side one).stays h) (i.filled one (omega (arith, count, h, least (at f.sides one).verdict)))
 
+    headed : (one : Side) → presence (at b one).verdict ≡ 1 → front_after (at b one) 0 ≡ take 4 (answer_at b one)
+    headed one h =
+        let count = (side one).count in
+        rw ((side one).stays h) (i.headed one (omega (arith, count, h, least (at f.sides one).verdict)))
+
     left_sound : IsSound (after_drop f b to)
     left_sound = record {
       its_side = λ one. (side one).same.side ∙ i.its_side one;
@@ -203,6 +219,7 @@ module _ (f : Fields) (b : Both Inbound) (to : Side) (i : IsSound f)
       ends = put_all (λ (s : Side) (q : Queue). count_of end_mark q.items ≤ 1) f.wires to (tail (at f.wires to))
           (omega (arith, tail_fewer end_mark (at f.wires to).items, i.ends to)) i.ends;
       filled = filled;
+      headed = headed;
       begun = put_each (λ (s : Side) (q : Queue). IsBegun (answer_at b) q.written q.items) f.wires to
           (tail (at f.wires to))
           (fresh (answer_at b) (tail_of (at f.wires to).items)
@@ -238,12 +255,24 @@ module _ (f : Fields) (b : Both Inbound) (to : Side) (i : IsSound f)
         ∙ same_front f.sides b (at f.wires (other to)).written (at f.wires (other to)).items there
         ∙ sym (front_at f (other to))
 
+    -- the next frame is handed over as one that waits only now
+    own_front : at (traffic_of (after_drop f b to)).fronts to
+        ≡ fresh_front (at (traffic_of (after_drop f b to)).waiting to)
+    own_front =
+        let q : at (put f.wires to (tail (at f.wires to))) to ≡ tail (at f.wires to) =
+        at_put f.wires to (tail (at f.wires to)) in
+        front_at (after_drop f b to) to ∙ ap (λ (p : Queue). front_of b p.written p.items) q
+        ∙ next_first b to (tail_of (at f.wires to).items)
+        (λ one some. headed one (omega (arith, some, remain one, least (at b one).verdict)))
+        ∙ sym (ap fresh_front (waits_at (after_drop f b to) to ∙ ap (frames_of to (answer_at b)) q))
+
     left : IsLeft (traffic_of f) (after_drop f b to) to
     left = record {
       sound = left_sound;
       goes = left_goes;
       waiting = both_tail (answer_at f.sides) (answer_at b) f.wires to (λ one some. ap answer_of (here one some))
           (λ one some. ap answer_of (there one some));
+      own_front = own_front;
       other_front = left_front;
     }
 

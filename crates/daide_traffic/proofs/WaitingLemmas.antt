@@ -1,5 +1,5 @@
 -- A frame comes to wait for a wire: an answer, an FM or an EM.
-use Rattle.std.proofs.Common.{◌≡◌, ℕ, ◌+◌, ◌<◌, ◌≤◌, false, List, [], length, drop, Option, Some, None}
+use Rattle.std.proofs.Common.{◌≡◌, ℕ, ◌+◌, ◌<◌, ◌≤◌, false, List, length, take, drop, Option, Some, None}
 use Rattle.std.proofs.Common.{refl, sym, ap, ◌∙◌, subst, arith}
 use Rattle.daide_frame.specs.declared.side.Side.{Side}
 use Rattle.daide_frame.specs.declared.side.Side.TheVariants.{Bot, Server}
@@ -11,7 +11,7 @@ use Rattle.daide_machine.specs.Answers.{answer_bytes}
 use Rattle.daide_machine.specs.Machine.{IsRight, Sent, question_of}
 use Rattle.daide_traffic.specs.declared.wire.Waiting.TheVariants.{Answer}
 use Rattle.daide_traffic.specs.Both.{Both, at, put}
-use Rattle.daide_traffic.specs.Inbound.{Answers, Inbound, answer_of}
+use Rattle.daide_traffic.specs.Inbound.{Answers, Inbound, answer_of, front_after}
 use Rattle.daide_traffic.specs.Wire.{Queue, pushed}
 use Rattle.daide_traffic.specs.Traffic.{Arrival, Fields, IsBegun, IsSound, Traffic, answer_at, answer_mark, bytes_in, count_of}
 use Rattle.daide_traffic.specs.Traffic.{end_mark, end_to, ending_of, frame_of, has_end, noted, pending, posted}
@@ -19,6 +19,7 @@ use Rattle.daide_traffic.specs.Traffic.{presence, traffic_of}
 use Rattle.daide_traffic.proofs.AwaitedLemmas.{IsSeenFree, silent}
 use Rattle.daide_traffic.proofs.BothLemmas.{at_put, put_all}
 use Rattle.daide_traffic.proofs.FrontLemmas.{waits_at}
+use Rattle.daide_traffic.proofs.FrontsKept.{answered_first}
 use Rattle.daide_traffic.proofs.MarksLemmas.{agree_put, begun_pushed, count_pushed, same_begun, same_both}
 use Rattle.daide_traffic.proofs.MarksLemmas.{first_pushed}
 use Rattle.daide_traffic.proofs.MarksLemmas.{frames_pushed, least, length_marks, unended, unmarked_pushed}
@@ -53,8 +54,11 @@ replied_begun f side x i free wire =
 
 replied_sound : (f : Fields) (side to : Side) (x : Inbound) → IsSound f → (at f.sides side).verdict ≡ None →
     IsSameSide (at f.sides side) x → presence x.verdict ≡ 1 → 0 < length (answer_of x) →
-    IsSound (record { sides = put f.sides side x; wires = put f.wires to (pushed (at f.wires to) (Answer side)) })
-replied_sound f side to x i free same one_more some = record {
+    front_after x 0 ≡ take 4 (answer_of x) → IsSound (record {
+      sides = put f.sides side x;
+      wires = put f.wires to (pushed (at f.wires to) (Answer side));
+    })
+replied_sound f side to x i free same one_more some first = record {
   its_side = λ one. its_sides f side one x i same;
   same_cap = caps f side x i same;
   same_rules = rules_alike f side x i same;
@@ -64,6 +68,8 @@ replied_sound f side to x i free same one_more some = record {
   ends = λ one. rw (unmarked_pushed f.wires to one end_mark (Answer side) refl) (i.ends one);
   filled = put_all (λ (s : Side) (y : Inbound). presence y.verdict ≡ 1 → 0 < length (answer_of y)) f.sides side x
       (λ _. some) i.filled;
+  headed = put_all (λ (s : Side) (y : Inbound). presence y.verdict ≡ 1 → front_after y 0 ≡ take 4 (answer_of y)) f.sides
+      side x (λ _. first) i.headed;
   begun = λ one. begun_pushed (answer_at (put f.sides side x)) f.wires to one (Answer side)
       (rw (at_put f.sides side x) some) (replied_begun f side x i free);
 }
@@ -94,7 +100,8 @@ post_sound {f} {t} {side} {one} to {head} {verdict} {x} h a wires =
     subst (λ (v : Both Queue). IsSound (record { sides = put f.sides one x; wires = v }))
     (sym (wires ∙ ap (λ (s : Side). put f.wires to (pushed (at f.wires to) (Answer s))) h.seen.its))
     (replied_sound f one to x h.seen.sound h.free (record { side = a.side; cap = a.cap; rules = a.rules })
-    (ap presence a.verdict_set) (answer_some (at f.sides one) x head verdict a))
+    (ap presence a.verdict_set) (answer_some (at f.sides one) x head verdict a)
+    (answered_first (at f.sides one) x head verdict a))
 
 pub post_waiting : {f : Fields} {t : Traffic} {side one : Side} (to : Side) {head : Head} {verdict : Verdict} {x : Inbound}
     {w : Both Queue} → IsSeenFree f t side one → Answers (at f.sides one) head verdict x →
@@ -175,6 +182,7 @@ end_sound f t to code w is i none wires =
       ends = λ one. first_pushed f.wires to one end_mark (ending_of code) (ending_once code)
           (unended_field f t to is none) i.ends;
       filled = i.filled;
+      headed = i.headed;
       begun = λ one. begun_pushed (answer_at f.sides) f.wires to one (ending_of code)
           (ending_some (answer_at f.sides) code)
           i.begun;

@@ -1,6 +1,6 @@
 -- Both sides' frames, and the frames that wait for the two wires.
-use Rattle.std.specs.Prelude.{◌≡◌, ℕ, ◌+◌, ◌<◌, ◌≤◌, Bool, true, false, ◌||◌, List, [], ◌∷◌, ◌++◌, length, drop, map}
-use Rattle.std.specs.Prelude.{Option, Some, None, if◌then◌else◌}
+use Rattle.std.specs.Prelude.{◌≡◌, ℕ, ◌+◌, ◌<◌, ◌≤◌, Bool, true, false, ◌||◌, List, [], ◌∷◌, ◌++◌, length, take, drop}
+use Rattle.std.specs.Prelude.{map, Option, Some, None, if◌then◌else◌}
 use Rattle.daide_frame.specs.declared.side.Side.{Side}
 use Rattle.daide_frame.specs.declared.side.Side.TheVariants.{Bot, Server}
 use Rattle.daide_frame.specs.declared.code.Code.{Code}
@@ -226,6 +226,8 @@ pub record IsSound (f : Fields) : Type 0 where
       + count_of (answer_mark side) (at f.wires Server).items ≡ presence (at f.sides side).verdict
   pub ends : (to : Side) → count_of end_mark (at f.wires to).items ≤ 1
   pub filled : (side : Side) → presence (at f.sides side).verdict ≡ 1 → 0 < length (answer_at f.sides side)
+  pub headed : (side : Side) → presence (at f.sides side).verdict ≡ 1 →
+      front_after (at f.sides side) 0 ≡ take 4 (answer_at f.sides side)
   pub begun : (to : Side) → IsBegun (answer_at f.sides) (at f.wires to).written (at f.wires to).items
 
 -- how many bytes the first frame has in all

@@ -8,7 +8,7 @@ pub returns-then-clock_popped-clause-clock : goal.returns-then-clock_popped-clau
 returns-then-clock_popped-clause-clock g c =
     let now = c.args.session.now in
     let new = c.im_timeout.new.self in
-    carries_one AsksClock now _ new _ (Clock c.clock_popped.result) c.clock_popped.ensures (
+    carries_one g.P.Ports.becomes AsksClock now new _ _ (Clock c.clock_popped.result) c.clock_popped.ensures (
       c.clock_popped.result,
       refl,
       subst (λ (b : Bool). Hears b now new) (sym c.if-clock_popped.true)
@@ -18,5 +18,5 @@ returns-then-clock_popped-clause-clock g c =
 pub returns-else-clock_popped-clause-clock : goal.returns-else-clock_popped-clause-clock
 returns-else-clock_popped-clause-clock g c =
     let now = c.args.session.now in
-    carries_one AsksClock now _ now _ (Clock c.clock_popped.result) c.clock_popped.ensures
+    carries_one g.P.Ports.becomes AsksClock now now _ _ (Clock c.clock_popped.result) c.clock_popped.ensures
     (c.clock_popped.result, refl, subst (λ (b : Bool). Hears b now now) (sym c.if-clock_popped.false) refl)

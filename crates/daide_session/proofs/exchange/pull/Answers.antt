@@ -10,7 +10,7 @@ use Rattle.daide_session.proofs.exchange.pull.Goals as goal
 pub returns-then-room-eq0-clause-pulls : goal.returns-then-room-eq0-clause-pulls
 returns-then-room-eq0-clause-pulls g c =
     let now = c.args.session.now in
-    carries_nothing (Pulls c.args.side) now _ now
+    carries_nothing g.P.Ports.becomes (Pulls c.args.side) now now c.args.ports.now
     (no_pull c.args.side c.room-room.result now c.room-room.ensures.missing c.if-room-eq0.true)
 
 pub returns-then-room-eq0-clause-asked : goal.returns-then-room-eq0-clause-asked

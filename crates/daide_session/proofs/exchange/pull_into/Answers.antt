@@ -1,5 +1,39 @@
+use Rattle.std.proofs.Common.{◌≡◌, [], length, take, refl, rules}
+use Rattle.daide_machine.specs.declared.note.Note.TheVariants as Note
 use Rattle.daide_machine.proofs.LimitsKept.{runs_limits}
+use Rattle.daide_session.specs.declared.ports.Pull.TheVariants.{Got, Idle, Ended}
+use Rattle.daide_session.specs.Record.{Pulled}
+use Rattle.daide_session.specs.Turn.{Pulls}
+use Rattle.daide_session.proofs.Stretches.{carries_one}
+use Rattle.daide_session.proofs.TurnLemmas.{whole_pull}
 use Rattle.daide_session.proofs.exchange.pull_into.Goals as goal
+
+pub returns-in-Got-clause-pulls : goal.returns-in-Got-clause-pulls
+returns-in-Got-clause-pulls g c =
+    let now = c.args.session.now in
+    let len = length c.args.buffer.now in
+    let bytes = take c.in-Got.n c.pull.new.buffer in
+    let counted : length bytes ≡ c.in-Got.n = search rules in
+    carries_one g.P.Ports.becomes (Pulls c.args.side) now c.feed.new.self _ _ (Pulled c.args.side len (Got c.in-Got.n) bytes)
+    c.in-Got.ensures.becomes
+    (whole_pull c.args.side (Got c.in-Got.n) len bytes now c.feed.new.self c.requires.room c.requires.len counted
+    ((c.feed.result, c.feed.ensures.goes), c.feed.ensures.fronts))
+
+pub returns-in-Idle-clause-pulls : goal.returns-in-Idle-clause-pulls
+returns-in-Idle-clause-pulls g c =
+    let now = c.args.session.now in
+    let len = length c.args.buffer.now in
+    carries_one g.P.Ports.becomes (Pulls c.args.side) now now _ _ (Pulled c.args.side len Idle [])
+    c.in-Idle.ensures.becomes (whole_pull c.args.side Idle len [] now now c.requires.room c.requires.len refl refl)
+
+pub returns-in-Ended-clause-pulls : goal.returns-in-Ended-clause-pulls
+returns-in-Ended-clause-pulls g c =
+    let now = c.args.session.now in
+    let len = length c.args.buffer.now in
+    carries_one g.P.Ports.becomes (Pulls c.args.side) now c.ended.new.self _ _ (Pulled c.args.side len Ended [])
+    c.in-Ended.ensures.becomes
+    (whole_pull c.args.side Ended len [] now c.ended.new.self c.requires.room c.requires.len refl
+    ((Note.Nothing, c.ended.ensures.goes), c.ended.ensures.fronts))
 
 pub returns-in-Got-clause-limits : goal.returns-in-Got-clause-limits
 returns-in-Got-clause-limits g c =

@@ -7,13 +7,13 @@ use Rattle.daide_session.specs.declared.ports.Put.TheVariants.{Took, Failed}
 use Rattle.daide_session.specs.Record.{Offered}
 use Rattle.daide_session.specs.Turn.{Puts}
 use Rattle.daide_session.proofs.Stretches.{carries_nothing, carries_one}
-use Rattle.daide_session.proofs.TurnLemmas.{front_short, no_put, whole_put}
+use Rattle.daide_session.proofs.TurnLemmas.{front_short, rest_left, no_put, whole_put}
 use Rattle.daide_session.proofs.exchange.put_front.Goals as goal
 
 pub returns-then-is_empty-clause-puts : goal.returns-then-is_empty-clause-puts
 returns-then-is_empty-clause-puts g c =
     let now = c.args.session.now in
-    carries_nothing (Puts c.args.side) now _ now
+    carries_nothing g.P.Ports.becomes (Puts c.args.side) now now c.args.ports.now
     (no_put c.args.side c.front-front.result.now now _ c.front-front.ensures.front c.is_empty.ensures
     c.if-is_empty.true)
 
@@ -30,11 +30,15 @@ pub returns-in-Took-clause-puts : goal.returns-in-Took-clause-puts
 returns-in-Took-clause-puts g c =
     let now = c.args.session.now in
     let front = c.front-front.result.now in
-    carries_one (Puts c.args.side) now _ c.wrote.new.self _ (Offered c.args.side front (Took c.in-Took.n))
-    c.in-Took.ensures.told
+    carries_one g.P.Ports.becomes (Puts c.args.side) now c.wrote.new.self _ _ (Offered c.args.side front (Took c.in-Took.n))
+    c.in-Took.ensures.becomes
     (whole_put c.args.side (Took c.in-Took.n) front now c.wrote.new.self _ c.front-front.ensures.value
-    c.front-front.ensures.front c.is_empty.ensures c.if-is_empty.false c.in-Took.ensures.within
-    (c.wrote.ensures.wrote, c.wrote.ensures.other_front))
+    c.front-front.ensures.front c.is_empty.ensures c.if-is_empty.false c.in-Took.ensures.within (
+      c.wrote.ensures.wrote,
+      rest_left c.args.side c.in-Took.n front now c.wrote.new.self c.front-front.ensures.value
+          c.front-front.ensures.front c.wrote.ensures.own_front c.wrote.ensures.next,
+      c.wrote.ensures.other_front,
+    ))
 
 pub returns-in-Took-clause-limits : goal.returns-in-Took-clause-limits
 returns-in-Took-clause-limits g c = ap (λ (s : SessionState). s.limits) c.wrote.ensures.wrote.same_state
@@ -45,7 +49,8 @@ pub returns-in-Failed-clause-puts : goal.returns-in-Failed-clause-puts
 returns-in-Failed-clause-puts g c =
     let now = c.args.session.now in
     let front = c.front-front.result.now in
-    carries_one (Puts c.args.side) now _ c.lost.new.self _ (Offered c.args.side front Failed) c.in-Failed.ensures.told
+    carries_one g.P.Ports.becomes (Puts c.args.side) now c.lost.new.self _ _ (Offered c.args.side front Failed)
+    c.in-Failed.ensures.becomes
     (whole_put c.args.side Failed front now c.lost.new.self _ c.front-front.ensures.value c.front-front.ensures.front
     c.is_empty.ensures c.if-is_empty.false c.in-Failed.ensures.within
     (c.lost.ensures.lost, c.lost.ensures.other_front))

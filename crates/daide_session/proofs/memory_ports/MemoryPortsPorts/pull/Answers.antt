@@ -4,8 +4,8 @@ use Rattle.daide_session.proofs.StoredLemmas.{copied, tells}
 use Rattle.daide_session.proofs.memory_ports.MemoryPortsPorts.pull.Goals.{in-Bot, in-Server}
 use Rattle.daide_session.proofs.memory_ports.MemoryPortsPorts.pull.Goals as goal
 
-pub returns-clause-told : goal.returns-clause-told
-returns-clause-told g c =
+pub returns-clause-becomes : goal.returns-clause-becomes
+returns-clause-becomes g c =
     let same : c.match-side.self.calls ≡ c.args.self.now.calls =
     elim c.match-side.branch [
       | in-Bot w ↦ ap (λ m. m.calls) w.self-is
