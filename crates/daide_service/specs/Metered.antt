@@ -1,6 +1,6 @@
--- Ports with so many turns: what they tell, and what counts as a move.
-use Rattle.std.specs.Prelude.{ℕ, suc, zero, nat_lt, Bool, true, false, List, Option, Some, None}
-use Rattle.daide_session.specs.Record.{PortAnswer}
+-- Ports with so many turns: what a call does to them by its answer, and what counts as a move.
+use Rattle.std.specs.Prelude.{◌≡◌, ℕ, suc, zero, nat_lt, Bool, true, false, ◌||◌, List, [], ◌∷◌, Option, Some, None}
+use Rattle.daide_session.specs.Record.{PortAnswer, Clock, Pulled, Offered}
 use Rattle.daide_session.specs.declared.ports.Pull.{Pull}
 use Rattle.daide_session.specs.declared.ports.Pull.TheVariants.{Got, Idle, Ended}
 use Rattle.daide_session.specs.declared.ports.Put.{Put}
@@ -12,19 +12,16 @@ pub record Meter (P : Type 0) : Type 0 where
   pub left : Option ℕ
   pub moved : Bool
 
--- what the ports tell, while turns are left
-abbrev pub told_left : {P : Type 0} → (P → Option (List PortAnswer)) → P → Option ℕ → Option (List PortAnswer)
-told_left told ports None = None
-told_left told ports (Some turns) = told ports
-
-abbrev pub told_while_left : {P : Type 0} → (P → Option (List PortAnswer)) → Meter P → Option (List PortAnswer)
-told_while_left told meter = told_left told meter.ports meter.left
-
 -- a look at the clock takes a turn; the one that finds none left is one too many
 abbrev pub one_less : Option ℕ → Option ℕ
 one_less None = None
 one_less (Some zero) = None
 one_less (Some (suc turns)) = Some turns
+
+abbrev pub left_after : PortAnswer → Option ℕ → Option ℕ
+left_after (Clock popped) left = one_less left
+left_after (Pulled side buffer pull bytes) left = left
+left_after (Offered side bytes put) left = left
 
 -- bytes came, or the side ended
 abbrev pub is_gain : Pull → Bool
@@ -36,3 +33,32 @@ is_gain Ended = true
 abbrev pub is_loss : Put → Bool
 is_loss (Took count) = nat_lt 0 count
 is_loss Failed = true
+
+-- whether anything moved since the last look at the clock: it had popped, or there was a gain or a loss
+abbrev pub moved_after : PortAnswer → Bool → Bool
+moved_after (Clock popped) moved = popped
+moved_after (Pulled side buffer pull bytes) moved = moved || is_gain pull
+moved_after (Offered side bytes put) moved = moved || is_loss put
+
+-- the same after answers, one after another
+abbrev pub moved_by : List PortAnswer → Bool → Bool
+moved_by [] moved = moved
+moved_by (answer ∷ answers) moved = moved_by answers (moved_after answer moved)
+
+-- what is answered once the turns are spent: no clock pops, both sides have ended, and both wires fail
+abbrev pub IsSpentAnswer : PortAnswer → Type 0
+IsSpentAnswer (Clock popped) = popped ≡ false
+IsSpentAnswer (Pulled side buffer pull bytes) = pull ≡ Ended
+IsSpentAnswer (Offered side bytes put) = put ≡ Failed
+
+-- while turns are left the ports are asked; once they are spent they are asked nothing more
+abbrev pub BecomesWhile : {P : Type 0} → (P → PortAnswer → P → Type 0) → Option ℕ → P → PortAnswer → P → Type 0
+BecomesWhile becomes (Some turns) old answer new = becomes old answer new
+BecomesWhile becomes None old answer new = IsSpentAnswer answer × (new ≡ old)
+
+-- what a call with this answer does to them
+pub record Meters {P : Type 0} (becomes : P → PortAnswer → P → Type 0) (old : Meter P) (answer : PortAnswer)
+    (new : Meter P) : Type 0 where
+  pub left : new.left ≡ left_after answer old.left
+  pub moved : new.moved ≡ moved_after answer old.moved
+  pub ports : BecomesWhile becomes new.left old.ports answer new.ports

@@ -1,7 +1,7 @@
 -- The loop of a run: what each step of a round asks of the system and does to the sessions, what a round is, and
--- what a whole run is. A step is stated with what the system answered in it, told or not.
-use Rattle.std.specs.Prelude.{◌≡◌, ℕ, zero, suc, ◌+◌, ◌-◌, ◌≤◌, nat_lt, Bool, true, false, not, ◌&&◌, ◌||◌, ◌==◌}
-use Rattle.std.specs.Prelude.{List, [], ◌∷◌, ◌++◌, length, filter, Option, Some, is_none}
+-- what a whole run is, to its end or broken off. A step is stated with what the system answered in it, told or not.
+use Rattle.std.specs.Prelude.{◌≡◌, ℕ, zero, suc, ◌+◌, ◌-◌, ◌≤◌, nat_lt, Bool, true, false, not, ◌&&◌, ◌||◌, ◌==◌, ◌⊎◌}
+use Rattle.std.specs.Prelude.{List, [], ◌∷◌, ◌++◌, length, filter, Some, is_none}
 use Rattle.std.specs.List.{list_any}
 use Rattle.daide_machine.specs.Wires.{Gateway, is_closed}
 use Rattle.daide_session.specs.declared.hub.HubError.{HubError}
@@ -18,7 +18,7 @@ use Rattle.daide_service.specs.declared.tally.Tally.{Tally}
 use Rattle.daide_service.specs.declared.system.Connect.{Connect}
 use Rattle.daide_service.specs.declared.system.Connect.TheVariants.{Ready, Failed, Pending}
 use Rattle.daide_service.specs.declared.system.Notice.TheVariants.{CannotReach, TurnsSpent}
-use Rattle.daide_service.specs.Metered.{Meter, told_while_left}
+use Rattle.daide_service.specs.Metered.{Meter, Meters}
 use Rattle.daide_service.specs.System.{SystemAnswer, Accepts, Connects, Retires, Notifies, Waits}
 
 -- a run at work: the sessions, and the counts of bots
@@ -105,8 +105,8 @@ abbrev pub turns_below : {P : Type 0} → ℕ → List (HubCall P)
 turns_below zero = []
 turns_below (suc n) = turns_below n ++ Turned n ∷ []
 
-abbrev pub TurnsAll : {P : Type 0} → (P → Option (List PortAnswer)) → Hosting (Meter P) → Hosting (Meter P) → Type 0
-TurnsAll told old new = HubRuns (told_while_left told) old (turns_below (length old.places)) new
+abbrev pub TurnsAll : {P : Type 0} → (P → PortAnswer → P → Type 0) → Hosting (Meter P) → Hosting (Meter P) → Type 0
+TurnsAll becomes old new = HubRuns (Meters becomes) old (turns_below (length old.places)) new
 
 abbrev pub any_moved : {P : Type 0} → List (Gateway × Meter P) → Bool
 any_moved places = list_any (λ place. place.1.moved) places
@@ -163,7 +163,7 @@ wait_where false more = Waits more ∷ []
 
 -- At most one bot is admitted; at most one connect is taken up; each session has one turn; those that are over are
 -- taken out; and there is one wait, exactly where nothing moved in all this.
-pub record Round {P : Type 0} (told : P → Option (List PortAnswer)) (old : Serving P)
+pub record Round {P : Type 0} (becomes : P → PortAnswer → P → Type 0) (old : Serving P)
     (answers : List (SystemAnswer P)) (new : Serving P) : Type 0 where
   pub admission : List (SystemAnswer P)
   pub meeting : List (SystemAnswer P)
@@ -173,7 +173,7 @@ pub record Round {P : Type 0} (told : P → Option (List PortAnswer)) (old : Ser
   pub turned : Hosting (Meter P)
   pub admits : Admits (length old.hub.places) old.tally admission came
   pub meets : Meets old.hub came meeting met new.tally
-  pub turns : TurnsAll told met turned
+  pub turns : TurnsAll becomes met turned
   pub removes : RemovesClosed turned removal new.hub
   -- whatever came, no more are held than there may be at once, and no more came than there may be in all
   pub within : IsWithin new.hub new.tally
@@ -188,12 +188,13 @@ abbrev pub is_done : {P : Type 0} → Serving P → Bool
 is_done run = is_served run.tally (length run.hub.places)
 
 -- n rounds, each of a run that isn't done
-abbrev pub Rounds : {P : Type 0} → (P → Option (List PortAnswer)) → ℕ → Serving P → List (SystemAnswer P) →
+abbrev pub Rounds : {P : Type 0} → (P → PortAnswer → P → Type 0) → ℕ → Serving P → List (SystemAnswer P) →
     Serving P → Type 0
-Rounds told zero old answers new = (answers ≡ []) × (new ≡ old)
-Rounds {P} told (suc n) old answers new =
+Rounds becomes zero old answers new = (answers ≡ []) × (new ≡ old)
+Rounds {P} becomes (suc n) old answers new =
     (mid : Serving P) × (first : List (SystemAnswer P)) × (second : List (SystemAnswer P))
-    × (answers ≡ first ++ second) × Rounds told n old first mid × (is_done mid ≡ false) × Round told mid second new
+    × (answers ≡ first ++ second) × Rounds becomes n old first mid × (is_done mid ≡ false)
+    × Round becomes mid second new
 
 -- a run that no bot came to
 abbrev pub opening : {P : Type 0} → Settings → Serving P
@@ -213,9 +214,53 @@ opening settings = record {
 }
 
 -- rounds from the opening, until all bots were served and none is held
-abbrev pub Serves : {P : Type 0} → (P → Option (List PortAnswer)) → Settings → List (SystemAnswer P) → Type 0
-Serves {P} told settings answers =
-    (n : ℕ) × (end : Serving P) × Rounds told n (opening settings) answers end × (is_done end ≡ true)
+abbrev pub Serves : {P : Type 0} → (P → PortAnswer → P → Type 0) → Settings → List (SystemAnswer P) → Type 0
+Serves {P} becomes settings answers =
+    (n : ℕ) × (end : Serving P) × Rounds becomes n (opening settings) answers end × (is_done end ≡ true)
+
+-- ---- a run that is broken off
+
+-- A round whose new session was refused its memory: at most one bot was admitted as in any round, a connect was under
+-- way and came about, and with it the round ends. Its ports are dropped; no session had a turn, and none is taken out.
+pub record BreaksOff {P : Type 0} (old : Serving P) (answers : List (SystemAnswer P)) (new : Serving P) : Type 0 where
+  pub admission : List (SystemAnswer P)
+  pub came : Tally
+  pub ports : P
+  pub admits : Admits (length old.hub.places) old.tally admission came
+  pub under_way : (came.connecting == 0) ≡ false
+  pub asked : answers ≡ admission ++ Connects (Ready ports) ∷ []
+  pub leaves : new ≡ record { hub = old.hub; tally = arrived came }
+
+-- rounds from the opening, and one that is broken off, of a run that isn't done
+pub record RunsOut {P : Type 0} (becomes : P → PortAnswer → P → Type 0) (settings : Settings)
+    (answers : List (SystemAnswer P)) : Type 0 where
+  pub n : ℕ
+  pub before : List (SystemAnswer P)
+  pub last : List (SystemAnswer P)
+  pub mid : Serving P
+  pub end : Serving P
+  pub rounds : Rounds becomes n (opening settings) before mid
+  pub going_on : is_done mid ≡ false
+  pub breaks : BreaksOff mid last end
+  pub asked : answers ≡ before ++ last
+
+-- all rounds from the opening that a run may make
+pub record RunsLong {P : Type 0} (becomes : P → PortAnswer → P → Type 0) (settings : Settings)
+    (answers : List (SystemAnswer P)) : Type 0 where
+  pub n : ℕ
+  pub end : Serving P
+  pub all : n + 1 ≡ 18446744073709551616
+  pub rounds : Rounds becomes n (opening settings) answers end
+
+-- What a run did that ends with this fault, before all its bots were served. Of wrong settings, and where the memory of
+-- the places was refused, the system was asked nothing; a later want of memory comes in a round that is broken off; and
+-- rounds are spent where all of them were made.
+abbrev pub GivesUp : {P : Type 0} → (P → PortAnswer → P → Type 0) → Settings → ServeFault → List (SystemAnswer P) →
+    Type 0
+GivesUp becomes settings (Faults.Config fault) answers = answers ≡ []
+GivesUp becomes settings Faults.Sessions answers = answers ≡ []
+GivesUp becomes settings Faults.Memory answers = (answers ≡ []) ⊎ RunsOut becomes settings answers
+GivesUp becomes settings Faults.RoundsSpent answers = RunsLong becomes settings answers
 
 -- ---- refusals
 
@@ -231,6 +276,13 @@ IsServeCause settings (Faults.Config fault) = IsHubCause settings.config setting
 IsServeCause settings Faults.Sessions = IsHubCause settings.config settings.max_sessions HubErrors.Sessions
 IsServeCause settings Faults.Memory = IsHubCause settings.config settings.max_sessions HubErrors.Memory
 IsServeCause settings Faults.RoundsSpent = IsHubCause settings.config settings.max_sessions HubErrors.Memory
+
+-- why a run was not begun: as above, and no rounds are spent then
+abbrev pub IsOpeningCause : Settings → ServeFault → Type 0
+IsOpeningCause settings (Faults.Config fault) = IsServeCause settings (Faults.Config fault)
+IsOpeningCause settings Faults.Sessions = IsServeCause settings Faults.Sessions
+IsOpeningCause settings Faults.Memory = IsServeCause settings Faults.Memory
+IsOpeningCause settings Faults.RoundsSpent = ⊥
 
 -- a fault of the settings, told before the system is asked anything
 abbrev pub IsOfSettings : ServeFault → Type 0

@@ -1,8 +1,6 @@
 //! Ports with so many turns, which remember whether their last turn moved anything.
 
-ghost use Rattle.std.specs.Prelude.{◌≡◌, ◌||◌, length, take, false, Some, None, IfNone, is_none};
-ghost use Rattle.daide_session.specs.Record.{Pulled, Offered, Clock, Tells, IsPullWithin, IsPutWithin, pulled_len};
-ghost use Rattle.daide_service.specs.Metered.{told_while_left, one_less, is_gain, is_loss};
+ghost use Rattle.std.specs.Prelude.{◌≡◌, false, Some, is_none};
 
 use daide_frame::side::Side;
 use daide_session::ports::{Ports, Pull, Put};
@@ -67,18 +65,11 @@ impl<P: Ports> Metered<P> {
 }
 
 impl<P: Ports> Ports for Metered<P> {
-    ghost use Rattle.daide_service.specs.Metered.{told_while_left};
+    ghost use Rattle.daide_service.specs.Metered.{Meters};
 
-    ghost told = { told_while_left P.told };
+    ghost becomes = { Meters P.becomes };
 
-    fn pull(&mut self, side: Side, buffer: &mut [u8]) -> Pull
-        ensures within { IsPullWithin result (length buffer.old) }
-        ensures told { Tells (told_while_left P.told self.old) (Pulled side (length buffer.old) result
-            (take (pulled_len result) buffer.new)) (told_while_left P.told self.new) }
-        ensures moved { self.new.moved ≡ (self.old.moved || is_gain result) }
-        ensures left { self.new.left ≡ self.old.left }
-        ensures spent { IfNone self.old.left ((result ≡ Pull.Ended) × (self.new.ports ≡ self.old.ports)) }
-    {
+    fn pull(&mut self, side: Side, buffer: &mut [u8]) -> Pull {
         let pull = match self.left {
             Some(_turns) => self.ports.pull(side, buffer),
             None => Pull::Ended,
@@ -92,14 +83,7 @@ impl<P: Ports> Ports for Metered<P> {
         pull
     }
 
-    fn put(&mut self, side: Side, bytes: &[u8]) -> Put
-        ensures within { IsPutWithin result (length bytes.now) }
-        ensures told { Tells (told_while_left P.told self.old) (Offered side bytes.now result)
-            (told_while_left P.told self.new) }
-        ensures moved { self.new.moved ≡ (self.old.moved || is_loss result) }
-        ensures left { self.new.left ≡ self.old.left }
-        ensures spent { IfNone self.old.left ((result ≡ Put.Failed) × (self.new.ports ≡ self.old.ports)) }
-    {
+    fn put(&mut self, side: Side, bytes: &[u8]) -> Put {
         let put = match self.left {
             Some(_turns) => self.ports.put(side, bytes),
             None => Put::Failed,
@@ -112,12 +96,7 @@ impl<P: Ports> Ports for Metered<P> {
         put
     }
 
-    fn clock_popped(&mut self) -> bool
-        ensures told { Tells (told_while_left P.told self.old) (Clock result) (told_while_left P.told self.new) }
-        ensures moved { self.new.moved ≡ result }
-        ensures left { self.new.left ≡ one_less self.old.left }
-        ensures spent { IfNone self.new.left ((result ≡ false) × (self.new.ports ≡ self.old.ports)) }
-    {
+    fn clock_popped(&mut self) -> bool {
         self.left = self.left.and_then(|turns| turns.checked_sub(1));
         self.moved = self.left.is_some() && self.ports.clock_popped();
         self.moved

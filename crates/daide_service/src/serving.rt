@@ -2,13 +2,15 @@
 //!
 //! It knows no socket. What the system gives is a parameter, so that whole runs can be driven in memory.
 
-ghost use Rattle.std.specs.Prelude.{◌≡◌, ◌+◌, ◌≤◌, List, [], ◌∷◌, ◌++◌, length, Ok, OnOk, OnErr, IfOk, IfErr};
+ghost use Rattle.std.specs.Prelude.{◌≡◌, ◌+◌, ◌≤◌, ◌==◌, false, List, [], ◌∷◌, length, Ok, OnOk, OnErr, IfOk, IfErr};
 ghost use Rattle.daide_session.specs.Config.{config_fault};
 ghost use Rattle.daide_session.specs.Hub.{IsHubSize};
-ghost use Rattle.daide_service.specs.System.{SystemAnswer, Connects, Tells};
+ghost use Rattle.daide_service.specs.System.{SystemAnswer, Connects};
+ghost use Rattle.daide_session.specs.Record.{Tells};
 ghost use Rattle.daide_service.specs.Serving.{IsWithin, Admits, Meets, TurnsAll, any_moved, RemovesClosed, parting};
-ghost use Rattle.daide_service.specs.Serving.{wait_where, any_stirs, Round, is_done, opening, Serves, fault_of};
-ghost use Rattle.daide_service.specs.Serving.{IsServeCause, IsOfSettings};
+ghost use Rattle.daide_service.specs.Serving.{wait_where, any_stirs, Round, is_done, opening, fault_of};
+ghost use Rattle.daide_service.specs.Served.{IsWholeRun};
+ghost use Rattle.daide_service.specs.Serving.{IsServeCause, IsOpeningCause, IsOfSettings, BreaksOff, GivesUp, arrived};
 
 use crate::metered::Metered;
 use crate::system::{Connect, Notice, System};
@@ -101,7 +103,9 @@ fn meet<P: Ports, A: Allocator + Copy, S: System<P>>(
     ensures within { IsWithin hub.new tally.new }
     ensures refused { IfErr result (λ fault. fault ≡ ServeFault.Memory) }
     ensures broken_off { OnErr result ((ports : P)
-        × Tells (S.told system.old) (Connects (Connect.Ready ports) ∷ []) (S.told system.new)) }
+        × Tells (S.told system.old) (Connects (Connect.Ready ports) ∷ []) (S.told system.new)
+        × ((tally.old.connecting == 0) ≡ false)) }
+    ensures left { OnErr result ((hub.new ≡ hub.old) × (tally.new ≡ arrived tally.old)) }
 {
     if tally.connecting == 0 {
         return Ok(false);
@@ -126,7 +130,7 @@ fn meet<P: Ports, A: Allocator + Copy, S: System<P>>(
 
 /// One turn of each session, in order of place.
 fn turn_all<P: Ports, A: Allocator + Copy>(hub: &mut Hub<Metered<P>, A>)
-    ensures turns { TurnsAll P.told hub.old hub.new }
+    ensures turns { TurnsAll P.becomes hub.old hub.new }
     ensures max { hub.new.max ≡ hub.old.max }
     ensures count { length hub.new.places ≡ length hub.old.places }
 {
@@ -192,7 +196,7 @@ impl<P: Ports, A: Allocator + Copy> Service<P, A> {
         ensures opening { IfOk result (λ service. service ≡ opening settings.now) }
         ensures accepted { IfOk result (λ service. (config_fault settings.now.config ≡ Ok tt)
             × IsHubSize settings.now.max_sessions) }
-        ensures refused { IfErr result (IsServeCause settings.now) }
+        ensures refused { IfErr result (IsOpeningCause settings.now) }
     {
         match Hub::with_words(
             alloc,
@@ -227,10 +231,10 @@ impl<P: Ports, A: Allocator + Copy> Service<P, A> {
     /// fault; its ports are dropped then, and the round broken off behind the connect that gave them.
     pub fn round<S: System<P>>(&mut self, system: &mut S) -> Result<(), ServeFault>
         ensures round { OnOk result ((answers : List (SystemAnswer P))
-            × Tells (S.told system.old) answers (S.told system.new) × Round P.told self.old answers self.new) }
+            × Tells (S.told system.old) answers (S.told system.new) × Round P.becomes self.old answers self.new) }
         ensures refused { IfErr result (λ fault. fault ≡ ServeFault.Memory) }
-        ensures broken_off { OnErr result ((admission : List (SystemAnswer P)) × (ports : P)
-            × Tells (S.told system.old) (admission ++ Connects (Connect.Ready ports) ∷ []) (S.told system.new)) }
+        ensures broken_off { OnErr result ((answers : List (SystemAnswer P))
+            × Tells (S.told system.old) answers (S.told system.new) × BreaksOff self.old answers self.new) }
     {
         let came = admit::<P, S>(self.hub.count(), &mut self.tally, system);
         let met = meet(&mut self.hub, &mut self.tally, system)?;
@@ -244,14 +248,17 @@ impl<P: Ports, A: Allocator + Copy> Service<P, A> {
 }
 
 /// Serves so many bots as the settings say, and returns when all were served. A run waits for its peers, so no
-/// bound on its time is known: the bound on its rounds, 2^64 - 1, is one that no run comes to.
+/// bound on its time is known: the bound on its rounds, 2^64 - 1, is one that no run comes to. It gives up for
+/// nothing else than wrong settings and want of memory, of the places or of a session, and says what was done till then.
 pub fn serve<P: Ports, A: Allocator + Copy, S: System<P>>(
     alloc: A,
     settings: &Settings,
     system: &mut S,
 ) -> Result<(), ServeFault>
     ensures served { OnOk result ((answers : List (SystemAnswer P))
-        × Tells (S.told system.old) answers (S.told system.new) × Serves P.told settings.now answers) }
+        × Tells (S.told system.old) answers (S.told system.new) × IsWholeRun P.becomes settings.now answers) }
+    ensures given_up { IfErr result (λ fault. (answers : List (SystemAnswer P))
+        × Tells (S.told system.old) answers (S.told system.new) × GivesUp P.becomes settings.now fault answers) }
     ensures refused { IfErr result (IsServeCause settings.now) }
     ensures unasked { IfErr result (λ fault. IsOfSettings fault → system.new ≡ system.old) }
 {

@@ -1,19 +1,23 @@
-use Rattle.std.proofs.Common.{sym, ◌∙◌, subst}
-use Rattle.daide_service.specs.Serving.{Serving, opening}
-use Rattle.daide_service.proofs.ServingLemmas.{Ran, no_rounds, another_round}
+use Rattle.std.proofs.Common.{List, sym, ◌∙◌, subst}
+use Rattle.daide_session.specs.Record.{Tells}
+use Rattle.daide_service.specs.declared.serving.ServeFault.{ServeFault}
+use Rattle.daide_service.specs.System.{SystemAnswer}
+use Rattle.daide_service.specs.Serving.{Serving, GivesUp, opening}
+use Rattle.daide_service.proofs.ServingLemmas.{Ran, no_rounds, another_round, at_memory, runs_out}
+use Rattle.daide_service.proofs.ServedLemmas.{whole_run}
 use Rattle.daide_service.proofs.serving.serve.Goals as goal
 
 pub loop-round-init : goal.loop-round-init
 loop-round-init g c =
     let told = g.S.System.told c.args.system.now in
     let first = opening {P = g.row.P.Denot} c.args.settings.now in
-    subst (λ (s : Serving g.row.P.Denot). Ran g.P.Ports.told 0 first told s told) (sym c.in_ok-service.ensures.opening)
-    (no_rounds g.P.Ports.told first told)
+    subst (λ (s : Serving g.row.P.Denot). Ran g.P.Ports.becomes 0 first told s told) (sym c.in_ok-service.ensures.opening)
+    (no_rounds g.P.Ports.becomes first told)
 
 pub loop-round-preserved : goal.loop-round-preserved
 loop-round-preserved g c =
     let round = c.in_ok-round.ensures.round in
-    another_round g.P.Ports.told c.loop-round._round _ _ _ _ _ _ c.loop-round.invariant
+    another_round g.P.Ports.becomes c.loop-round._round _ _ _ _ _ _ c.loop-round.invariant
     (sym c.is_done.ensures ∙ c.if-is_done.false) round.0 round.1 round.2
 
 pub returns-then-is_done-clause-served : goal.returns-then-is_done-clause-served
@@ -21,5 +25,18 @@ returns-then-is_done-clause-served g c =
     let ran = c.loop-round.invariant in (
       ran.0,
       ran.1,
-      (c.loop-round._round, c.loop-round.service, ran.2, sym c.is_done.ensures ∙ c.if-is_done.true),
+      whole_run g.P.Ports.becomes c.args.settings.now c.loop-round._round ran.0 c.loop-round.service ran.2
+          (sym c.is_done.ensures ∙ c.if-is_done.true),
     )
+
+-- a round is broken off for want of memory alone
+pub returns-in_err-round-clause-given_up : goal.returns-in_err-round-clause-given_up
+returns-in_err-round-clause-given_up g c =
+    let told = g.S.System.told in
+    let broken = c.in_err-round.ensures.broken_off in
+    at_memory c.from_residual-in_err-round.result c.in_err-round.field-0.0 (λ (fault : ServeFault). (answers : List (SystemAnswer g.row.P.Denot))
+    × Tells (told c.args.system.now) answers (told c.round.new.system)
+    × GivesUp g.P.Ports.becomes c.args.settings.now fault answers)
+    c.from_residual-in_err-round.ensures.1 c.in_err-round.ensures.refused
+    (runs_out g.P.Ports.becomes c.args.settings.now c.loop-round._round _ _ _ _ _ c.loop-round.invariant
+    (sym c.is_done.ensures ∙ c.if-is_done.false) broken.0 broken.1 broken.2)

@@ -1,9 +1,11 @@
-use Rattle.std.proofs.Common.{ℕ, List, [], ◌∷◌, ◌++◌, Result, Ok, Err, ap, ◌∙◌, subst, arith}
+use Rattle.std.proofs.Common.{ℕ, List, [], ◌∷◌, ◌++◌, Result, Ok, Err, refl, ap, ◌∙◌, subst, arith}
 use Rattle.std.specs.Prelude.{◌||◌, OnErr}
 use Rattle.daide_service.specs.declared.system.Connect.TheVariants.{Ready}
-use Rattle.daide_service.specs.System.{SystemAnswer, Connects, Tells}
-use Rattle.daide_service.specs.Serving.{Serving, Admits, Round, wait_where, accepts}
-use Rattle.daide_service.proofs.ServingLemmas.{tells_then, waits_alike}
+use Rattle.daide_service.specs.System.{SystemAnswer, Connects}
+use Rattle.daide_session.specs.Record.{Tells}
+use Rattle.daide_service.specs.Serving.{Serving, Admits, BreaksOff, Round, wait_where, accepts}
+use Rattle.daide_service.proofs.ServingLemmas.{waits_alike}
+use Rattle.daide_session.proofs.Stretches.{tells_then}
 use Rattle.daide_service.proofs.serving.Service.round.Goals as goal
 
 pub returns-clause-round : goal.returns-clause-round
@@ -16,7 +18,7 @@ returns-clause-round g c =
     let stirred = c.admit-came.result || c.in_ok-met.met || c.has_moved-moved.result || c.remove_closed-removed.result in
     let asleep = waits_alike {P = g.row.P.Denot} _ _ _ _ _ _ _ _ _ _ admits.3 meets.3 c.has_moved-moved.ensures
     removes.3 (c.accepts-more.ensures ∙ ap (accepts c.meet.new.tally) c.count-2.ensures) in
-    let step : Round g.P.Ports.told (record { hub = old.hub; tally = old.tally })
+    let step : Round g.P.Ports.becomes (record { hub = old.hub; tally = old.tally })
     (admits.0 ++ meets.0 ++ removes.0 ++ wait_where stirred c.accepts-more.result)
     (record { hub = c.remove_closed-removed.new.hub; tally = c.meet.new.tally }) = record {
       admission = admits.0;
@@ -44,7 +46,7 @@ returns-clause-round g c =
       tells_then _ _ _ (admits.0 ++ meets.0 ++ removes.0) _
           (tells_then _ _ _ (admits.0 ++ meets.0) removes.0 (tells_then _ _ _ admits.0 meets.0 admits.1 meets.1) removes.1)
           c.rest.ensures,
-      subst (λ (a : Serving g.row.P.Denot). Round g.P.Ports.told a
+      subst (λ (a : Serving g.row.P.Denot). Round g.P.Ports.becomes a
           (admits.0 ++ meets.0 ++ removes.0 ++ wait_where stirred c.accepts-more.result)
           (record { hub = c.remove_closed-removed.new.hub; tally = c.meet.new.tally })) c.self.view_is step,
     )
@@ -59,9 +61,22 @@ returns-in_err-met-clause-broken_off g c =
     let told = g.S.System.told in
     let admits = c.admit-came.ensures.admits in
     let broken = c.in_err-met.ensures.broken_off in
-    at_error c.from_residual.result ((admission : List (SystemAnswer g.row.P.Denot)) × (ports : g.row.P.Denot)
-    × Tells (told c.args.system.now) (admission ++ Connects (Ready ports) ∷ []) (told c.meet.new.system)) (
-      admits.0,
-      broken.0,
+    let left = c.in_err-met.ensures.left in
+    let old = c.self.inside in
+    let answers = admits.0 ++ Connects (Ready broken.0) ∷ [] in
+    let after : Serving g.row.P.Denot = record { hub = c.meet.new.hub; tally = c.meet.new.tally } in
+    let breaks : BreaksOff (record { hub = old.hub; tally = old.tally }) answers after = record {
+      admission = admits.0;
+      came = c.admit-came.new.tally;
+      ports = broken.0;
+      admits = subst (λ (n : ℕ). Admits n old.tally admits.0 c.admit-came.new.tally) c.count.ensures admits.2;
+      under_way = broken.2;
+      asked = refl;
+      leaves = rw (left.0, left.1) refl;
+    } in
+    at_error c.from_residual.result ((all : List (SystemAnswer g.row.P.Denot))
+    × Tells (told c.args.system.now) all (told c.meet.new.system) × BreaksOff c.args.self.now all after) (
+      answers,
       tells_then _ _ _ admits.0 (Connects (Ready broken.0) ∷ []) admits.1 broken.1,
+      subst (λ (a : Serving g.row.P.Denot). BreaksOff a answers after) c.self.view_is breaks,
     )

@@ -1,0 +1,515 @@
+-- The sessions of a run, step after step.
+use Rattle.std.proofs.Common.{◌≡◌, ℕ, zero, suc, ◌<◌, ◌≤◌, Bool, true, false, List, [], ◌∷◌, ◌++◌, length, take, set}
+use Rattle.std.proofs.Common.{◌+◌, refl, sym, ap, ◌∙◌, subst, arith, append-nil, length-append}
+use Rattle.std.specs.Prelude.{◌==◌, ◌&&◌, ◌||◌, nat_lt, Some, None, Contains, All, is_none, not}
+use Rattle.std.proofs.lemmas.Bool.{lt-ltb, le-ltb, ltb-true, ltb-false}
+use Rattle.std.proofs.lemmas.Bool.Decides.{nat_tests}
+use Rattle.std.proofs.lemmas.List.{take_all, length-set}
+use Rattle.std.proofs.lemmas.List.Elements.{All-nil, All-cons, All-head, All-tail, All-same, All-append, All-set}
+use Rattle.std.proofs.lemmas.List.Elements.{All-push, All-weaker, All-filter}
+use Rattle.std.proofs.lemmas.List.Elements.{Contains-append_left, Contains-append_right}
+use Rattle.std.proofs.lemmas.Option.{slice_get_within, get_or_from_slice_get}
+use Rattle.std.proofs.Math.Dec.{eqb-suc-zero}
+use Rattle.std.proofs.Math.Seq.{take-suc-set}
+use Rattle.daide_machine.specs.Machine.{Limits}
+use Rattle.daide_machine.specs.Wires.{Gateway, IsNew, is_closed}
+use Rattle.daide_session.specs.Record.{PortAnswer, Clock, Pulled, Offered, BecomesBy}
+use Rattle.daide_session.specs.Headline.{Stands, IsBoundedAndExact}
+use Rattle.daide_session.specs.Hub.{Hosting, IsTurned, Changes}
+use Rattle.daide_session.specs.HubRuns.{Turned, HubRuns}
+use Rattle.daide_session.proofs.Stretches.{becomes_then}
+use Rattle.daide_session.proofs.Standing.{new_stands}
+use Rattle.daide_session.proofs.ApartLemmas.{runs_split}
+use Rattle.daide_settings.specs.declared.settings.Settings.{Settings}
+use Rattle.daide_service.specs.declared.system.Connect.{Connect}
+use Rattle.daide_service.specs.declared.system.Connect.TheVariants.{Ready, Failed, Pending}
+use Rattle.daide_service.specs.declared.system.Notice.TheVariants.{CannotReach, TurnsSpent}
+use Rattle.daide_service.specs.declared.tally.Tally.{Tally}
+use Rattle.daide_service.specs.Metered.{Meter, Meters, moved_by, one_less}
+use Rattle.daide_service.specs.System.{SystemAnswer, Accepts, Connects, Retires, Notifies, Waits}
+use Rattle.daide_service.specs.Serving.{Serving, fresh, opening, accepts, come, AdmitsWhere, MeetsWhere, turns_below}
+use Rattle.daide_service.specs.Serving.{TurnsAll, last_words, farewell, farewell_where, farewells, remaining, parting}
+use Rattle.daide_service.specs.Serving.{MeetsBy, wait_where, any_stirs, any_moved, Round, Rounds, is_done}
+use Rattle.daide_service.specs.Served.{run_limits, IsSessionOfRun, IsServed, LetsGo, connects, retires, counted}
+use Rattle.daide_service.specs.Served.{IsWholeRun, looks_in}
+
+-- ---- what moved
+
+module _ {P : Type 0} (becomes : P → PortAnswer → P → Type 0) where
+  answers_moved : (xs : List PortAnswer) (a b : Meter P) → BecomesBy (Meters becomes) a xs b → b.moved ≡ moved_by xs a.moved
+  answers_moved [] a b h = ap (λ (m : Meter P). m.moved) h
+  answers_moved (x ∷ xs) a b h = answers_moved xs h.0 b h.2 ∙ ap (moved_by xs) h.1.moved
+
+  -- a turn begins with a look at the clock, so what moved before it is forgotten
+  forgotten : (call first second : List PortAnswer) (popped moved : Bool) → call ≡ first ++ second →
+      first ≡ Clock popped ∷ [] → moved_by call moved ≡ moved_by call false
+  forgotten call first second popped moved e f =
+      let same : call ≡ Clock popped ∷ second = e ∙ ap (λ (l : List PortAnswer). l ++ second) f in
+      ap (λ (l : List PortAnswer). moved_by l moved) same
+      ∙ sym (ap (λ (l : List PortAnswer). moved_by l false) same)
+
+  pub turn_moved : (a b : Gateway × Meter P) (t : IsTurned (Meters becomes) a b) →
+      b.1.moved ≡ moved_by t.exchange.call false
+  turn_moved a b t =
+      let order = t.exchange.session.in_order in
+      answers_moved t.exchange.call a.1 b.1 t.exchange.ports
+      ∙ forgotten t.exchange.call order.1 order.2 order.4.0 a.1.moved order.3 order.4.1
+
+-- ---- how many turns were made
+
+none_below_zero : (n : ℕ) → nat_lt n 0 ≡ false
+none_below_zero n = grind (arith, nat_tests)
+
+zero_below : (n : ℕ) → nat_lt 0 (suc n) ≡ true
+zero_below n = grind (arith, nat_tests)
+
+below_alike : (m n : ℕ) → nat_lt m n ≡ nat_lt (suc m) (suc n)
+below_alike m n = go (nat_lt m n) refl
+  where
+    go : (b : Bool) → nat_lt m n ≡ b → nat_lt m n ≡ nat_lt (suc m) (suc n)
+    go true e = let less = ltb-true m n e in e ∙ sym (lt-ltb (suc m) (suc n) (omega (arith, less)))
+    go false e = let more = ltb-false m n e in e ∙ sym (le-ltb (suc m) (suc n) (omega (arith, more)))
+
+module _ {P : Type 0} (becomes : P → PortAnswer → P → Type 0) where
+  -- spent ports stay so
+  stays_spent : (xs : List PortAnswer) (a b : Meter P) → a.left ≡ None → BecomesBy (Meters becomes) a xs b →
+      b.left ≡ None
+  stays_spent [] a b e h = ap (λ (m : Meter P). m.left) h ∙ e
+  stays_spent (Clock popped ∷ xs) a b e h = stays_spent xs h.0 b (h.1.left ∙ ap one_less e) h.2
+  stays_spent (Pulled side buffer pull bytes ∷ xs) a b e h = stays_spent xs h.0 b (h.1.left ∙ e) h.2
+  stays_spent (Offered side bytes put ∷ xs) a b e h = stays_spent xs h.0 b (h.1.left ∙ e) h.2
+
+  counted_from : (xs : List PortAnswer) (turns : ℕ) (a b : Meter P) → a.left ≡ Some turns →
+      BecomesBy (Meters becomes) a xs b → is_none b.left ≡ nat_lt turns (looks_in xs)
+  counted_from [] turns a b e h =
+      ap (λ (m : Meter P). is_none m.left) h ∙ ap is_none e ∙ sym (none_below_zero turns)
+  counted_from (Clock popped ∷ xs) zero a b e h =
+      ap is_none (stays_spent xs h.0 b (h.1.left ∙ ap one_less e) h.2) ∙ sym (zero_below (looks_in xs))
+  counted_from (Clock popped ∷ xs) (suc turns) a b e h =
+      counted_from xs turns h.0 b (h.1.left ∙ ap one_less e) h.2 ∙ below_alike turns (looks_in xs)
+  counted_from (Pulled side buffer pull bytes ∷ xs) turns a b e h = counted_from xs turns h.0 b (h.1.left ∙ e) h.2
+  counted_from (Offered side bytes put ∷ xs) turns a b e h = counted_from xs turns h.0 b (h.1.left ∙ e) h.2
+
+  pub turns_counted : (xs : List PortAnswer) (turns : ℕ) (ports : P) (now : Meter P) →
+      BecomesBy (Meters becomes) (fresh ports turns) xs now → is_none now.left ≡ nat_lt turns (looks_in xs)
+  turns_counted xs turns ports now h = counted_from xs turns (fresh ports turns) now refl h
+
+-- ---- how many ports came and went
+
+as_many : {a b : ℕ} → a ≡ b → a ≡ b + 0
+as_many {a} {b} e = omega (arith, e)
+
+module _ {P : Type 0} where
+  counted_append : (count : SystemAnswer P → ℕ) (xs ys : List (SystemAnswer P)) →
+      counted count (xs ++ ys) ≡ counted count xs + counted count ys
+  counted_append count [] ys = omega arith
+  counted_append count (x ∷ xs) ys =
+      let rest = counted_append count xs ys in
+      omega (arith, rest)
+
+  -- so many came, and so many went
+  record Passes (answers : List (SystemAnswer P)) (many few : ℕ) : Type 0 where
+    came : counted connects answers ≡ many
+    went : counted retires answers ≡ few
+
+  passes_then : (xs ys : List (SystemAnswer P)) (a b c d : ℕ) → Passes xs a b → Passes ys c d →
+      Passes (xs ++ ys) (a + c) (b + d)
+  passes_then xs ys a b c d h k = record {
+    came = rw (counted_append connects xs ys, h.came, k.came) refl;
+    went = rw (counted_append retires xs ys, h.went, k.went) refl;
+  }
+
+  passes_as : (xs ys : List (SystemAnswer P)) (a b : ℕ) → xs ≡ ys → Passes ys a b → Passes xs a b
+  passes_as xs ys a b e h = subst (λ (l : List (SystemAnswer P)). Passes l a b) (sym e) h
+
+  admission_passes : (b : Bool) (old : Tally) (answers : List (SystemAnswer P)) (new : Tally) →
+      AdmitsWhere b old answers new → Passes answers 0 0
+  admission_passes true old answers new h =
+      passes_as answers (Accepts h.0 ∷ []) 0 0 h.1 (record { came = refl; went = refl })
+  admission_passes false old answers new h = passes_as answers [] 0 0 h.0 (record { came = refl; went = refl })
+
+  -- those that came are held
+  meeting_passes : (b : Bool) (old : Hosting (Meter P)) (tally : Tally) (answers : List (SystemAnswer P))
+      (new : Hosting (Meter P)) (new_tally : Tally) → MeetsWhere b old tally answers new new_tally →
+      (n : ℕ) × Passes answers n 0 × (length new.places ≡ length old.places + n)
+  meeting_passes true old tally answers new new_tally m = (
+    0,
+    passes_as answers [] 0 0 m.0 (record { came = refl; went = refl }),
+    as_many (ap (λ (k : Hosting (Meter P)). length k.places) m.1),
+  )
+  meeting_passes false old tally answers new new_tally m = by m.0 m.1 m.2 m.3
+    where
+      by : (connect : Connect P) (told : List (SystemAnswer P)) → answers ≡ Connects connect ∷ told →
+          MeetsBy connect old tally told new new_tally →
+          (n : ℕ) × Passes answers n 0 × (length new.places ≡ length old.places + n)
+      by (Ready ports) told e m = (
+        1,
+        passes_as answers (Connects (Ready ports) ∷ []) 1 0
+            (e ∙ ap (λ (l : List (SystemAnswer P)). Connects (Ready ports) ∷ l) m.0)
+            (record { came = refl; went = refl }),
+        ap (λ (k : Hosting (Meter P)). length k.places) m.1.2
+            ∙ length-append old.places ((m.1.0, fresh ports tally.turns) ∷ []),
+      )
+      by Failed told e m = (
+        0,
+        passes_as answers (Connects Failed ∷ Notifies CannotReach ∷ []) 0 0
+            (e ∙ ap (λ (l : List (SystemAnswer P)). Connects Failed ∷ l) m.0) (record { came = refl; went = refl }),
+        as_many (ap (λ (k : Hosting (Meter P)). length k.places) m.1),
+      )
+      by Pending told e m = (
+        0,
+        passes_as answers (Connects Pending ∷ []) 0 0
+            (e ∙ ap (λ (l : List (SystemAnswer P)). Connects Pending ∷ l) m.0) (record { came = refl; went = refl }),
+        as_many (ap (λ (k : Hosting (Meter P)). length k.places) m.1),
+      )
+
+  -- those that are no longer held went
+  removal_passes : (places : List (Gateway × Meter P)) →
+      (n : ℕ) × Passes (farewells places) 0 n × (length places ≡ length (remaining places) + n)
+  removal_passes [] = (0, record { came = refl; went = refl }, refl)
+  removal_passes (place ∷ places) = one (is_closed place.0) refl (removal_passes places)
+    where
+      kept : is_closed place.0 ≡ false → remaining (place ∷ places) ≡ place ∷ remaining places
+      kept e = rw e refl
+
+      gone : is_closed place.0 ≡ true → remaining (place ∷ places) ≡ remaining places
+      gone e = rw e refl
+
+      spoke : (b : Bool) → Passes (last_words b ++ Retires place.1.ports ∷ []) 0 1
+      spoke true = record { came = refl; went = refl }
+      spoke false = record { came = refl; went = refl }
+
+      one : (b : Bool) → is_closed place.0 ≡ b →
+          ((n : ℕ) × Passes (farewells places) 0 n × (length places ≡ length (remaining places) + n)) →
+          (n : ℕ) × Passes (farewells (place ∷ places)) 0 n
+          × (length (place ∷ places) ≡ length (remaining (place ∷ places)) + n)
+      one true e h = (
+        h.0 + 1,
+        passes_as (farewells (place ∷ places)) (farewells places ++ parting place.1) 0 (h.0 + 1)
+            (ap (λ (c : Bool). farewells places ++ farewell_where c place.1) e)
+            (passes_then (farewells places) (parting place.1) 0 h.0 0 1 h.1 (spoke (is_none place.1.left))),
+        (let rest = h.2 in
+            let same = ap length (gone e) in
+            omega (arith, rest, same)),
+      )
+      one false e h = (
+        h.0,
+        passes_as (farewells (place ∷ places)) (farewells places) 0 h.0
+            (ap (λ (c : Bool). farewells places ++ farewell_where c place.1) e ∙ append-nil (farewells places)) h.1,
+        (let rest = h.2 in
+            let same = ap length (kept e) in
+            omega (arith, rest, same)),
+      )
+
+  wait_passes : (moved more : Bool) → Passes (wait_where moved more) 0 0
+  wait_passes true more = record { came = refl; went = refl }
+  wait_passes false more = record { came = refl; went = refl }
+
+module _ {P : Type 0} (becomes : P → PortAnswer → P → Type 0) (settings : Settings) where
+  -- ---- more answers
+
+  later : (Kind : Limits → List PortAnswer → Gateway → Type 0) (xs ys : List (SystemAnswer P)) (now : Gateway × Meter P) →
+      IsSessionOfRun becomes Kind settings xs now → IsSessionOfRun becomes Kind settings (xs ++ ys) now
+  later Kind xs ys now h = record {
+    ports = h.ports;
+    came = Contains-append_left xs ys (Connects (Ready h.ports)) h.came;
+    history = h.history;
+    answered = h.answered;
+    stands = h.stands;
+  }
+
+  gone_later : (xs ys : List (SystemAnswer P)) (answer : SystemAnswer P) → LetsGo becomes settings xs answer →
+      LetsGo becomes settings (xs ++ ys) answer
+  gone_later xs ys (Retires ports) h = (h.0, h.1, h.2, later IsBoundedAndExact xs ys h.0 h.3)
+  gone_later xs ys (Accepts came) h = tt
+  gone_later xs ys (Connects connect) h = tt
+  gone_later xs ys (Notifies notice) h = tt
+  gone_later xs ys (Waits more) h = tt
+
+  -- ---- turns
+
+  module _ (all : List (SystemAnswer P)) where
+    abbrev Held : Gateway × Meter P → Type 0
+    Held = IsSessionOfRun becomes Stands settings all
+
+    abbrev Served : Gateway × Meter P → Type 0
+    Served = IsServed becomes settings all
+
+    abbrev Gone : SystemAnswer P → Type 0
+    Gone = LetsGo becomes settings all
+
+    still : (now : Gateway × Meter P) → Served now → Held now
+    still now h = record {
+      ports = h.ports;
+      came = h.came;
+      history = h.history;
+      answered = h.answered;
+      stands = h.stands.sends;
+    }
+
+    turned : (a b : Gateway × Meter P) → IsTurned (Meters becomes) a b → Held a → Served b
+    turned a b t h = record {
+      ports = h.ports;
+      came = h.came;
+      history = h.history ++ t.exchange.call;
+      answered = becomes_then (Meters becomes) h.history t.exchange.call (fresh h.ports settings.turns) a.1 b.1 h.answered
+          t.exchange.ports;
+      stands = t.exchange.session.headline (run_limits settings) h.history h.stands;
+    }
+
+    -- the places below this one had their turns
+    record Below (n : ℕ) (old new : Hosting (Meter P)) : Type 0 where
+      held : All Held new.places
+      served : All Served (take n new.places)
+      count : length new.places ≡ length old.places
+      limits : new.limits ≡ old.limits
+
+    none_below : (old new : Hosting (Meter P)) → new ≡ old → All Held old.places → Below 0 old new
+    none_below old new e h = record {
+      held = subst (λ (k : Hosting (Meter P)). All Held k.places) (sym e) h;
+      served = All-nil Served;
+      count = ap (λ (k : Hosting (Meter P)). length k.places) e;
+      limits = ap (λ (k : Hosting (Meter P)). k.limits) e;
+    }
+
+    one_below : (n : ℕ) (old mid new : Hosting (Meter P)) → Below n old mid →
+        Changes (IsTurned (Meters becomes)) mid n new → Below (suc n) old new
+    one_below n old mid new h c =
+        let places : new.places ≡ set mid.places n c.1 = ap (λ (k : Hosting (Meter P)). k.places) c.3 in
+        let inside : n < length mid.places = slice_get_within mid.places n c.0 c.2 in
+        let was : Held c.0 =
+        subst Held (get_or_from_slice_get mid.places n c.0 c.0 c.2) (h.held n c.0 inside) in
+        let now : Served c.1 = turned c.0 c.1 c.4 was in
+        record {
+          held = All-same Held new.places (set mid.places n c.1) places
+              (All-set Held mid.places n c.1 (still c.1 now) h.held);
+          served = All-same Served (take (suc n) new.places) (take n mid.places ++ c.1 ∷ [])
+              (ap (take (suc n)) places ∙ take-suc-set mid.places n c.1 inside)
+              (All-push Served (take n mid.places) c.1 h.served now);
+          count = ap length places ∙ length-set mid.places n c.1 ∙ h.count;
+          limits = ap (λ (k : Hosting (Meter P)). k.limits) c.3 ∙ h.limits;
+        }
+
+    below : (n : ℕ) (old new : Hosting (Meter P)) → HubRuns (Meters becomes) old (turns_below n) new →
+        All Held old.places → Below n old new
+    below zero old new run h = none_below old new run h
+    below (suc n) old new run h =
+        let parts = runs_split (Meters becomes) (turns_below n) (Turned n ∷ []) old new run in
+        let before = below n old parts.0 parts.1 h in
+        subst (λ (k : Hosting (Meter P)). Below (suc n) old k) (sym parts.2.2)
+        (one_below n old parts.0 parts.2.0 before parts.2.1)
+
+    all_turned : (old new : Hosting (Meter P)) → TurnsAll becomes old new → All Held old.places →
+        All Served new.places × (new.limits ≡ old.limits) × (length new.places ≡ length old.places)
+    all_turned old new run h =
+        let b = below (length old.places) old new run h in
+        let short : length new.places ≤ length old.places = let same = b.count in omega (arith, same) in (
+          All-same Served new.places (take (length old.places) new.places)
+              (sym (take_all (length old.places) new.places short)) b.served,
+          b.limits,
+          b.count,
+        )
+
+    -- ---- bots come
+
+    admitted : (b : Bool) (old : Tally) (answers : List (SystemAnswer P)) (new : Tally) → AdmitsWhere b old answers new →
+        All Gone answers × (new.turns ≡ old.turns)
+    admitted true old answers new h =
+        (All-same Gone answers (Accepts h.0 ∷ []) h.1 (All-cons Gone (Accepts h.0) [] tt (All-nil Gone)), of h.0 h.2)
+      where
+        of : (came : Bool) → new ≡ come came old → new.turns ≡ old.turns
+        of true e = ap (λ (t : Tally). t.turns) e
+        of false e = ap (λ (t : Tally). t.turns) e
+    admitted false old answers new h =
+        (All-same Gone answers [] h.0 (All-nil Gone), ap (λ (t : Tally). t.turns) h.1)
+
+    -- ---- one reaches the server, or doesn't
+
+    record Met (old : Hosting (Meter P)) (old_tally : Tally) (answers : List (SystemAnswer P)) (new : Hosting (Meter P))
+        (new_tally : Tally) : Type 0 where
+      gone : All Gone answers
+      held : All Held new.places
+      limits : new.limits ≡ old.limits
+      turns : new_tally.turns ≡ old_tally.turns
+
+    met : (b : Bool) (old : Hosting (Meter P)) (tally : Tally) (answers : List (SystemAnswer P))
+        (new : Hosting (Meter P)) (new_tally : Tally) →
+        ((ports : P) → Contains answers (Connects (Ready ports)) → Contains all (Connects (Ready ports))) →
+        old.limits ≡ run_limits settings → tally.turns ≡ settings.turns → All Held old.places →
+        MeetsWhere b old tally answers new new_tally → Met old tally answers new new_tally
+    met true old tally answers new new_tally within limits turns h m = record {
+      gone = All-same Gone answers [] m.0 (All-nil Gone);
+      held = subst (λ (k : Hosting (Meter P)). All Held k.places) (sym m.1) h;
+      limits = ap (λ (k : Hosting (Meter P)). k.limits) m.1;
+      turns = ap (λ (t : Tally). t.turns) m.2;
+    }
+    met false old tally answers new new_tally within limits turns h m = by m.0 m.1 m.2 m.3
+      where
+        by : (connect : Connect P) (told : List (SystemAnswer P)) → answers ≡ Connects connect ∷ told →
+            MeetsBy connect old tally told new new_tally → Met old tally answers new new_tally
+        by (Ready ports) told e m =
+            let one : answers ≡ Connects (Ready ports) ∷ [] =
+            e ∙ ap (λ (l : List (SystemAnswer P)). Connects (Ready ports) ∷ l) m.0 in
+            let place : Held (m.1.0, fresh ports tally.turns) = record {
+              ports = ports;
+              came = within ports (subst (λ (l : List (SystemAnswer P)). Contains l (Connects (Ready ports))) (sym one)
+                  (0, omega arith, refl));
+              history = [];
+              answered = ap (fresh ports) turns;
+              stands = new_stands (run_limits settings) m.1.0 (subst (λ (l : Limits). IsNew l m.1.0) limits m.1.1);
+            } in
+            record {
+              gone = All-same Gone answers (Connects (Ready ports) ∷ []) one
+                  (All-cons Gone (Connects (Ready ports)) [] tt (All-nil Gone));
+              held = subst (λ (k : Hosting (Meter P)). All Held k.places) (sym m.1.2)
+                  (All-push Held old.places (m.1.0, fresh ports tally.turns) h place);
+              limits = ap (λ (k : Hosting (Meter P)). k.limits) m.1.2;
+              turns = ap (λ (t : Tally). t.turns) m.2;
+            }
+        by Failed told e m =
+            let two : answers ≡ Connects Failed ∷ Notifies CannotReach ∷ [] =
+            e ∙ ap (λ (l : List (SystemAnswer P)). Connects Failed ∷ l) m.0 in
+            record {
+              gone = All-same Gone answers (Connects Failed ∷ Notifies CannotReach ∷ []) two
+                  (All-cons Gone (Connects Failed) (Notifies CannotReach ∷ []) tt
+                  (All-cons Gone (Notifies CannotReach) [] tt (All-nil Gone)));
+              held = subst (λ (k : Hosting (Meter P)). All Held k.places) (sym m.1) h;
+              limits = ap (λ (k : Hosting (Meter P)). k.limits) m.1;
+              turns = ap (λ (t : Tally). t.turns) m.2;
+            }
+        by Pending told e m =
+            let one : answers ≡ Connects Pending ∷ [] =
+            e ∙ ap (λ (l : List (SystemAnswer P)). Connects Pending ∷ l) m.0 in
+            record {
+              gone = All-same Gone answers (Connects Pending ∷ []) one
+                  (All-cons Gone (Connects Pending) [] tt (All-nil Gone));
+              held = subst (λ (k : Hosting (Meter P)). All Held k.places) (sym m.1) h;
+              limits = ap (λ (k : Hosting (Meter P)). k.limits) m.1;
+              turns = ap (λ (t : Tally). t.turns) m.2;
+            }
+
+    -- ---- those that are over are taken out
+
+    spoken : (b : Bool) → All Gone (last_words b)
+    spoken true = All-cons Gone (Notifies TurnsSpent) [] tt (All-nil Gone)
+    spoken false = All-nil Gone
+
+    parted : (b : Bool) (place : Gateway × Meter P) → is_closed place.0 ≡ b → Served place →
+        All Gone (farewell_where b place.1)
+    parted true place e h =
+        All-push Gone (last_words (is_none place.1.left)) (Retires place.1.ports) (spoken (is_none place.1.left))
+        (place, refl, e, h)
+    parted false place e h = All-nil Gone
+
+    all_parted : (places : List (Gateway × Meter P)) → All Served places → All Gone (farewells places)
+    all_parted [] h = All-nil Gone
+    all_parted (place ∷ places) h =
+        All-append Gone (farewells places) (farewell place) (all_parted places (All-tail Served place places h))
+        (parted (is_closed place.0) place refl (All-head Served place places h))
+
+    waited : (moved more : Bool) → All Gone (wait_where moved more)
+    waited true more = All-nil Gone
+    waited false more = All-cons Gone (Waits more) [] tt (All-nil Gone)
+
+  -- ---- rounds
+
+  -- what holds between the rounds of a run
+  pub record Keeps (answers : List (SystemAnswer P)) (run : Serving P) : Type 0 where
+    pub limits : run.hub.limits ≡ run_limits settings
+    pub turns : run.tally.turns ≡ settings.turns
+    pub held : All (IsServed becomes settings answers) run.hub.places
+    pub gone : All (LetsGo becomes settings answers) answers
+    pub balance : counted connects answers ≡ length run.hub.places + counted retires answers
+
+  round_serves : (xs ys : List (SystemAnswer P)) (old new : Serving P) → Keeps xs old → Round becomes old ys new →
+      Keeps (xs ++ ys) new
+  round_serves xs ys old new h r =
+      let all = xs ++ ys in
+      let moved = any_stirs r.admission || any_stirs r.meeting || any_moved r.turned.places || any_stirs r.removal in
+      let more = accepts new.tally (length new.hub.places) in
+      let last = wait_where {P = P} moved more in
+      let come = admitted all (accepts old.tally (length old.hub.places)) old.tally r.admission r.came r.admits in
+      let still_held : All (Held all) old.hub.places =
+      All-weaker (IsServed becomes settings xs) (Held all) (λ now s. still all now (later IsBoundedAndExact xs ys now s))
+      old.hub.places h.held in
+      let within : (ports : P) → Contains r.meeting (Connects (Ready ports)) → Contains all (Connects (Ready ports)) =
+      λ ports c. Contains-append_right xs ys (Connects (Ready ports))
+      (subst (λ (l : List (SystemAnswer P)). Contains l (Connects (Ready ports))) (sym r.asked)
+      (Contains-append_left (r.admission ++ r.meeting ++ r.removal) last (Connects (Ready ports))
+      (Contains-append_left (r.admission ++ r.meeting) r.removal (Connects (Ready ports))
+      (Contains-append_right r.admission r.meeting (Connects (Ready ports)) c)))) in
+      let met = met all (r.came.connecting == 0) old.hub r.came r.meeting r.met new.tally within h.limits
+      (come.1 ∙ h.turns) still_held r.meets in
+      let turned = all_turned all r.met r.turned r.turns met.held in
+      let hub = r.removes.1 in
+      record {
+        limits = ap (λ (k : Hosting (Meter P)). k.limits) hub ∙ turned.1 ∙ met.limits ∙ h.limits;
+        turns = met.turns ∙ come.1 ∙ h.turns;
+        held = subst (λ (k : Hosting (Meter P)). All (Served all) k.places) (sym hub)
+            (All-filter (λ place. not (is_closed place.0)) (Served all) r.turned.places turned.0);
+        gone = All-append (Gone all) xs ys
+            (All-weaker (LetsGo becomes settings xs) (Gone all) (gone_later xs ys) xs h.gone)
+            (All-same (Gone all) ys (r.admission ++ r.meeting ++ r.removal ++ last) r.asked
+            (All-append (Gone all) (r.admission ++ r.meeting ++ r.removal) last
+            (All-append (Gone all) (r.admission ++ r.meeting) r.removal
+            (All-append (Gone all) r.admission r.meeting come.0 met.gone)
+            (All-same (Gone all) r.removal (farewells r.turned.places) r.removes.0
+            (all_parted all r.turned.places turned.0)))
+            (waited all moved more)));
+        balance =
+            let meets = meeting_passes (r.came.connecting == 0) old.hub r.came r.meeting r.met new.tally r.meets in
+            let leaves = removal_passes r.turned.places in
+            let passes = passes_as ys (r.admission ++ r.meeting ++ r.removal ++ last) (0 + meets.0 + 0 + 0)
+            (0 + 0 + leaves.0 + 0) r.asked
+            (passes_then (r.admission ++ r.meeting ++ r.removal) last (0 + meets.0 + 0) (0 + 0 + leaves.0) 0 0
+            (passes_then (r.admission ++ r.meeting) r.removal (0 + meets.0) (0 + 0) 0 leaves.0
+            (passes_then r.admission r.meeting 0 0 meets.0 0
+            (admission_passes (accepts old.tally (length old.hub.places)) old.tally r.admission r.came r.admits) meets.1)
+            (passes_as r.removal (farewells r.turned.places) 0 leaves.0 r.removes.0 leaves.1))
+            (wait_passes moved more)) in
+            let came = passes.came in
+            let went = passes.went in
+            let held = meets.2 in
+            let same = turned.2 in
+            let left = leaves.2 in
+            let before = h.balance in
+            let now : length new.hub.places ≡ length (remaining r.turned.places) =
+            ap (λ (k : Hosting (Meter P)). length k.places) hub in
+            rw (counted_append connects xs ys, counted_append retires xs ys)
+            (omega (arith, came, went, held, same, left, before, now));
+      }
+
+  pub rounds_serve : (n : ℕ) (answers : List (SystemAnswer P)) (run : Serving P) →
+      Rounds becomes n (opening settings) answers run → Keeps answers run
+  rounds_serve zero answers run h =
+      subst (λ (l : List (SystemAnswer P)). Keeps l run) (sym h.0)
+      (subst (λ (r : Serving P). Keeps [] r) (sym h.1) (record {
+        limits = refl;
+        turns = refl;
+        held = All-nil (IsServed becomes settings []);
+        gone = All-nil (LetsGo becomes settings []);
+        balance = refl;
+      }))
+  rounds_serve (suc n) answers run h =
+      subst (λ (l : List (SystemAnswer P)). Keeps l run) (sym h.3)
+      (round_serves h.1 h.2 h.0 run (rounds_serve n h.1 h.0 h.4) h.6)
+
+  nobody_left : (all none : Bool) (count : ℕ) → (all && (none && (count == 0))) ≡ true → count ≡ 0
+  nobody_left true true zero e = refl
+  nobody_left true true (suc count) e = let some = eqb-suc-zero count in absurd (cc)
+  nobody_left true false count e = absurd (cc)
+  nobody_left false none count e = absurd (cc)
+
+  -- rounds until all were served are a whole run
+  pub whole_run : (n : ℕ) (answers : List (SystemAnswer P)) (end : Serving P) →
+      Rounds becomes n (opening settings) answers end → is_done end ≡ true → IsWholeRun becomes settings answers
+  whole_run n answers end rounds done =
+      let kept = rounds_serve n answers end rounds in
+      let empty = nobody_left (end.tally.accepted == end.tally.sessions) (end.tally.connecting == 0)
+      (length end.hub.places) done in
+      let balance = kept.balance in
+      record {
+        serves = (n, end, rounds, done);
+        each = kept.gone;
+        none_lost = omega (arith, balance, empty);
+      }

@@ -1,0 +1,98 @@
+-- What a run makes of each of its sessions: those that it holds, and those whose ports it lets go.
+use Rattle.std.specs.Prelude.{◌≡◌, ℕ, suc, ◌+◌, nat_lt, true, false, List, [], ◌∷◌, length, Contains, All, is_none}
+use Rattle.daide_machine.specs.Machine.{Limits}
+use Rattle.daide_machine.specs.Wires.{Gateway, is_closed}
+use Rattle.daide_words.specs.Words.{words_of}
+use Rattle.daide_session.specs.Session.{limits_with}
+use Rattle.daide_session.specs.Record.{PortAnswer, Clock, Pulled, Offered, BecomesBy}
+use Rattle.daide_session.specs.Headline.{IsBoundedAndExact}
+use Rattle.daide_session.specs.Hub.{IsTurned}
+use Rattle.daide_settings.specs.declared.settings.Settings.{Settings}
+use Rattle.daide_service.specs.declared.system.Connect.TheVariants.{Ready, Failed, Pending}
+use Rattle.daide_service.specs.Metered.{Meter, Meters, moved_by}
+use Rattle.daide_service.specs.System.{SystemAnswer, Accepts, Connects, Retires, Notifies, Waits}
+use Rattle.daide_service.specs.Serving.{Serving, fresh, opening, Rounds, Serves}
+
+-- the limits of a run's sessions
+abbrev pub run_limits : Settings → Limits
+run_limits settings = limits_with settings.config (words_of settings.words)
+
+-- A session of a run: a connect gave its ports, which had all their turns to come; and by all that they answered since,
+-- it is of this kind.
+pub record IsSessionOfRun {P : Type 0} (becomes : P → PortAnswer → P → Type 0)
+    (Kind : Limits → List PortAnswer → Gateway → Type 0) (settings : Settings) (answers : List (SystemAnswer P))
+    (now : Gateway × Meter P) : Type 0 where
+  pub ports : P
+  pub came : Contains answers (Connects (Ready ports))
+  pub history : List PortAnswer
+  pub answered : BecomesBy (Meters becomes) (fresh ports settings.turns) history now.1
+  pub stands : Kind (run_limits settings) history now.0
+
+-- by all that its ports answered it is bounded and exact
+abbrev pub IsServed : {P : Type 0} → (P → PortAnswer → P → Type 0) → Settings → List (SystemAnswer P) →
+    Gateway × Meter P → Type 0
+IsServed becomes = IsSessionOfRun becomes IsBoundedAndExact
+
+-- ports that are let go are those of a session that is closed, and was served
+abbrev pub LetsGo : {P : Type 0} → (P → PortAnswer → P → Type 0) → Settings → List (SystemAnswer P) →
+    SystemAnswer P → Type 0
+LetsGo {P} becomes settings answers (Retires ports) =
+    (now : Gateway × Meter P) × (now.1.ports ≡ ports) × (is_closed now.0 ≡ true) × IsServed becomes settings answers now
+LetsGo becomes settings answers (Accepts came) = Unit {0}
+LetsGo becomes settings answers (Connects connect) = Unit {0}
+LetsGo becomes settings answers (Notifies notice) = Unit {0}
+LetsGo becomes settings answers (Waits more) = Unit {0}
+
+-- ports that came with an answer, and those that went
+abbrev pub connects : {P : Type 0} → SystemAnswer P → ℕ
+connects (Connects (Ready ports)) = 1
+connects (Connects Failed) = 0
+connects (Connects Pending) = 0
+connects (Accepts came) = 0
+connects (Retires ports) = 0
+connects (Notifies notice) = 0
+connects (Waits more) = 0
+
+abbrev pub retires : {P : Type 0} → SystemAnswer P → ℕ
+retires (Retires ports) = 1
+retires (Accepts came) = 0
+retires (Connects connect) = 0
+retires (Notifies notice) = 0
+retires (Waits more) = 0
+
+abbrev pub counted : {P : Type 0} → (SystemAnswer P → ℕ) → List (SystemAnswer P) → ℕ
+counted count [] = 0
+counted count (answer ∷ answers) = count answer + counted count answers
+
+-- After whatever rounds of a run, each session that it holds is served, and so was each whose ports it let go; and of
+-- the ports that came it holds all that it didn't let go.
+abbrev pub SessionsAreServed : {P : Type 0} → (P → PortAnswer → P → Type 0) → Type 0
+SessionsAreServed {P} becomes = (settings : Settings) (n : ℕ) (answers : List (SystemAnswer P)) (run : Serving P) →
+    Rounds becomes n (opening settings) answers run →
+    All (IsServed becomes settings answers) run.hub.places × All (LetsGo becomes settings answers) answers
+    × (counted connects answers ≡ length run.hub.places + counted retires answers)
+
+-- A whole run: rounds until all bots were served and none is held. So each connect that came about was a session, which
+-- was served, and let go as a closed one: by all that its ports answered it is bounded and exact, and none is lost.
+pub record IsWholeRun {P : Type 0} (becomes : P → PortAnswer → P → Type 0) (settings : Settings)
+    (answers : List (SystemAnswer P)) : Type 0 where
+  pub serves : Serves becomes settings answers
+  pub each : All (LetsGo becomes settings answers) answers
+  pub none_lost : counted connects answers ≡ counted retires answers
+
+-- Whether anything moved in a turn, by which a round waits or doesn't, is told by the turn's answers.
+abbrev pub MovesAreAnswered : {P : Type 0} → (P → PortAnswer → P → Type 0) → Type 0
+MovesAreAnswered {P} becomes = (old new : Gateway × Meter P) (turn : IsTurned (Meters becomes) old new) →
+    new.1.moved ≡ moved_by turn.exchange.call false
+
+-- how many of these answers are looks at the clock: with one look each turn begins
+abbrev pub looks_in : List PortAnswer → ℕ
+looks_in [] = 0
+looks_in (Clock popped ∷ answers) = suc (looks_in answers)
+looks_in (Pulled side buffer pull bytes ∷ answers) = looks_in answers
+looks_in (Offered side bytes put ∷ answers) = looks_in answers
+
+-- Ports that had so many turns to come are spent exactly where there were more looks at the clock than that.
+abbrev pub TurnsAreCounted : {P : Type 0} → (P → PortAnswer → P → Type 0) → Type 0
+TurnsAreCounted {P} becomes = (ports : P) (turns : ℕ) (history : List PortAnswer) (now : Meter P) →
+    BecomesBy (Meters becomes) (fresh ports turns) history now → is_none now.left ≡ nat_lt turns (looks_in history)
