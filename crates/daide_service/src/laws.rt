@@ -16,7 +16,7 @@ pub fn moves_are_answered<P: Ports>()
     ensures { MovesAreAnswered P.becomes }
 {}
 
-/// A session's ports are spent exactly where its turns looked at the clock once more than there were turns: no session
+/// A session's ports are spent exactly where its turns looked at the clock more often than there were turns: no session
 /// is ended as spent before, and until then its ports are asked and answer for themselves.
 pub fn turns_are_counted<P: Ports>()
     ensures { TurnsAreCounted P.becomes }

@@ -249,7 +249,8 @@ impl<P: Ports, A: Allocator + Copy> Service<P, A> {
 
 /// Serves so many bots as the settings say, and returns when all were served. A run waits for its peers, so no
 /// bound on its time is known: the bound on its rounds, 2^64 - 1, is one that no run comes to. It gives up for
-/// nothing else than wrong settings and want of memory, of the places or of a session, and says what was done till then.
+/// nothing else than wrong settings and want of memory, of the places or of a session, and says what was done till
+/// then.
 pub fn serve<P: Ports, A: Allocator + Copy, S: System<P>>(
     alloc: A,
     settings: &Settings,

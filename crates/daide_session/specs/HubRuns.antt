@@ -24,7 +24,8 @@ HubStep becomes old (Removed i ports) new = Removes old i ports new
 -- what calls do, one after another
 abbrev pub HubRuns : {P : Type 0} → (P → PortAnswer → P → Type 0) → Hosting P → List (HubCall P) → Hosting P → Type 0
 HubRuns becomes old [] new = new ≡ old
-HubRuns {P} becomes old (call ∷ calls) new = (mid : Hosting P) × HubStep becomes old call mid × HubRuns becomes mid calls new
+HubRuns {P} becomes old (call ∷ calls) new =
+    (mid : Hosting P) × HubStep becomes old call mid × HubRuns becomes mid calls new
 
 -- ---- the places
 

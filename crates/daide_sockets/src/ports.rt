@@ -1,9 +1,9 @@
 //! A session's ports over two sockets.
 //!
 //! They read no more than they are asked for, so what the process holds of a peer is what its session weighs, and
-//! they tell no record: nothing is known of what a socket delivers.
+//! they say nothing of themselves by their answers: nothing is known of what a socket delivers.
 
-ghost use Rattle.std.specs.Prelude.{◌≡◌, length, None};
+ghost use Rattle.std.specs.Prelude.{◌≡◌, length};
 ghost use Rattle.daide_session.specs.Record.{IsPullWithin, IsPutWithin};
 
 use crate::watch::{Place, Watch};
@@ -86,9 +86,7 @@ impl<'w, R: Clock> SocketPorts<'w, R> {
 }
 
 impl<R: Clock> Ports for SocketPorts<'_, R> {
-    ghost use Rattle.std.specs.Prelude.{None};
-
-    ghost told = { λ _. None };
+    ghost becomes = { λ _ _ _. Unit {0} };
 
     fn pull(&mut self, side: Side, buffer: &mut [u8]) -> Pull {
         match side {
