@@ -10,7 +10,7 @@ use crate::names;
 use std::marker::Model;
 
 /// A token. A contract sees it as a whole number, 0 to FFFF hexadecimal.
-#[derive(Clone, Copy, Debug, PartialEq, Eq)]
+#[derive(Clone, Copy, Debug, PartialEq, Eq, PartialOrd, Ord, Hash)]
 pub struct Token {
     bits: u16,
 }
