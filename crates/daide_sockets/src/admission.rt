@@ -76,7 +76,7 @@ impl<'w> Door<'w> {
 }
 
 /// What became of the connect to one address.
-#[derive(Clone, Copy, Debug, PartialEq, Eq)]
+#[derive(Clone, Copy)]
 enum Progress {
     /// The server is there.
     Connected,

@@ -5,7 +5,7 @@ use crate::watch::{Watch, WatchFault};
 use daide_service::{ServeFault, serve};
 use daide_settings::Settings;
 use mio::net::TcpListener;
-use std::alloc::Global;
+use std::alloc::{AllocError, Global};
 use std::io::Write;
 use std::net::{Net, SocketAddr, ToSocketAddrs};
 use std::rt::Clock;
@@ -31,9 +31,9 @@ pub enum GatewayFault {
 
 /// A listener at the first of an address's meanings that can be listened on.
 fn listener_at<R: Net>(net: &R, address: &str) -> Result<TcpListener, GatewayFault> {
-    let addresses = address
-        .to_socket_addrs(net)
-        .map_err(|_| GatewayFault::Listen)?;
+    let Ok(addresses) = address.to_socket_addrs(net) else {
+        return Err(GatewayFault::Listen);
+    };
     for address in addresses {
         if let Ok(listener) = TcpListener::bind(net, address) {
             return Ok(listener);
@@ -42,17 +42,17 @@ fn listener_at<R: Net>(net: &R, address: &str) -> Result<TcpListener, GatewayFau
     Err(GatewayFault::Listen)
 }
 
-/// The meanings of the server's address; none of a name that nobody knows, so that no bot's connect succeeds. `Memory`
-/// alone ends it.
+/// The meanings of the server's address; none of a name that nobody knows, so that no bot's connect succeeds. Want of
+/// memory alone ends it.
 fn servers_at<R: Net>(
     alloc: Global,
     net: &R,
     address: &str,
-) -> Result<Vec<SocketAddr>, GatewayFault> {
+) -> Result<Vec<SocketAddr>, AllocError> {
     let mut servers = Vec::new(alloc);
     if let Ok(addresses) = address.to_socket_addrs(net) {
         for address in addresses {
-            servers.push(address).map_err(|_| GatewayFault::Memory)?;
+            servers.push(address)?;
         }
     }
     Ok(servers)
@@ -67,12 +67,15 @@ pub fn serve_at<R: AllocGlobal + Clock + Net, O: Write, E: Write>(
     errors: &mut E,
 ) -> Result<(), GatewayFault> {
     let listener = listener_at(rt, settings.listen.as_str())?;
-    let servers = servers_at(rt.alloc(), rt, settings.server.as_str())?;
+    let Ok(servers) = servers_at(rt.alloc(), rt, settings.server.as_str()) else {
+        return Err(GatewayFault::Memory);
+    };
     let sockets = most_sockets(settings.max_sessions);
-    let watch = Watch::new(rt.alloc(), rt, rt, sockets).map_err(|fault| match fault {
-        WatchFault::System => GatewayFault::Listen,
-        WatchFault::Memory => GatewayFault::Memory,
-    })?;
+    let watch = match Watch::new(rt.alloc(), rt, rt, sockets) {
+        Ok(watch) => watch,
+        Err(WatchFault::System) => return Err(GatewayFault::Listen),
+        Err(WatchFault::Memory) => return Err(GatewayFault::Memory),
+    };
     let mut system = Sockets::new(
         rt.alloc(),
         rt,

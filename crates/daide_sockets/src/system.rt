@@ -51,15 +51,22 @@ impl<'w, R: Clock + Net, E: Write + Drop> Sockets<'w, R, E> {
         connect_time: Duration,
         errors: E,
     ) -> Option<Sockets<'w, R, E>> {
+        let door = Door::new(watch, listener)?;
+        let Ok(arrivals) = Vec::with_capacity(alloc, settings.max_sessions) else {
+            return None;
+        };
+        let Ok(closings) = Closings::new(alloc) else {
+            return None;
+        };
         Some(Sockets {
             runtime,
             watch,
-            door: Door::new(watch, listener)?,
+            door,
             servers,
             im_time: Duration::from_secs(u64::from(settings.im_seconds)),
             connect_time,
-            arrivals: Vec::with_capacity(alloc, settings.max_sessions).ok()?,
-            closings: Closings::new(alloc).ok()?,
+            arrivals,
+            closings,
             errors,
         })
     }

@@ -8,7 +8,7 @@ ghost use Rattle.std.specs.Prelude.{◌≡◌, IsNone, false};
 
 use mio::event::{Event, Source};
 use mio::{Events, Interest, Poll, Registry, Token};
-use std::alloc::Global;
+use std::alloc::{AllocError, Global};
 use std::cell::{Cell, RefCell};
 use std::io;
 use std::net::Net;
@@ -52,7 +52,7 @@ struct Waiter {
 }
 
 /// Why there is no table.
-#[derive(Clone, Copy, Debug, PartialEq, Eq)]
+#[derive(Clone, Copy, Debug)]
 pub enum WatchFault {
     /// The system has no descriptor for it.
     System,
@@ -82,6 +82,15 @@ impl Flags {
             is_writable: Cell::new(false),
             due: Cell::new(None),
         }
+    }
+
+    /// So many rows that no socket has.
+    fn free_rows(alloc: Global, count: usize) -> Result<Vec<Flags>, AllocError> {
+        let mut rows = Vec::with_capacity(alloc, count)?;
+        for _ in 0..count {
+            rows.push(Flags::new())?;
+        }
+        Ok(rows)
     }
 
     /// Takes the row for a socket of which nothing is known.
@@ -120,13 +129,18 @@ impl<R: Clock + Drop> Watch<R> {
         net: &N,
         sockets: usize,
     ) -> Result<Watch<R>, WatchFault> {
-        let poll = Poll::new(net).map_err(|_| WatchFault::System)?;
-        let registry = poll.registry().try_clone().map_err(|_| WatchFault::System)?;
-        let events = Events::with_capacity(alloc, EVENTS).map_err(|_| WatchFault::Memory)?;
-        let mut flags = Vec::with_capacity(alloc, sockets).map_err(|_| WatchFault::Memory)?;
-        for _ in 0..sockets {
-            flags.push(Flags::new()).map_err(|_| WatchFault::Memory)?;
-        }
+        let Ok(poll) = Poll::new(net) else {
+            return Err(WatchFault::System);
+        };
+        let Ok(registry) = poll.registry().try_clone() else {
+            return Err(WatchFault::System);
+        };
+        let Ok(events) = Events::with_capacity(alloc, EVENTS) else {
+            return Err(WatchFault::Memory);
+        };
+        let Ok(flags) = Flags::free_rows(alloc, sockets) else {
+            return Err(WatchFault::Memory);
+        };
         let now = Instant::now(&clock).ok();
         Ok(Watch {
             clock,
@@ -163,12 +177,15 @@ impl<R: Clock> Watch<R> {
 
     /// Follows a socket, where the table has a row for it and the system agrees.
     pub fn follow<S: Source>(&self, source: &mut S, interest: Interest) -> Option<Place<'_>> {
-        let token = self.flags.iter().position(|flags| !flags.is_taken.get())?;
-        let flags = self.flags.get(token)?;
-        flags.take();
-        let place = Place { flags };
-        self.registry.register(source, Token(token), interest).ok()?;
-        Some(place)
+        for (token, flags) in self.flags.iter().enumerate() {
+            if !flags.is_taken.get() {
+                flags.take();
+                let place = Place { flags };
+                self.registry.register(source, Token(token), interest).ok()?;
+                return Some(place);
+            }
+        }
+        None
     }
 
     /// A descriptor that is free, for as long as this is held.
