@@ -53,7 +53,7 @@ pub enum SettingsError {
 }
 
 /// What a gateway is run with.
-#[derive(Debug, Drop)]
+#[derive(Drop)]
 pub struct Settings {
     /// The address at which bots are listened for.
     pub listen: Address,
@@ -95,11 +95,11 @@ fn found<'a>(table: &'a Table, key: Key) -> Option<&'a Value>
 }
 
 /// The address at a key, which must stand.
-fn address_at<'a>(value: Option<&'a Value>, key: Key) -> Result<&'a str, SettingsError>
-    ensures { let judged = address_of key (option_map (λ value. view value.now) value.entry) in
+fn address_at<'a>(table: &'a Table, key: Key) -> Result<&'a str, SettingsError>
+    ensures { let judged = address_of key (get_member (key_text key) (table_view table.now)) in
         MatchResult result (λ text. judged ≡ Ok text.now) (λ fault. judged ≡ Err fault) }
 {
-    let Some(value) = value else {
+    let Some(value) = found(table, key) else {
         return Err(SettingsError::Missing(key));
     };
     let Some(text) = value.as_str() else {
@@ -112,11 +112,11 @@ fn address_at<'a>(value: Option<&'a Value>, key: Key) -> Result<&'a str, Setting
 }
 
 /// The number at a key, or the key's default.
-fn number_at(value: Option<&Value>, key: Key) -> Result<u64, SettingsError>
-    ensures judged { result ≡ judged_number key (option_map (λ value. view value.now) value.entry) }
+fn number_at(table: &Table, key: Key) -> Result<u64, SettingsError>
+    ensures judged { result ≡ judged_number key (get_member (key_text key) (table_view table.now)) }
     ensures within { IfOk result (λ n. is_in_range key n ≡ true) }
 {
-    let Some(value) = value else {
+    let Some(value) = found(table, key) else {
         return key.default_number().ok_or(SettingsError::Missing(key));
     };
     let Some(number) = value.as_integer() else {
@@ -138,15 +138,15 @@ fn settings_of(alloc: Global, table: &Table) -> Result<Settings, SettingsError>
     if !has_only_known(table) {
         return Err(SettingsError::Unknown);
     }
-    let listen = address_at(found(table, Key::Listen), Key::Listen)?;
-    let server = address_at(found(table, Key::Server), Key::Server)?;
-    let top_level = number_at(found(table, Key::TopLevel), Key::TopLevel)?;
-    let max_body = number_at(found(table, Key::MaxBody), Key::MaxBody)?;
-    let max_depth = number_at(found(table, Key::MaxDepth), Key::MaxDepth)?;
-    let im_seconds = number_at(found(table, Key::ImSeconds), Key::ImSeconds)?;
-    let max_sessions = number_at(found(table, Key::MaxSessions), Key::MaxSessions)?;
-    let sessions = number_at(found(table, Key::Sessions), Key::Sessions)?;
-    let turns = number_at(found(table, Key::Turns), Key::Turns)?;
+    let listen = address_at(table, Key::Listen)?;
+    let server = address_at(table, Key::Server)?;
+    let top_level = number_at(table, Key::TopLevel)?;
+    let max_body = number_at(table, Key::MaxBody)?;
+    let max_depth = number_at(table, Key::MaxDepth)?;
+    let im_seconds = number_at(table, Key::ImSeconds)?;
+    let max_sessions = number_at(table, Key::MaxSessions)?;
+    let sessions = number_at(table, Key::Sessions)?;
+    let turns = number_at(table, Key::Turns)?;
     let words = words_at(found(table, Key::Words))?;
     let Ok(listen) = Address::new(alloc, listen) else {
         return Err(SettingsError::Memory);

@@ -116,14 +116,17 @@ impl fmt::Display for Key {
 pub(crate) fn is_known(text: &str) -> bool
     ensures { result ≡ is_known_key text.now }
 {
-    text == Key::Listen.text()
-        || text == Key::Server.text()
-        || text == Key::TopLevel.text()
-        || text == Key::MaxBody.text()
-        || text == Key::MaxDepth.text()
-        || text == Key::ImSeconds.text()
-        || text == Key::MaxSessions.text()
-        || text == Key::Sessions.text()
-        || text == Key::Turns.text()
-        || text == Key::Words.text()
+    matches!(
+        text,
+        "listen"
+            | "server"
+            | "top_level"
+            | "max_body"
+            | "max_depth"
+            | "im_seconds"
+            | "max_sessions"
+            | "sessions"
+            | "turns"
+            | "words"
+    )
 }
