@@ -3,7 +3,7 @@
 //! An HLO is read again from its body once it is whole and relayed: its options stand at its end, and
 //! a reader of messages keeps nothing of what it has read.
 
-ghost use Rattle.std.specs.Prelude.{◌≡◌};
+ghost use Rattle.std.specs.Prelude.{◌≡◌, ◌+◌, ◌*◌, ◌==◌};
 ghost use Rattle.daide_token.specs.Token.{tokens_of};
 ghost use Rattle.daide_machine.specs.HloLevel.{option_number as number_of_option, first_level as level_of_options};
 ghost use Rattle.daide_machine.specs.HloLevel.{begins_with_hlo as is_hlo, level_told as level_of_message};
@@ -12,16 +12,23 @@ use daide_grammar::Level;
 use daide_token::Token;
 
 /// The token `(`.
-const BRA: [u8; 2] = [0x40, 0x00];
+const BRA: u16 = 0x4000;
 
 /// The token `)`.
-const KET: [u8; 2] = [0x40, 0x01];
+const KET: u16 = 0x4001;
 
 /// The token `HLO`.
-const HLO: [u8; 2] = [0x48, 0x04];
+const HLO: u16 = 0x4804;
 
 /// The token `LVL`.
-const LVL: [u8; 2] = [0x49, 0x03];
+const LVL: u16 = 0x4903;
+
+/// Whether two bytes, high byte first, are a token.
+fn is_token(high: u8, low: u8, code: u16) -> bool
+    ensures { result ≡ (high * 256 + low == code) }
+{
+    Token::from_be([high, low]).code() == code
+}
 
 /// The number of an option `( LVL n )` that these bytes begin with.
 fn option_number(body: &[u8]) -> Option<i16>
@@ -29,7 +36,7 @@ fn option_number(body: &[u8]) -> Option<i16>
 {
     match body {
         [a, b, c, d, high, low, e, f, ..]
-            if [*a, *b] == BRA && [*c, *d] == LVL && [*e, *f] == KET => {
+            if is_token(*a, *b, BRA) && is_token(*c, *d, LVL) && is_token(*e, *f, KET) => {
             Token::from_be([*high, *low]).number()
         }
         _ => None,
@@ -54,7 +61,7 @@ fn begins_with_hlo(body: &[u8]) -> bool
     ensures { result ≡ is_hlo (tokens_of body.now) }
 {
     match body {
-        [high, low, ..] => [*high, *low] == HLO,
+        [high, low, ..] => is_token(*high, *low, HLO),
         _ => false,
     }
 }

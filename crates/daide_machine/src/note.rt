@@ -3,7 +3,7 @@
 use daide_frame::{Code, Head};
 
 /// What became of a whole frame.
-#[derive(Clone, Copy, Debug, PartialEq, Eq)]
+#[derive(Clone, Copy, PartialEq, Eq)]
 pub enum Deed {
     /// It was passed on to the other side.
     Relayed,
@@ -17,7 +17,7 @@ pub enum Deed {
 }
 
 /// The move that bytes or the timer made.
-#[derive(Clone, Copy, Debug, PartialEq, Eq)]
+#[derive(Clone, Copy, PartialEq, Eq)]
 pub enum Note {
     /// No frame became whole, and nothing was wrong.
     Nothing,
