@@ -1,10 +1,10 @@
-pub mod StandardFacts
+mod StandardFacts
 pub mod ListLemmas
-pub mod HeadLemmas
+mod HeadLemmas
 pub mod AlienLemmas
 pub mod FramesLemmas
-pub mod CutterLemmas
+mod CutterLemmas
 pub mod FeedingLemmas
-pub mod HeaderFeeding
+mod HeaderFeeding
 pub mod OneByte
 pub mod CutsAgree
