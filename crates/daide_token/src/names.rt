@@ -226,8 +226,10 @@ static LETTERS: [&[u16]; 26] = [
 
 /// The pages of the categories from 40 to 57: their rows are those of the table.
 fn pages() -> &'static [(u8, &'static [&'static str])]
-    ensures rows { rows_on 0x40 (map (λ page. let told : Page = (page.0, map (λ cell. cell.now) page.1.now) in told) result.now) ≡ names }
-    ensures short { are_short (map (λ page. let told : Page = (page.0, map (λ cell. cell.now) page.1.now) in told) result.now) ≡ true }
+    ensures rows { rows_on 0x40 (map (λ page. let told : Page = (page.0, map (λ cell. cell.now) page.1.now) in told)
+        result.now) ≡ names }
+    ensures short { are_short (map (λ page. let told : Page = (page.0, map (λ cell. cell.now) page.1.now) in told)
+        result.now) ≡ true }
     ensures count { length result.now ≡ 24 }
 {
     &PAGES
