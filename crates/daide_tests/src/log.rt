@@ -1,8 +1,8 @@
 //! Logs worked out by hand, and their reports.
 
 use crate::rows::same;
+use daide_log::LogFault;
 use daide_log::check::check_log;
-use daide_log::fault::LogFault;
 use daide_log::report::Summary;
 use std::alloc::Global;
 use std::test::Fail;

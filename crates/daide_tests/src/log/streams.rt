@@ -2,8 +2,8 @@
 
 use crate::fakes::{FailsAtRead, FailsAtWrite};
 use crate::rows::{holds, same};
+use daide_log::LogFault;
 use daide_log::check::check_log;
-use daide_log::fault::LogFault;
 use daide_log::report::Summary;
 use linked_list_allocator::LocalHeap;
 use std::alloc::Global;
