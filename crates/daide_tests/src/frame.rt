@@ -1,12 +1,12 @@
 //! Tables of headers, initial messages and frames, byte for byte as the protocol has them.
 
-use crate::rows::same;
+use crate::rows::{holds, same};
 use daide_frame::code::Code;
 use daide_frame::cutter::{Cutter, Step};
 use daide_frame::head::{Head, Kind, read_head, write_head};
 use daide_frame::initial_message::check_im;
 use linked_list_allocator::LocalHeap;
-use std::alloc::Allocator;
+use std::alloc::{Allocator, Global};
 use std::test::Fail;
 
 /// The longest body that the cap of a usual session allows.
@@ -36,14 +36,20 @@ const WRONG_HEADERS: &[([u8; 4], u16, Code)] = &[
     ([0x05, 0x00, 0x00, 0x00], CAP, Code::UnknownMessage),
 ];
 
+/// A header says that.
+fn check_header(row: &([u8; 4], u16, Kind, u16)) -> Result<(), Fail> {
+    let (bytes, cap, kind, len) = row;
+    let head = Head {
+        kind: *kind,
+        len: *len,
+    };
+    same(&read_head(*bytes, *cap), &Ok(head), bytes)
+}
+
 #[test]
 fn headers_are_judged_in_order(_rt: HostRuntime) -> Result<(), Fail> {
-    for (bytes, cap, kind, len) in GOOD_HEADERS {
-        let head = Head {
-            kind: *kind,
-            len: *len,
-        };
-        same(&read_head(*bytes, *cap), &Ok(head), bytes)?;
+    for row in GOOD_HEADERS {
+        check_header(row)?;
     }
     for (bytes, cap, fault) in WRONG_HEADERS {
         same(&read_head(*bytes, *cap), &Err(*fault), bytes)?;
@@ -208,24 +214,27 @@ const FIRST_FRAMES: &[(&[u8], Step, usize, usize)] = &[
 ];
 
 /// A first frame in pieces of at most `longest` bytes.
-fn cut_first(
-    rt: &impl AllocGlobal,
-    bytes: &[u8],
-    longest: usize,
-) -> Result<(Step, usize, usize), Fail> {
-    let mut cutter = Cutter::new(rt.alloc(), CAP)?;
+fn cut_first(alloc: Global, bytes: &[u8], longest: usize) -> Result<(Step, usize, usize), Fail> {
+    let mut cutter = Cutter::new(alloc, CAP)?;
     let (last, fed) = feed_all(&mut cutter, bytes, longest);
     Ok((last, fed, cutter.body().len()))
 }
 
+/// In single bytes a first frame is answered so, at that byte; and so in pieces of any size, whatever was fed then.
+fn check_first(alloc: Global, row: &(&[u8], Step, usize, usize)) -> Result<(), Fail> {
+    let (bytes, step, end, body) = row;
+    same(&cut_first(alloc, bytes, 1)?, &(*step, *end, *body), bytes)?;
+    for longest in 2..12usize {
+        let (last, _, kept) = cut_first(alloc, bytes, longest)?;
+        same(&(last, kept), &(*step, *body), bytes)?;
+    }
+    Ok(())
+}
+
 #[test]
 fn faults_whole_and_by_bytes(rt: HostRuntime) -> Result<(), Fail> {
-    for (bytes, step, end, body) in FIRST_FRAMES {
-        same(&cut_first(&rt, bytes, 1)?, &(*step, *end, *body), bytes)?;
-        for longest in 2..12usize {
-            let (last, _, kept) = cut_first(&rt, bytes, longest)?;
-            same(&(last, kept), &(*step, *body), bytes)?;
-        }
+    for row in FIRST_FRAMES {
+        check_first(rt.alloc(), row)?;
     }
     Ok(())
 }
@@ -238,21 +247,31 @@ fn cut_within(heap: &LocalHeap) -> Option<(usize, Step, usize)> {
     Some((taken, last, heap.used()))
 }
 
+/// Whether a cutter finds room in a heap of so many bytes, which it leaves empty.
+fn is_cut_within(alloc: Global, bytes: usize) -> Result<bool, Fail> {
+    let heap = LocalHeap::new(alloc, bytes)?;
+    let seen = cut_within(&heap);
+    same(&heap.used(), &0, &bytes)?;
+    match seen {
+        Some(seen) => {
+            same(&seen, &(512, Step::Bodied, 512), &bytes)?;
+            Ok(true)
+        }
+        None => Ok(false),
+    }
+}
+
 /// It takes room for the longest body and no more.
 #[test]
 fn refused_memory_is_told_and_nothing_else(rt: HostRuntime) -> Result<(), Fail> {
     let mut refused = false;
     let mut made = false;
     for sixteens in 1..70usize {
-        let heap = LocalHeap::new(rt.alloc(), sixteens * 16)?;
-        match cut_within(&heap) {
-            Some(seen) => {
-                same(&seen, &(512, Step::Bodied, 512), &sixteens)?;
-                made = true;
-            }
-            None => refused = true,
+        if is_cut_within(rt.alloc(), sixteens * 16)? {
+            made = true;
+        } else {
+            refused = true;
         }
-        same(&heap.used(), &0, &sixteens)?;
     }
-    same(&(refused, made), &(true, true), &"refused, and made")
+    holds(refused && made, "refused, and made")
 }

@@ -14,15 +14,25 @@ use daide_token::token::Token;
 use std::mem::size_of;
 use std::test::Fail;
 
+/// The numbers of levels, and some of none.
+const LEVELS: &[u16] = &[0, 10, 20, 30, 40, 50, 60];
+
+const NO_LEVELS: &[u16] = &[1, 9, 65, 70, 65535];
+
+/// A level has this number.
+fn check_level(number: u16) -> Result<(), Fail> {
+    match Level::of(number) {
+        Some(level) => same(&level.number(), &number, &number),
+        None => Err(Fail::new(number)),
+    }
+}
+
 #[test]
 fn levels_have_their_numbers(_rt: HostRuntime) -> Result<(), Fail> {
-    for number in &[0, 10, 20, 30, 40, 50, 60] {
-        match Level::of(*number) {
-            Some(level) => same(&level.number(), number, number)?,
-            None => return Err(Fail::new(*number)),
-        }
+    for number in LEVELS {
+        check_level(*number)?;
     }
-    for number in &[1, 9, 65, 70, 65535] {
+    for number in NO_LEVELS {
         same(&Level::of(*number), &None, number)?;
     }
     Ok(())

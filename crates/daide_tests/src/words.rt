@@ -1,6 +1,7 @@
 //! What no clause shows: words and messages worked out by hand, and each call once.
 
-use crate::rows::same;
+use crate::rows::{holds, same};
+use daide_grammar::column::Column;
 use daide_grammar::level::Level;
 use daide_grammar::predict::Predict;
 use daide_grammar::side::Side2;
@@ -100,24 +101,42 @@ const REFUSED: &[([u8; 3], u16, Level, Operand, WordError)] = &[
     (*b"NEW", 0x4AFF, Level::L0, Operand::Press, WordError::Level),
 ];
 
+/// A word of an arrangement is refused so, and nothing is added to the one word there is.
+fn check_refused(
+    words: &mut Words,
+    row: &([u8; 3], u16, Level, Operand, WordError),
+) -> Result<(), Fail> {
+    let (name, code, level, operand, fault) = row;
+    let refused = word(*name, *code, Slot::Arrangement, *level, *operand);
+    same(&words.add(refused), &Err(*fault), code)?;
+    same(&words.names().len(), &1, code)
+}
+
+/// The words are XYZ and QQQ, and their names these.
+fn check_both(words: &Words) -> Result<(), Fail> {
+    let names = [(xyz().code, *b"XYZ"), (qqq().code, *b"QQQ")];
+    holds(words.names() == names.as_slice(), "names")?;
+    holds(
+        words.get(1) == Some(qqq()) && words.get(2).is_none(),
+        "the words",
+    )
+}
+
+/// After XYZ each of them is refused, and QQQ is added.
+fn check_words(words: &mut Words) -> Result<(), Fail> {
+    holds(words.add(xyz()) == Ok(()), "XYZ")?;
+    for row in REFUSED {
+        check_refused(words, row)?;
+    }
+    holds(words.add(qqq()) == Ok(()), "QQQ")
+}
+
 #[test]
 fn words_are_refused_by_their_first_fault(_rt: HostRuntime) -> Result<(), Fail> {
     let mut words = Words::new();
-    same(&words.names().len(), &0, &"none yet")?;
-    same(&words.add(xyz()), &Ok(()), &"XYZ")?;
-    for (name, code, level, operand, fault) in REFUSED {
-        let refused = word(*name, *code, Slot::Arrangement, *level, *operand);
-        same(&words.add(refused), &Err(*fault), code)?;
-        same(&words.names().len(), &1, code)?;
-    }
-    same(&words.add(qqq()), &Ok(()), &"QQQ")?;
-    let names = [
-        (Token::from_code(0x4A40), *b"XYZ"),
-        (Token::from_code(0x4A41), *b"QQQ"),
-    ];
-    same(&words.names(), &names.as_slice(), &"names")?;
-    same(&words.get(1), &Some(qqq()), &1)?;
-    same(&words.get(2), &None, &2)
+    holds(words.names().is_empty(), "none yet")?;
+    check_words(&mut words)?;
+    check_both(&words)
 }
 
 #[test]
@@ -152,11 +171,43 @@ fn tokens_of(alloc: Global, text: &str) -> Result<Vec<Token>, AllocError> {
     Ok(tokens)
 }
 
+/// Whether the table takes a token of this class with these symbols open, the last one being the next; what it leaves
+/// open then.
+fn takes(table: &mut Extended, stack: &mut Vec<Symbol>, class: Column) -> Result<bool, AllocError> {
+    for _ in 0..64 {
+        let Some(symbol) = stack.pop() else {
+            return Ok(false);
+        };
+        let answer = table.predict(symbol, class);
+        if answer.is_stop() {
+            return Ok(false);
+        }
+        let cells = answer.cells();
+        for cell in cells.iter().take(answer.len()) {
+            stack.push(*cell)?;
+        }
+        if answer.is_take() {
+            return Ok(true);
+        }
+    }
+    Ok(true)
+}
+
+/// Whether a message may end with these symbols open.
+fn may_end(table: &mut Extended, stack: &[Symbol]) -> bool {
+    for symbol in stack {
+        if !table.may_end(*symbol) {
+            return false;
+        }
+    }
+    true
+}
+
 /// The place of the first token of a bot's message that no message continues, its length where it merely stops early;
 /// None for a whole message.
-fn place_in<T: Predict>(
+fn place_in(
     alloc: Global,
-    table: &mut T,
+    table: &mut Extended,
     level: Level,
     tokens: &[Token],
 ) -> Result<Option<usize>, AllocError> {
@@ -164,29 +215,14 @@ fn place_in<T: Predict>(
     stack.push(table.start(Side2::Client, level))?;
     for (place, token) in tokens.iter().enumerate() {
         let class = table.class_of(*token);
-        for _ in 0..64 {
-            let Some(symbol) = stack.pop() else {
-                return Ok(Some(place));
-            };
-            let answer = table.predict(symbol, class);
-            if answer.is_stop() {
-                return Ok(Some(place));
-            }
-            let cells = answer.cells();
-            for cell in cells.iter().take(answer.len()) {
-                stack.push(*cell)?;
-            }
-            if answer.is_take() {
-                break;
-            }
+        if !takes(table, &mut stack, class)? {
+            return Ok(Some(place));
         }
     }
-    for symbol in stack.iter() {
-        if !table.may_end(*symbol) {
-            return Ok(Some(tokens.len()));
-        }
+    if may_end(table, stack.as_slice()) {
+        return Ok(None);
     }
-    Ok(None)
+    Ok(Some(tokens.len()))
 }
 
 /// A bot's message at a level, and its place with the words and without.
@@ -250,18 +286,28 @@ fn place_over(
     place_in(alloc, &mut Extended::new(words), level, tokens.as_slice())
 }
 
+/// A message has these places, with the words and without.
+fn check_message(
+    alloc: Global,
+    words: Words,
+    row: &(&str, Level, Option<usize>, Option<usize>),
+) -> Result<(), Fail> {
+    let (text, level, with, without) = row;
+    same(&place_over(alloc, words, *level, text)?, with, text)?;
+    same(
+        &place_over(alloc, Words::new(), *level, text)?,
+        without,
+        text,
+    )
+}
+
 #[test]
 fn words_stand_where_they_may(rt: HostRuntime) -> Result<(), Fail> {
     let mut words = Words::new();
-    same(&words.add(xyz()), &Ok(()), &"XYZ")?;
-    same(&words.add(qqq()), &Ok(()), &"QQQ")?;
-    for (text, level, with, without) in MESSAGES {
-        same(&place_over(rt.alloc(), words, *level, text)?, with, text)?;
-        same(
-            &place_over(rt.alloc(), Words::new(), *level, text)?,
-            without,
-            text,
-        )?;
+    let is_added = words.add(xyz()) == Ok(()) && words.add(qqq()) == Ok(());
+    holds(is_added, "both words")?;
+    for row in MESSAGES {
+        check_message(rt.alloc(), words, row)?;
     }
     Ok(())
 }
@@ -269,17 +315,13 @@ fn words_stand_where_they_may(rt: HostRuntime) -> Result<(), Fail> {
 #[test]
 fn answers_are_counted(_rt: HostRuntime) -> Result<(), Fail> {
     let mut words = Words::new();
-    same(&words.add(xyz()), &Ok(()), &"XYZ")?;
+    holds(words.add(xyz()) == Ok(()), "XYZ")?;
     let mut table = Extended::new(words);
     let start = table.start(Side2::Client, Level::L0);
     let word = table.class_of(xyz().code);
     same(&word.class(), &Class::Word(0), &"XYZ")?;
     same(&table.class_of(qqq().code).class(), &Class::Other, &"QQQ")?;
-    same(
-        &table.predict(start, word).is_stop(),
-        &true,
-        &"the start at XYZ",
-    )?;
-    same(&table.may_end(start), &false, &"the start")?;
+    holds(table.predict(start, word).is_stop(), "the start at XYZ")?;
+    holds(!table.may_end(start), "the start")?;
     same(&table.asked(), &2, &"asked")
 }
