@@ -117,9 +117,7 @@ impl Breaking {
 }
 
 impl Ports for Breaking {
-    ghost use Rattle.std.specs.Prelude.{None};
-
-    ghost told = { λ _. None };
+    ghost becomes = { λ _ _ _. Unit {0} };
 
     fn pull(&mut self, side: Side, buffer: &mut [u8]) -> Pull {
         let (number, waits) = self.next_pull(side);

@@ -105,9 +105,7 @@ struct Feeding {
 }
 
 impl Ports for Feeding {
-    ghost use Rattle.std.specs.Prelude.{None};
-
-    ghost told = { λ _. None };
+    ghost becomes = { λ _ _ _. Unit {0} };
 
     fn pull(&mut self, side: Side, buffer: &mut [u8]) -> Pull {
         if side == Server || self.before > 0 {

@@ -329,9 +329,7 @@ struct Watching<'a, A: Allocator + Copy> {
 }
 
 impl<'a, A: Allocator + Copy> Ports for Watching<'a, A> {
-    ghost use Rattle.std.specs.Prelude.{None};
-
-    ghost told = { λ _. None };
+    ghost becomes = { λ _ _ _. Unit {0} };
 
     fn pull(&mut self, side: Side, buffer: &mut [u8]) -> Pull {
         self.ports.pull(side, buffer)

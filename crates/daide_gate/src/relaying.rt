@@ -3,9 +3,8 @@
 ghost use Rattle.std.specs.Prelude.{◌≡◌, ◌≤◌, not};
 ghost use Rattle.daide_machine.specs.Wires.{is_closed};
 ghost use Rattle.daide_machine.specs.Weight.{weight_of, weight_bound};
-ghost use Rattle.daide_session.specs.Record.{Carries, Relays};
-ghost use Rattle.daide_session.specs.Headline.{Headline};
-ghost use Rattle.daide_gate.specs.Relay.{MakesTurns, is_spent};
+ghost use Rattle.daide_session.specs.Record.{Carries};
+ghost use Rattle.daide_gate.specs.Relay.{MakesTurns, WholeRelay, is_spent};
 
 use daide_session::exchange::turn;
 use daide_session::ports::Ports;
@@ -27,8 +26,7 @@ fn make_turns<A: Allocator, P: Ports>(
     ports: &mut P,
     turns: u64,
 ) -> RelayEnd
-    ensures turns { Carries (MakesTurns result turns) session.old (P.told ports.old) session.new (P.told ports.new) }
-    ensures delivered { Carries Relays session.old (P.told ports.old) session.new (P.told ports.new) }
+    ensures turns { Carries P.becomes (MakesTurns result turns) (session.old, ports.old) (session.new, ports.new) }
     ensures closed { is_closed session.new ≡ not (is_spent result) }
 {
     for _ in 0..turns {
@@ -51,11 +49,9 @@ pub fn relay<A: Allocator, P: Ports>(
     ports: &mut P,
     turns: u64,
 ) -> RelayEnd
-    ensures turns { Carries (MakesTurns result turns) session.old (P.told ports.old) session.new (P.told ports.new) }
-    ensures delivered { Carries Relays session.old (P.told ports.old) session.new (P.told ports.new) }
+    ensures relayed { Carries P.becomes (WholeRelay result turns) (session.old, ports.old) (session.new, ports.new) }
     ensures closed { is_closed session.new ≡ not (is_spent result) }
     ensures weight { weight_of session.new ≤ weight_bound session.new }
-    ensures headline { Carries Headline session.old (P.told ports.old) session.new (P.told ports.new) }
 {
     let end = make_turns(session, ports, turns);
     session.bounds();

@@ -1,8 +1,11 @@
 use Rattle.std.proofs.Common.{sym, ◌∙◌}
-use Rattle.daide_gate.proofs.RelayLemmas.{another_turn}
+use Rattle.daide_gate.proofs.RelayLemmas.{another_turn, no_turn}
 use Rattle.daide_gate.proofs.relaying.make_turns.Goals as goal
+
+pub loop-init : goal.loop-init
+loop-init g c = no_turn g.P.Ports.becomes c.args.session.now c.args.ports.now
 
 pub loop-preserved : goal.loop-preserved
 loop-preserved g c =
-    another_turn c.loop.counter _ _ c.loop.session (g.P.Ports.told c.loop.ports) _ _
-    c.loop.invariant (sym c.is_closed.ensures ∙ c.if-is_closed.false) c.turn.ensures.in_order
+    another_turn g.P.Ports.becomes c.loop.counter _ (c.loop.session, c.loop.ports) _ c.loop.invariant
+    (sym c.is_closed.ensures ∙ c.if-is_closed.false) c.turn.ensures.exchange
