@@ -1,10 +1,14 @@
 //! A session's ports over two sockets.
 //!
-//! They read no more than they are asked for, so what the process holds of a peer is what its session weighs, and
-//! they say nothing of themselves by their answers: nothing is known of what a socket delivers.
+//! They read no more than they are asked for, so what the process holds of a peer is what its session weighs. They are
+//! ports over any two streams, and say by their answers what these gave and took. Of the system's own sockets nothing is
+//! known, so there it is what the system's read and write answered.
 
-ghost use Rattle.std.specs.Prelude.{◌≡◌, length};
-ghost use Rattle.daide_session.specs.Record.{IsPullWithin, IsPutWithin};
+ghost use Rattle.std.specs.Prelude.{◌≡◌, length, take};
+ghost use Rattle.std.specs.Io.KnownBytes.{Consumes};
+ghost use Rattle.daide_session.specs.Record.{IsPullWithin, IsPutWithin, pulled_len};
+ghost use Rattle.daide_streams.specs.Taking.{IsTaken};
+ghost use Rattle.daide_sockets.specs.Streams.{Moves};
 
 use crate::watch::{Place, Watch};
 use daide_frame::side::Side;
@@ -12,13 +16,14 @@ use daide_session::ports::{Ports, Pull, Put};
 use daide_streams::calls::{pull_from, put_to};
 use mio::Interest;
 use mio::net::TcpStream;
+use std::io::{Read, Write};
 use std::rt::Clock;
 
 /// A connection whose calls never wait, and its row of the table.
 #[derive(Drop)]
-pub struct Socket<'w> {
+pub struct Socket<'w, S: Drop = TcpStream> {
     /// The connection itself.
-    pub stream: TcpStream,
+    pub stream: S,
     /// Its row, by which its flags are seen.
     pub place: Place<'w>,
 }
@@ -33,18 +38,23 @@ impl<'w> Socket<'w> {
         let place = watch.follow(&mut stream, Interest::READABLE | Interest::WRITABLE)?;
         Some(Socket { stream, place })
     }
+}
 
-    /// Reads what is there.
+impl<S: Read + Write + Drop> Socket<'_, S> {
+    /// Reads what is there: what is told as `Got` is what the connection gave next.
     pub fn pull(&mut self, buffer: &mut [u8]) -> Pull
         ensures within { IsPullWithin result (length buffer.old) }
         ensures len { length buffer.new ≡ length buffer.old }
+        ensures given { Consumes (S.remaining self.old.stream) (S.remaining self.new.stream)
+            (take (pulled_len result) buffer.new) }
     {
         pull_from(&mut self.stream, &self.place.flags.is_readable, buffer)
     }
 
-    /// Writes what the connection takes.
+    /// Writes what the connection takes, exactly as much as is told as `Took`.
     pub fn put(&mut self, bytes: &[u8]) -> Put
         ensures within { IsPutWithin result (length bytes.now) }
+        ensures taken { IsTaken (S.contents self.old.stream) bytes.now result (S.contents self.new.stream) }
     {
         put_to(&mut self.stream, &self.place.flags.is_writable, bytes)
     }
@@ -52,21 +62,21 @@ impl<'w> Socket<'w> {
 
 /// The connections of a session. The moment that the bot's waits for is that of its initial message.
 #[derive(Drop)]
-pub struct SocketPorts<'w, R: Clock> {
+pub struct SocketPorts<'w, R: Clock, S: Drop = TcpStream> {
     watch: &'w Watch<R>,
     /// The round of the last turn, if there was one.
     turned: Option<u64>,
-    pub(crate) bot: Socket<'w>,
-    pub(crate) server: Socket<'w>,
+    pub(crate) bot: Socket<'w, S>,
+    pub(crate) server: Socket<'w, S>,
 }
 
-impl<'w, R: Clock> SocketPorts<'w, R> {
+impl<'w, R: Clock, S: Drop> SocketPorts<'w, R, S> {
     /// The ports of a bot and of the server that it is joined to.
     pub(crate) fn new(
         watch: &'w Watch<R>,
-        bot: Socket<'w>,
-        server: Socket<'w>,
-    ) -> SocketPorts<'w, R> {
+        bot: Socket<'w, S>,
+        server: Socket<'w, S>,
+    ) -> SocketPorts<'w, R, S> {
         SocketPorts {
             watch,
             turned: None,
@@ -77,7 +87,10 @@ impl<'w, R: Clock> SocketPorts<'w, R> {
 
     /// Each turn asks the clock first, and each session is turned once a round: so the first session that is
     /// turned again begins the next round.
-    fn begin_turn(&mut self) {
+    fn begin_turn(&mut self)
+        ensures bot { self.new.bot ≡ self.old.bot }
+        ensures server { self.new.server ≡ self.old.server }
+    {
         if self.turned == Some(self.watch.round()) {
             self.watch.look();
         }
@@ -85,8 +98,9 @@ impl<'w, R: Clock> SocketPorts<'w, R> {
     }
 }
 
-impl<R: Clock> Ports for SocketPorts<'_, R> {
-    ghost becomes = { λ _ _ _. Unit {0} };
+impl<R: Clock, S: Read + Write + Drop> Ports for SocketPorts<'_, R, S> {
+    ghost becomes = { λ old answer new. Moves S.remaining S.contents (old.bot.stream, old.server.stream) answer
+        (new.bot.stream, new.server.stream) };
 
     fn pull(&mut self, side: Side, buffer: &mut [u8]) -> Pull {
         match side {
