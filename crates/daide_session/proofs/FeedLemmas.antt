@@ -1,5 +1,5 @@
 -- What a piece of bytes makes of a session: a stretch of a run, and what is held after it.
-use Rattle.std.proofs.Common.{◌≡◌, ℕ, ◌+◌, ◌*◌, ◌/◌, ◌<◌, Bool, true, false, cond, List, [], ◌∷◌, ◌++◌, length}
+use Rattle.std.proofs.Common.{◌≡◌, ℕ, ◌+◌, ◌*◌, ◌<◌, Bool, true, false, cond, List, [], ◌∷◌, ◌++◌, length}
 use Rattle.std.proofs.Common.{drop}
 use Rattle.std.proofs.Common.{Option, Some, None, refl, sym, ap, ◌∙◌, subst, arith, ◌⊎◌, inl, inr, ⊎_elim}
 use Rattle.std.proofs.Common.{length-append, length-drop, append-nil}
@@ -8,7 +8,8 @@ use Rattle.daide_frame.specs.declared.side.Side.TheVariants.{Bot, Server}
 use Rattle.daide_frame.specs.declared.head.Head.{Head}
 use Rattle.daide_frame.specs.declared.cutter.Step.{Step}
 use Rattle.daide_frame.specs.declared.cutter.Step.TheVariants.{More, Headed, Bodied, Fault}
-use Rattle.daide_frame.specs.Frames.{Item, is_nothing, last_items, fed, fed_items, told, head_in, IsFault}
+use Rattle.daide_frame.specs.Frames.{Item, is_nothing, last_items, fed, fed_items, told, head_in, missing, IsFault}
+use Rattle.daide_frame.specs.Frames.{IsWholeBody}
 use Rattle.daide_frame.proofs.FramesLemmas.{head_in-short}
 use Rattle.daide_reader.specs.declared.verdict.Verdict.{Verdict}
 use Rattle.daide_reader.specs.Reading.{IsRaised}
@@ -27,9 +28,12 @@ use Rattle.daide_traffic.specs.Both.{at}
 use Rattle.daide_traffic.specs.Traffic.{Arrival, Traffic, Keeps, IsGrown, pending}
 use Rattle.daide_session.specs.Session.{state_of, gateway_of}
 use Rattle.daide_session.specs.Reaction.{Asks, IsUnread, Reacts}
-use Rattle.daide_traffic.proofs.InboundLemmas.{fed_grows, no_dm_before}
+use Rattle.daide_session.specs.Work.{IsPaidBy}
+use Rattle.daide_traffic.specs.Inbound.{tokens_ended}
+use Rattle.daide_traffic.proofs.InboundLemmas.{fed_grows, few_ended, no_dm_before}
 use Rattle.daide_session.proofs.MovesLemmas.{coming_at, waits_same}
 use Rattle.daide_session.proofs.ReactionLemmas.{holding_at, holding_same}
+use Rattle.daide_session.proofs.WorkLemmas.{at_end, end_paid, fed_paid}
 
 -- ---- the run
 
@@ -185,7 +189,7 @@ record TakesIn (limit : ℕ) (piece : List ℕ) (note : Note) (old new : Holding
 
 takes_in : (limit : ℕ) (a b : Arrival) (new : Holding) (x : ℕ) (piece : List ℕ) (note : Note) →
     IsGrown limit a (fed limit a.coming.pending (x ∷ piece)) b →
-    IsRaised (4 * (length (x ∷ piece) / 2 + 1)) a.holding.total b.holding.total →
+    IsRaised (4 * tokens_ended limit a.coming.pending (x ∷ piece)) a.holding.total b.holding.total →
     new.held ≡ held_after note b.holding.held → Asks limit b.holding new →
     TakesIn limit (x ∷ piece) note a.holding new
 takes_in limit a b new x piece note pending raised held asks = record {
@@ -198,8 +202,9 @@ takes_in limit a b new x piece note pending raised held asks = record {
       ∙ sym (counts_idle (head_in limit a.holding.held) (head_in limit fed_bytes) a.holding uncounted);
   no_message = λ none. asks.no_message (ap (λ (y : List ℕ). is_dm_head (head_in limit y)) grown.held ∙ none)
       ∙ grown.no_message none;
-  raised = raised_more (4 * (length (x ∷ piece) / 2 + 1)) 4 (asked_at_most (x ∷ piece)) a.holding.total
-      b.holding.total new.total (omega arith) raised asks.raised;
+  raised = raised_more (4 * tokens_ended limit a.coming.pending (x ∷ piece)) 4 (asked_at_most (x ∷ piece))
+      a.holding.total b.holding.total new.total
+      (let few = few_ended limit a.coming.pending (x ∷ piece) in omega (arith, few)) raised asks.raised;
 }
   where
     fed_bytes : List ℕ
@@ -223,7 +228,8 @@ takes_in limit a b new x piece note pending raised held asks = record {
 takes_piece : (t u v : Traffic) (s r : Stage) (side : Side) (x : ℕ) (piece : List ℕ) (items : List Item)
     (note : Note) → Keeps side t u →
     IsGrown t.cap (at t.sides side) (fed t.cap (pending t side) (x ∷ piece)) (at u.sides side) →
-    IsRaised (4 * (length (x ∷ piece) / 2 + 1)) (at t.sides side).holding.total (at u.sides side).holding.total →
+    IsRaised (4 * tokens_ended t.cap (pending t side) (x ∷ piece)) (at t.sides side).holding.total
+    (at u.sides side).holding.total →
     Reacts (gateway_of u s) side items note (gateway_of v r) →
     Takes (gateway_of t s) side (x ∷ piece) note (gateway_of v r)
 takes_piece t u v s r side x piece items note keeps grown raised h = record {
@@ -251,12 +257,55 @@ takes_piece t u v s r side x piece items note keeps grown raised h = record {
 pub takes_some : (t u v : Traffic) (s r : Stage) (side : Side) (piece : List ℕ) (items : List Item) (note : Note) →
     0 < length piece → Keeps side t u →
     IsGrown t.cap (at t.sides side) (fed t.cap (pending t side) piece) (at u.sides side) →
-    IsRaised (4 * (length piece / 2 + 1)) (at t.sides side).holding.total (at u.sides side).holding.total →
+    IsRaised (4 * tokens_ended t.cap (pending t side) piece) (at t.sides side).holding.total
+    (at u.sides side).holding.total →
     Reacts (gateway_of u s) side items note (gateway_of v r) →
     Takes (gateway_of t s) side piece note (gateway_of v r)
 takes_some t u v s r side [] items note some keeps grown raised h = absurd (omega (arith, some))
 takes_some t u v s r side (x ∷ piece) items note some keeps grown raised h =
     takes_piece t u v s r side x piece items note keeps grown raised h
+
+-- its table was asked for the tokens that the piece ended, and at the message's end
+pub piece_worked : (t u v : Traffic) (s r : Stage) (side : Side) (piece : List ℕ) (items : List Item) (step : Step)
+    (note : Note) → (gateway_of v r).state.limits ≡ (gateway_of t s).state.limits → 0 < missing t.cap (pending t side) →
+    Keeps side t u → IsGrown t.cap (at t.sides side) (fed t.cap (pending t side) piece) (at u.sides side) →
+    IsRaised (4 * tokens_ended t.cap (pending t side) piece) (at t.sides side).holding.total
+    (at u.sides side).holding.total →
+    (step ≡ Bodied → IsWholeBody (head_in u.cap (pending u side)) (drop 4 (pending u side))) →
+    (step ≡ Bodied) ⊎ ((at v.sides side).holding.total ≡ (at u.sides side).holding.total) →
+    Reacts (gateway_of u s) side items note (gateway_of v r) →
+    IsPaidBy (length piece) side (gateway_of t s) (gateway_of v r)
+piece_worked t u v s r side piece items step note limits wanted keeps grown raised full unasked h =
+    fed_paid side (gateway_of t s) (gateway_of v r) mid piece note limits
+    (subst (λ (b : List ℕ). 0 < missing t.cap b) (sym before) wanted)
+    (h.held ∙ ap (λ (k : Holding). held_after note k.held) (holding_at u s side)
+    ∙ ap (held_after note) (now ∙ ap (λ (b : List ℕ). fed t.cap b piece) (sym before)))
+    (subst (λ (k : Holding). IsRaised (4 * tokens_ended t.cap k.held piece) k.total mid.total) (sym (holding_at t s side))
+    (subst (λ (b : List ℕ). IsRaised (4 * tokens_ended t.cap b piece) (at t.sides side).holding.total mid.total)
+    (sym grown.held_before) raised))
+    (subst (λ (b : List ℕ). IsRaised (at_end t.cap b) mid.total (holding (gateway_of v r) side).total)
+    (now ∙ ap (λ (b : List ℕ). fed t.cap b piece) (sym before))
+    (end_paid t.cap mid (holding (gateway_of v r) side) step asks whole
+    (subst (λ (k : Holding). (step ≡ Bodied) ⊎ (k.total ≡ mid.total)) (sym (holding_at v r side)) unasked)))
+  where
+    mid : Holding
+    mid = (at u.sides side).holding
+
+    before : (holding (gateway_of t s) side).held ≡ pending t side
+    before = ap (λ (k : Holding). k.held) (holding_at t s side) ∙ grown.held_before
+
+    now : mid.held ≡ fed t.cap (pending t side) piece
+    now = grown.held
+
+    asks : Asks t.cap mid (holding (gateway_of v r) side)
+    asks = subst (λ (n : ℕ). Asks n mid (holding (gateway_of v r) side)) keeps.cap
+        (subst (λ (k : Holding). Asks u.cap k (holding (gateway_of v r) side)) (holding_at u s side) h.asks)
+
+    whole : step ≡ Bodied → IsWholeBody (head_in t.cap mid.held) (drop 4 mid.held)
+    whole bodied =
+        subst (λ (b : List ℕ). IsWholeBody (head_in t.cap b) (drop 4 b))
+        (ap (λ (c : Coming). c.pending) grown.coming ∙ sym now)
+        (subst (λ (n : ℕ). IsWholeBody (head_in n (pending u side)) (drop 4 (pending u side))) keeps.cap (full bodied))
 
 -- ---- no byte
 

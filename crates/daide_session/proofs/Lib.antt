@@ -7,6 +7,7 @@ pub mod ReactionLemmas
 pub mod SessionLemmas
 pub mod WeightLemmas
 pub mod WrittenLemmas
+pub mod WorkLemmas
 pub mod Stretches
 pub mod PortAnswers
 pub mod TurnLemmas

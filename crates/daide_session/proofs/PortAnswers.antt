@@ -16,7 +16,7 @@ use Rattle.daide_machine.specs.Wires.{Goes, Lost, Wrote, IsFrontOf, no_frame}
 use Rattle.daide_machine.proofs.WireLemmas.{bytes_of-append}
 use Rattle.daide_session.specs.declared.ports.Pull.TheVariants.{Got, Idle, Ended}
 use Rattle.daide_session.specs.declared.ports.Put.TheVariants.{Took, Failed}
-use Rattle.daide_session.specs.Record.{Clock, Pulled, Offered, Moved, Relays, taken, has_failed}
+use Rattle.daide_session.specs.Record.{Clock, Pulled, Offered, Moved, Relays, Works, taken, has_failed}
 
 goes_wire : (a : Gateway) (es : List Event) (note : Note) (b : Gateway) (g : Goes a es note b) (side : Side) →
     bytes_of (waiting a side) ++ bytes_of (sent_to side g.effects) ≡ bytes_of (waiting b side)
@@ -25,37 +25,50 @@ goes_wire a es note b g side =
 
 -- ---- the clock and the pulls
 
-pub clock_pops : (a b : Gateway) (note : Note) → Goes a (Pops ∷ []) note b → Relays a (Clock true ∷ []) b
-clock_pops a b note g = record {
+pub clock_pops : (a b : Gateway) (note : Note) → Works a (Clock true ∷ []) b → Goes a (Pops ∷ []) note b →
+    Relays a (Clock true ∷ []) b
+clock_pops a b note work g = record {
   effects = g.effects;
   run = g.run;
   wires = λ side. goes_wire a (Pops ∷ []) note b g side;
+  work = work;
 }
 
-pub clock_runs : (a : Gateway) → Relays a (Clock false ∷ []) a
-clock_runs a = record { effects = []; run = (refl, refl); wires = λ side. append-nil (bytes_of (waiting a side)) }
+pub clock_runs : (a : Gateway) → Works a (Clock false ∷ []) a → Relays a (Clock false ∷ []) a
+clock_runs a work = record {
+  effects = [];
+  run = (refl, refl);
+  wires = λ side. append-nil (bytes_of (waiting a side));
+  work = work;
+}
 
 pub got_bytes : (a : Gateway) (side : Side) (len n : ℕ) (bytes : List ℕ) (note : Note) (b : Gateway) →
-    Goes a (bytes_come side bytes) note b → Relays a (Pulled side len (Got n) bytes ∷ []) b
-got_bytes a side len n bytes note b g = record {
+    Works a (Pulled side len (Got n) bytes ∷ []) b → Goes a (bytes_come side bytes) note b →
+    Relays a (Pulled side len (Got n) bytes ∷ []) b
+got_bytes a side len n bytes note b work g = record {
   effects = g.effects;
   run = subst (λ (es : List Event). Runs a.state es g.effects b.state) (sym (append-nil (bytes_come side bytes))) g.run;
   wires = λ one. goes_wire a (bytes_come side bytes) note b g one;
+  work = work;
 }
 
-pub was_idle : (a : Gateway) (side : Side) (len : ℕ) (bytes : List ℕ) → Relays a (Pulled side len Idle bytes ∷ []) a
-was_idle a side len bytes = record {
+pub was_idle : (a : Gateway) (side : Side) (len : ℕ) (bytes : List ℕ) → Works a (Pulled side len Idle bytes ∷ []) a →
+    Relays a (Pulled side len Idle bytes ∷ []) a
+was_idle a side len bytes work = record {
   effects = [];
   run = (refl, refl);
   wires = λ one. append-nil (bytes_of (waiting a one));
+  work = work;
 }
 
 pub has_ended : (a : Gateway) (side : Side) (len : ℕ) (bytes : List ℕ) (note : Note) (b : Gateway) →
-    Goes a (Ends side ∷ []) note b → Relays a (Pulled side len Ended bytes ∷ []) b
-has_ended a side len bytes note b g = record {
+    Works a (Pulled side len Ended bytes ∷ []) b → Goes a (Ends side ∷ []) note b →
+    Relays a (Pulled side len Ended bytes ∷ []) b
+has_ended a side len bytes note b work g = record {
   effects = g.effects;
   run = g.run;
   wires = λ one. goes_wire a (Ends side ∷ []) note b g one;
+  work = work;
 }
 
 -- ---- a front that is taken off what waits
@@ -107,11 +120,13 @@ same_wire : (a : Gateway) (side : Side) (b : Gateway) → waiting b side ≡ wai
 same_wire a side b e = append-nil (bytes_of (waiting a side)) ∙ ap bytes_of (sym e)
 
 pub took_bytes : (a : Gateway) (side : Side) (bytes : List ℕ) (n : ℕ) (b : Gateway) → IsFrontOf bytes (waiting a side) →
-    n ≤ length bytes → Wrote a side n b → Relays a (Offered side bytes (Took n) ∷ []) b
-took_bytes a side bytes n b f h g = record {
+    n ≤ length bytes → Works a (Offered side bytes (Took n) ∷ []) b → Wrote a side n b →
+    Relays a (Offered side bytes (Took n) ∷ []) b
+took_bytes a side bytes n b f h work g = record {
   effects = [];
   run = (refl, g.same_state);
   wires = λ one. wire side one f g;
+  work = work;
 }
   where
     wire : (side one : Side) → IsFrontOf bytes (waiting a side) → Wrote a side n b →
@@ -122,12 +137,13 @@ took_bytes a side bytes n b f h g = record {
     wire Server Bot f g = same_wire a Bot b g.other_wire
     wire Server Server f g = this_wire a Server bytes n b f h g
 
-pub put_failed : (a : Gateway) (side : Side) (bytes : List ℕ) (b : Gateway) → Lost a side b →
-    Relays a (Offered side bytes Failed ∷ []) b
-put_failed a side bytes b g = record {
+pub put_failed : (a : Gateway) (side : Side) (bytes : List ℕ) (b : Gateway) → Works a (Offered side bytes Failed ∷ []) b →
+    Lost a side b → Relays a (Offered side bytes Failed ∷ []) b
+put_failed a side bytes b work g = record {
   effects = g.effects;
   run = g.run;
   wires = λ one. wire side one g.effects g.over g.dropped g.other_wire;
+  work = work;
 }
   where
     dead : (side : Side) (effects : List Effect) → is_over b.state.phase ≡ true → waiting b side ≡ [] →

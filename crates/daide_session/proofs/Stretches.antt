@@ -12,6 +12,7 @@ use Rattle.daide_machine.proofs.WireLemmas.{sent_to-append, bytes_of-append}
 use Rattle.daide_session.specs.Record.{PortAnswer, event_of, events_of, took, taken, fails, has_failed, Moved, Relays}
 use Rattle.daide_session.specs.Record.{BecomesBy, Carries, Tells}
 use Rattle.daide_session.specs.Turn.{Then}
+use Rattle.daide_session.proofs.WorkLemmas.{paid_same, works_then}
 
 -- ---- lists along an append
 
@@ -96,6 +97,7 @@ relays_append a xs b ys c h k = record {
       )
       (moved_append (has_failed side xs) (has_failed side ys) (is_over b.state.phase) (is_over c.state.phase)
       _ _ _ _ _ _ _ (h.wires side) (k.wires side) quiet);
+  work = works_then a xs b ys c (events_of-append xs ys) h.work k.work;
 }
 
 pub relays_nil : (a : Gateway) → Relays a [] a
@@ -103,6 +105,7 @@ relays_nil a = record {
   effects = [];
   run = (refl, refl);
   wires = λ side. append-nil (bytes_of (waiting a side));
+  work = λ side. paid_same side a a refl refl;
 }
 
 -- ---- what is told, step after step

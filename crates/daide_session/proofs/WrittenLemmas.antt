@@ -1,7 +1,7 @@
 -- What is written and what is lost, as the clauses of a session say it.
 use Rattle.std.proofs.Common.{◌≡◌, ℕ, Bool, true, false, cond, List, [], ◌∷◌, ◌++◌, drop, None, refl}
 use Rattle.std.proofs.Common.{sym, ap}
-use Rattle.std.proofs.Common.{◌∙◌, subst}
+use Rattle.std.proofs.Common.{◌∙◌, subst, ◌⊎◌, inl, inr}
 use Rattle.std.specs.Prelude.{◌||◌}
 use Rattle.daide_frame.specs.declared.side.Side.{Side}
 use Rattle.daide_frame.specs.declared.side.Side.TheVariants.{Bot, Server}
@@ -16,6 +16,7 @@ use Rattle.daide_traffic.specs.Traffic.{Traffic, Arrival}
 use Rattle.daide_traffic.specs.Traffic.{LetsGo as LetsTrafficGo}
 use Rattle.daide_traffic.proofs.BothLemmas.{at_put, put_there}
 use Rattle.daide_session.specs.Session.{state_of, gateway_of}
+use Rattle.daide_session.specs.Work.{HoldsNoMore}
 use Rattle.daide_session.specs.Reaction.{Moves, KeepsSides, stopped}
 use Rattle.daide_session.proofs.MovesLemmas.{waiting_at}
 use Rattle.daide_session.proofs.ReactionLemmas.{holding_at}
@@ -82,6 +83,27 @@ lets_go t u v s r same sides l = record {
   where
     before : (one : Side) → (at u.sides one).holding ≡ holding (gateway_of t s) one
     before one = ap (λ (x : Both Arrival). (at x one).holding) sides ∙ sym (holding_at t s one)
+
+-- of each side what was held is held still, or nothing is
+pub holds_less : (t u v : Traffic) (s r : Stage) → u.sides ≡ t.sides → LetsTrafficGo u v →
+    HoldsNoMore (gateway_of t s) (gateway_of v r)
+holds_less t u v s r sides l one =
+    by_answers (is_awaited (at u.waiting) one) refl (is_awaited (at v.waiting) one) refl
+  where
+    kept : is_awaited (at v.waiting) one ≡ is_awaited (at u.waiting) one →
+        ((holding (gateway_of v r) one).held ≡ (holding (gateway_of t s) one).held)
+        ⊎ ((holding (gateway_of v r) one).held ≡ [])
+    kept same = inl (ap (λ (h : Holding). h.held)
+        (holding_at v r one ∙ (l.kept one same
+        ∙ (ap (λ (x : Both Arrival). (at x one).holding) sides ∙ sym (holding_at t s one)))))
+
+    by_answers : (a : Bool) → is_awaited (at u.waiting) one ≡ a → (b : Bool) → is_awaited (at v.waiting) one ≡ b →
+        ((holding (gateway_of v r) one).held ≡ (holding (gateway_of t s) one).held)
+        ⊎ ((holding (gateway_of v r) one).held ≡ [])
+    by_answers true e true f = kept (f ∙ sym e)
+    by_answers true e false f = inr (ap (λ (h : Holding). h.held) (holding_at v r one) ∙ l.gone one e f)
+    by_answers false e true f = absurd (let none = sym f ∙ l.fewer one e in cc)
+    by_answers false e false f = kept (f ∙ sym e)
 
 -- ---- what a call does
 

@@ -1,13 +1,14 @@
 -- The main theorem's words: whatever bytes the two sides send, in whatever pieces and order, a session keeps in
 -- each direction at most one message's announced length, capped, and eight stack entries for each open bracket
--- plus sixteen, with 64 further entries in all, takes at most four table steps a token, and sends exactly the
--- grammar's answers.
-use Rattle.std.specs.Prelude.{◌≡◌, true, false, List, [], ◌++◌}
+-- plus sixteen, with 64 further entries in all, takes at most four table steps a token, over all that came two a byte,
+-- and sends exactly the grammar's answers.
+use Rattle.std.specs.Prelude.{◌≡◌, ◌*◌, true, false, List, [], ◌++◌}
 use Rattle.daide_frame.specs.declared.side.Side.{Side}
+use Rattle.daide_reader.specs.Reading.{IsRaised}
 use Rattle.daide_machine.specs.Machine.{Limits, opening}
-use Rattle.daide_machine.specs.Wires.{Gateway, Holding, sent_to, bytes_of, is_closed}
+use Rattle.daide_machine.specs.Wires.{Gateway, Holding, holding, sent_to, bytes_of, is_closed}
 use Rattle.daide_session.specs.Bounds.{IsWithinBounds}
-use Rattle.daide_session.specs.Record.{PortAnswer, Relays, taken, has_failed}
+use Rattle.daide_session.specs.Record.{PortAnswer, Relays, came, taken, has_failed}
 use Rattle.daide_session.specs.Turn.{Turn}
 
 -- ---- where a session stands
@@ -29,7 +30,8 @@ untouched limits = record {
 }
 
 -- The session stands where a run from its opening stands, by all that its ports answered since it was made: its
--- state is the machine's, and each wire took the machine's answers, but for what waits.
+-- state is the machine's, each wire took the machine's answers, but for what waits, and no table was asked more than
+-- twice for a byte that came.
 abbrev pub Stands : Limits → List PortAnswer → Gateway → Type 0
 Stands limits history g = Relays (untouched limits) history g
 
@@ -40,6 +42,8 @@ pub record IsBoundedAndExact (limits : Limits) (history : List PortAnswer) (g : 
   -- it keeps in each direction at most one message's announced length, capped, and eight stack entries for
   -- each open bracket plus sixteen, with 64 further entries in all, takes at most four table steps a token,
   pub bounds : IsWithinBounds g
+  -- over all its history at most two for each byte that came of the side, counted modulo 2^64,
+  pub work : (side : Side) → IsRaised (2 * came side history) 0 (holding g side).total
   -- and sends exactly the grammar's answers: what each wire took is a front of them, and, unless it failed,
   -- what waits is all that is left of them
   pub sends : Stands limits history g

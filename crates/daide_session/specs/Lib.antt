@@ -1,6 +1,7 @@
 pub mod Config
 pub mod Session
 pub mod Reaction
+pub mod Work
 pub mod Record
 pub mod Turn
 pub mod Bounds

@@ -1,15 +1,17 @@
--- What ports tell of their answers, and what these answers mean for a session: the events by which it goes,
--- and the bytes that each wire took.
+-- What ports tell of their answers, and what these answers mean for a session: the events by which it goes, the bytes
+-- that each wire took, and how often the tables may be asked.
 use Rattle.std.specs.Prelude.{◌≡◌, ℕ, ◌≤◌, Bool, true, false, ◌||◌, if◌then◌else◌}
-use Rattle.std.specs.Prelude.{List, [], ◌∷◌, ◌++◌, take, Option, Some, IfSome}
+use Rattle.std.specs.Prelude.{List, [], ◌∷◌, ◌++◌, take, length, Option, Some, IfSome}
 use Rattle.daide_frame.specs.declared.side.Side.{Side}
 use Rattle.daide_machine.specs.Events.{Event, Ends, Loses, Pops, bytes_come}
+use Rattle.daide_machine.specs.Heard.{bytes_from}
 use Rattle.daide_machine.specs.Machine.{Effect, Runs, is_over}
 use Rattle.daide_machine.specs.Wires.{Gateway, waiting, same_side, sent_to, bytes_of}
 use Rattle.daide_session.specs.declared.ports.Pull.{Pull}
 use Rattle.daide_session.specs.declared.ports.Pull.TheVariants.{Got, Idle, Ended}
 use Rattle.daide_session.specs.declared.ports.Put.{Put}
 use Rattle.daide_session.specs.declared.ports.Put.TheVariants.{Took, Failed}
+use Rattle.daide_session.specs.Work.{IsPaidBy}
 
 -- ---- the record
 
@@ -90,6 +92,20 @@ abbrev pub has_failed : Side → List PortAnswer → Bool
 has_failed side [] = false
 has_failed side (answer ∷ answers) = fails side answer || has_failed side answers
 
+-- ---- the work
+
+-- how many bytes came of a side
+abbrev pub came : Side → List PortAnswer → ℕ
+came side answers = length (bytes_from side (events_of answers))
+
+-- each side's table was asked at most twice for each byte that came of that side
+abbrev pub Works : Gateway → List PortAnswer → Gateway → Type 0
+Works old answers new = (side : Side) → IsPaidBy (came side answers) side old new
+
+-- a stretch of this kind, in which the tables were asked no more than that
+abbrev pub Working : (Gateway → List PortAnswer → Gateway → Type 0) → Gateway → List PortAnswer → Gateway → Type 0
+Working Kind old answers new = Kind old answers new × Works old answers new
+
 -- ---- sent and waiting are the answers
 
 -- One wire: what waited, and the machine's answers, are what it took, and what waits. Where it failed, what it
@@ -100,12 +116,13 @@ Moved true over waited answers took waits =
     (over ≡ true) × (waits ≡ []) × ((rest : List ℕ) × (waited ++ answers ≡ took ++ rest))
 
 -- By these answers of the ports the session goes from old to new: its state is the machine's, by the events
--- that they tell, and each wire took the machine's answers.
+-- that they tell, each wire took the machine's answers, and no table was asked more than twice for a byte that came.
 pub record Relays (old : Gateway) (answers : List PortAnswer) (new : Gateway) : Type 0 where
   pub effects : List Effect
   pub run : Runs old.state (events_of answers) effects new.state
   pub wires : (side : Side) → Moved (has_failed side answers) (is_over new.state.phase) (bytes_of (waiting old side))
       (bytes_of (sent_to side effects)) (taken side answers) (bytes_of (waiting new side))
+  pub work : Works old answers new
 
 -- ---- a call
 

@@ -10,7 +10,7 @@ ghost use Rattle.daide_reader.specs.Reading.{IsRaised};
 ghost use Rattle.daide_machine.specs.Events.{other};
 ghost use Rattle.daide_machine.specs.Wires.{holding, room_of, AsksNothing};
 ghost use Rattle.daide_machine.specs.Weight.{weight_of, weight_bound};
-ghost use Rattle.daide_session.specs.Record.{Carries};
+ghost use Rattle.daide_session.specs.Record.{Carries, Working};
 ghost use Rattle.daide_session.specs.Turn.{AsksClock, Puts, Pulls, AsksAtMost, turn_steps};
 ghost use Rattle.daide_session.specs.Headline.{WholeTurn};
 
@@ -24,7 +24,7 @@ const BUFFER: usize = 512;
 
 /// Tells the session where the time for its initial message is over.
 fn ask_clock<A: Allocator, P: Ports>(session: &mut Session<A>, ports: &mut P)
-    ensures clock { Carries P.becomes AsksClock (session.old, ports.old) (session.new, ports.new) }
+    ensures clock { Carries P.becomes (Working AsksClock) (session.old, ports.old) (session.new, ports.new) }
     ensures asks_nothing { AsksNothing session.old session.new }
     ensures limits { session.new.state.limits ≡ session.old.state.limits }
 {
@@ -35,7 +35,7 @@ fn ask_clock<A: Allocator, P: Ports>(session: &mut Session<A>, ports: &mut P)
 
 /// Hands the whole front of what waits for a wire to that wire.
 fn put_front<A: Allocator, P: Ports>(session: &mut Session<A>, ports: &mut P, side: Side)
-    ensures puts { Carries P.becomes (Puts side) (session.old, ports.old) (session.new, ports.new) }
+    ensures puts { Carries P.becomes (Working (Puts side)) (session.old, ports.old) (session.new, ports.new) }
     ensures asks_nothing { AsksNothing session.old session.new }
     ensures limits { session.new.state.limits ≡ session.old.state.limits }
 {
@@ -58,7 +58,7 @@ fn pull_into<A: Allocator, P: Ports>(
 )
     requires room { 0 < room_of session.old side }
     requires len { length buffer.old ≡ min (room_of session.old side) 512 }
-    ensures pulls { Carries P.becomes (Pulls side) (session.old, ports.old) (session.new, ports.new) }
+    ensures pulls { Carries P.becomes (Working (Pulls side)) (session.old, ports.old) (session.new, ports.new) }
     ensures asked { IsRaised turn_steps (holding session.old side).total (holding session.new side).total }
     ensures other_side { (holding session.new (other side)).total ≡ (holding session.old (other side)).total }
     ensures limits { session.new.state.limits ≡ session.old.state.limits }
@@ -76,7 +76,7 @@ fn pull_into<A: Allocator, P: Ports>(
 
 /// Reads what a side sent, as much as the session has room for and the buffer holds.
 fn pull<A: Allocator, P: Ports>(session: &mut Session<A>, ports: &mut P, side: Side)
-    ensures pulls { Carries P.becomes (Pulls side) (session.old, ports.old) (session.new, ports.new) }
+    ensures pulls { Carries P.becomes (Working (Pulls side)) (session.old, ports.old) (session.new, ports.new) }
     ensures asked { IsRaised turn_steps (holding session.old side).total (holding session.new side).total }
     ensures other_side { (holding session.new (other side)).total ≡ (holding session.old (other side)).total }
     ensures limits { session.new.state.limits ≡ session.old.state.limits }

@@ -25,6 +25,7 @@ use Rattle.daide_reader.specs.declared.verdict.Verdict.TheVariants.{Relay}
 use Rattle.daide_reader.specs.Verdict.{IsPlaceIn}
 use Rattle.daide_reader.specs.Verdict.{HasVerdict}
 use Rattle.daide_traffic.specs.Inbound.{Begins, Inbound, Rules, IsReadOn, HasPlace, Reads, inbound_of, rules_of}
+use Rattle.daide_traffic.specs.Inbound.{tokens_ended}
 use Rattle.daide_reader.proofs.BodyLemmas.{tokens_of-length, tokens_of-all}
 
 -- a piece makes the bytes longer, by no more than itself
@@ -60,10 +61,10 @@ head_in-more limit (p ∷ q ∷ r ∷ s ∷ v) more l =
     ∙ ap head_part (head_of-append4 limit p q r s (v ++ more) ∙ sym (head_of-append4 limit p q r s v))
     ∙ sym (head_in-whole limit (p ∷ q ∷ r ∷ s ∷ v) l)
 
-below_four : (n : ℕ) → nat_lt n 4 ≡ true → n < 4
+pub below_four : (n : ℕ) → nat_lt n 4 ≡ true → n < 4
 below_four n e = grind (arith, nat_tests)
 
-not_below_four : (n : ℕ) → nat_lt n 4 ≡ false → 4 ≤ n
+pub not_below_four : (n : ℕ) → nat_lt n 4 ≡ false → 4 ≤ n
 not_below_four n e = grind (arith, nat_tests)
 
 -- of these bytes a reader has read the message that the first of them hold
@@ -126,7 +127,7 @@ no_dm_before limit b more e = by_test (nat_lt (length b) 4) refl
 pub record IsFedOn (limit : ℕ) (b piece : List ℕ) (cut : Cut) : Type 0 where
   pub within : 2 * length (tokens_held limit b) ≤ length (drop 4 cut.bytes)
   pub front : tokens_of (take (2 * length (tokens_held limit b)) (drop 4 cut.bytes)) ≡ tokens_held limit b
-  pub few : length (drop 4 cut.bytes) / 2 - length (tokens_held limit b) ≤ length piece / 2 + 1
+  pub ended : length (drop 4 cut.bytes) / 2 ≡ length (tokens_held limit (fed limit b piece))
   pub all : tokens_held cut.cap cut.bytes ≡ tokens_of (drop 4 cut.bytes)
 
 pub fed_on : (limit : ℕ) (b piece : List ℕ) (cut : Cut) → cut.cap ≡ limit → cut.bytes ≡ fed limit b piece
@@ -138,14 +139,37 @@ fed_on limit b piece cut same bytes dm =
     sym (ap (λ (n : ℕ). is_dm_head (head_in n cut.bytes)) same ∙ ap (λ (x : List ℕ). is_dm_head (head_in limit x)) is)
     ∙ dm in
     let h = read_on limit b g.more dm2 in
-    let few = h.few in
-    let less = g.few in
+    let all = all_held cut.cap cut.bytes dm in
     record {
       within = rw is h.within;
       front = rw is h.front;
-      few = rw is (omega arith);
-      all = all_held cut.cap cut.bytes dm;
+      ended = sym (tokens_of-length (drop 4 cut.bytes)) ∙ ap length (sym all)
+          ∙ (ap (λ (n : ℕ). length (tokens_held n cut.bytes)) same
+          ∙ ap (λ (x : List ℕ). length (tokens_held limit x)) bytes);
+      all = all;
     }
+
+-- a piece ends few tokens: those that lie in it, and one that began before it
+pub few_ended : (limit : ℕ) (b piece : List ℕ) → tokens_ended limit b piece ≤ length piece / 2 + 1
+few_ended limit b piece = by_test (is_dm_head (head_in limit (b ++ g.more))) refl
+  where
+    g : Grows b piece (fed limit b piece)
+    g = fed_grows limit b piece
+
+    by_test : (k : Bool) → is_dm_head (head_in limit (b ++ g.more)) ≡ k →
+        tokens_ended limit b piece ≤ length piece / 2 + 1
+    by_test true e =
+        let h = read_on limit b g.more e in
+        let few = h.few in
+        let less = g.few in
+        let now : length (tokens_held limit (fed limit b piece)) ≡ length (drop 4 (b ++ g.more)) / 2 =
+        ap (λ (x : List ℕ). length (tokens_held limit x)) g.longer
+        ∙ (ap length (all_held limit (b ++ g.more) e) ∙ tokens_of-length (drop 4 (b ++ g.more))) in
+        omega (arith, few, less, now)
+    by_test false e =
+        let none : length (tokens_held limit (fed limit b piece)) ≡ 0 =
+        ap (λ (x : List ℕ). length (tokens_held limit x)) g.longer ∙ ap length (none_held limit (b ++ g.more) e) in
+        omega (arith, none)
 
 -- it took a piece of no message
 pub fed_past : (limit : ℕ) (b piece : List ℕ) (cut : Cut) → cut.cap ≡ limit → cut.bytes ≡ fed limit b piece →

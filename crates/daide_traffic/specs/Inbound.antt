@@ -4,7 +4,7 @@ use Rattle.std.specs.Prelude.{drop}
 use Rattle.std.specs.Prelude.{Option, Some, None, if◌then◌else◌}
 use Rattle.daide_frame.specs.declared.side.Side.{Side}
 use Rattle.daide_frame.specs.declared.head.Head.{Head}
-use Rattle.daide_frame.specs.Frames.{Cut, head_in}
+use Rattle.daide_frame.specs.Frames.{Cut, fed, head_in}
 use Rattle.daide_frame.specs.Head.{head_bytes}
 use Rattle.daide_grammar.specs.declared.level.Level.{Level}
 use Rattle.daide_grammar.specs.declared.predict.Predict.{Ghosts}
@@ -42,6 +42,10 @@ pub record Inbound : Type 0 where
   -- the table's answers in all, and those before the message, both modulo 2^64
   pub total : ℕ
   pub total_before : ℕ
+
+-- how many tokens of a message a piece ends, where these bytes of its frame came before
+abbrev pub tokens_ended : ℕ → List ℕ → List ℕ → ℕ
+tokens_ended cap held piece = length (tokens_held cap (fed cap held piece)) - length (tokens_held cap held)
 
 -- ---- the answer in place
 

@@ -21,6 +21,7 @@ ghost use Rattle.daide_reader.specs.Reading.{IsRaised};
 ghost use Rattle.daide_words.specs.Word.{grammar_words};
 ghost use Rattle.daide_words.specs.Words.{words_of};
 ghost use Rattle.daide_traffic.specs.Inbound.{Begins, Reads, Answers, answer_of, front_after, front_in, steps_in};
+ghost use Rattle.daide_traffic.specs.Inbound.{tokens_ended};
 
 use daide_frame::cutter::{Cutter, Step};
 use daide_frame::head::{Head, Kind, write_head};
@@ -188,7 +189,8 @@ impl<A: Allocator> Inbound<A> {
         requires free { self.old.verdict ≡ None }
         requires room { length piece.now ≤ missing self.old.cap self.old.held }
         ensures reads { Reads self.old (fed self.old.cap self.old.held piece.now) self.new }
-        ensures raised { IsRaised (4 * (length piece.now / 2 + 1)) self.old.total self.new.total }
+        ensures raised { IsRaised (4 * tokens_ended self.old.cap self.old.held piece.now) self.old.total
+            self.new.total }
         ensures items { fed_items self.old.cap self.old.held piece.now
             ≡ told result (head_in self.new.cap self.new.held) (drop 4 self.new.held) }
         ensures whole { IsFault result ⊎ (self.new.held ≡ self.old.held ++ piece.now) }

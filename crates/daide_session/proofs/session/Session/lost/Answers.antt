@@ -6,8 +6,9 @@ use Rattle.daide_traffic.specs.Both.{Both}
 use Rattle.daide_traffic.specs.Traffic.{Arrival}
 use Rattle.daide_traffic.specs.Fronts.{KeepsFront}
 use Rattle.daide_session.specs.Session.{gateway_of}
+use Rattle.daide_session.specs.Work.{HoldsNoMore}
 use Rattle.daide_session.proofs.GatewayFronts.{other_front}
-use Rattle.daide_session.proofs.WrittenLemmas.{lost_of}
+use Rattle.daide_session.proofs.WrittenLemmas.{holds_less, lost_of}
 use Rattle.daide_session.proofs.SessionLemmas.{standing_over}
 use Rattle.daide_session.proofs.session.Session.lost.Given.{Over}
 use Rattle.daide_session.proofs.session.Session.lost.Goals as goal
@@ -41,3 +42,9 @@ returns-clause-asks_nothing g c = (
       ∙ (ap (λ (x : Both Arrival). x.server.holding.total) c.stop.ensures.keeps.sides
       ∙ ap (λ (v : Gateway). v.server.total) c.self.view_is),
 )
+
+pub returns-clause-holds : goal.returns-clause-holds
+returns-clause-holds g c =
+    subst (λ (v : Gateway). HoldsNoMore v (gateway_of c.lose.new.self c.stop.new.stage)) c.self.view_is
+    (holds_less c.self.inside.traffic c.stop.new.traffic c.lose.new.self c.self.inside.stage c.stop.new.stage
+    c.stop.ensures.keeps.sides c.lose.ensures.lets_go)

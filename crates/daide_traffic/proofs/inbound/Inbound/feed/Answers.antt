@@ -1,4 +1,4 @@
-use Rattle.std.proofs.Common.{◌≡◌, ℕ, ◌+◌, ◌-◌, ◌*◌, ◌/◌, ◌≤◌, List, [], None, true, false, length, take, drop, rules}
+use Rattle.std.proofs.Common.{◌≡◌, ℕ, ◌-◌, ◌*◌, ◌/◌, ◌≤◌, List, None, true, false, length, take, drop, rules}
 use Rattle.std.proofs.Common.{refl, sym, ap, ◌∙◌, subst, arith}
 use Rattle.daide_token.specs.Token.{tokens_of}
 use Rattle.daide_frame.specs.Frames.{fed, head_in}
@@ -11,7 +11,7 @@ use Rattle.daide_machine.specs.Machine.{side2_of}
 use Rattle.daide_machine.specs.Weight.{tokens_held}
 use Rattle.daide_machine.specs.Wires.{is_dm_head}
 use Rattle.daide_reader.specs.Reading.{Reading, IsRaised, StandsAfter, tokens_read}
-use Rattle.daide_traffic.specs.Inbound.{Inbound, Reads, inbound_of, words_in}
+use Rattle.daide_traffic.specs.Inbound.{Inbound, Reads, inbound_of, tokens_ended, words_in}
 use Rattle.daide_traffic.proofs.InboundLemmas.{fed_on, fed_past, none_held, read_along, reads_of, rules_kept}
 use Rattle.daide_traffic.proofs.InboundLemmas.{raised_most}
 use Rattle.daide_traffic.proofs.inbound.Inbound.feed.Goals as goal
@@ -105,9 +105,10 @@ returns-then-is_message-clause-raised g c =
     let on = fed_on i.cutter.cap i.cutter.bytes c.args.piece.now cut c.feed-step.ensures.cap c.feed-step.ensures.bytes
     dm in
     let read = c.self.invariant.stands.outline.tokens in
-    let few = on.few in
+    let ended = on.ended in
     let value : length c.body.result.now ≡ length (drop 4 cut.bytes) = ap length c.body.ensures.value in
-    let le : 4 * (length c.body.result.now / 2 - tokens_read i.reader) ≤ 4 * (length c.args.piece.now / 2 + 1) = rw
-    (value, read) (omega arith) in
-    subst (λ (v : Inbound). IsRaised (4 * (length c.args.piece.now / 2 + 1)) v.total (answers_given c.read.new.self.table))
+    let le : 4 * (length c.body.result.now / 2 - tokens_read i.reader)
+    ≤ 4 * tokens_ended i.cutter.cap i.cutter.bytes c.args.piece.now = rw (value, read) (omega (arith, ended)) in
+    subst (λ (v : Inbound). IsRaised (4 * tokens_ended v.cap v.held c.args.piece.now) v.total
+    (answers_given c.read.new.self.table))
     c.self.view_is (raised_most _ _ _ _ le c.read.ensures.raised)

@@ -1,0 +1,308 @@
+-- How often the tables are asked, stretch after stretch.
+use Rattle.std.proofs.Common.{◌≡◌, ℕ, ◌+◌, ◌-◌, ◌*◌, ◌/◌, ◌<◌, ◌≤◌, Bool, true, false, cond, List, [], ◌∷◌, ◌++◌}
+use Rattle.std.proofs.Common.{length, drop, Option, Some, None, refl, sym, ap, ◌∙◌, subst, arith, ◌⊎◌, inl, ⊎_elim}
+use Rattle.std.proofs.Common.{length-append, length-drop, append-nil}
+use Rattle.std.specs.Prelude.{nat_lt, ◌==◌, is_some}
+use Rattle.std.proofs.lemmas.Bool.Decides.{nat_tests}
+use Rattle.daide_frame.specs.declared.side.Side.{Side}
+use Rattle.daide_frame.specs.declared.side.Side.TheVariants.{Bot, Server}
+use Rattle.daide_frame.specs.declared.head.Head.{Head}
+use Rattle.daide_frame.specs.declared.cutter.Step.{Step}
+use Rattle.daide_frame.specs.declared.cutter.Step.TheVariants.{Bodied}
+use Rattle.daide_frame.specs.Frames.{IsWholeBody, alien_in, fed, head_in, missing, missing_of_body}
+use Rattle.daide_frame.proofs.FramesLemmas.{head_in-short}
+use Rattle.daide_reader.specs.Reading.{IsRaised}
+use Rattle.daide_reader.proofs.BodyLemmas.{tokens_of-length}
+use Rattle.daide_reader.proofs.ReadingLemmas.{raised_none}
+use Rattle.daide_machine.specs.declared.note.Deed.TheVariants as Deeds
+use Rattle.daide_machine.specs.declared.note.Note.{Note}
+use Rattle.daide_machine.specs.declared.note.Note.TheVariants as Notes
+use Rattle.daide_machine.specs.Events.{Event, Comes, Ends, Loses, Pops, bytes_come, other}
+use Rattle.daide_machine.specs.Heard.{bytes_from}
+use Rattle.daide_machine.specs.Machine.{Limits}
+use Rattle.daide_machine.specs.Weight.{tokens_held}
+use Rattle.daide_machine.specs.Wires.{AsksNothing, Gateway, Holding, HoldsTheSame, holding, held_after, is_dm_head}
+use Rattle.daide_machine.specs.Wires.{same_side}
+use Rattle.daide_traffic.specs.Inbound.{tokens_ended}
+use Rattle.daide_traffic.proofs.InboundLemmas.{Grows, all_held, below_four, fed_grows, head_in-more, no_dm_before}
+use Rattle.daide_traffic.proofs.InboundLemmas.{none_held, not_below_four}
+use Rattle.daide_session.specs.declared.ports.Pull.TheVariants.{Got}
+use Rattle.daide_session.specs.Work.{is_whole_message, answers_for, left_of, unspent, IsPaidBy, HoldsNoMore}
+use Rattle.daide_session.specs.Reaction.{Asks}
+use Rattle.daide_session.specs.Record.{PortAnswer, Clock, Pulled, events_of, came, Works}
+
+-- ---- nothing is asked
+
+pub nothing_left : (cap : ℕ) → left_of cap [] ≡ 0
+nothing_left cap = omega arith
+
+left_same : (side : Side) (a b : Gateway) → b.state.limits ≡ a.state.limits →
+    (holding b side).held ≡ (holding a side).held → unspent b side ≡ unspent a side
+left_same side a b limits same =
+    ap (left_of b.state.limits.cap) same
+    ∙ ap (λ (l : Limits). left_of l.cap (holding a side).held) limits
+
+pub paid_idle : (side : Side) (a b : Gateway) → b.state.limits ≡ a.state.limits →
+    (holding b side).total ≡ (holding a side).total →
+    ((holding b side).held ≡ (holding a side).held) ⊎ ((holding b side).held ≡ []) → IsPaidBy 0 side a b
+paid_idle side a b limits total held = record {
+  by = 0;
+  few = ⊎_elim
+      (λ (same : (holding b side).held ≡ (holding a side).held).
+      let left = left_same side a b limits same in omega (arith, left))
+      (λ (none : (holding b side).held ≡ []).
+      let left : unspent b side ≡ 0 = ap (left_of b.state.limits.cap) none ∙ nothing_left b.state.limits.cap in
+      omega (arith, left))
+      held;
+  sum = omega (arith, total);
+}
+
+pub paid_same : (side : Side) (a b : Gateway) → b.state.limits ≡ a.state.limits → holding b side ≡ holding a side →
+    IsPaidBy 0 side a b
+paid_same side a b limits same =
+    paid_idle side a b limits (ap (λ (h : Holding). h.total) same) (inl (ap (λ (h : Holding). h.held) same))
+
+pub paid_held : (a b : Gateway) → b.state.limits ≡ a.state.limits → HoldsTheSame a b → (side : Side) → IsPaidBy 0 side a b
+paid_held a b limits same Bot = paid_same Bot a b limits same.0
+paid_held a b limits same Server = paid_same Server a b limits same.1
+
+pub paid_freed : (a b : Gateway) → b.state.limits ≡ a.state.limits → AsksNothing a b → HoldsNoMore a b →
+    (side : Side) → IsPaidBy 0 side a b
+paid_freed a b limits asked held Bot = paid_idle Bot a b limits asked.0 (held Bot)
+paid_freed a b limits asked held Server = paid_idle Server a b limits asked.1 (held Server)
+
+-- ---- one stretch after another
+
+paid_then : (m n : ℕ) (side : Side) (a b c : Gateway) → IsPaidBy m side a b → IsPaidBy n side b c →
+    IsPaidBy (m + n) side a c
+paid_then m n side a b c h k = record {
+  by = h.by + k.by;
+  few = (let p = h.few in let q = k.few in omega arith);
+  sum = (let p = h.sum in let q = k.sum in omega arith);
+}
+
+bytes_from-append : (side : Side) (xs ys : List Event) → bytes_from side (xs ++ ys)
+    ≡ bytes_from side xs ++ bytes_from side ys
+bytes_from-append side [] ys = refl
+bytes_from-append side (Comes from byte ∷ xs) ys = go (same_side from side) (bytes_from-append side xs ys)
+  where
+    go : (k : Bool) → bytes_from side (xs ++ ys) ≡ bytes_from side xs ++ bytes_from side ys →
+        cond k (byte ∷ bytes_from side (xs ++ ys)) (bytes_from side (xs ++ ys))
+        ≡ cond k (byte ∷ bytes_from side xs) (bytes_from side xs) ++ bytes_from side ys
+    go true e = ap (λ (t : List ℕ). byte ∷ t) e
+    go false e = e
+bytes_from-append side (Ends from ∷ xs) ys = bytes_from-append side xs ys
+bytes_from-append side (Loses from ∷ xs) ys = bytes_from-append side xs ys
+bytes_from-append side (Pops ∷ xs) ys = bytes_from-append side xs ys
+
+pub works_then : (a : Gateway) (xs : List PortAnswer) (b : Gateway) (ys : List PortAnswer) (c : Gateway) →
+    events_of (xs ++ ys) ≡ events_of xs ++ events_of ys → Works a xs b → Works b ys c → Works a (xs ++ ys) c
+works_then a xs b ys c joined h k side =
+    subst (λ (n : ℕ). IsPaidBy n side a c) (sym count)
+    (paid_then (came side xs) (came side ys) side a b c (h side) (k side))
+  where
+    count : came side (xs ++ ys) ≡ came side xs + came side ys
+    count = ap (λ (es : List Event). length (bytes_from side es)) joined
+        ∙ (ap length (bytes_from-append side (events_of xs) (events_of ys))
+        ∙ length-append (bytes_from side (events_of xs)) (bytes_from side (events_of ys)))
+
+-- ---- an answer by which no byte came
+
+pub works_clock : (a b : Gateway) (popped : Bool) → ((side : Side) → IsPaidBy 0 side a b) → Works a (Clock popped ∷ []) b
+works_clock a b true h side = h side
+works_clock a b false h side = h side
+
+-- ---- bytes of one side
+
+own_bytes : (side : Side) (bytes : List ℕ) → length (bytes_from side (bytes_come side bytes)) ≡ length bytes
+own_bytes Bot [] = refl
+own_bytes Bot (x ∷ bytes) = omega (arith, own_bytes Bot bytes)
+own_bytes Server [] = refl
+own_bytes Server (x ∷ bytes) = omega (arith, own_bytes Server bytes)
+
+others_bytes : (side : Side) (bytes : List ℕ) → length (bytes_from (other side) (bytes_come side bytes)) ≡ 0
+others_bytes Bot [] = refl
+others_bytes Bot (x ∷ bytes) = others_bytes Bot bytes
+others_bytes Server [] = refl
+others_bytes Server (x ∷ bytes) = others_bytes Server bytes
+
+pub works_got : (a b : Gateway) (side : Side) (len n : ℕ) (bytes : List ℕ) → IsPaidBy (length bytes) side a b →
+    IsPaidBy 0 (other side) a b → Works a (Pulled side len (Got n) bytes ∷ []) b
+works_got a b side len n bytes own rest = by_side side own rest
+  where
+    alone : (from one : Side) → came one (Pulled from len (Got n) bytes ∷ [])
+        ≡ length (bytes_from one (bytes_come from bytes))
+    alone from one = ap (λ (es : List Event). length (bytes_from one es)) (append-nil (bytes_come from bytes))
+
+    by_side : (from : Side) → IsPaidBy (length bytes) from a b → IsPaidBy 0 (other from) a b →
+        (one : Side) → IsPaidBy (came one (Pulled from len (Got n) bytes ∷ [])) one a b
+    by_side Bot h k Bot = subst (λ (m : ℕ). IsPaidBy m Bot a b) (sym (alone Bot Bot ∙ own_bytes Bot bytes)) h
+    by_side Bot h k Server = subst (λ (m : ℕ). IsPaidBy m Server a b) (sym (alone Bot Server ∙ others_bytes Bot bytes)) k
+    by_side Server h k Bot = subst (λ (m : ℕ). IsPaidBy m Bot a b) (sym (alone Server Bot ∙ others_bytes Server bytes)) k
+    by_side Server h k Server = subst (λ (m : ℕ). IsPaidBy m Server a b)
+        (sym (alone Server Server ∙ own_bytes Server bytes)) h
+
+-- ---- a piece
+
+-- the answers for bytes that are no message, and for those of one
+no_answers : (cap : ℕ) (held : List ℕ) → is_dm_head (head_in cap held) ≡ false → answers_for cap held ≡ 0
+no_answers cap held e = rw e refl
+
+its_tokens : (cap : ℕ) (held : List ℕ) → is_dm_head (head_in cap held) ≡ true →
+    length (tokens_held cap held) ≡ (length held - 4) / 2
+its_tokens cap held e =
+    ap length (all_held cap held e)
+    ∙ (tokens_of-length (drop 4 held) ∙ ap (λ (n : ℕ). n / 2) (length-drop 4 held))
+
+headed : (cap : ℕ) (held : List ℕ) → is_dm_head (head_in cap held) ≡ true → 4 ≤ length held
+headed cap held e = go (nat_lt (length held) 4) refl
+  where
+    go : (k : Bool) → nat_lt (length held) 4 ≡ k → 4 ≤ length held
+    go true f = absurd (let none = sym e ∙ ap is_dm_head (head_in-short cap held (below_four (length held) f)) in cc)
+    go false f = not_below_four (length held) f
+
+-- four at a message's end
+abbrev pub at_end : (cap : ℕ) (held : List ℕ) → ℕ
+at_end cap held = cond (is_whole_message cap held) 4 0
+
+at_end_few : (cap : ℕ) (held : List ℕ) → at_end cap held ≤ 4
+at_end_few cap held = go (is_whole_message cap held)
+  where
+    go : (k : Bool) → cond k 4 0 ≤ 4
+    go true = omega arith
+    go false = omega arith
+
+not_nothing : (n : ℕ) → 0 < n → (n == 0) ≡ false
+not_nothing n h = grind (arith, nat_tests)
+
+unfinished : (cap : ℕ) (held : List ℕ) → 0 < missing cap held → is_dm_head (head_in cap held) ≡ true →
+    answers_for cap held ≡ 4 * length (tokens_held cap held)
+unfinished cap held wanted e = rw (e, not_nothing (missing cap held) wanted) (omega arith)
+
+-- for the tokens that a piece ends, and at the message's end, no more is asked than two answers a byte
+pub piece_paid : (cap : ℕ) (b piece : List ℕ) (e : ℕ) → 0 < missing cap b → e ≤ at_end cap (fed cap b piece) →
+    4 * tokens_ended cap b piece + e + left_of cap (fed cap b piece) ≤ 2 * length piece + left_of cap b
+piece_paid cap b piece e wanted few = by_test (is_dm_head (head_in cap now)) refl
+  where
+    g : Grows b piece (fed cap b piece)
+    g = fed_grows cap b piece
+
+    now : List ℕ
+    now = fed cap b piece
+
+    longer : length now ≡ length b + length g.more
+    longer = ap length g.longer ∙ length-append b g.more
+
+    no_longer : length g.more ≤ length piece
+    no_longer = g.few
+
+    ended : tokens_ended cap b piece ≡ length (tokens_held cap now) - length (tokens_held cap b)
+    ended = refl
+
+    left_now : left_of cap now ≡ 2 * length now - (4 * length (tokens_held cap now) + at_end cap now)
+    left_now = refl
+
+    left_before : left_of cap b ≡ 2 * length b - answers_for cap b
+    left_before = refl
+
+    by_test : (k : Bool) → is_dm_head (head_in cap now) ≡ k →
+        4 * tokens_ended cap b piece + e + left_of cap now ≤ 2 * length piece + left_of cap b
+    by_test false q =
+        let before = no_dm_before cap b g.more (ap (λ (x : List ℕ). is_dm_head (head_in cap x)) (sym g.longer) ∙ q) in
+        let none : length (tokens_held cap now) ≡ 0 = ap length (none_held cap now q) in
+        let end : at_end cap now ≡ 0 = rw q refl in
+        let free = no_answers cap b before in
+        omega (arith, few, longer, no_longer, ended, left_now, left_before, none, end, free)
+    by_test true q = by_header (nat_lt (length b) 4) refl
+      where
+        tokens : length (tokens_held cap now) ≡ (length now - 4) / 2
+        tokens = its_tokens cap now q
+
+        long : 4 ≤ length now
+        long = headed cap now q
+
+        by_header : (k : Bool) → nat_lt (length b) 4 ≡ k →
+            4 * tokens_ended cap b piece + e + left_of cap now ≤ 2 * length piece + left_of cap b
+        by_header true f =
+            let before = ap is_dm_head (head_in-short cap b (below_four (length b) f)) in
+            let none : length (tokens_held cap b) ≡ 0 = ap length (none_held cap b before) in
+            let free = no_answers cap b before in
+            omega (arith, few, longer, no_longer, ended, left_now, left_before, tokens, long, none, free, at_end_few cap now)
+        by_header false f =
+            let before : is_dm_head (head_in cap b) ≡ true =
+            ap is_dm_head (sym (head_in-more cap b g.more (not_below_four (length b) f)))
+            ∙ (ap (λ (x : List ℕ). is_dm_head (head_in cap x)) (sym g.longer) ∙ q) in
+            let old = its_tokens cap b before in
+            let paid = unfinished cap b wanted before in
+            omega (arith, few, longer, no_longer, ended, left_now, left_before, tokens, long, old, paid, at_end_few cap now)
+
+-- ---- what the last byte of a piece makes
+
+missing_behind : (cap : ℕ) (held : List ℕ) → nat_lt (length held) 4 ≡ false →
+    missing cap held ≡ missing_of_body (head_in cap held) (drop 4 held)
+unfolding missing
+missing_behind cap held e = rw e refl
+
+body_missing : (head : Head) (n : ℕ) (found : Option ℕ) → n ≡ head.len → cond (is_some found) 0 (head.len - n) ≡ 0
+body_missing head n None e = omega (arith, e)
+body_missing head n (Some place) e = refl
+
+-- nothing is missing of a body that is whole
+whole_missing : (cap : ℕ) (held : List ℕ) → IsWholeBody (head_in cap held) (drop 4 held) → missing cap held ≡ 0
+whole_missing cap held full = by_head (head_in cap held) refl full (nat_lt (length held) 4) refl
+  where
+    by_head : (o : Option Head) → head_in cap held ≡ o → IsWholeBody o (drop 4 held) → (k : Bool) →
+        nat_lt (length held) 4 ≡ k → missing cap held ≡ 0
+    by_head None e h k f = absurd h
+    by_head (Some head) e h true f = absurd
+        (let none : None ≡ Some head = sym (head_in-short cap held (below_four (length held) f)) ∙ e in cc)
+    by_head (Some head) e h false f =
+        missing_behind cap held f
+        ∙ (ap (λ (o : Option Head). missing_of_body o (drop 4 held)) e
+        ∙ body_missing head (length (drop 4 held)) (alien_in head (drop 4 held)) h.1)
+
+-- a table is asked for the end of a message alone, once it is whole
+pub end_paid : (cap : ℕ) (old new : Holding) (step : Step) → Asks cap old new →
+    (step ≡ Bodied → IsWholeBody (head_in cap old.held) (drop 4 old.held)) →
+    (step ≡ Bodied) ⊎ (new.total ≡ old.total) → IsRaised (at_end cap old.held) old.total new.total
+end_paid cap old new step asks full h = ⊎_elim
+    (λ (bodied : step ≡ Bodied). by_kind (is_dm_head (head_in cap old.held)) refl
+    (whole_missing cap old.held (full bodied)))
+    (λ (same : new.total ≡ old.total). raised_none old.total new.total same)
+    h
+  where
+    by_kind : (k : Bool) → is_dm_head (head_in cap old.held) ≡ k → missing cap old.held ≡ 0 →
+        IsRaised (at_end cap old.held) old.total new.total
+    by_kind true e none = subst (λ (n : ℕ). IsRaised n old.total new.total) (sym (ends e none)) asks.raised
+      where
+        ends : is_dm_head (head_in cap old.held) ≡ true → missing cap old.held ≡ 0 → at_end cap old.held ≡ 4
+        ends e none = rw (e, none) refl
+    by_kind false e none = raised_none old.total new.total (asks.no_message e)
+
+held_after_less : (cap : ℕ) (note : Note) (bytes : List ℕ) → left_of cap (held_after note bytes) ≤ left_of cap bytes
+held_after_less cap Notes.Nothing bytes = omega arith
+held_after_less cap (Notes.Frame head Deeds.Relayed) bytes = omega arith
+held_after_less cap (Notes.Frame head Deeds.Dropped) bytes = omega (arith, nothing_left cap)
+held_after_less cap (Notes.Frame head Deeds.Prn) bytes = omega arith
+held_after_less cap (Notes.Frame head (Deeds.Huh place)) bytes = omega arith
+held_after_less cap (Notes.Fault code) bytes = omega arith
+
+-- what is held of a side, before a piece, after it, and after what its last byte made
+pub fed_paid : (side : Side) (a b : Gateway) (mid : Holding) (piece : List ℕ) (note : Note) →
+    let cap = a.state.limits.cap in
+    let now = fed cap (holding a side).held piece in
+    b.state.limits ≡ a.state.limits → 0 < missing cap (holding a side).held →
+    (holding b side).held ≡ held_after note now →
+    IsRaised (4 * tokens_ended cap (holding a side).held piece) (holding a side).total mid.total →
+    IsRaised (at_end cap now) mid.total (holding b side).total → IsPaidBy (length piece) side a b
+fed_paid side a b mid piece note limits wanted held read ended = record {
+  by = read.by + ended.by;
+  few = (let p = read.few in let q = ended.few in
+      let most = piece_paid a.state.limits.cap (holding a side).held piece ended.by wanted q in
+      let less = held_after_less a.state.limits.cap note (fed a.state.limits.cap (holding a side).held piece) in
+      let left : unspent b side
+      ≡ left_of a.state.limits.cap (held_after note (fed a.state.limits.cap (holding a side).held piece)) =
+      ap (λ (l : Limits). left_of l.cap (holding b side).held) limits ∙ ap (left_of a.state.limits.cap) held in
+      omega (arith, p, most, less, left));
+  sum = (let p = read.sum in let q = ended.sum in omega (arith, p, q));
+}
