@@ -37,8 +37,8 @@ holding_both limits from_bot from_server = record {
   state = with_pending (with_pending (in_phase Open L0 (opening limits)) Bot from_bot) Server from_server;
   to_bot = [];
   to_server = [];
-  bot_front = [];
-  server_front = [];
+  bot_parts = [];
+  server_parts = [];
   bot = holds from_bot;
   server = holds from_server;
 }
@@ -57,8 +57,8 @@ answering_bot phase frame to_bot to_server = record {
   state = in_phase phase L0 (opening usual);
   to_bot = to_bot;
   to_server = to_server;
-  bot_front = bytes_of to_bot;
-  server_front = bytes_of to_server;
+  bot_parts = bytes_of to_bot ∷ [];
+  server_parts = bytes_of to_server ∷ [];
   bot = holds frame;
   server = holds [];
 }
@@ -69,8 +69,8 @@ answering_server phase frame to_bot to_server = record {
   state = in_phase phase L0 (opening usual);
   to_bot = to_bot;
   to_server = to_server;
-  bot_front = bytes_of to_bot;
-  server_front = bytes_of to_server;
+  bot_parts = bytes_of to_bot ∷ [];
+  server_parts = bytes_of to_server ∷ [];
   bot = holds [];
   server = holds frame;
 }

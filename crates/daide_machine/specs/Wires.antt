@@ -63,9 +63,9 @@ pub record Gateway : Type 0 where
   -- the frames that wait for each wire, the first perhaps in part
   pub to_bot : List Sent
   pub to_server : List Sent
-  -- what is handed to each wire next: a front of its first frame; empty exactly where none waits
-  pub bot_front : List ℕ
-  pub server_front : List ℕ
+  -- what is left of the first of them, in the parts in which it is handed over
+  pub bot_parts : List (List ℕ)
+  pub server_parts : List (List ℕ)
   pub bot : Holding
   pub server : Holding
 
@@ -73,9 +73,24 @@ abbrev pub waiting : Gateway → Side → List Sent
 waiting g Bot = g.to_bot
 waiting g Server = g.to_server
 
+abbrev pub parts_of : Gateway → Side → List (List ℕ)
+parts_of g Bot = g.bot_parts
+parts_of g Server = g.server_parts
+
+-- the first of these parts of which something is left
+abbrev pub next_part : List (List ℕ) → List ℕ
+next_part [] = []
+next_part ([] ∷ parts) = next_part parts
+next_part ((byte ∷ part) ∷ parts) = byte ∷ part
+
+-- what is left of them after n bytes
+abbrev pub parts_after : ℕ → List (List ℕ) → List (List ℕ)
+parts_after n [] = []
+parts_after n (part ∷ parts) = drop n part ∷ parts_after (n - length part) parts
+
+-- what is handed to a wire next: a front of its first frame; empty exactly where none waits
 abbrev pub front_of : Gateway → Side → List ℕ
-front_of g Bot = g.bot_front
-front_of g Server = g.server_front
+front_of g side = next_part (parts_of g side)
 
 abbrev pub holding : Gateway → Side → Holding
 holding g Bot = g.bot

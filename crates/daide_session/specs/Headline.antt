@@ -23,8 +23,8 @@ untouched limits = record {
   state = opening limits;
   to_bot = [];
   to_server = [];
-  bot_front = [];
-  server_front = [];
+  bot_parts = [];
+  server_parts = [];
   bot = nothing_held;
   server = nothing_held;
 }

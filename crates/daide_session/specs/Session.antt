@@ -42,8 +42,8 @@ gateway_of t stage = record {
   state = state_of t stage;
   to_bot = t.waiting.bot;
   to_server = t.waiting.server;
-  bot_front = t.fronts.bot;
-  server_front = t.fronts.server;
+  bot_parts = t.parts.bot;
+  server_parts = t.parts.server;
   bot = t.sides.bot.holding;
   server = t.sides.server.holding;
 }

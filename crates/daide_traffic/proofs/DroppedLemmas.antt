@@ -1,25 +1,26 @@
 -- The first frame that waits for a wire is gone, and with it the frame that it answered.
 use Rattle.std.proofs.Common.{◌≡◌, ℕ, ◌+◌, ◌<◌, ◌≤◌, Bool, true, false, List, [], ◌∷◌, length, map, Option, Some, None}
-use Rattle.std.proofs.Common.{refl, sym, ap, ◌∙◌, subst, arith, take}
+use Rattle.std.proofs.Common.{refl, sym, ap, ◌∙◌, subst, arith, drop}
 use Rattle.std.specs.Prelude.{is_some, if◌then◌else◌}
 use Rattle.daide_frame.specs.declared.side.Side.{Side}
 use Rattle.daide_frame.specs.declared.side.Side.TheVariants.{Bot, Server}
 use Rattle.daide_reader.specs.declared.verdict.Verdict.{Verdict}
 use Rattle.daide_machine.specs.Events.{other}
-use Rattle.daide_machine.specs.Machine.{Sent}
-use Rattle.daide_machine.specs.Wires.{is_answer}
+use Rattle.daide_machine.specs.Machine.{Sent, destination}
+use Rattle.daide_machine.specs.Wires.{is_answer, parts_after}
 use Rattle.daide_traffic.specs.declared.wire.Waiting.{Waiting}
 use Rattle.daide_traffic.specs.declared.wire.Waiting.TheVariants.{Answer, Em, Fm}
 use Rattle.daide_traffic.specs.Both.{Both, at, put}
-use Rattle.daide_traffic.specs.Inbound.{Begins, Inbound, answer_of, front_after}
-use Rattle.daide_traffic.specs.Fronts.{fresh_front}
+use Rattle.daide_traffic.specs.Inbound.{Begins, Inbound, answer_of, parts_of}
+use Rattle.daide_traffic.specs.Fronts.{AreAnswerParts, AreFresh}
 use Rattle.daide_traffic.specs.Wire.{Queue, first_of, tail_of}
 use Rattle.daide_traffic.specs.Traffic.{Arrival, Fields, IsBegun, IsReleased, IsSound, LetsGo, Traffic, answer_at, answer_mark}
 use Rattle.daide_traffic.specs.Traffic.{answered_by, arrival_of, behind, count_of, end_mark, frame_of, frames_of}
-use Rattle.daide_traffic.specs.Traffic.{front_of, others, pending_by, presence, traffic_of}
+use Rattle.daide_traffic.specs.Traffic.{others, parts_left, pending_by, presence, traffic_of}
 use Rattle.daide_traffic.proofs.AwaitedLemmas.{IsSeen, seen}
 use Rattle.daide_traffic.proofs.BothLemmas.{at_put, both_same, put_all, put_each, put_there}
-use Rattle.daide_traffic.proofs.FrontLemmas.{front_at, waits_at}
+use Rattle.daide_traffic.proofs.FrontLemmas.{parts_at, waits_at}
+use Rattle.daide_traffic.proofs.FrontsKept.{answer_fresh}
 use Rattle.daide_traffic.proofs.MarksLemmas.{Agree, both_frames, least, mark_is, same_begun, same_frames}
 use Rattle.daide_traffic.proofs.SidesLemmas.{IsSameSide}
 
@@ -84,15 +85,17 @@ fresh a (Answer Server ∷ items) full = full Server (omega arith)
 fresh a (Fm ∷ items) full = omega arith
 fresh a (Em code ∷ items) full = omega arith
 
--- a front is of the first frame alone
-same_front : (a b : Both Inbound) (gone : ℕ) (items : List Waiting) →
+-- parts are of the first frame alone
+same_parts : (a b : Both Inbound) (gone : ℕ) (items : List Waiting) →
     ((side : Side) → 0 < count_of (answer_mark side) items → at b side ≡ at a side) →
-    front_of b gone items ≡ front_of a gone items
-same_front a b gone [] h = refl
-same_front a b gone (Answer Bot ∷ items) h = ap (λ (i : Inbound). front_after i gone) (h Bot (omega arith))
-same_front a b gone (Answer Server ∷ items) h = ap (λ (i : Inbound). front_after i gone) (h Server (omega arith))
-same_front a b gone (Fm ∷ items) h = refl
-same_front a b gone (Em code ∷ items) h = refl
+    parts_left b gone items ≡ parts_left a gone items
+same_parts a b gone [] h = refl
+same_parts a b gone (Answer Bot ∷ items) h =
+    ap (λ (i : Inbound). parts_after gone (parts_of i)) (h Bot (omega arith))
+same_parts a b gone (Answer Server ∷ items) h =
+    ap (λ (i : Inbound). parts_after gone (parts_of i)) (h Server (omega arith))
+same_parts a b gone (Fm ∷ items) h = refl
+same_parts a b gone (Em code ∷ items) h = refl
 
 -- ---- what a side is after the first frame is gone
 
@@ -155,21 +158,41 @@ after old new gone one r some = go (is_answer one gone) refl
 
 -- ---- what is left
 
+-- an answer that waits is fresh where nothing of it is gone
+waits_fresh : (x : Inbound) (side to : Side) → presence x.verdict ≡ 1 → length x.header ≡ 4 →
+    ((verdict : Verdict) → x.verdict ≡ Some verdict → to ≡ destination side verdict) →
+    AreAnswerParts side (parts_after 0 (parts_of x))
+    (record { to = to; answers = Some side; bytes = drop 0 (answer_of x) })
+waits_fresh x side to some four aim = by_verdict x.verdict refl some
+  where
+    by_verdict : (o : Option Verdict) → x.verdict ≡ o → presence o ≡ 1 → AreAnswerParts side (parts_after 0 (parts_of x))
+        (record { to = to; answers = Some side; bytes = drop 0 (answer_of x) })
+    by_verdict None e h = absurd (omega (arith, h))
+    by_verdict (Some verdict) e h = answer_fresh x side to verdict e four (aim verdict e)
+
+-- the next frame waits as one of which nothing is gone
 next_first : (b : Both Inbound) (to : Side) (items : List Waiting) →
-    ((side : Side) → 0 < count_of (answer_mark side) items → front_after (at b side) 0 ≡ take 4 (answer_at b side)) →
-    front_of b 0 items ≡ fresh_front (frames_of to (answer_at b) (record { written = 0; items = items }))
-next_first b to [] h = refl
-next_first b to (Fm ∷ items) h = refl
-next_first b to (Em code ∷ items) h = refl
-next_first b to (Answer Bot ∷ items) h = h Bot (omega arith)
-next_first b to (Answer Server ∷ items) h = h Server (omega arith)
+    ((side : Side) → 0 < count_of (answer_mark side) items → presence (at b side).verdict ≡ 1) →
+    ((side : Side) → presence (at b side).verdict ≡ 1 → length (at b side).header ≡ 4) →
+    ((side : Side) (verdict : Verdict) → (at b side).verdict ≡ Some verdict →
+    0 < count_of (answer_mark side) items → to ≡ destination side verdict) →
+    AreFresh (parts_left b 0 items) (frames_of to (answer_at b) (record { written = 0; items = items }))
+next_first b to [] h k aim = refl
+next_first b to (Fm ∷ items) h k aim = refl
+next_first b to (Em code ∷ items) h k aim = refl
+next_first b to (Answer Bot ∷ items) h k aim =
+    waits_fresh b.bot Bot to (h Bot (omega arith)) (k Bot (h Bot (omega arith)))
+    (λ verdict given. aim Bot verdict given (omega arith))
+next_first b to (Answer Server ∷ items) h k aim =
+    waits_fresh b.server Server to (h Server (omega arith)) (k Server (h Server (omega arith)))
+    (λ verdict given. aim Server verdict given (omega arith))
 
 pub record IsLeft (t : Traffic) (n : Fields) (to : Side) : Type 0 where
   pub sound : IsSound n
   pub goes : LetsGo t (traffic_of n)
   pub waiting : (traffic_of n).waiting ≡ put t.waiting to (others (at t.waiting to))
-  pub own_front : at (traffic_of n).fronts to ≡ fresh_front (at (traffic_of n).waiting to)
-  pub other_front : at (traffic_of n).fronts (other to) ≡ at t.fronts (other to)
+  pub own_front : AreFresh (at (traffic_of n).parts to) (at (traffic_of n).waiting to)
+  pub other_front : at (traffic_of n).parts (other to) ≡ at t.parts (other to)
 
 abbrev after_drop : Fields → Both Inbound → Side → Fields
 after_drop f b to = record { sides = b; wires = put f.wires to (tail (at f.wires to)) }
@@ -205,10 +228,23 @@ module _ (f : Fields) (b : Both Inbound) (to : Side) (i : IsSound f)
         let count = (side one).count in
         rw ((side one).stays h) (i.filled one (omega (arith, count, h, least (at f.sides one).verdict)))
 
-    headed : (one : Side) → presence (at b one).verdict ≡ 1 → front_after (at b one) 0 ≡ take 4 (answer_at b one)
+    headed : (one : Side) → presence (at b one).verdict ≡ 1 → length (at b one).header ≡ 4
     headed one h =
         let count = (side one).count in
         rw ((side one).stays h) (i.headed one (omega (arith, count, h, least (at f.sides one).verdict)))
+
+    -- an answer that waits still is that of a side that is as it was
+    aimed : (one wire : Side) (verdict : Verdict) → (at b one).verdict ≡ Some verdict →
+        0 < count_of (answer_mark one) (at (put f.wires to (tail (at f.wires to))) wire).items →
+        wire ≡ destination one verdict
+    aimed one wire verdict given =
+        let was : (at f.sides one).verdict ≡ Some verdict =
+        ap (λ (y : Inbound). y.verdict) (sym ((side one).stays (ap presence given))) ∙ given in
+        put_all (λ (w : Side) (q : Queue). 0 < count_of (answer_mark one) q.items → w ≡ destination one verdict) f.wires
+        to (tail (at f.wires to))
+        (λ some. i.aimed one to verdict was
+        (let few = tail_fewer (answer_mark one) (at f.wires to).items in omega (arith, few, some)))
+        (λ w. i.aimed one w verdict was) wire
 
     left_sound : IsSound (after_drop f b to)
     left_sound = record {
@@ -216,6 +252,7 @@ module _ (f : Fields) (b : Both Inbound) (to : Side) (i : IsSound f)
       same_cap = (side Server).same.cap ∙ i.same_cap ∙ sym (side Bot).same.cap;
       same_rules = (side Server).same.rules ∙ i.same_rules ∙ sym (side Bot).same.rules;
       once = λ one. put_ways f.wires to (tail (at f.wires to)) (answer_mark one) ∙ remain one;
+      aimed = aimed;
       ends = put_all (λ (s : Side) (q : Queue). count_of end_mark q.items ≤ 1) f.wires to (tail (at f.wires to))
           (omega (arith, tail_fewer end_mark (at f.wires to).items, i.ends to)) i.ends;
       filled = filled;
@@ -249,22 +286,25 @@ module _ (f : Fields) (b : Both Inbound) (to : Side) (i : IsSound f)
         now : (one : Side) → IsSeen (after_drop f b to) (traffic_of (after_drop f b to)) one one
         now one = seen left_sound refl refl
 
-    left_front : at (traffic_of (after_drop f b to)).fronts (other to) ≡ at (traffic_of f).fronts (other to)
-    left_front = front_at (after_drop f b to) (other to)
-        ∙ ap (λ (q : Queue). front_of b q.written q.items) (put_there f.wires to (tail (at f.wires to)))
-        ∙ same_front f.sides b (at f.wires (other to)).written (at f.wires (other to)).items there
-        ∙ sym (front_at f (other to))
+    left_front : at (traffic_of (after_drop f b to)).parts (other to) ≡ at (traffic_of f).parts (other to)
+    left_front = parts_at (after_drop f b to) (other to)
+        ∙ ap (λ (q : Queue). parts_left b q.written q.items) (put_there f.wires to (tail (at f.wires to)))
+        ∙ same_parts f.sides b (at f.wires (other to)).written (at f.wires (other to)).items there
+        ∙ sym (parts_at f (other to))
 
     -- the next frame is handed over as one that waits only now
-    own_front : at (traffic_of (after_drop f b to)).fronts to
-        ≡ fresh_front (at (traffic_of (after_drop f b to)).waiting to)
+    own_front : AreFresh (at (traffic_of (after_drop f b to)).parts to) (at (traffic_of (after_drop f b to)).waiting to)
     own_front =
         let q : at (put f.wires to (tail (at f.wires to))) to ≡ tail (at f.wires to) =
         at_put f.wires to (tail (at f.wires to)) in
-        front_at (after_drop f b to) to ∙ ap (λ (p : Queue). front_of b p.written p.items) q
-        ∙ next_first b to (tail_of (at f.wires to).items)
-        (λ one some. headed one (omega (arith, some, remain one, least (at b one).verdict)))
-        ∙ sym (ap fresh_front (waits_at (after_drop f b to) to ∙ ap (frames_of to (answer_at b)) q))
+        subst (λ (ps : List (List ℕ)). AreFresh ps (at (traffic_of (after_drop f b to)).waiting to))
+        (sym (parts_at (after_drop f b to) to ∙ ap (λ (p : Queue). parts_left b p.written p.items) q))
+        (subst (λ (frames : List Sent). AreFresh (parts_left b 0 (tail_of (at f.wires to).items)) frames)
+        (sym (waits_at (after_drop f b to) to ∙ ap (frames_of to (answer_at b)) q))
+        (next_first b to (tail_of (at f.wires to).items)
+        (λ one some. omega (arith, some, remain one, least (at b one).verdict)) headed
+        (λ one verdict given some. aimed one to verdict given
+        (subst (λ (p : Queue). 0 < count_of (answer_mark one) p.items) (sym q) some))))
 
     left : IsLeft (traffic_of f) (after_drop f b to) to
     left = record {

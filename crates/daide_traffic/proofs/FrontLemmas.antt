@@ -1,27 +1,27 @@
 -- What is handed to a wire next is a front of the first frame that waits for it.
-use Rattle.std.proofs.Common.{◌≡◌, ℕ, ◌-◌, ◌≤◌, List, [], ◌∷◌, drop, Some, None}
+use Rattle.std.proofs.Common.{◌≡◌, ℕ, ◌-◌, ◌<◌, ◌≤◌, Bool, true, false, List, [], ◌∷◌, length, drop, Some, None}
 use Rattle.std.proofs.Common.{refl, sym, ap, ◌∙◌, subst, arith, length-drop, append-nil}
+use Rattle.std.specs.Prelude.{nat_lt}
 use Rattle.daide_frame.specs.declared.side.Side.{Side}
 use Rattle.daide_frame.specs.declared.side.Side.TheVariants.{Bot, Server}
 use Rattle.daide_machine.specs.Machine.{em_bytes, fm_bytes}
-use Rattle.daide_machine.specs.Wires.{IsFrontOf, first_len}
+use Rattle.daide_machine.specs.Wires.{IsFrontOf, first_len, next_part, parts_after}
 use Rattle.daide_traffic.specs.declared.wire.Waiting.{Waiting}
 use Rattle.daide_traffic.specs.declared.wire.Waiting.TheVariants.{Answer, Em, Fm}
 use Rattle.daide_traffic.specs.Both.{Both, at}
-use Rattle.daide_traffic.specs.Inbound.{Inbound}
+use Rattle.daide_traffic.specs.Inbound.{Inbound, front_after, front_in, parts_of}
 use Rattle.daide_traffic.specs.Wire.{Queue, first_of}
 use Rattle.daide_traffic.specs.Traffic.{Fields, IsBegun, IsSound, Traffic, answer_at, bytes_in, frames_of, frames_to}
-use Rattle.daide_traffic.specs.Traffic.{front_of}
-use Rattle.daide_traffic.specs.Traffic.{front_to, size_of_first, traffic_of}
-use Rattle.daide_traffic.proofs.PartsLemmas.{front_of_answer}
+use Rattle.daide_traffic.specs.Traffic.{parts_left, parts_to, size_of_first, traffic_of}
+use Rattle.daide_traffic.proofs.PartsLemmas.{front_of_answer, is_below, is_not_below}
 
 pub waits_at : (f : Fields) (to : Side) → at (traffic_of f).waiting to ≡ frames_to f to
 waits_at f Bot = refl
 waits_at f Server = refl
 
-pub front_at : (f : Fields) (to : Side) → at (traffic_of f).fronts to ≡ front_to f to
-front_at f Bot = refl
-front_at f Server = refl
+pub parts_at : (f : Fields) (to : Side) → at (traffic_of f).parts to ≡ parts_to f to
+parts_at f Bot = refl
+parts_at f Server = refl
 
 -- ---- lengths
 
@@ -43,6 +43,50 @@ pub first_len_is : (f : Fields) (to : Side) →
 first_len_is f to = left_of to (answer_at f.sides) (at f.wires to).written (at f.wires to).items
 
 -- ---- fronts
+
+-- what is left of the first frame, or of the part of an answer that is sent now
+abbrev pub front_of : Both Inbound → ℕ → List Waiting → List ℕ
+front_of sides gone [] = []
+front_of sides gone (Answer side ∷ items) = front_after (at sides side) gone
+front_of sides gone (Fm ∷ items) = drop gone fm_bytes
+front_of sides gone (Em code ∷ items) = drop gone (em_bytes code)
+
+next_alone : (part : List ℕ) → part ≡ next_part (part ∷ [])
+next_alone [] = refl
+next_alone (x ∷ part) = refl
+
+next_some : (part : List ℕ) (parts : List (List ℕ)) → 0 < length part → part ≡ next_part (part ∷ parts)
+next_some [] parts h = absurd (omega (arith, h))
+next_some (x ∷ part) parts h = refl
+
+next_none : (part : List ℕ) (parts : List (List ℕ)) → length part ≡ 0 → next_part parts ≡ next_part (part ∷ parts)
+next_none [] parts h = refl
+next_none (x ∷ part) parts h = absurd (omega (arith, h))
+
+-- the part in which a place falls is the next of those that are left
+front_is_next : (parts : List (List ℕ)) (gone : ℕ) → front_in parts gone ≡ next_part (parts_after gone parts)
+front_is_next [] gone = refl
+front_is_next (part ∷ parts) gone =
+    by_place (nat_lt gone (length part)) refl (front_is_next parts (gone - length part))
+  where
+    by_place : (k : Bool) → nat_lt gone (length part) ≡ k →
+        front_in parts (gone - length part) ≡ next_part (parts_after (gone - length part) parts) →
+        front_in (part ∷ parts) gone ≡ next_part (parts_after gone (part ∷ parts))
+    by_place true e later =
+        let here = is_below gone (length part) e in
+        rw e (next_some (drop gone part) (parts_after (gone - length part) parts)
+        (omega (arith, here, length-drop gone part)))
+    by_place false e later =
+        let past = is_not_below gone (length part) e in
+        rw e (later ∙ next_none (drop gone part) (parts_after (gone - length part) parts)
+        (omega (arith, past, length-drop gone part)))
+
+next_left : (sides : Both Inbound) (gone : ℕ) (items : List Waiting) →
+    front_of sides gone items ≡ next_part (parts_left sides gone items)
+next_left sides gone [] = refl
+next_left sides gone (Answer side ∷ items) = front_is_next (parts_of (at sides side)) gone
+next_left sides gone (Fm ∷ items) = next_alone (drop gone fm_bytes)
+next_left sides gone (Em code ∷ items) = next_alone (drop gone (em_bytes code))
 
 front_is : (sides : Both Inbound) (to : Side) (gone : ℕ) (items : List Waiting) → IsBegun (answer_at sides) gone items →
     IsFrontOf (front_of sides gone items) (frames_of to (answer_at sides) (record { written = gone; items = items }))
@@ -77,17 +121,18 @@ front_none sides gone (one ∷ items) e = absurd (cc)
 
 -- what `front` says of the bytes that it hands out, where t is the value that the fields stand for
 pub record IsFrontFor (t : Traffic) (to : Side) (xs : List ℕ) : Type 0 where
-  pub value : xs ≡ at t.fronts to
+  pub value : xs ≡ next_part (at t.parts to)
   pub front : IsFrontOf xs (at t.waiting to)
 
 pub front_for : (f : Fields) (t : Traffic) (to : Side) (q : Queue) (xs : List ℕ) → traffic_of f ≡ t → IsSound f →
     q ≡ at f.wires to → xs ≡ front_of f.sides q.written q.items → IsFrontFor t to xs
 front_for f t to q xs is i wire e =
     subst (λ (v : Traffic). IsFrontFor v to xs) is (record {
-      value = same ∙ sym (front_at f to);
+      value = same ∙ (next_left f.sides (at f.wires to).written (at f.wires to).items
+          ∙ ap next_part (sym (parts_at f to)));
       front = rw (waits_at f to) (subst (λ (ys : List ℕ). IsFrontOf ys (frames_to f to)) (sym same)
           (front_is f.sides to (at f.wires to).written (at f.wires to).items (i.begun to)));
     })
   where
-    same : xs ≡ front_to f to
+    same : xs ≡ front_of f.sides (at f.wires to).written (at f.wires to).items
     same = e ∙ ap (λ (p : Queue). front_of f.sides p.written p.items) wire

@@ -1,5 +1,5 @@
 -- A frame comes to wait for a wire: an answer, an FM or an EM.
-use Rattle.std.proofs.Common.{◌≡◌, ℕ, ◌+◌, ◌<◌, ◌≤◌, false, List, length, take, drop, Option, Some, None}
+use Rattle.std.proofs.Common.{◌≡◌, ℕ, ◌+◌, ◌<◌, ◌≤◌, false, List, length, drop, Option, Some, None}
 use Rattle.std.proofs.Common.{refl, sym, ap, ◌∙◌, subst, arith}
 use Rattle.daide_frame.specs.declared.side.Side.{Side}
 use Rattle.daide_frame.specs.declared.side.Side.TheVariants.{Bot, Server}
@@ -8,10 +8,10 @@ use Rattle.daide_frame.specs.declared.code.Code.{Code}
 use Rattle.daide_frame.specs.Head.{head_bytes}
 use Rattle.daide_reader.specs.declared.verdict.Verdict.{Verdict}
 use Rattle.daide_machine.specs.Answers.{answer_bytes}
-use Rattle.daide_machine.specs.Machine.{IsRight, Sent, question_of}
+use Rattle.daide_machine.specs.Machine.{IsRight, Sent, destination, question_of}
 use Rattle.daide_traffic.specs.declared.wire.Waiting.TheVariants.{Answer}
 use Rattle.daide_traffic.specs.Both.{Both, at, put}
-use Rattle.daide_traffic.specs.Inbound.{Answers, Inbound, answer_of, front_after}
+use Rattle.daide_traffic.specs.Inbound.{Answers, Inbound, answer_of}
 use Rattle.daide_traffic.specs.Wire.{Queue, pushed}
 use Rattle.daide_traffic.specs.Traffic.{Arrival, Fields, IsBegun, IsSound, Traffic, answer_at, answer_mark, bytes_in, count_of}
 use Rattle.daide_traffic.specs.Traffic.{end_mark, end_to, ending_of, frame_of, has_end, noted, pending, posted}
@@ -19,7 +19,7 @@ use Rattle.daide_traffic.specs.Traffic.{presence, traffic_of}
 use Rattle.daide_traffic.proofs.AwaitedLemmas.{IsSeenFree, silent}
 use Rattle.daide_traffic.proofs.BothLemmas.{at_put, put_all}
 use Rattle.daide_traffic.proofs.FrontLemmas.{waits_at}
-use Rattle.daide_traffic.proofs.FrontsKept.{answered_first}
+use Rattle.daide_traffic.proofs.FrontsKept.{answered_header}
 use Rattle.daide_traffic.proofs.MarksLemmas.{agree_put, begun_pushed, count_pushed, same_begun, same_both}
 use Rattle.daide_traffic.proofs.MarksLemmas.{first_pushed}
 use Rattle.daide_traffic.proofs.MarksLemmas.{frames_pushed, least, length_marks, unended, unmarked_pushed}
@@ -52,24 +52,56 @@ replied_begun f side x i free wire =
     same_begun (answer_at f.sides) (answer_at (put f.sides side x)) (at f.wires wire).written (at f.wires wire).items
     (agree_put f.sides side x (at f.wires wire).items (silent f side wire i free)) (i.begun wire)
 
-replied_sound : (f : Fields) (side to : Side) (x : Inbound) → IsSound f → (at f.sides side).verdict ≡ None →
-    IsSameSide (at f.sides side) x → presence x.verdict ≡ 1 → 0 < length (answer_of x) →
-    front_after x 0 ≡ take 4 (answer_of x) → IsSound (record {
+-- the other side's answer waits where it waited
+still_aimed : (f : Fields) (side one to wire : Side) (verdict : Verdict) → IsSound f →
+    (at f.sides side).verdict ≡ None → (at f.sides one).verdict ≡ Some verdict →
+    0 < count_of (answer_mark one) (at (put f.wires to (pushed (at f.wires to) (Answer side))) wire).items →
+    wire ≡ destination one verdict
+still_aimed f Bot Bot to wire verdict i free given some = absurd (let bad = sym free ∙ given in cc)
+still_aimed f Bot Server to wire verdict i free given some = i.aimed Server wire verdict given
+    (subst (λ (n : ℕ). 0 < n) (unmarked_pushed f.wires to wire (answer_mark Server) (Answer Bot) refl) some)
+still_aimed f Server Bot to wire verdict i free given some = i.aimed Bot wire verdict given
+    (subst (λ (n : ℕ). 0 < n) (unmarked_pushed f.wires to wire (answer_mark Bot) (Answer Server) refl) some)
+still_aimed f Server Server to wire verdict i free given some = absurd (let bad = sym free ∙ given in cc)
+
+same_verdict : (side : Side) (o : Option Verdict) (v w : Verdict) → o ≡ Some v → o ≡ Some w →
+    destination side v ≡ destination side w
+same_verdict side o v w e h = ap (destination side) (let same = sym e ∙ h in cc)
+
+-- the answer that comes waits for the wire toward which its verdict sends it
+now_aimed : (f : Fields) (side to wire : Side) (x : Inbound) (verdict given : Verdict) → IsSound f →
+    (at f.sides side).verdict ≡ None → x.verdict ≡ Some verdict → to ≡ destination side verdict →
+    x.verdict ≡ Some given →
+    0 < count_of (answer_mark side) (at (put f.wires to (pushed (at f.wires to) (Answer side))) wire).items →
+    wire ≡ destination side given
+now_aimed f side to wire x verdict given i free its aim same =
+    put_all (λ (w : Side) (q : Queue). 0 < count_of (answer_mark side) q.items → w ≡ destination side given) f.wires to
+    (pushed (at f.wires to) (Answer side)) (λ some. aim ∙ same_verdict side x.verdict verdict given its same)
+    (λ w some. absurd (let none = silent f side w i free in omega (arith, none, some))) wire
+
+replied_sound : (f : Fields) (side to : Side) (x : Inbound) (verdict : Verdict) → IsSound f →
+    (at f.sides side).verdict ≡ None → IsSameSide (at f.sides side) x → x.verdict ≡ Some verdict →
+    to ≡ destination side verdict → 0 < length (answer_of x) → length x.header ≡ 4 → IsSound (record {
       sides = put f.sides side x;
       wires = put f.wires to (pushed (at f.wires to) (Answer side));
     })
-replied_sound f side to x i free same one_more some first = record {
+replied_sound f side to x verdict i free same its aim some four = record {
   its_side = λ one. its_sides f side one x i same;
   same_cap = caps f side x i same;
   same_rules = rules_alike f side x i same;
   once = λ one. count_pushed f.wires to (answer_mark one) (Answer side)
       ∙ ap (λ (n : ℕ). n + answer_mark one (Answer side)) (i.once one)
-      ∙ sym (presence_put f.sides side one x free one_more);
+      ∙ sym (presence_put f.sides side one x free (ap presence its));
+  aimed = λ one wire given. put_all (λ (s : Side) (y : Inbound). y.verdict ≡ Some given →
+      0 < count_of (answer_mark s) (at (put f.wires to (pushed (at f.wires to) (Answer side))) wire).items →
+      wire ≡ destination s given) f.sides side x
+      (now_aimed f side to wire x verdict given i free its aim)
+      (λ s. still_aimed f side s to wire given i free) one;
   ends = λ one. rw (unmarked_pushed f.wires to one end_mark (Answer side) refl) (i.ends one);
   filled = put_all (λ (s : Side) (y : Inbound). presence y.verdict ≡ 1 → 0 < length (answer_of y)) f.sides side x
       (λ _. some) i.filled;
-  headed = put_all (λ (s : Side) (y : Inbound). presence y.verdict ≡ 1 → front_after y 0 ≡ take 4 (answer_of y)) f.sides
-      side x (λ _. first) i.headed;
+  headed = put_all (λ (s : Side) (y : Inbound). presence y.verdict ≡ 1 → length y.header ≡ 4) f.sides side x (λ _. four)
+      i.headed;
   begun = λ one. begun_pushed (answer_at (put f.sides side x)) f.wires to one (Answer side)
       (rw (at_put f.sides side x) some) (replied_begun f side x i free);
 }
@@ -95,13 +127,15 @@ replied_waiting f side to x i free =
 -- the side's frame is answered, and the wires are as they were but for the answer
 pub post_sound : {f : Fields} {t : Traffic} {side one : Side} (to : Side) {head : Head} {verdict : Verdict} {x : Inbound}
     {w : Both Queue} → IsSeenFree f t side one → Answers (at f.sides one) head verdict x →
-    w ≡ put f.wires to (pushed (at f.wires to) (Answer side)) → IsSound (record { sides = put f.sides one x; wires = w })
-post_sound {f} {t} {side} {one} to {head} {verdict} {x} h a wires =
+    w ≡ put f.wires to (pushed (at f.wires to) (Answer side)) → to ≡ destination side verdict →
+    IsSound (record { sides = put f.sides one x; wires = w })
+post_sound {f} {t} {side} {one} to {head} {verdict} {x} h a wires aim =
     subst (λ (v : Both Queue). IsSound (record { sides = put f.sides one x; wires = v }))
     (sym (wires ∙ ap (λ (s : Side). put f.wires to (pushed (at f.wires to) (Answer s))) h.seen.its))
-    (replied_sound f one to x h.seen.sound h.free (record { side = a.side; cap = a.cap; rules = a.rules })
-    (ap presence a.verdict_set) (answer_some (at f.sides one) x head verdict a)
-    (answered_first (at f.sides one) x head verdict a))
+    (replied_sound f one to x verdict h.seen.sound h.free (record { side = a.side; cap = a.cap; rules = a.rules })
+    a.verdict_set (aim ∙ ap (λ (s : Side). destination s verdict) h.seen.its)
+    (answer_some (at f.sides one) x head verdict a)
+    (answered_header (at f.sides one) x head verdict a))
 
 pub post_waiting : {f : Fields} {t : Traffic} {side one : Side} (to : Side) {head : Head} {verdict : Verdict} {x : Inbound}
     {w : Both Queue} → IsSeenFree f t side one → Answers (at f.sides one) head verdict x →
@@ -182,6 +216,9 @@ end_sound f t to code w is i none wires =
       ends = λ one. first_pushed f.wires to one end_mark (ending_of code) (ending_once code)
           (unended_field f t to is none) i.ends;
       filled = i.filled;
+      aimed = λ one wire given same some. i.aimed one wire given same
+          (subst (λ (n : ℕ). 0 < n)
+          (unmarked_pushed f.wires to wire (answer_mark one) (ending_of code) (ending_mark one code)) some);
       headed = i.headed;
       begun = λ one. begun_pushed (answer_at f.sides) f.wires to one (ending_of code)
           (ending_some (answer_at f.sides) code)

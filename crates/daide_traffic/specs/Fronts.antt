@@ -1,37 +1,48 @@
--- What a wire is handed next, after a call that hands nothing to it: so each put of a turn is of the whole front
--- that the session has at that step.
-use Rattle.std.specs.Prelude.{◌≡◌, ℕ, ◌<◌, true, false, List, [], ◌∷◌, length, take, drop, Option, Some, None}
+-- What a wire is handed next, and what behind it, after a call that hands nothing to it: so each put of a turn is of
+-- the whole front that the session has at that step.
+use Rattle.std.specs.Prelude.{◌≡◌, ℕ, true, false, List, [], ◌∷◌, ◌++◌, length, Option, Some, None}
 use Rattle.daide_frame.specs.declared.side.Side.{Side}
-use Rattle.daide_machine.specs.Machine.{Sent}
-use Rattle.daide_machine.specs.Wires.{Gateway, waiting, front_of, no_frame}
+use Rattle.daide_reader.specs.declared.verdict.Verdict.{Verdict}
+use Rattle.daide_machine.specs.Answers.{answer_body}
+use Rattle.daide_machine.specs.Machine.{Sent, destination}
+use Rattle.daide_machine.specs.Wires.{Gateway, waiting, parts_of, no_frame}
 use Rattle.daide_traffic.specs.Both.{at}
+use Rattle.daide_traffic.specs.Inbound.{parts_by}
 use Rattle.daide_traffic.specs.Traffic.{Traffic}
 
--- what is handed over first of a frame that waits only now: of an answer its header, of an end the whole
-abbrev pub first_part : Option Side → List ℕ → List ℕ
-first_part None bytes = bytes
-first_part (Some side) bytes = take 4 bytes
+-- The answer to a side's frame is handed over in the parts that its verdict makes of it: its header, the body that it
+-- answers, and the fixed words round that body. The wire tells whether the verdict relays.
+pub record AreAnswerParts (side : Side) (parts : List (List ℕ)) (frame : Sent) : Type 0 where
+  pub header : List ℕ
+  pub body : List ℕ
+  pub verdict : Verdict
+  pub aimed : frame.to ≡ destination side verdict
+  pub four : length header ≡ 4
+  pub whole : frame.bytes ≡ header ++ answer_body body verdict
+  pub cut : parts ≡ parts_by header body (Some verdict)
 
--- what is handed over first of the first of these frames
-abbrev pub fresh_front : List Sent → List ℕ
-fresh_front [] = []
-fresh_front (frame ∷ frames) = first_part frame.answers frame.bytes
+-- an end is handed over whole
+abbrev pub ArePartsOf : Option Side → List (List ℕ) → Sent → Type 0
+ArePartsOf None parts frame = parts ≡ frame.bytes ∷ []
+ArePartsOf (Some side) parts frame = AreAnswerParts side parts frame
 
--- These frames waited for a wire, of which this was handed next; now those wait, of which that is. Where something
--- waited, the same is handed next; where something waits only now, it is an answer's header, or a whole end.
-pub record IsFrontKept (front : List ℕ) (waited : List Sent) (front_now : List ℕ) (waits : List Sent) : Type 0 where
-  pub same : no_frame waited ≡ false → front_now ≡ front
-  pub fresh : no_frame waited ≡ true → no_frame waits ≡ false → front_now ≡ fresh_front waits
+-- these are the parts of the first of these frames, of which nothing was handed over yet
+abbrev pub AreFresh : List (List ℕ) → List Sent → Type 0
+AreFresh parts [] = parts ≡ []
+AreFresh parts (frame ∷ frames) = ArePartsOf frame.answers parts frame
+
+-- These frames waited for a wire, and these parts of the first; now those wait, and those parts. Where something
+-- waited, the same is handed over; where something waits only now, it is a whole end, or a whole answer in its parts.
+pub record ArePartsKept (parts : List (List ℕ)) (waited : List Sent) (parts_now : List (List ℕ))
+    (waits : List Sent) : Type 0 where
+  pub same : no_frame waited ≡ false → parts_now ≡ parts
+  pub fresh : no_frame waited ≡ true → no_frame waits ≡ false → AreFresh parts_now waits
 
 -- so it is for the wire toward a side
 abbrev pub KeepsFront : Gateway → Side → Gateway → Type 0
-KeepsFront old side new = IsFrontKept (front_of old side) (waiting old side) (front_of new side) (waiting new side)
+KeepsFront old side new = ArePartsKept (parts_of old side) (waiting old side) (parts_of new side) (waiting new side)
 
 -- so it is for both, as traffic stores them
 abbrev pub KeepsFronts : Traffic → Traffic → Type 0
 KeepsFronts old new = (to : Side) →
-    IsFrontKept (at old.fronts to) (at old.waiting to) (at new.fronts to) (at new.waiting to)
-
--- After n bytes of this were taken, which is not all of it, the rest of it is handed over next.
-abbrev pub LeavesRest : ℕ → List ℕ → List ℕ → Type 0
-LeavesRest n front front_now = n < length front → front_now ≡ drop n front
+    ArePartsKept (at old.parts to) (at old.waiting to) (at new.parts to) (at new.waiting to)

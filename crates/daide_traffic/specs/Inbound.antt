@@ -71,9 +71,12 @@ front_in (part ∷ parts) place =
 abbrev pub answer_of : Inbound → List ℕ
 answer_of i = bytes_by i.header (drop 4 i.held) i.verdict
 
+abbrev pub parts_of : Inbound → List (List ℕ)
+parts_of i = parts_by i.header (drop 4 i.held) i.verdict
+
 -- what is sent next of the answer, where so many of its bytes are gone
 abbrev pub front_after : Inbound → ℕ → List ℕ
-front_after i gone = front_in (parts_by i.header (drop 4 i.held) i.verdict) gone
+front_after i gone = front_in (parts_of i) gone
 
 -- ---- what the fields stand for
 

@@ -1,5 +1,5 @@
 -- Both sides' frames, and the frames that wait for the two wires.
-use Rattle.std.specs.Prelude.{◌≡◌, ℕ, ◌+◌, ◌<◌, ◌≤◌, Bool, true, false, ◌||◌, List, [], ◌∷◌, ◌++◌, length, take, drop}
+use Rattle.std.specs.Prelude.{◌≡◌, ℕ, ◌+◌, ◌<◌, ◌≤◌, Bool, true, false, ◌||◌, List, [], ◌∷◌, ◌++◌, length, drop}
 use Rattle.std.specs.Prelude.{map, Option, Some, None, if◌then◌else◌}
 use Rattle.daide_frame.specs.declared.side.Side.{Side}
 use Rattle.daide_frame.specs.declared.side.Side.TheVariants.{Bot, Server}
@@ -9,12 +9,12 @@ use Rattle.daide_grammar.specs.declared.level.Level.{Level}
 use Rattle.daide_grammar.specs.declared.level.Level.TheVariants.{L0}
 use Rattle.daide_reader.specs.declared.verdict.Verdict.{Verdict}
 use Rattle.daide_machine.specs.Events.{other}
-use Rattle.daide_machine.specs.Machine.{Coming, Sent, fm_bytes, em_bytes}
-use Rattle.daide_machine.specs.Wires.{Holding, same_side, is_answer, is_awaited, is_dm_head}
+use Rattle.daide_machine.specs.Machine.{Coming, Sent, destination, fm_bytes, em_bytes}
+use Rattle.daide_machine.specs.Wires.{Holding, same_side, is_answer, is_awaited, is_dm_head, parts_after}
 use Rattle.daide_traffic.specs.declared.wire.Waiting.{Waiting}
 use Rattle.daide_traffic.specs.declared.wire.Waiting.TheVariants.{Answer, Fm, Em}
 use Rattle.daide_traffic.specs.Both.{Both, at, put}
-use Rattle.daide_traffic.specs.Inbound.{Inbound, Rules, Begins, answer_of, front_after}
+use Rattle.daide_traffic.specs.Inbound.{Inbound, Rules, Begins, answer_of, parts_of}
 use Rattle.daide_traffic.specs.Wire.{Queue}
 
 -- what came of a side: the bytes since its last whole frame with the level noted at its last header, and what is
@@ -29,8 +29,8 @@ pub record Traffic : Type 0 where
   pub sides : Both Arrival
   -- the frames that wait for each wire, the first perhaps in part
   pub waiting : Both (List Sent)
-  -- what is handed to each wire next
-  pub fronts : Both (List ℕ)
+  -- what is left of the first frame for each wire, in the parts in which it is handed over
+  pub parts : Both (List (List ℕ))
 
 abbrev pub pending : Traffic → Side → List ℕ
 pending t side = (at t.sides side).coming.pending
@@ -162,15 +162,19 @@ frames_of to answers queue = behind queue.written (map (frame_of to answers) que
 abbrev pub frames_to : Fields → Side → List Sent
 frames_to f to = frames_of to (answer_at f.sides) (at f.wires to)
 
--- what is left of the first frame, or of the part of an answer that is sent now
-abbrev pub front_of : Both Inbound → ℕ → List Waiting → List ℕ
-front_of sides gone [] = []
-front_of sides gone (Answer side ∷ items) = front_after (at sides side) gone
-front_of sides gone (Fm ∷ items) = drop gone fm_bytes
-front_of sides gone (Em code ∷ items) = drop gone (em_bytes code)
+-- a frame in the parts in which it is handed over: an answer in its own, an FM or an EM whole
+abbrev pub parts_in : Both Inbound → Waiting → List (List ℕ)
+parts_in sides (Answer side) = parts_of (at sides side)
+parts_in sides Fm = fm_bytes ∷ []
+parts_in sides (Em code) = em_bytes code ∷ []
 
-abbrev pub front_to : Fields → Side → List ℕ
-front_to f to = front_of f.sides (at f.wires to).written (at f.wires to).items
+-- what is left of the first frame
+abbrev pub parts_left : Both Inbound → ℕ → List Waiting → List (List ℕ)
+parts_left sides gone [] = []
+parts_left sides gone (item ∷ items) = parts_after gone (parts_in sides item)
+
+abbrev pub parts_to : Fields → Side → List (List ℕ)
+parts_to f to = parts_left f.sides (at f.wires to).written (at f.wires to).items
 
 -- while an answer waits, no byte of the next frame came
 abbrev pub pending_by : Option Verdict → List ℕ → List ℕ
@@ -189,7 +193,7 @@ traffic_of f = record {
   rules = f.sides.bot.rules;
   sides = record { bot = arrival_of f.sides.bot; server = arrival_of f.sides.server };
   waiting = record { bot = frames_to f Bot; server = frames_to f Server };
-  fronts = record { bot = front_to f Bot; server = front_to f Server };
+  parts = record { bot = parts_to f Bot; server = parts_to f Server };
 }
 
 -- how often a side's answer waits, and how many frames that are no answers
@@ -216,18 +220,19 @@ abbrev pub IsBegun : (Side → List ℕ) → ℕ → List Waiting → Type 0
 IsBegun answers n [] = n ≡ 0
 IsBegun answers n (item ∷ items) = n < length (bytes_in answers item)
 
--- A side's answer waits once, where the side has one, and nowhere else; at most one frame ends the session on each
--- wire; so at most three wait for a wire.
+-- A side's answer waits once, where the side has one, and nowhere else: for the wire toward which its verdict sends it.
+-- At most one frame ends the session on each wire; so at most three wait for a wire.
 pub record IsSound (f : Fields) : Type 0 where
   pub its_side : (side : Side) → (at f.sides side).side ≡ side
   pub same_cap : f.sides.server.cap ≡ f.sides.bot.cap
   pub same_rules : f.sides.server.rules ≡ f.sides.bot.rules
   pub once : (side : Side) → count_of (answer_mark side) (at f.wires Bot).items
       + count_of (answer_mark side) (at f.wires Server).items ≡ presence (at f.sides side).verdict
+  pub aimed : (side to : Side) (verdict : Verdict) → (at f.sides side).verdict ≡ Some verdict →
+      0 < count_of (answer_mark side) (at f.wires to).items → to ≡ destination side verdict
   pub ends : (to : Side) → count_of end_mark (at f.wires to).items ≤ 1
   pub filled : (side : Side) → presence (at f.sides side).verdict ≡ 1 → 0 < length (answer_at f.sides side)
-  pub headed : (side : Side) → presence (at f.sides side).verdict ≡ 1 →
-      front_after (at f.sides side) 0 ≡ take 4 (answer_at f.sides side)
+  pub headed : (side : Side) → presence (at f.sides side).verdict ≡ 1 → length (at f.sides side).header ≡ 4
   pub begun : (to : Side) → IsBegun (answer_at f.sides) (at f.wires to).written (at f.wires to).items
 
 -- how many bytes the first frame has in all

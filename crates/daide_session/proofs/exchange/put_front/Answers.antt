@@ -7,7 +7,7 @@ use Rattle.daide_session.specs.declared.ports.Put.TheVariants.{Took, Failed}
 use Rattle.daide_session.specs.Record.{Offered, Working}
 use Rattle.daide_session.specs.Turn.{Puts}
 use Rattle.daide_session.proofs.Stretches.{carries_nothing, carries_one}
-use Rattle.daide_session.proofs.TurnLemmas.{front_short, rest_left, no_put, whole_put}
+use Rattle.daide_session.proofs.TurnLemmas.{front_short, no_put, whole_put}
 use Rattle.daide_session.proofs.WorkLemmas.{paid_freed, paid_same}
 use Rattle.daide_session.proofs.exchange.put_front.Goals as goal
 
@@ -38,8 +38,7 @@ returns-in-Took-clause-puts g c =
       whole_put c.args.side (Took c.in-Took.n) front now c.wrote.new.self _ c.front-front.ensures.value
           c.front-front.ensures.front c.is_empty.ensures c.if-is_empty.false c.in-Took.ensures.within (
             c.wrote.ensures.wrote,
-            rest_left c.args.side c.in-Took.n front now c.wrote.new.self c.front-front.ensures.value
-                c.front-front.ensures.front c.wrote.ensures.own_front c.wrote.ensures.next,
+            record { rest = c.wrote.ensures.own_front; next = c.wrote.ensures.next },
             c.wrote.ensures.other_front,
           ),
       paid_freed now c.wrote.new.self (ap (λ (s : SessionState). s.limits) c.wrote.ensures.wrote.same_state)

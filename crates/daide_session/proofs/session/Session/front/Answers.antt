@@ -1,14 +1,14 @@
 use Rattle.std.proofs.Common.{List, sym, ap, ◌∙◌, subst}
 use Rattle.daide_machine.specs.Machine.{Sent}
-use Rattle.daide_machine.specs.Wires.{Gateway, waiting, front_of, IsFrontOf}
-use Rattle.daide_session.proofs.GatewayFronts.{front_at}
+use Rattle.daide_machine.specs.Wires.{Gateway, waiting, front_of, next_part, IsFrontOf}
+use Rattle.daide_session.proofs.GatewayFronts.{parts_at}
 use Rattle.daide_session.proofs.MovesLemmas.{waiting_at}
 use Rattle.daide_session.proofs.session.Session.front.Goals as goal
 
 pub returns-clause-value : goal.returns-clause-value
 returns-clause-value g c =
     c.front.ensures.value
-    ∙ (sym (front_at c.self.inside.traffic c.self.inside.stage c.args.side)
+    ∙ (ap next_part (sym (parts_at c.self.inside.traffic c.self.inside.stage c.args.side))
     ∙ ap (λ (v : Gateway). front_of v c.args.side) c.self.view_is)
 
 pub returns-clause-front : goal.returns-clause-front

@@ -8,4 +8,4 @@ use Rattle.daide_traffic.proofs.traffic.Traffic.lose.Given as goal
 abbrev pub invariant-loop : goal.invariant-loop
 invariant-loop g l =
     IsLosing l.fn.self l.self l.fn.to l.counter
-    × (at l.self.fronts (other l.fn.to) ≡ at l.fn.self.fronts (other l.fn.to))
+    × (at l.self.parts (other l.fn.to) ≡ at l.fn.self.parts (other l.fn.to))
