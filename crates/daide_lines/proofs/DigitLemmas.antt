@@ -1,10 +1,12 @@
 -- Digits are read to the bytes that they stand for.
 use Rattle.std.proofs.Common.{◌≡◌, ℕ, zero, suc, ◌+◌, ◌*◌, ◌%◌, ◌<◌, ◌≤◌, ◌-◌, ◌==◌, ◌&&◌, ◌⊎◌, inl, inr, Bool, true, false, if◌then◌else◌, List, [], ◌∷◌, ◌++◌, length, take, drop, get_or, set, drop-cons, Option, Some, None, Result, Ok, Err, refl, sym, ap, ◌∙◌, subst, arith, add-one, append_assoc}
+use Rattle.std.proofs.Common.{append-nil}
 use Rattle.std.specs.Prelude.{unwrap_or, is_some, slice_range}
 use Rattle.std.proofs.Math.Seq.{take-add}
 use Rattle.std.proofs.lemmas.Bool.{and_parts, cases_eq}
 use Rattle.std.proofs.lemmas.Bool.Decides.{nat_tests}
 use Rattle.std.proofs.lemmas.List.{take_more_set, get_or-set_same, get_or-set_other, take-take, take-append-drop, length-take, length-take-le, length-drop}
+use Rattle.std.proofs.lemmas.List.{take_all, drop_all}
 use Rattle.std.proofs.lemmas.List.Folds.{list_all-append, list_all_more}
 use Rattle.std.specs.List.{list_all}
 use Rattle.hex.specs.Hex.{◌>>=◌, decode_of, decode_pairs, digit_or_error, hex_digit_value, is_hex_digit}
@@ -111,6 +113,13 @@ read_more bytes digits i v less twice so_far here =
     ∙ ap (λ (byte : ℕ). take i bytes ++ byte ∷ bytes_in (drop (2 * (i + 1)) digits)) here
     ∙ ap (λ (rest : List ℕ). take i bytes ++ bytes_in rest) (sym apart)
     ∙ so_far
+
+-- and none is left
+pub all_read : (bytes digits : List ℕ) (i j : ℕ) → length bytes ≤ i → length digits ≤ j →
+    take i bytes ++ bytes_in (drop j digits) ≡ bytes_in digits → bytes ≡ bytes_in digits
+all_read bytes digits i j whole none e =
+    sym (ap (λ (rest : List ℕ). take i bytes ++ bytes_in rest) (drop_all j digits none)
+    ∙ append-nil (take i bytes) ∙ take_all i bytes whole) ∙ e
 
 -- ---- digits that are read together
 

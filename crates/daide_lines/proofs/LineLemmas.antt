@@ -1,14 +1,15 @@
 -- The lines of a log, as they are read.
 use Rattle.std.proofs.Common.{◌≡◌, ℕ, zero, suc, ◌+◌, ◌-◌, ◌<◌, ◌≤◌, Bool, true, false, List, [], ◌∷◌, ◌++◌, length, take, drop}
 use Rattle.std.proofs.Common.{Option, Some, None, Result, Ok, Err, refl, sym, ap, ◌∙◌, subst, arith, ◌⊎◌, inl, inr, append-nil, append_assoc}
-use Rattle.std.proofs.Common.{length-append, length-drop, length-take, get_or, add-one}
+use Rattle.std.proofs.Common.{◌==◌, length-append, length-drop, length-take, get_or, add-one}
 use Rattle.std.proofs.lemmas.List.{drop-take, drop-drop, take-append-drop, length-take-le}
+use Rattle.std.proofs.lemmas.Bool.{eqb-true}
 use Rattle.std.proofs.Math.Seq.{take-append-add, take-length}
 use Rattle.std.specs.Io.KnownBytes.{Consumes, Keeps}
-use Rattle.daide_lines.specs.LogLine.{IsUnbroken, longest_line, most_lines}
+use Rattle.daide_lines.specs.LogLine.{IsUnbroken, longest_line, most_lines, without_cr}
 use Rattle.daide_lines.specs.declared.fault.LogFault.{LogFault}
 use Rattle.daide_lines.specs.declared.fault.LogFault.TheVariants as Faults
-use Rattle.daide_lines.specs.declared.lines.Found.TheVariants.{Last}
+use Rattle.daide_lines.specs.declared.lines.Found.TheVariants.{Line, Last, End}
 use Rattle.daide_lines.specs.Lines.{Reads, Scans, HasMore, IsFound, block_size}
 
 pub unbroken_append : (a b : List ℕ) → IsUnbroken a → IsUnbroken b → IsUnbroken (a ++ b)
@@ -86,6 +87,18 @@ emptied old held now text block after rest turn h s short fits = go s.4
         later zero t k e f = omega arith
         later (suc n) t k e f = let b = k (omega arith) in omega arith
 
+pub begun : (old : Option (List ℕ)) (held text : List ℕ) → text ≡ [] → HasScanned old held old text held 0
+begun old held [] none = record {
+  given = [];
+  consumed = consumes_none old;
+  whole = append-nil held;
+  unbroken = tt;
+  short = omega arith;
+  turns = omega arith;
+  some = λ started. absurd (omega (arith, started));
+}
+begun old held (x ∷ text) none = absurd (cc)
+
 pub scanned_on : (old : Option (List ℕ)) (held : List ℕ) (now : Option (List ℕ)) (text : List ℕ) (turn : ℕ)
     (new : Option (List ℕ)) (block : List ℕ) → HasEmptied old held now text turn → Reads now new block (Ok true) →
     HasScanned old held new text block (turn + 1)
@@ -100,6 +113,24 @@ scanned_on old held now text turn new block h r =
       turns = omega arith;
       some = λ _. r.1;
     }
+
+-- the line's line feed came
+pub found_line : (old : Option (List ℕ)) (held : List ℕ) (now : Option (List ℕ)) (text block after rest line : List ℕ)
+    (turn count : ℕ) → HasScanned old held now text block turn → Scans block text true rest after → count < most_lines →
+    line ≡ without_cr after → IsFound old held count (Ok Line) line now rest
+found_line old held now text block after rest line turn count h s fits same = (
+  after,
+  (
+    h.given,
+    h.consumed,
+    h.whole ∙ ap (λ (l : List ℕ). text ++ l) s.1 ∙ sym (append_assoc text s.0 (10 ∷ rest))
+        ∙ ap (λ (l : List ℕ). l ++ 10 ∷ rest) (sym s.3) ∙ sym (append_assoc after (10 ∷ []) rest),
+  ),
+  subst IsUnbroken (sym s.3) (unbroken_append text s.0 h.unbroken s.2),
+  s.4,
+  fits,
+  same,
+)
 
 -- the line has a byte too many
 pub found_too_long : (old : Option (List ℕ)) (held : List ℕ) (now : Option (List ℕ)) (text block after rest : List ℕ)
@@ -138,6 +169,24 @@ found_last old held now text turn new block count h r some fits = (
   fits,
 )
 
+pub none_left : (l : List ℕ) → (length l == 0) ≡ true → l ≡ []
+none_left [] e = refl
+none_left (x ∷ l) e = let none : length (x ∷ l) ≡ 0 = eqb-true (length (x ∷ l)) 0 e in absurd (omega arith)
+
+-- the log ended behind a line feed
+pub found_end : (old : Option (List ℕ)) (held : List ℕ) (now : Option (List ℕ)) (text : List ℕ) (turn : ℕ)
+    (new : Option (List ℕ)) (block : List ℕ) (count : ℕ) → HasEmptied old held now text turn →
+    Reads now new block (Ok false) → (length text == 0) ≡ true → IsFound old held count (Ok End) text new block
+found_end old held now text turn new block count h r none = (
+  (
+    h.given,
+    subst (Consumes old new) (append-nil h.given) (consumes_more old now new h.given [] h.consumed r.0),
+    h.whole ∙ none_left text none ∙ sym r.1,
+  ),
+  r.1,
+  r.2,
+)
+
 pub failed_read : (old : Option (List ℕ)) (held : List ℕ) (now : Option (List ℕ)) (text : List ℕ) (turn : ℕ)
     (new : Option (List ℕ)) (block : List ℕ) (count : ℕ) (fault : LogFault) → HasEmptied old held now text turn →
     Reads now new block (Err fault) → IsFound old held count (Err fault) text new block
@@ -158,6 +207,16 @@ failed_read old held now text turn new block count Faults.Read h r = (
   h.unbroken,
   h.short,
 )
+
+-- no byte was found behind as many lines as there may be
+pub no_byte : (old : Option (List ℕ)) (held : List ℕ) (count : ℕ) (text : List ℕ) (new : Option (List ℕ))
+    (rest : List ℕ) (fault : LogFault) → HasMore old held (Err fault) new rest → IsFound old held count (Err fault) text new rest
+no_byte old held count text new rest (Faults.BadLine n) h = absurd h
+no_byte old held count text new rest (Faults.LineTooLong n) h = absurd h
+no_byte old held count text new rest Faults.TooManyLines h = absurd h
+no_byte old held count text new rest Faults.Write h = tt
+no_byte old held count text new rest Faults.Memory h = absurd h
+no_byte old held count text new rest Faults.Read h = ([], h.0, h.1, tt, omega arith)
 
 -- what is held where nothing was, and a byte is looked for
 pub more_read : (old new : Option (List ℕ)) (held block : List ℕ) (more : Result Bool LogFault) → held ≡ [] →

@@ -24,7 +24,7 @@ const TOGETHER: usize = 16;
 pub type Text = ArrayVec<u8, TOO_LONG>;
 
 /// What stands next in a log.
-#[derive(Clone, Copy, Debug, PartialEq, Eq)]
+#[derive(Clone, Copy)]
 pub enum Found {
     /// A line, which a line feed ended.
     Line,
@@ -170,10 +170,10 @@ pub fn next_line<R: Read, W: Write>(
 {
     text.clear();
     if count == MOST_LINES {
-        return if has_more(block, page, reader, writer)? {
-            Err(LogFault::TooManyLines)
-        } else {
-            Ok(Found::End)
+        return match has_more(block, page, reader, writer) {
+            Ok(true) => Err(LogFault::TooManyLines),
+            Ok(false) => Ok(Found::End),
+            Err(fault) => Err(fault),
         };
     }
     for _turn in 0..=TOO_LONG {

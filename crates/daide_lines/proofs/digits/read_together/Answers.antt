@@ -1,8 +1,13 @@
-use Rattle.std.proofs.Common.{◌≡◌, ◌+◌, ◌*◌, ◌∙◌, sym, get_or, length-set, arith}
+use Rattle.std.proofs.Common.{◌≡◌, ◌+◌, ◌*◌, ◌∙◌, refl, sym, ap, List, ℕ, get_or, length-set, arith}
+use Rattle.std.proofs.lemmas.List.{take_all}
 use Rattle.std.proofs.lemmas.List.Folds.{list_all_more}
+use Rattle.std.specs.List.{list_all}
 use Rattle.hex.specs.Hex.{is_hex_digit}
-use Rattle.daide_lines.proofs.DigitLemmas.{byte_of, read_more, values_more}
+use Rattle.daide_lines.proofs.DigitLemmas.{all_read, byte_of, read_more, values_more}
 use Rattle.daide_lines.proofs.digits.read_together.Goals as goal
+
+pub loop-j-init : goal.loop-j-init
+loop-j-init c = record { room = refl; all = refl; values = λ _ k below. absurd (omega (arith, below)) }
 
 pub loop-j-preserved : goal.loop-j-preserved
 loop-j-preserved c =
@@ -17,6 +22,9 @@ loop-j-preserved c =
           c.read_digit-is_digit.ensures.value;
     }
 
+pub loop-i-init : goal.loop-i-init
+loop-i-init c = record { same = refl; bytes = λ _. refl }
+
 pub loop-i-preserved : goal.loop-i-preserved
 loop-i-preserved c =
     let digits = c.args.digits.now in
@@ -30,3 +38,14 @@ loop-i-preserved c =
           (byte_of (get_or digits (2 * i) 0) (get_or digits (2 * i + 1) 0) (get_or values (2 * i) 0)
           (get_or values (2 * i + 1) 0) (known (2 * i) (omega arith)) (known (2 * i + 1) (omega arith)));
     }
+
+pub returns-clause-all : goal.returns-clause-all
+returns-clause-all c =
+    c.loop-j.invariant.all
+    ∙ ap (λ (l : List ℕ). list_all is_hex_digit l) (take_all c.loop-j.j c.args.digits.now c.loop-j-test.false)
+
+pub returns-clause-bytes : goal.returns-clause-bytes
+returns-clause-bytes c all =
+    all_read c.loop-i.bytes c.args.digits.now c.loop-i.i (2 * c.loop-i.i)
+    (omega (arith, c.loop-i.invariant.same, c.loop-i-test.false)) (omega (arith, c.requires.twice, c.loop-i-test.false))
+    (c.loop-i.invariant.bytes (returns-clause-all c ∙ all))

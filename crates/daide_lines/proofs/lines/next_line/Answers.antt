@@ -1,15 +1,59 @@
 use Rattle.std.proofs.Common.{arith, rules, ap, sym, ◌∙◌, subst, length, Ok}
+use Rattle.std.specs.Io.KnownBytes.{append_known}
 use Rattle.daide_lines.specs.Lines.{Reads}
-use Rattle.daide_lines.proofs.LineLemmas.{emptied, scanned_on, failed_read, found_last, found_too_long}
-use Rattle.daide_lines.proofs.PageLemmas.{keeps_more}
+use Rattle.daide_lines.proofs.LineLemmas.{begun, emptied, scanned_on, failed_read, no_byte}
+use Rattle.daide_lines.proofs.LineLemmas.{found_end, found_last, found_line, found_too_long}
+use Rattle.daide_lines.proofs.PageLemmas.{keeps_all, keeps_more}
 use Rattle.daide_frame.proofs.FeedingLemmas.{not_empty}
 use Rattle.daide_lines.proofs.lines.next_line.Goals as goal
+
+pub returns-in-Err-clause-found : goal.returns-in-Err-clause-found
+returns-in-Err-clause-found g c =
+    no_byte (g.R.Read.remaining c.args.reader.now) c.args.block.now c.args.count c.clear.new.self.items
+    (g.R.Read.remaining c.has_more.new.reader) c.has_more.new.block c.in-Err.fault c.in-Err.ensures.more
+
+pub loop-turn-init : goal.loop-turn-init
+loop-turn-init g c = (
+  begun (g.R.Read.remaining c.args.reader.now) c.args.block.now c.clear.new.self.items c.clear.ensures,
+  keeps_all (append_known (g.W.Write.contents c.args.writer.now) c.args.page.now.items),
+)
+
+pub returns-then-scan-clause-found : goal.returns-then-scan-clause-found
+returns-then-scan-clause-found g c =
+    found_line (g.R.Read.remaining c.args.reader.now) c.args.block.now (g.R.Read.remaining c.loop-turn.reader)
+    c.loop-turn.text.items c.loop-turn.block c.scan.new.text.items c.scan.new.block c.drop_cr.new.text.items
+    c.loop-turn._turn c.args.count c.loop-turn.invariant.0 c.if-scan.ensures (omega arith) c.drop_cr.ensures
+
+pub returns-then-scan-clause-kept : goal.returns-then-scan-clause-kept
+returns-then-scan-clause-kept g c = c.loop-turn.invariant.1
 
 pub returns-then-len-eq-TOO_LONG-clause-found : goal.returns-then-len-eq-TOO_LONG-clause-found
 returns-then-len-eq-TOO_LONG-clause-found g c =
     found_too_long (g.R.Read.remaining c.args.reader.now) c.args.block.now (g.R.Read.remaining c.loop-turn.reader)
     c.loop-turn.text.items c.loop-turn.block c.scan.new.text.items c.scan.new.block c.loop-turn._turn c.args.count
     c.loop-turn.invariant.0 c.if-scan.ensures (sym c.len.ensures.value ∙ c.if-len-eq-TOO_LONG.true) (omega arith)
+
+pub returns-in-Ok-false-read_on-clause-found : goal.returns-in-Ok-false-read_on-clause-found
+returns-in-Ok-false-read_on-clause-found g c =
+    found_end (g.R.Read.remaining c.args.reader.now) c.args.block.now (g.R.Read.remaining c.loop-turn.reader)
+    c.scan.new.text.items c.loop-turn._turn (g.R.Read.remaining c.read_on.new.reader) c.read_on.new.block c.args.count
+    (emptied (g.R.Read.remaining c.args.reader.now) c.args.block.now (g.R.Read.remaining c.loop-turn.reader)
+    c.loop-turn.text.items c.loop-turn.block c.scan.new.text.items c.scan.new.block c.loop-turn._turn
+    c.loop-turn.invariant.0 c.if-scan.ensures (λ e. c.if-len-eq-TOO_LONG.false (c.len.ensures.value ∙ e))
+    (omega (arith, c.len.ensures.value, c.len.ensures.fits)))
+    (search rules) (sym c.is_empty.ensures ∙ c.if-is_empty.true)
+
+pub returns-in-Ok-false-read_on-clause-kept : goal.returns-in-Ok-false-read_on-clause-kept
+returns-in-Ok-false-read_on-clause-kept g c =
+    keeps_more _ _ _ c.loop-turn.invariant.1 c.in-Ok-false-read_on.ensures.kept
+
+pub returns-in-Ok-false-2-clause-kept : goal.returns-in-Ok-false-2-clause-kept
+returns-in-Ok-false-2-clause-kept g c =
+    keeps_more _ _ _ c.loop-turn.invariant.1 c.in-Ok-false-read_on.ensures.kept
+
+pub returns-in-Err-read_on-clause-kept_at_fault : goal.returns-in-Err-read_on-clause-kept_at_fault
+returns-in-Err-read_on-clause-kept_at_fault g c other =
+    keeps_more _ _ _ c.loop-turn.invariant.1 (c.in-Err-read_on.ensures.kept_at_fault other)
 
 pub returns-in-Ok-false-2-clause-found : goal.returns-in-Ok-false-2-clause-found
 returns-in-Ok-false-2-clause-found g c =
@@ -22,17 +66,17 @@ returns-in-Ok-false-2-clause-found g c =
     (search rules)
     (not_empty (length c.scan.new.text.items) (sym c.is_empty.ensures ∙ c.if-is_empty.false)) (omega arith)
 
-pub returns-in-Err-clause-found : goal.returns-in-Err-clause-found
-returns-in-Err-clause-found g c =
+pub returns-in-Err-read_on-clause-found : goal.returns-in-Err-read_on-clause-found
+returns-in-Err-read_on-clause-found g c =
     failed_read (g.R.Read.remaining c.args.reader.now) c.args.block.now (g.R.Read.remaining c.loop-turn.reader)
     c.scan.new.text.items c.loop-turn._turn (g.R.Read.remaining c.read_on.new.reader) c.read_on.new.block c.args.count
-    c.in-Err.fault
+    c.in-Err-read_on.fault
     (emptied (g.R.Read.remaining c.args.reader.now) c.args.block.now (g.R.Read.remaining c.loop-turn.reader)
     c.loop-turn.text.items c.loop-turn.block c.scan.new.text.items c.scan.new.block c.loop-turn._turn
     c.loop-turn.invariant.0 c.if-scan.ensures (λ e. c.if-len-eq-TOO_LONG.false (c.len.ensures.value ∙ e))
     (omega (arith, c.len.ensures.value, c.len.ensures.fits)))
     (subst (Reads (g.R.Read.remaining c.loop-turn.reader) (g.R.Read.remaining c.read_on.new.reader) c.read_on.new.block)
-    c.in-Err.is c.read_on.ensures.read)
+    c.in-Err-read_on.is c.read_on.ensures.read)
 
 pub loop-turn-preserved : goal.loop-turn-preserved
 loop-turn-preserved g c = (
@@ -43,8 +87,8 @@ loop-turn-preserved g c = (
       c.loop-turn.invariant.0 c.if-scan.ensures (λ e. c.if-len-eq-TOO_LONG.false (c.len.ensures.value ∙ e))
       (omega (arith, c.len.ensures.value, c.len.ensures.fits)))
       (subst (Reads (g.R.Read.remaining c.loop-turn.reader) (g.R.Read.remaining c.read_on.new.reader) c.read_on.new.block)
-      (c.in-Ok-true.is ∙ ap Ok c.in-Ok-true.field-0-test) c.read_on.ensures.read),
-  keeps_more _ _ _ c.loop-turn.invariant.1 c.in-Ok-true.ensures.kept,
+      (c.in-Ok-true-read_on.is ∙ ap Ok c.in-Ok-true-read_on.field-0-test) c.read_on.ensures.read),
+  keeps_more _ _ _ c.loop-turn.invariant.1 c.in-Ok-true-read_on.ensures.kept,
 )
 
 pub unreachable-requires : goal.unreachable-requires
