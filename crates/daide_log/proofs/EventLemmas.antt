@@ -1,7 +1,10 @@
 -- The lines of a log behind its head.
 use Rattle.std.proofs.Common.{◌≡◌, ℕ, ◌+◌, ◌-◌, ◌*◌, ◌<◌, ◌≤◌, List, [], ◌++◌, length, get_or, set, Option, Some, None}
 use Rattle.std.proofs.Common.{Result, Ok, Err, refl, sym, ap, ◌∙◌, subst, arith, ◌⊎◌, inl, inr, IfOk, OnOk, ◌≢◌, ◌∷◌, true, false}
-use Rattle.std.specs.Prelude.{All, option_map, replicate}
+use Rattle.std.specs.Prelude.{All, MatchResult, option_map, replicate}
+use Rattle.std.proofs.Common.{IfErr, length-set}
+use Rattle.std.proofs.lemmas.Bool.{cases_eq}
+use Rattle.std.proofs.lemmas.List.{get_or-set_same, get_or-set_other}
 use Rattle.std.proofs.lemmas.List.{length-map, map-set, map-append, replicate_more}
 use Rattle.std.proofs.lemmas.Option.{slice_get-map, slice_get_read}
 use Rattle.std.specs.Io.KnownBytes.{Keeps, Appends}
@@ -78,6 +81,35 @@ nothing_judged version number line items s a is_event = (
 pub on_ok : {A E : Type 0} (r : Result A E) (P Q : Type 0) → OnOk r P → (P → Q) → OnOk r Q
 on_ok (Ok x) P Q h f = f h
 on_ok (Err e) P Q h f = tt
+
+-- a fault of the writer is `Write`, and all else is as it was
+pub as_told : {E : Type 0} (told : Result Unit E) (answer : Result Unit LogFault) (P : Type 0) →
+    MatchResult told (λ _. answer ≡ Ok tt) (λ _. answer ≡ Err Faults.Write) → OnOk told P → OnOk answer P
+as_told (Ok x) answer P e h = subst (λ (r : Result Unit LogFault). OnOk r P) (sym e) h
+as_told (Err f) answer P e h = subst (λ (r : Result Unit LogFault). OnOk r P) (sym e) tt
+
+pub refused_as_write : {E : Type 0} (told : Result Unit E) (answer : Result Unit LogFault) →
+    MatchResult told (λ _. answer ≡ Ok tt) (λ _. answer ≡ Err Faults.Write) →
+    IfErr answer (λ fault. fault ≡ Faults.Write)
+refused_as_write (Ok x) answer e =
+    subst (λ (r : Result Unit LogFault). IfErr r (λ fault. fault ≡ Faults.Write)) (sym e) tt
+refused_as_write (Err f) answer e =
+    subst (λ (r : Result Unit LogFault). IfErr r (λ fault. fault ≡ Faults.Write)) (sym e) refl
+
+-- all sessions are idle, with one that went on
+pub all_idle : (items : List Gateway) (i : ℕ) (new : Gateway) → All IsIdle items → IsIdle new →
+    All IsIdle (set items i new)
+all_idle items i new idle h k d less = go k (cases_eq k i) less
+  where
+    size : length (set items i new) ≡ length items
+    size = length-set items i new
+
+    go : (k : ℕ) → (k ≡ i) ⊎ (k ≡ i → ⊥) → k < length (set items i new) → IsIdle (get_or (set items i new) k d)
+    go k (inl e) less =
+        let fits : i < length items = omega (arith, size, less, e) in
+        subst IsIdle (sym (ap (λ (j : ℕ). get_or (set items i new) j d) e ∙ get_or-set_same items i new d fits)) h
+    go k (inr other) less =
+        subst IsIdle (sym (get_or-set_other items i k new d other)) (idle k d (omega (arith, size, less)))
 
 pub new_is_idle : (limits : Limits) (session : Gateway) → IsNew limits session → IsIdle session
 new_is_idle limits session new = record { bot = new.to_bot; server = new.to_server }

@@ -1,7 +1,10 @@
 -- The head of a log, line by line.
-use Rattle.std.proofs.Common.{◌≡◌, ℕ, ◌+◌, ◌≤◌, Bool, true, false, cond, List, [], Option, Some, None, Result, Ok, Err}
+use Rattle.std.proofs.Common.{◌≡◌, ℕ, zero, suc, ◌+◌, ◌≤◌, Bool, true, false, cond, List, []}
+use Rattle.std.proofs.Common.{◌∷◌, length, Option, Some, None, Result, Ok, Err}
 use Rattle.std.proofs.Common.{refl, sym, ap, subst, arith, ◌≢◌, OnOk, IfErr, IfSome}
-use Rattle.std.specs.Prelude.{option_map, not}
+use Rattle.std.specs.Prelude.{option_map, not, replicate}
+use Rattle.daide_machine.specs.Machine.{SessionState}
+use Rattle.daide_machine.specs.Wires.{Gateway}
 use Rattle.std.proofs.lemmas.Option.{same_Some}
 use Rattle.daide_lines.specs.declared.lines.Found.{Found}
 use Rattle.daide_lines.specs.declared.lines.Found.TheVariants.{Line, Last, End}
@@ -19,7 +22,7 @@ use Rattle.std.specs.Io.KnownBytes.{Keeps}
 use Rattle.daide_lines.specs.LogLine.{most_lines}
 use Rattle.daide_log.specs.Log.{Opening, stage_at, begun}
 use Rattle.daide_lines.specs.Lines.{IsFound}
-use Rattle.daide_log.specs.Progress.{HasRead, HasReadAll, IsStep, IsOpened, IsOpenedBy, IsFaultAfter}
+use Rattle.daide_log.specs.Progress.{HasRead, HasReadAll, IsStep, IsOpened, IsOpenedBy, IsFaultAfter, states_of}
 use Rattle.daide_log.proofs.LogLemmas.{line_read, last_read, end_read, bad_line, bad_last, ends_early, fault_found}
 
 -- where a head is not whole a line of it is to come
@@ -122,6 +125,16 @@ opened_last opened old new held e h = go opened.is_ended e h.0
 pub memory_wanted : (opened : Opened) (old new : Option (List ℕ)) (held : List ℕ) (a b : Option (List ℕ))
     (fault : LogFault) → fault ≡ Faults.Memory → IsOpened opened old new held → Keeps a b → IsFaultAfter old new a b fault
 memory_wanted opened old new held a b fault e h k = subst (IsFaultAfter old new a b) (sym e) (opened, held, h, k)
+
+-- as many sessions were made as the head says
+pub as_many : (sessions : List Gateway) (n : ℕ) (state : SessionState) → states_of sessions ≡ replicate n state →
+    length sessions ≡ n
+as_many [] zero state e = refl
+as_many [] (suc n) state e = absurd (cc)
+as_many (session ∷ sessions) zero state e = absurd (cc)
+as_many (session ∷ sessions) (suc n) state e =
+    let others : states_of sessions ≡ replicate n state = cc in
+    ap suc (as_many sessions n state others)
 
 -- ---- a line
 

@@ -295,3 +295,9 @@ refused_at_last old new a b c first last answer h k e f =
 pub fault_at_once : (old new a b : Option (List ℕ)) (fault : LogFault) → IsFaultOf old new [] fault →
     (fault ≢ Faults.Write → Keeps a b) → IsFaultAfter old new a b fault
 fault_at_once old new a b fault h k = fault_after old new [] a b fault h (λ other. keeps_appends a b (k other))
+
+-- of a failed write nothing is said
+pub write_failed : (old new a b : Option (List ℕ)) (answer : Result Summary LogFault) →
+    IfErr answer (λ fault. fault ≡ Faults.Write) → IfErr answer (λ fault. IsFaultAfter old new a b fault)
+write_failed old new a b (Ok summary) e = tt
+write_failed old new a b (Err fault) e = subst (IsFaultAfter old new a b) (sym e) tt

@@ -1,5 +1,5 @@
 -- How a session goes through the lines of a log.
-use Rattle.std.proofs.Common.{◌≡◌, ℕ, ◌<◌, ◌≤◌, Bool, true, false, List, [], ◌∷◌, ◌++◌, length, Option}
+use Rattle.std.proofs.Common.{◌≡◌, ℕ, ◌+◌, ◌<◌, ◌≤◌, Bool, true, false, List, [], ◌∷◌, ◌++◌, length, Option}
 use Rattle.std.proofs.Common.{Some, None, refl, sym, ap, ◌∙◌, subst, arith, length-append, append-nil, append_assoc}
 use Rattle.std.proofs.Common.{◌⊎◌, inl, inr, cond, OnOk, Result, Ok, Err}
 use Rattle.std.specs.Prelude.{◌||◌}
@@ -257,6 +257,46 @@ all_fed source side bytes rest old new r s a b h end =
     left [] end = (refl, refl)
     left (x ∷ l) (inl e) = absurd (omega arith)
     left (x ∷ l) (inr e) = over_stays new.state (bytes_come side (x ∷ l)) e
+
+-- ---- counts
+
+pub more_by : (m n : ℕ) (r s : Summary) → IsMoreBy m r s → m ≤ n → IsMoreBy n r s
+more_by m n r s h less = record {
+  relayed = omega (arith, h.relayed, less);
+  prn = omega (arith, h.prn, less);
+  huh = omega (arith, h.huh, less);
+  faults = omega (arith, h.faults, less);
+}
+
+pub no_more : (n : ℕ) (s : Summary) → IsMoreBy n s s
+no_more n s = record { relayed = omega arith; prn = omega arith; huh = omega arith; faults = omega arith }
+
+pub less_room : (m n : ℕ) (s : Summary) → HasRoom n s → m ≤ n → HasRoom m s
+less_room m n s h less = record {
+  relayed = omega (arith, h.relayed, less);
+  prn = omega (arith, h.prn, less);
+  huh = omega (arith, h.huh, less);
+  faults = omega (arith, h.faults, less);
+}
+
+-- of all bytes no more was told
+pub fed_few : (source : Source) (side : Side) (bytes rest : List ℕ) (old : SessionState) (new : Gateway) (r s : Summary)
+    (a b : Option (List ℕ)) → HasFed source side bytes rest old new r s a b → IsMoreBy (length bytes) r s
+fed_few source side bytes rest old new r s a b h =
+    more_by (length h.done) (length bytes) r s h.few (omega (arith, ap length h.whole, length-append h.done rest))
+
+-- nor with one move more, while a byte is left
+pub told_few : (source : Source) (side : Side) (bytes rest : List ℕ) (old : SessionState) (new : Gateway)
+    (r s t : Summary) (a b : Option (List ℕ)) → HasFed source side bytes rest old new r s a b → 0 < length rest →
+    IsMoreBy 1 s t → IsMoreBy (length bytes) r t
+told_few source side bytes rest old new r s t a b h some k =
+    let size : length h.done + length rest ≡ length bytes = sym (length-append h.done rest) ∙ ap length h.whole in
+    record {
+      relayed = omega (arith, h.few.relayed, k.relayed, size, some);
+      prn = omega (arith, h.few.prn, k.prn, size, some);
+      huh = omega (arith, h.few.huh, k.huh, size, some);
+      faults = omega (arith, h.few.faults, k.faults, size, some);
+    }
 
 -- ---- an end
 

@@ -14,7 +14,7 @@ use daide_lines::word_line::read_word;
 use daide_words::{Word, Words};
 
 /// Of what a log is.
-#[derive(Clone, Copy, Debug, PartialEq, Eq)]
+#[derive(Clone, Copy)]
 pub enum Version {
     /// Of one session.
     Single,
@@ -23,7 +23,7 @@ pub enum Version {
 }
 
 /// What the head of a log sets.
-#[derive(Clone, Copy, Debug)]
+#[derive(Clone, Copy)]
 pub struct Head {
     /// Of what the log is.
     pub version: Version,
@@ -34,7 +34,7 @@ pub struct Head {
 }
 
 /// How far the head of a log has come.
-#[derive(Clone, Copy, Debug)]
+#[derive(Clone, Copy)]
 pub enum Heading {
     /// No line came.
     Unnamed,

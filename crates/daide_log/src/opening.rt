@@ -21,7 +21,7 @@ use std::alloc::Allocator;
 use std::io::{Read, Write};
 
 /// A head that was read.
-#[derive(Clone, Copy, Debug)]
+#[derive(Clone, Copy)]
 pub struct Opened {
     /// What it sets.
     pub head: Head,
@@ -32,7 +32,7 @@ pub struct Opened {
 }
 
 /// What is known behind a line of the head.
-#[derive(Clone, Copy, Debug)]
+#[derive(Clone, Copy)]
 pub enum Step {
     /// There is a line more.
     More(Heading),

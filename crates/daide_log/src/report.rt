@@ -23,7 +23,7 @@ pub const LINE: usize = 128;
 type Line = ArrayVec<u8, LINE>;
 
 /// What made a move.
-#[derive(Clone, Copy, Debug, PartialEq, Eq)]
+#[derive(Clone, Copy)]
 pub struct Source {
     /// The number of the line, counted from 1.
     pub line: u32,

@@ -7,6 +7,7 @@ use Rattle.daide_lines.specs.Lines.{IsFound}
 use Rattle.daide_log.specs.Progress.{Judges, states_of}
 use Rattle.daide_log.proofs.EventLemmas.{plays_first, plays_more, plays_kept, finished_at_end, finished_at_last, fault_in_play}
 use Rattle.daide_log.proofs.EventLemmas.{bad_in_play, at_end, at_last_line, at_line}
+use Rattle.daide_log.proofs.LogLemmas.{write_failed}
 use Rattle.daide_log.proofs.check.play.Goals as goal
 
 pub lines-init : goal.lines-init
@@ -37,6 +38,13 @@ returns-then-is_end-clause-report g c =
     c.next_line.new.text.items (g.R.Read.remaining c.next_line.new.reader) c.next_line.new.block)
     (at_end c.in-Ok.found (sym c.is_end.ensures ∙ c.if-is_end.true)) c.in-Ok.ensures.found)
     c.finish.ensures.written
+
+pub returns-then-is_end-clause-refused : goal.returns-then-is_end-clause-refused
+returns-then-is_end-clause-refused g c origin _ =
+    write_failed origin (g.R.Read.remaining c.next_line.new.reader)
+    (append_known (g.W.Write.contents c.args.writer.now) c.args.page.now.items)
+    (append_known (g.W.Write.contents c.finish.new.writer) c.finish.new.page.items) c.finish.result
+    c.finish.ensures.refused
 
 pub returns-in-Err-judge_line-clause-refused : goal.returns-in-Err-judge_line-clause-refused
 returns-in-Err-judge_line-clause-refused g c =
@@ -73,6 +81,13 @@ returns-then-is_last-clause-report g c =
     (append_known (g.W.Write.contents c.judge_line.new.writer) c.judge_line.new.page.items))
     c.as_slice.ensures.value c.in_default.ensures.judged)
     c.finish-then-is_last.ensures.written
+
+pub returns-then-is_last-clause-refused : goal.returns-then-is_last-clause-refused
+returns-then-is_last-clause-refused g c origin _ =
+    write_failed origin (g.R.Read.remaining c.next_line.new.reader)
+    (append_known (g.W.Write.contents c.args.writer.now) c.args.page.now.items)
+    (append_known (g.W.Write.contents c.finish-then-is_last.new.writer) c.finish-then-is_last.new.page.items)
+    c.finish-then-is_last.result c.finish-then-is_last.ensures.refused
 
 pub lines-preserved : goal.lines-preserved
 lines-preserved g c =

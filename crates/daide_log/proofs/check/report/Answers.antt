@@ -1,4 +1,4 @@
-use Rattle.std.proofs.Common.{subst, sym, [], List}
+use Rattle.std.proofs.Common.{◌≡◌, subst, sym, [], List, length, arith}
 use Rattle.std.specs.Io.KnownBytes.{append_known}
 use Rattle.daide_machine.specs.Machine.{SessionState, opening}
 use Rattle.daide_session.specs.Session.{limits_with}
@@ -7,9 +7,16 @@ use Rattle.std.specs.Prelude.{replicate}
 use Rattle.daide_log.specs.Log.{Playing}
 use Rattle.daide_log.specs.Progress.{HasRead}
 use Rattle.daide_lines.proofs.PageLemmas.{keeps_appends}
-use Rattle.daide_log.proofs.LogLemmas.{finished, reported_from, refused_from}
-use Rattle.daide_log.proofs.HeadLemmas.{opened_last, opened_more, memory_wanted}
+use Rattle.daide_log.proofs.LogLemmas.{fault_at_once, finished, reported_from, refused_from, write_failed}
+use Rattle.daide_log.proofs.HeadLemmas.{as_many, opened_last, opened_more, memory_wanted}
 use Rattle.daide_log.proofs.check.report.Goals as goal
+
+pub returns-in-Err-clause-refused : goal.returns-in-Err-clause-refused
+returns-in-Err-clause-refused g c =
+    fault_at_once (g.R.Read.remaining c.args.reader.now) (g.R.Read.remaining c.read_head.new.reader)
+    (append_known (g.W.Write.contents c.args.writer.now) c.args.page.now.items)
+    (append_known (g.W.Write.contents c.read_head.new.writer) c.read_head.new.page.items) c.in-Err.fault
+    c.in-Err.ensures.opened c.in-Err.ensures.kept_at_fault
 
 pub returns-in-Err-open_sessions-clause-refused : goal.returns-in-Err-open_sessions-clause-refused
 returns-in-Err-open_sessions-clause-refused g c =
@@ -30,6 +37,29 @@ returns-then-not-opened-clause-report g c =
     (opened_last c.in-Ok.opened (g.R.Read.remaining c.args.reader.now) (g.R.Read.remaining c.read_head.new.reader)
     c.read_head.new.block c.if-not-opened.true c.in-Ok.ensures.opened)
     c.new.ensures (keeps_appends first mid c.in-Ok.ensures.kept) c.finish.ensures.written
+
+pub returns-then-not-opened-clause-refused : goal.returns-then-not-opened-clause-refused
+returns-then-not-opened-clause-refused g c =
+    write_failed (g.R.Read.remaining c.args.reader.now) (g.R.Read.remaining c.read_head.new.reader)
+    (append_known (g.W.Write.contents c.args.writer.now) c.args.page.now.items)
+    (append_known (g.W.Write.contents c.finish.new.writer) c.finish.new.page.items) c.finish.result
+    c.finish.ensures.refused
+
+pub play-requires-clause-some : goal.play-requires-clause-some
+play-requires-clause-some g c =
+    let made = as_many c.in-Ok-open_sessions.sessions.items _ _ c.in-Ok-open_sessions.ensures.begun in
+    omega (arith, made, c.in-Ok.ensures.within.0)
+
+pub play-requires-clause-few : goal.play-requires-clause-few
+play-requires-clause-few g c =
+    let made = as_many c.in-Ok-open_sessions.sessions.items _ _ c.in-Ok-open_sessions.ensures.begun in
+    omega (arith, made, c.in-Ok.ensures.within.1)
+
+pub play-requires-clause-idle : goal.play-requires-clause-idle
+play-requires-clause-idle g c = c.in-Ok-open_sessions.ensures.idle
+
+pub play-requires-clause-lines : goal.play-requires-clause-lines
+play-requires-clause-lines g c = c.in-Ok.ensures.opened.1
 
 pub returns-clause-report : goal.returns-clause-report
 returns-clause-report g c =

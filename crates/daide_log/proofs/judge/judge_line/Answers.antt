@@ -2,7 +2,8 @@ use Rattle.std.proofs.Common.{◌≡◌, ◌∙◌, sym, ap, length, ℕ, arith}
 use Rattle.std.specs.Io.KnownBytes.{append_known}
 use Rattle.daide_log.specs.Log.{event_in}
 use Rattle.daide_lines.specs.Told.{event_told}
-use Rattle.daide_log.proofs.EventLemmas.{session_judged, nothing_judged, on_ok}
+use Rattle.daide_log.proofs.EventLemmas.{all_idle, session_judged, nothing_judged, on_ok}
+use Rattle.daide_log.proofs.PlayLemmas.{no_more}
 use Rattle.daide_log.proofs.judge.judge_line.Goals as goal
 
 pub returns-in-None-clause-judged : goal.returns-in-None-clause-judged
@@ -31,3 +32,13 @@ returns-in-Some-Of-clause-judged g c =
     (ap (λ (n : ℕ). event_in c.args.version n c.args.line.now) count
     ∙ sym (rw c.in-Some-Of.field-0-is at c.in-Some-Of.ensures.told))
     within.0 (omega (arith, within.1, count)) c.index_mut.ensures.value c.source_in-source.ensures)
+
+pub returns-in-None-clause-few : goal.returns-in-None-clause-few
+returns-in-None-clause-few g c = no_more 1024 c.args.summary.now
+
+pub returns-in-Some-Quiet-clause-few : goal.returns-in-Some-Quiet-clause-few
+returns-in-Some-Quiet-clause-few g c = no_more 1024 c.args.summary.now
+
+pub returns-in-Some-Of-clause-idle : goal.returns-in-Some-Of-clause-idle
+returns-in-Some-Of-clause-idle g c =
+    all_idle c.args.sessions.now.items _ c.judge.new.session c.requires.idle c.judge.ensures.idle
