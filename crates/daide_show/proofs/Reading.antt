@@ -1,7 +1,8 @@
 -- What a reader gave, joined over its reads.
 use Rattle.std.proofs.Common.{◌≡◌, ℕ, zero, suc, ◌+◌, ◌<◌, ◌≤◌, take, List, [], ◌∷◌, ◌++◌, length, Option, Some, None}
-use Rattle.std.proofs.Common.{IfSome, append-nil, append_assoc, length-append, arith, ap, sym, ◌∙◌}
+use Rattle.std.proofs.Common.{IfSome, append-nil, append_assoc, length-append, arith, refl, subst, ap, sym, ◌∙◌}
 use Rattle.std.specs.Io.KnownBytes.{Consumes, IsAtEnd}
+use Rattle.daide_show.specs.Input.{IsPartlyRead}
 
 -- a front has no more than was asked for
 pub front_few : (n : ℕ) (l : List ℕ) → length (take n l) ≤ n
@@ -17,6 +18,18 @@ read_more (Some xs) None new input piece given more = absurd given
 read_more (Some xs) (Some ys) None input piece given more = absurd more
 read_more (Some xs) (Some ys) (Some zs) input piece given more =
     given ∙ ap (λ (rest : List ℕ). input ++ rest) more ∙ sym (append_assoc input piece zs)
+
+-- nothing more
+pub none_more : (old now new : Option (List ℕ)) (input : List ℕ) → Consumes old now input → Consumes now new [] →
+    Consumes old new input
+none_more old now new input given more =
+    subst (Consumes old new) (append-nil input) (read_more old now new input [] given more)
+
+-- before the first turn
+pub none_read : (old : Option (List ℕ)) (input : List ℕ) → input ≡ [] → IsPartlyRead old old input 0
+none_read old (x ∷ input) e = absurd (cc)
+none_read None [] e = record { given = tt; fits = omega arith; each_turn = omega arith }
+none_read (Some xs) [] e = record { given = refl; fits = omega arith; each_turn = omega arith }
 
 -- at the end the input is all that there was
 pub whole_input : (old now new : Option (List ℕ)) (input : List ℕ) → Consumes old now input → Consumes now new [] →

@@ -8,7 +8,7 @@ use daide_frame::{Code, Cutter, Head, Step};
 use std::alloc::Allocator;
 
 /// What some bytes are as one frame.
-#[derive(Clone, Copy, Debug, PartialEq, Eq)]
+#[derive(Clone, Copy)]
 pub(super) enum Found {
     /// The frame is wrong; what follows its fault was not looked at.
     Fault(Code),

@@ -1,6 +1,6 @@
 use Rattle.std.proofs.Common.{rules, take, ◌++◌, length-append, arith}
 use Rattle.std.proofs.lemmas.List.{length-take-le}
-use Rattle.daide_show.proofs.Reading.{front_few, read_more, whole_input, longer_input}
+use Rattle.daide_show.proofs.Reading.{front_few, none_more, none_read, read_more, whole_input, longer_input}
 use Rattle.daide_show.specs.Input.{limit}
 use Rattle.daide_show.proofs.frame_view.input.read_input.Goals as goal
 
@@ -46,3 +46,24 @@ returns-then-is_err-clause-read g c =
         length-take-le c.in-Ok.count c.read.new.buf c.in-Ok.ensures.bound.0,
       ),
     )
+
+pub loop-turn-init : goal.loop-turn-init
+loop-turn-init g c =
+    none_read (g.R.Read.remaining c.args.reader.now) c.new-input.result.items c.new-input.ensures.items
+
+pub returns-in-Ok-eq0-clause-fits : goal.returns-in-Ok-eq0-clause-fits
+returns-in-Ok-eq0-clause-fits g c = c.loop-turn.invariant.fits
+
+pub returns-in-Ok-eq0-clause-read : goal.returns-in-Ok-eq0-clause-read
+returns-in-Ok-eq0-clause-read g c = (
+  c.loop-turn.input.items,
+  none_more _ (g.R.Read.remaining c.loop-turn.reader) (g.R.Read.remaining c.read.new.self) c.loop-turn.input.items
+      c.loop-turn.invariant.given (rw c.in-Ok-eq0.field-0-test at c.in-Ok-eq0.ensures.bytes.0),
+  omega (arith, c.loop-turn.invariant.fits),
+)
+
+pub unreachable-requires : goal.unreachable-requires
+unreachable-requires g c =
+    let fits = c.loop-turn.invariant.fits in
+    let turns = c.loop-turn.invariant.each_turn in
+    omega arith
