@@ -164,7 +164,7 @@ impl Peer<'_> {
 
     /// Ends its stream.
     fn ends(&mut self) -> Played {
-        match self.socket.stream.shutdown(Shutdown::Write) {
+        match self.socket.stream.0.shutdown(Shutdown::Write) {
             Ok(()) => Played::Done,
             Err(_) => Played::Wrong,
         }

@@ -156,11 +156,11 @@ impl<'w> Arrival<'w> {
         if !server.place.flags.is_writable.get() {
             return Progress::Pending;
         }
-        match server.stream.take_error() {
+        match server.stream.0.take_error() {
             Ok(None) => {}
             _ => return Progress::Failed,
         }
-        if server.stream.peer_addr().is_ok() {
+        if server.stream.0.peer_addr().is_ok() {
             return Progress::Connected;
         }
         server.place.flags.is_writable.set(false);

@@ -4,13 +4,15 @@
 //! never arrive. So writing is shut down first; what still comes is read and dropped, within bounds; then the socket
 //! is closed.
 
-ghost use Rattle.std.specs.Prelude.{◌≤◌};
+ghost use Rattle.std.specs.Prelude.{◌≡◌, ◌+◌, List, ℕ, length};
+ghost use Rattle.std.specs.Io.KnownBytes.{Consumes};
 
+use crate::connection::Connection;
 use crate::ports::{Socket, SocketPorts};
 use crate::watch::Watch;
 use daide_streams::dropping::Dropping;
+use daide_streams::duplex::Duplex;
 use std::alloc::{AllocError, Global};
-use std::net::Shutdown;
 use std::rt::Clock;
 use std::time::Duration;
 
@@ -28,17 +30,21 @@ pub const MOST_CLOSING: usize = 256;
 
 /// A socket whose writing is shut down.
 #[derive(Drop)]
-struct Closing<'w> {
-    socket: Socket<'w>,
+struct Closing<'w, S: Duplex + Drop = Connection> {
+    socket: Socket<'w, S>,
     /// What may still be dropped of it.
     rest: Dropping,
 }
 
-impl<'w> Closing<'w> {
-    /// Shuts down writing.
-    fn new<R: Clock>(watch: &Watch<R>, socket: Socket<'w>) -> Closing<'w> {
-        // One that is gone already has nothing to shut down.
-        let _ = socket.stream.shutdown(Shutdown::Write);
+impl<'w, S: Duplex + Drop> Closing<'w, S> {
+    /// Shuts down writing. What the stream took, and what it has still to give, is as it was.
+    fn new<R: Clock>(watch: &Watch<R>, socket: Socket<'w, S>) -> Closing<'w, S>
+        ensures rest { result.rest ≡ MOST_DROPPED }
+        ensures taken { S.taken result.socket.stream ≡ S.taken socket.entry.stream }
+        ensures apart { S.to_give result.socket.stream ≡ S.to_give socket.entry.stream }
+    {
+        let mut socket = socket;
+        socket.stream.end_writing();
         socket
             .place
             .flags
@@ -50,9 +56,12 @@ impl<'w> Closing<'w> {
         }
     }
 
-    /// Drops a piece of what came, and answers whether the socket is to be closed now.
+    /// Drops a piece of what came, and answers whether the socket is to be closed now. What it drops is what the stream
+    /// gives next, behind all that its session read, and the stream takes nothing more.
     fn drops_last<R: Clock>(&mut self, watch: &Watch<R>) -> bool
-        ensures { self.new.rest ≤ self.old.rest }
+        ensures dropped { (bytes : List ℕ) × (self.old.rest ≡ self.new.rest + length bytes)
+            × Consumes (S.to_give self.old.socket.stream) (S.to_give self.new.socket.stream) bytes }
+        ensures apart { S.taken self.new.socket.stream ≡ S.taken self.old.socket.stream }
     {
         let Socket { stream, place } = &mut self.socket;
         let is_last = self.rest.drop_piece(stream, &place.flags.is_readable);
@@ -86,8 +95,9 @@ impl<'w> Closings<'w> {
 
     /// Begins to close both sockets of a session.
     pub fn begin_both<R: Clock>(&mut self, watch: &Watch<R>, ports: SocketPorts<'w, R>) {
-        self.begin(watch, ports.bot);
-        self.begin(watch, ports.server);
+        let (bot, server) = ports.into_sockets();
+        self.begin(watch, bot);
+        self.begin(watch, server);
     }
 
     /// Drops a piece of what came on the next few, and closes those that are to be.

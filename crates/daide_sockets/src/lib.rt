@@ -1,8 +1,8 @@
 //! The gateway over sockets: what the loop of a run asks of the system.
 //!
-//! No call waits but the loop's own wait. `watch` is what is known of each socket, `ports` are a session's, `admission`
-//! takes bots and connects them, `closing` closes in stages, `system` puts them together for the loop, and `gateway`
-//! runs it at the addresses of settings.
+//! No call waits but the loop's own wait. `watch` is what is known of each socket, `connection` is a connection as a
+//! stream both ways, `ports` are a session's, `admission` takes bots and connects them, `closing` closes in stages,
+//! `system` puts them together for the loop, and `gateway` runs it at the addresses of settings.
 //!
 //! What the system answers, and what a shared cell holds, no contract can name. So a call that hangs on either is
 //! proved safe and to end, and its doc says what it does; the tests of `daide_gate_tests` show it.
@@ -10,7 +10,9 @@
 
 pub mod admission;
 mod closing;
+pub mod connection;
 pub mod gateway;
+pub mod laws;
 pub mod ports;
 pub mod system;
 pub mod watch;

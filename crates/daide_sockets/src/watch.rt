@@ -101,14 +101,22 @@ impl Flags {
         self.due.set(None);
     }
 
-    /// Notes what the system told of the socket. An end or a failure is told by the next call.
-    fn note(&self, event: &Event) {
-        if event.is_readable() || event.is_read_closed() || event.is_error() {
+    /// Notes that a read may give something, or a write take something. What was noted before stays so.
+    pub fn note(&self, is_readable: bool, is_writable: bool) {
+        if is_readable {
             self.is_readable.set(true);
         }
-        if event.is_writable() || event.is_write_closed() || event.is_error() {
+        if is_writable {
             self.is_writable.set(true);
         }
+    }
+
+    /// Notes what the system told of the socket. An end or a failure is told by the next call.
+    fn note_event(&self, event: &Event) {
+        self.note(
+            event.is_readable() || event.is_read_closed() || event.is_error(),
+            event.is_writable() || event.is_write_closed() || event.is_error(),
+        );
     }
 
     /// The moment that is waited for, of a socket that is there.
@@ -209,7 +217,7 @@ impl<R: Clock> Watch<R> {
             for event in events.iter() {
                 let Token(token) = event.token();
                 if let Some(flags) = self.flags.get(token) {
-                    flags.note(event);
+                    flags.note_event(event);
                     self.has_news.set(true);
                 }
             }

@@ -1,2 +1,3 @@
 mod Reading
 mod Consumed
+pub mod StreamLemmas

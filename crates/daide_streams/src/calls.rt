@@ -5,9 +5,10 @@ ghost use Rattle.std.specs.Io.KnownBytes.{Consumes};
 ghost use Rattle.daide_session.specs.Record.{IsPullWithin, IsPutWithin, pulled_len};
 ghost use Rattle.daide_streams.specs.Taking.{IsTaken};
 
+use crate::duplex::Duplex;
 use daide_session::ports::{Pull, Put};
 use std::cell::Cell;
-use std::io::{ErrorKind, Read, Write};
+use std::io::ErrorKind;
 
 /// How often an interrupted call is made in all.
 const TRIES: usize = 8;
@@ -20,10 +21,11 @@ const MOST_AT_ONCE: usize = 16_384;
 /// What is told as `Got` stands at the buffer's front, and is what the stream gave next; at `Idle`, and at `Ended`, which
 /// is the stream's end or a failure, it gave nothing.
 #[tactic(auto, using(crate::proofs::Consumed::consumes_none, crate::proofs::Consumed::consumes_after, crate::proofs::Consumed::keeps_after))]
-pub fn pull_from<S: Read>(stream: &mut S, is_readable: &Cell<bool>, buffer: &mut [u8]) -> Pull
+pub fn pull_from<S: Duplex>(stream: &mut S, is_readable: &Cell<bool>, buffer: &mut [u8]) -> Pull
     ensures within { IsPullWithin result (length buffer.old) }
     ensures len { length buffer.new ≡ length buffer.old }
-    ensures given { Consumes (S.remaining stream.old) (S.remaining stream.new) (take (pulled_len result) buffer.new) }
+    ensures given { Consumes (S.to_give stream.old) (S.to_give stream.new) (take (pulled_len result) buffer.new) }
+    ensures apart { S.taken stream.new ≡ S.taken stream.old }
     ensures no_room { length buffer.old ≡ 0 → result ≡ Pull.Idle }
 {
     if buffer.is_empty() || !is_readable.get() {
@@ -51,10 +53,11 @@ pub fn pull_from<S: Read>(stream: &mut S, is_readable: &Cell<bool>, buffer: &mut
 ///
 /// What is told as `Took` is exactly what the stream took, the front of these bytes; at `Failed` it took nothing more.
 #[tactic(auto, using(crate::proofs::Consumed::keeps_after))]
-pub fn put_to<S: Write>(stream: &mut S, is_writable: &Cell<bool>, bytes: &[u8]) -> Put
+pub fn put_to<S: Duplex>(stream: &mut S, is_writable: &Cell<bool>, bytes: &[u8]) -> Put
     ensures within { IsPutWithin result (length bytes.now) }
     ensures at_most { IsPutWithin result MOST_AT_ONCE }
-    ensures taken { IsTaken (S.contents stream.old) bytes.now result (S.contents stream.new) }
+    ensures taken { IsTaken (S.taken stream.old) bytes.now result (S.taken stream.new) }
+    ensures apart { S.to_give stream.new ≡ S.to_give stream.old }
 {
     if !is_writable.get() {
         return Put::Took(0);

@@ -1,11 +1,12 @@
 //! What is read and dropped of a stream that closes.
 
-ghost use Rattle.std.specs.Prelude.{◌≡◌, ◌+◌, ◌≤◌, ℕ, true};
+ghost use Rattle.std.specs.Prelude.{◌≡◌, ◌+◌, ◌≤◌, ℕ, List, length, true};
+ghost use Rattle.std.specs.Io.KnownBytes.{Consumes};
 
 use crate::calls::pull_from;
+use crate::duplex::Duplex;
 use daide_session::ports::Pull;
 use std::cell::Cell;
-use std::io::Read;
 use std::marker::Model;
 
 /// The most bytes that are dropped at once.
@@ -31,11 +32,15 @@ impl Dropping {
         Dropping { left: most }
     }
 
-    /// Drops a piece of what came, and answers whether no more is to be dropped.
-    pub fn drop_piece<S: Read>(&mut self, stream: &mut S, is_readable: &Cell<bool>) -> bool
+    /// Drops a piece of what came, and answers whether no more is to be dropped. What it drops is what the stream gives
+    /// next, exactly as much as less may be dropped then.
+    pub fn drop_piece<S: Duplex>(&mut self, stream: &mut S, is_readable: &Cell<bool>) -> bool
         ensures fewer { self.new ≤ self.old }
         ensures piece { self.old ≤ self.new + PIECE }
         ensures all_dropped { self.new ≡ 0 → result ≡ true }
+        ensures dropped { (bytes : List ℕ) × (self.old ≡ self.new + length bytes)
+            × Consumes (S.to_give stream.old) (S.to_give stream.new) bytes }
+        ensures apart { S.taken stream.new ≡ S.taken stream.old }
     {
         let mut piece = [0; PIECE];
         let room = self.left.min(PIECE);

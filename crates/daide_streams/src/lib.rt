@@ -4,4 +4,6 @@
 
 pub mod calls;
 pub mod dropping;
+pub mod duplex;
+pub mod laws;
 pub mod text;

@@ -1,0 +1,59 @@
+-- Metered ports over two streams move these by their answers.
+use Rattle.std.proofs.Common.{◌≡◌, ℕ, List, [], ◌∷◌, Option, Some, None, refl, ap, subst, sym}
+use Rattle.std.specs.Prelude.{Contains}
+use Rattle.daide_machine.specs.Wires.{Gateway}
+use Rattle.daide_session.specs.Record.{PortAnswer, Clock, Pulled, Offered, BecomesBy}
+use Rattle.daide_session.specs.declared.ports.Pull.{Pull}
+use Rattle.daide_session.specs.declared.ports.Put.{Put}
+use Rattle.daide_settings.specs.declared.settings.Settings.{Settings}
+use Rattle.daide_service.specs.declared.system.Connect.TheVariants.{Ready}
+use Rattle.daide_service.specs.Metered.{Meter, Meters, BecomesWhile, IsSpentAnswer}
+use Rattle.daide_service.specs.Serving.{fresh}
+use Rattle.daide_service.specs.Served.{IsServed, run_limits}
+use Rattle.daide_service.specs.System.{SystemAnswer, Connects}
+use Rattle.daide_streams.specs.Streams.{Moves, Exchanges}
+use Rattle.daide_streams.proofs.StreamLemmas.{still_moves, looked_moves, exchanged}
+
+module _ {P S : Type 0} (streams : P → S × S) (to_give taken : S → Option (List ℕ)) where
+  -- what one call does to the streams
+  abbrev pub MovesOf : P → PortAnswer → P → Type 0
+  MovesOf old answer new = Moves to_give taken (streams old) answer (streams new)
+
+  -- spent ports are asked nothing, and say that nothing came and nothing went
+  spent_moves : (answer : PortAnswer) (old new : S × S) → IsSpentAnswer answer → new ≡ old →
+      Moves to_give taken old answer new
+  spent_moves (Clock popped) old new h e = looked_moves to_give taken old new popped e
+  spent_moves (Pulled side buffer pull bytes) old new h e =
+      subst (λ (p : Pull). Moves to_give taken old (Pulled side buffer p bytes) new) (sym h)
+      (still_moves to_give taken old new _ (λ one. refl) (λ one. refl) e)
+  spent_moves (Offered side bytes put) old new h e =
+      subst (λ (p : Put). Moves to_give taken old (Offered side bytes p) new) (sym h)
+      (still_moves to_give taken old new _ (λ one. refl) (λ one. refl) e)
+
+  one_moves : (left : Option ℕ) (old : P) (answer : PortAnswer) (new : P) →
+      BecomesWhile MovesOf left old answer new → MovesOf old answer new
+  one_moves (Some turns) old answer new h = h
+  one_moves None old answer new h = spent_moves answer (streams old) (streams new) h.0 (ap streams h.1)
+
+  all_move : (history : List PortAnswer) (old new : Meter P) → BecomesBy (Meters MovesOf) old history new →
+      BecomesBy (Moves to_give taken) (streams old.ports) history (streams new.ports)
+  all_move [] old new h = ap (λ (meter : Meter P). streams meter.ports) h
+  all_move (answer ∷ history) old new h = (
+    streams h.0.ports,
+    one_moves h.0.left old.ports answer h.0.ports h.1.ports,
+    all_move history h.0 new h.2,
+  )
+
+  pub served_exchange : (settings : Settings) (answers : List (SystemAnswer P)) (now : Gateway × Meter P) →
+      IsServed MovesOf settings answers now →
+      (ports : P) × Contains answers (Connects (Ready ports)) × ((history : List PortAnswer) ×
+      Exchanges to_give taken (run_limits settings) history (streams ports) now.0 (streams now.1.ports))
+  served_exchange settings answers now h = (
+    h.ports,
+    h.came,
+    (
+      h.history,
+      exchanged to_give taken (run_limits settings) h.history (streams h.ports) (streams now.1.ports) now.0
+          (all_move h.history (fresh h.ports settings.turns) now.1 h.answered) h.stands,
+    ),
+  )

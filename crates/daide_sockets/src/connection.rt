@@ -1,0 +1,32 @@
+//! A connection of the system's, as a stream whose two directions are apart.
+
+use daide_streams::duplex::Duplex;
+use mio::net::TcpStream;
+use std::io;
+use std::io::{Read, Write};
+use std::net::Shutdown;
+
+/// A connection of the system's. Of its bytes nothing is known.
+#[derive(Drop)]
+pub struct Connection(pub TcpStream);
+
+impl Duplex for Connection {
+    ghost use Rattle.std.specs.Prelude.{None};
+
+    ghost to_give = { λ _. None };
+
+    ghost taken = { λ _. None };
+
+    fn read(&mut self, buffer: &mut [u8]) -> io::Result<usize> {
+        self.0.read(buffer)
+    }
+
+    fn write(&mut self, bytes: &[u8]) -> io::Result<usize> {
+        self.0.write(bytes)
+    }
+
+    fn end_writing(&mut self) {
+        // One that is gone already has nothing to end.
+        let _ = self.0.shutdown(Shutdown::Write);
+    }
+}

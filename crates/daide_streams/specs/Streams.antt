@@ -1,0 +1,70 @@
+-- What the answers of a session's ports do to the two streams behind them, and what a session exchanges with these.
+use Rattle.std.specs.Prelude.{◌≡◌, ℕ, Bool, true, false, List, [], ◌∷◌, ◌++◌, Option, if◌then◌else◌}
+use Rattle.std.specs.Io.KnownBytes.{Consumes, Appends}
+use Rattle.daide_frame.specs.declared.side.Side.{Side}
+use Rattle.daide_frame.specs.declared.side.Side.TheVariants.{Bot, Server}
+use Rattle.daide_machine.specs.Heard.{bytes_from}
+use Rattle.daide_machine.specs.Machine.{Effect, Limits, Runs, opening}
+use Rattle.daide_machine.specs.Wires.{Gateway, same_side, sent_to, bytes_of, is_closed}
+use Rattle.daide_session.specs.Headline.{IsBoundedAndExact}
+use Rattle.daide_session.specs.Record.{PortAnswer, Clock, Pulled, Offered, BecomesBy, events_of, took, taken}
+use Rattle.daide_session.specs.Record.{has_failed}
+use Rattle.daide_session.specs.declared.ports.Pull.TheVariants.{Got, Idle, Ended}
+
+-- ---- what an answer says of the streams
+
+-- the stream of a side, of the bot's and the server's
+abbrev pub stream_of : {S : Type 0} → S × S → Side → S
+stream_of streams Bot = streams.0
+stream_of streams Server = streams.1
+
+-- the bytes that a side's stream gave with an answer
+abbrev pub gave : Side → PortAnswer → List ℕ
+gave side (Clock popped) = []
+gave side (Pulled from buffer (Got n) bytes) = if same_side from side then bytes else []
+gave side (Pulled from buffer Idle bytes) = []
+gave side (Pulled from buffer Ended bytes) = []
+gave side (Offered to bytes put) = []
+
+-- all that it gave, in order
+abbrev pub given : Side → List PortAnswer → List ℕ
+given side [] = []
+given side (answer ∷ answers) = gave side answer ++ given side answers
+
+-- whether an answer is one of a side's stream
+abbrev pub is_of : Side → PortAnswer → Bool
+is_of side (Clock popped) = false
+is_of side (Pulled from buffer pull bytes) = same_side from side
+is_of side (Offered to bytes put) = same_side to side
+
+-- The streams of the bot and of the server, by the bytes that each has still to give and those that it took: each gave
+-- what the answer says that it gave, and took what the answer says that it took; one that the answer isn't of is as it
+-- was.
+pub record Moves {S : Type 0} (to_give got : S → Option (List ℕ)) (old : S × S) (answer : PortAnswer) (new : S × S) :
+    Type 0 where
+  pub gives : (side : Side) → Consumes (to_give (stream_of old side)) (to_give (stream_of new side)) (gave side answer)
+  pub takes : (side : Side) → Appends (got (stream_of old side)) (got (stream_of new side)) (took side answer)
+  pub apart : (side : Side) → is_of side answer ≡ false → stream_of new side ≡ stream_of old side
+
+-- ---- what a session exchanges with its streams
+
+-- By a history of answers a session that began at two streams stands at two others. The machine went by events whose
+-- bytes of each side are those that the side's stream gave, in order; what each stream took is a front of the machine's
+-- answers to these events, and all of them where the session is closed and the wire didn't fail.
+pub record Exchanges {S : Type 0} (to_give got : S → Option (List ℕ)) (limits : Limits) (history : List PortAnswer)
+    (first : S × S) (g : Gateway) (now : S × S) : Type 0 where
+  pub effects : List Effect
+  pub run : Runs (opening limits) (events_of history) effects g.state
+  pub heard : (side : Side) → Consumes (to_give (stream_of first side)) (to_give (stream_of now side))
+      (bytes_from side (events_of history))
+  pub sent : (side : Side) → Appends (got (stream_of first side)) (got (stream_of now side)) (taken side history)
+  pub front : (side : Side) → (rest : List ℕ) × (bytes_of (sent_to side effects) ≡ taken side history ++ rest)
+  pub whole : is_closed g ≡ true → (side : Side) → has_failed side history ≡ false →
+      Appends (got (stream_of first side)) (got (stream_of now side)) (bytes_of (sent_to side effects))
+
+-- A session that is bounded and exact by what ports over two streams answered exchanges with these streams exactly what
+-- the machine hears and answers.
+abbrev pub SessionsExchange : {S : Type 0} → (S → Option (List ℕ)) → (S → Option (List ℕ)) → Type 0
+SessionsExchange {S} to_give got = (limits : Limits) (history : List PortAnswer) (first now : S × S) (g : Gateway) →
+    BecomesBy (Moves to_give got) first history now → IsBoundedAndExact limits history g →
+    Exchanges to_give got limits history first g now
