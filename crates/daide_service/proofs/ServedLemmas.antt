@@ -2,7 +2,7 @@
 use Rattle.std.proofs.Common.{◌≡◌, ℕ, zero, suc, ◌<◌, ◌≤◌, Bool, true, false, List, [], ◌∷◌, ◌++◌, length, take, set}
 use Rattle.std.proofs.Common.{◌+◌, refl, sym, ap, ◌∙◌, subst, arith, append-nil, length-append}
 use Rattle.std.specs.Prelude.{◌==◌, ◌&&◌, ◌||◌, nat_lt, Some, None, Contains, All, is_none, not}
-use Rattle.std.proofs.lemmas.Bool.{lt-ltb, le-ltb, ltb-true, ltb-false}
+use Rattle.std.proofs.lemmas.Bool.{lt-ltb, le-ltb, ltb-true, ltb-false, eqb-true}
 use Rattle.std.proofs.lemmas.Bool.Decides.{nat_tests}
 use Rattle.std.proofs.lemmas.List.{take_all, length-set}
 use Rattle.std.proofs.lemmas.List.Elements.{All-nil, All-cons, All-head, All-tail, All-same, All-append, All-set}
@@ -32,6 +32,8 @@ use Rattle.daide_service.specs.Serving.{TurnsAll, last_words, farewell, farewell
 use Rattle.daide_service.specs.Serving.{MeetsBy, wait_where, any_stirs, any_moved, Round, Rounds, is_done}
 use Rattle.daide_service.specs.Served.{run_limits, IsSessionOfRun, IsServed, LetsGo, connects, retires, counted}
 use Rattle.daide_service.specs.Served.{IsWholeRun, looks_in}
+use Rattle.daide_service.proofs.CountLemmas.{counted_append, Counts, counts_then, admission_counts, meeting_counts}
+use Rattle.daide_service.proofs.CountLemmas.{removal_counts, wait_counts}
 
 -- ---- what moved
 
@@ -100,13 +102,6 @@ as_many : {a b : ℕ} → a ≡ b → a ≡ b + 0
 as_many {a} {b} e = omega (arith, e)
 
 module _ {P : Type 0} where
-  counted_append : (count : SystemAnswer P → ℕ) (xs ys : List (SystemAnswer P)) →
-      counted count (xs ++ ys) ≡ counted count xs + counted count ys
-  counted_append count [] ys = omega arith
-  counted_append count (x ∷ xs) ys =
-      let rest = counted_append count xs ys in
-      omega (arith, rest)
-
   -- so many came, and so many went
   record Passes (answers : List (SystemAnswer P)) (many few : ℕ) : Type 0 where
     came : counted connects answers ≡ many
@@ -420,6 +415,25 @@ module _ {P : Type 0} (becomes : P → PortAnswer → P → Type 0) (settings : 
     pub held : All (IsServed becomes settings answers) run.hub.places
     pub gone : All (LetsGo becomes settings answers) answers
     pub balance : counted connects answers ≡ length run.hub.places + counted retires answers
+    pub counts : Counts answers (opening {P = P} settings).tally run.tally
+
+  round_counts : (ys : List (SystemAnswer P)) (old new : Serving P) → Round becomes old ys new →
+      Counts ys old.tally new.tally
+  round_counts ys old new r =
+      let moved = any_stirs r.admission || any_stirs r.meeting || any_moved r.turned.places || any_stirs r.removal in
+      let more = accepts new.tally (length new.hub.places) in
+      let last = wait_where {P = P} moved more in
+      let removes : Counts r.removal new.tally new.tally =
+      subst (λ (l : List (SystemAnswer P)). Counts l new.tally new.tally) (sym r.removes.0)
+      (removal_counts r.turned.places new.tally) in
+      subst (λ (l : List (SystemAnswer P)). Counts l old.tally new.tally) (sym r.asked)
+      (counts_then (r.admission ++ r.meeting ++ r.removal) last old.tally new.tally new.tally
+      (counts_then (r.admission ++ r.meeting) r.removal old.tally new.tally new.tally
+      (counts_then r.admission r.meeting old.tally r.came new.tally
+      (admission_counts (accepts old.tally (length old.hub.places)) old.tally r.admission r.came r.admits)
+      (meeting_counts (r.came.connecting == 0) old.hub r.came r.meeting r.met new.tally refl r.meets))
+      removes)
+      (wait_counts moved more new.tally))
 
   round_serves : (xs ys : List (SystemAnswer P)) (old new : Serving P) → Keeps xs old → Round becomes old ys new →
       Keeps (xs ++ ys) new
@@ -443,6 +457,8 @@ module _ {P : Type 0} (becomes : P → PortAnswer → P → Type 0) (settings : 
       let turned = all_turned all r.met r.turned r.turns met.held in
       let hub = r.removes.1 in
       record {
+        counts = counts_then xs ys (opening {P = P} settings).tally old.tally new.tally h.counts
+            (round_counts ys old new r);
         limits = ap (λ (k : Hosting (Meter P)). k.limits) hub ∙ turned.1 ∙ met.limits ∙ h.limits;
         turns = met.turns ∙ come.1 ∙ h.turns;
         held = subst (λ (k : Hosting (Meter P)). All (Served all) k.places) (sym hub)
@@ -489,6 +505,7 @@ module _ {P : Type 0} (becomes : P → PortAnswer → P → Type 0) (settings : 
         held = All-nil (IsServed becomes settings []);
         gone = All-nil (LetsGo becomes settings []);
         balance = refl;
+        counts = record { came = refl; met = refl; sessions = refl };
       }))
   rounds_serve (suc n) answers run h =
       subst (λ (l : List (SystemAnswer P)). Keeps l run) (sym h.3)
@@ -500,6 +517,12 @@ module _ {P : Type 0} (becomes : P → PortAnswer → P → Type 0) (settings : 
   nobody_left true false count e = absurd (cc)
   nobody_left false none count e = absurd (cc)
 
+  all_there : (all none : Bool) (count : ℕ) (accepted sessions connecting : ℕ) → (accepted == sessions) ≡ all →
+      (connecting == 0) ≡ none → (all && (none && (count == 0))) ≡ true → (accepted ≡ sessions) × (connecting ≡ 0)
+  all_there true true count accepted sessions connecting a b e = (eqb-true accepted sessions a, eqb-true connecting 0 b)
+  all_there true false count accepted sessions connecting a b e = absurd (cc)
+  all_there false none count accepted sessions connecting a b e = absurd (cc)
+
   -- rounds until all were served are a whole run
   pub whole_run : (n : ℕ) (answers : List (SystemAnswer P)) (end : Serving P) →
       Rounds becomes n (opening settings) answers end → is_done end ≡ true → IsWholeRun becomes settings answers
@@ -507,9 +530,18 @@ module _ {P : Type 0} (becomes : P → PortAnswer → P → Type 0) (settings : 
       let kept = rounds_serve n answers end rounds in
       let empty = nobody_left (end.tally.accepted == end.tally.sessions) (end.tally.connecting == 0)
       (length end.hub.places) done in
+      let there = all_there (end.tally.accepted == end.tally.sessions) (end.tally.connecting == 0)
+      (length end.hub.places) end.tally.accepted end.tally.sessions end.tally.connecting refl refl done in
       let balance = kept.balance in
+      let came = kept.counts.came in
+      let met = kept.counts.met in
+      let sessions = kept.counts.sessions in
+      let all = there.0 in
+      let none = there.1 in
       record {
         serves = (n, end, rounds, done);
         each = kept.gone;
         none_lost = omega (arith, balance, empty);
+        all_came = omega (arith, came, sessions, all);
+        all_served = omega (arith, balance, empty, met, none);
       }

@@ -60,25 +60,49 @@ retires (Connects connect) = 0
 retires (Notifies notice) = 0
 retires (Waits more) = 0
 
+-- bots that came with an answer, and those whose server couldn't be reached
+abbrev pub comes : {P : Type 0} → SystemAnswer P → ℕ
+comes (Accepts true) = 1
+comes (Accepts false) = 0
+comes (Connects connect) = 0
+comes (Retires ports) = 0
+comes (Notifies notice) = 0
+comes (Waits more) = 0
+
+abbrev pub unreached : {P : Type 0} → SystemAnswer P → ℕ
+unreached (Connects Failed) = 1
+unreached (Connects (Ready ports)) = 0
+unreached (Connects Pending) = 0
+unreached (Accepts came) = 0
+unreached (Retires ports) = 0
+unreached (Notifies notice) = 0
+unreached (Waits more) = 0
+
 abbrev pub counted : {P : Type 0} → (SystemAnswer P → ℕ) → List (SystemAnswer P) → ℕ
 counted count [] = 0
 counted count (answer ∷ answers) = count answer + counted count answers
 
--- After whatever rounds of a run, each session that it holds is served, and so was each whose ports it let go; and of
--- the ports that came it holds all that it didn't let go.
+-- After whatever rounds of a run, each session that it holds is served, and so was each whose ports it let go; of the
+-- ports that came it holds all that it didn't let go; it counts each bot that came; and of these it has on their way to
+-- the server all that weren't joined to it and whose server could be reached.
 abbrev pub SessionsAreServed : {P : Type 0} → (P → PortAnswer → P → Type 0) → Type 0
 SessionsAreServed {P} becomes = (settings : Settings) (n : ℕ) (answers : List (SystemAnswer P)) (run : Serving P) →
     Rounds becomes n (opening settings) answers run →
     All (IsServed becomes settings answers) run.hub.places × All (LetsGo becomes settings answers) answers
     × (counted connects answers ≡ length run.hub.places + counted retires answers)
+    × (run.tally.accepted ≡ counted comes answers)
+    × (counted comes answers ≡ run.tally.connecting + counted connects answers + counted unreached answers)
 
 -- A whole run: rounds until all bots were served and none is held. So each connect that came about was a session, which
--- was served, and let go as a closed one: by all that its ports answered it is bounded and exact, and none is lost.
+-- was served, and let go as a closed one: by all that its ports answered it is bounded and exact, and none is lost. As
+-- many bots came as the settings say, and of each the ports were let go or the server couldn't be reached.
 pub record IsWholeRun {P : Type 0} (becomes : P → PortAnswer → P → Type 0) (settings : Settings)
     (answers : List (SystemAnswer P)) : Type 0 where
   pub serves : Serves becomes settings answers
   pub each : All (LetsGo becomes settings answers) answers
   pub none_lost : counted connects answers ≡ counted retires answers
+  pub all_came : counted comes answers ≡ settings.sessions
+  pub all_served : counted comes answers ≡ counted retires answers + counted unreached answers
 
 -- Whether anything moved in a turn, by which a round waits or doesn't, is told by the turn's answers.
 abbrev pub MovesAreAnswered : {P : Type 0} → (P → PortAnswer → P → Type 0) → Type 0
@@ -91,6 +115,11 @@ looks_in [] = 0
 looks_in (Clock popped ∷ answers) = suc (looks_in answers)
 looks_in (Pulled side buffer pull bytes ∷ answers) = looks_in answers
 looks_in (Offered side bytes put ∷ answers) = looks_in answers
+
+-- A turn looks at the clock once.
+abbrev pub TurnsLookOnce : {P : Type 0} → (P → PortAnswer → P → Type 0) → Type 0
+TurnsLookOnce {P} becomes = (old new : Gateway × Meter P) (turn : IsTurned (Meters becomes) old new) →
+    looks_in turn.exchange.call ≡ 1
 
 -- Ports that had so many turns to come are spent exactly where there were more looks at the clock than that.
 abbrev pub TurnsAreCounted : {P : Type 0} → (P → PortAnswer → P → Type 0) → Type 0

@@ -1,12 +1,13 @@
 //! Laws of runs: functions with no parameters and an empty body, whose contracts are the laws.
 
-ghost use Rattle.daide_service.specs.Served.{SessionsAreServed, MovesAreAnswered, TurnsAreCounted};
+ghost use Rattle.daide_service.specs.Served.{SessionsAreServed, MovesAreAnswered, TurnsAreCounted, TurnsLookOnce};
 
 use daide_session::ports::Ports;
 
 /// After whatever rounds of a run: each session that it holds, and each whose ports it let go, began with ports that a
 /// connect gave, and by all that these answered since it is bounded and exact: the headline. One that was let go is
-/// closed. Of the ports that came it holds all that it didn't let go.
+/// closed. Of the ports that came it holds all that it didn't let go; and of the bots that came it has on their way to the
+/// server all that weren't joined to it and whose server could be reached.
 pub fn sessions_are_served<P: Ports>()
     ensures { SessionsAreServed P.becomes }
 {}
@@ -20,4 +21,9 @@ pub fn moves_are_answered<P: Ports>()
 /// is ended as spent before, and until then its ports are asked and answer for themselves.
 pub fn turns_are_counted<P: Ports>()
     ensures { TurnsAreCounted P.becomes }
+{}
+
+/// A turn looks at the clock once, so a session's looks are its turns.
+pub fn turns_look_once<P: Ports>()
+    ensures { TurnsLookOnce P.becomes }
 {}

@@ -1,4 +1,4 @@
-use Rattle.std.proofs.Common.{List, sym, ◌∙◌, subst}
+use Rattle.std.proofs.Common.{◌≤◌, List, sym, ◌∙◌, subst, arith, rules}
 use Rattle.daide_session.specs.Record.{Tells}
 use Rattle.daide_service.specs.declared.serving.ServeFault.{ServeFault}
 use Rattle.daide_service.specs.System.{SystemAnswer}
@@ -40,3 +40,19 @@ returns-in_err-round-clause-given_up g c =
     c.from_residual-in_err-round.ensures.1 c.in_err-round.ensures.refused
     (runs_out g.P.Ports.becomes c.args.settings.now c.loop-round._round _ _ _ _ _ c.loop-round.invariant
     (sym c.is_done.ensures ∙ c.if-is_done.false) broken.0 broken.1 broken.2)
+
+-- all rounds were made where the loop went to its end
+pub returns-clause-given_up : goal.returns-clause-given_up
+returns-clause-given_up g c =
+    let ran = c.loop-round.invariant in
+    let last = c.loop-round-test.false in
+    let far : c.loop-round._round ≤ 18446744073709551615 = search rules in (
+      ran.0,
+      ran.1,
+      record {
+        n = c.loop-round._round;
+        end = c.loop-round.service;
+        all = omega (arith, last, far);
+        rounds = ran.2;
+      },
+    )
