@@ -1,26 +1,22 @@
 //! The worked examples of what a frame of the bot gets, by their names in docs/EXAMPLES.md: the verdict on the
 //! message, and the bytes on both wires.
 
-use crate::messages::{Example, assert_verdicts};
+use crate::messages::assert_verdicts;
 use crate::script::Act::Says;
-use crate::script::{PIECES, Scene, Script, WIDEST, assert_scenes, script_of, with_gofs};
+use crate::script::{Scene, assert_scenes};
 use daide_frame::side::Side::{Bot, Server};
-use daide_grammar::level::Level::L0;
-use daide_grammar::side::Side2::Client;
-use daide_reader::verdict::Verdict::{Huh, Prn, Relay};
-use daide_tests::rows::holds;
 use std::alloc::Global;
 use std::test::Fail;
 
 /// The messages have their verdicts, and the scenes in an open session send their bytes, whole and byte by byte.
-fn assert_answers(alloc: Global, messages: &[Example], scenes: &[Scene]) -> Result<(), Fail> {
+fn assert_answers(alloc: Global, messages: &str, scenes: &[Scene]) -> Result<(), Fail> {
     assert_verdicts(alloc, messages)?;
     assert_scenes(alloc, true, scenes)
 }
 
 const NAME: &str = "02 00 00 0E  48 0C 40 00 4B 61 40 01 40 00 4B 62 40 01";
 
-const A_NAME: &[Example] = &[(Client, L0, "NME ( 'a' ) ( 'b' )", Relay)];
+const A_NAME: &str = "client 0 | NME ( 'a' ) ( 'b' ) | relay";
 
 const NAMES: &[Scene] = &[
     (&[Says(Bot, NAME)], "", NAME),
@@ -32,7 +28,7 @@ fn relays_a_name_in_any_pieces(rt: HostRuntime) -> Result<(), Fail> {
     assert_answers(rt.alloc(), A_NAME, NAMES)
 }
 
-const OPEN_BRACKET: &[Example] = &[(Client, L0, "GOF (", Prn)];
+const OPEN_BRACKET: &str = "client 0 | GOF ( | prn";
 
 const UNCLOSED: &[Scene] = &[(
     &[Says(Bot, "02 00 00 04  48 03 40 00")],
@@ -45,10 +41,10 @@ fn unclosed_bracket_gets_prn(rt: HostRuntime) -> Result<(), Fail> {
     assert_answers(rt.alloc(), OPEN_BRACKET, UNCLOSED)
 }
 
-const WORD_TOO_MANY: &[Example] = &[
-    (Client, L0, "NME ( 'a' ) GOF", Huh(4)),
-    (Client, L0, "NME ( 'a' ) GOF (", Prn),
-];
+const WORD_TOO_MANY: &str = "\
+client 0 | NME ( 'a' ) GOF | huh 4
+client 0 | NME ( 'a' ) GOF ( | prn
+";
 
 const ERR_BEFORE_IT: &[Scene] = &[(
     &[Says(Bot, "02 00 00 0A  48 0C 40 00 4B 61 40 01 48 03")],
@@ -61,7 +57,7 @@ fn word_after_a_whole_message_gets_err_before_it(rt: HostRuntime) -> Result<(), 
     assert_answers(rt.alloc(), WORD_TOO_MANY, ERR_BEFORE_IT)
 }
 
-const EARLY_END: &[Example] = &[(Client, L0, "NME ( 'a' )", Huh(4))];
+const EARLY_END: &str = "client 0 | NME ( 'a' ) | huh 4";
 
 const ERR_LAST: &[Scene] = &[(
     &[Says(Bot, "02 00 00 08  48 0C 40 00 4B 61 40 01")],
@@ -74,7 +70,7 @@ fn message_that_ends_early_gets_err_last(rt: HostRuntime) -> Result<(), Fail> {
     assert_answers(rt.alloc(), EARLY_END, ERR_LAST)
 }
 
-const NO_WORDS: &[Example] = &[(Client, L0, "", Huh(0))];
+const NO_WORDS: &str = "client 0 |  | huh 0";
 
 const EMPTY: &[Scene] = &[(
     &[Says(Bot, "02 00 00 00")],
@@ -91,10 +87,10 @@ const REPORT: &str = "02 00 00 08  48 13 40 00 40 00 40 01";
 
 const WRAPPED: &str = "02 00 00 0C  48 13 40 00 48 13 40 00 40 00 40 01";
 
-const REPORTS: &[Example] = &[
-    (Client, L0, "PRN ( ( )", Relay),
-    (Client, L0, "PRN ( (", Prn),
-];
+const REPORTS: &str = "\
+client 0 | PRN ( ( ) | relay
+client 0 | PRN ( ( | prn
+";
 
 const REPORTS_GO_ON: &[Scene] = &[
     (&[Says(Bot, REPORT)], "", REPORT),
@@ -108,7 +104,7 @@ fn prn_is_relayed_or_wrapped_once(rt: HostRuntime) -> Result<(), Fail> {
     assert_answers(rt.alloc(), REPORTS, REPORTS_GO_ON)
 }
 
-const KET_BEFORE_BRA: &[Example] = &[(Client, L0, "GOF ) (", Prn)];
+const KET_BEFORE_BRA: &str = "client 0 | GOF ) ( | prn";
 
 const KET_FIRST: &[Scene] = &[(
     &[Says(Bot, "02 00 00 06  48 03 40 01 40 00")],
@@ -121,34 +117,15 @@ fn ket_before_bra_gets_prn(rt: HostRuntime) -> Result<(), Fail> {
     assert_answers(rt.alloc(), KET_BEFORE_BRA, KET_FIRST)
 }
 
-/// In a fresh session, once it is open, a frame of the bot gets this answer, in pieces of so many bytes.
-fn assert_gets(
-    script: &mut Script,
-    alloc: Global,
-    frame: &[u8],
-    want: &[u8],
-    piece: usize,
-) -> Result<(), Fail> {
-    script.open(alloc, piece)?;
-    script.say(Bot, frame, piece)?;
-    holds(script.sent.to(Bot) == want, "the answer")
-}
-
-/// The same, whole and byte by byte.
-fn assert_frame_gets(alloc: Global, frame: &[u8], want: &[u8]) -> Result<(), Fail> {
-    for piece in PIECES {
-        let mut script = script_of(alloc, WIDEST)?;
-        assert_gets(&mut script, alloc, frame, want, *piece)?;
-    }
-    Ok(())
-}
+const LONGEST: &[Scene] = &[(
+    &[Says(Bot, "02 00 FF F6  32763*4803")],
+    "02 00 FF FE  48 06 40 00 48 03 49 02  32762*4803  40 01",
+    "",
+)];
 
 #[test]
 fn longest_body_gets_huh(rt: HostRuntime) -> Result<(), Fail> {
-    let frame = with_gofs(rt.alloc(), "02 00 FF F6", 32_763, &[])?;
-    let front = "02 00 FF FE 48 06 40 00 48 03 49 02";
-    let want = with_gofs(rt.alloc(), front, 32_762, &[0x40, 0x01])?;
-    assert_frame_gets(rt.alloc(), frame.as_slice(), want.as_slice())
+    assert_scenes(rt.alloc(), true, LONGEST)
 }
 
 const FM: &str = "03 00 00 00";
@@ -187,7 +164,7 @@ fn alien_token_faults_at_its_second_byte(rt: HostRuntime) -> Result<(), Fail> {
     assert_scenes(rt.alloc(), true, ALIEN_TOKENS)
 }
 
-const UNLISTED_WORD: &[Example] = &[(Client, L0, "#4a12", Huh(0))];
+const UNLISTED_WORD: &str = "client 0 | #4a12 | huh 0";
 
 const UNLISTED: &[Scene] = &[(
     &[Says(Bot, "02 00 00 02  4A 12")],

@@ -1,14 +1,12 @@
 //! Two sessions in a row, as two gateways stand between a bot and a server, and the deepest messages through one.
 
-use crate::script::Act::Says;
+use crate::script::Act::{Says, Sees};
 use crate::script::{
-    IM, PIECES, RM, Scene, Script, WIDEST, add_words, assert_scenes, bytes_of, script_of,
+    IM, Look, RM, Scene, Script, WIDEST, assert_scenes, assert_scenes_within, bytes_of, script_of,
 };
 use daide_frame::side::Side::{self, Bot, Server};
-use daide_machine::rules::other;
 use daide_session::config::Config;
 use daide_session::session::Session;
-use daide_tests::rows::holds;
 use std::alloc::Global;
 use std::test::Fail;
 
@@ -32,19 +30,18 @@ struct Chain {
 /// What an end says, and what reaches the bot and the server then.
 type Line = (Side, &'static str, &'static str, &'static str);
 
-/// A fresh session of this depth.
-fn script_within(alloc: Global, max_depth: u16) -> Result<Script, Fail> {
-    let config = Config {
+/// The widest limits but for this depth.
+fn config_of(max_depth: u16) -> Config {
+    Config {
         max_depth,
         ..WIDEST
-    };
-    script_of(alloc, config)
+    }
 }
 
 /// Two sessions of these depths.
 fn chain_of(alloc: Global, near_depth: u16, far_depth: u16) -> Result<Chain, Fail> {
-    let near = script_within(alloc, near_depth)?;
-    let far = script_within(alloc, far_depth)?;
+    let near = script_of(alloc, config_of(near_depth))?;
+    let far = script_of(alloc, config_of(far_depth))?;
     Ok(Chain { near, far })
 }
 
@@ -200,127 +197,51 @@ fn prn_to_a_server_is_relayed_by_the_next_and_not_answered(rt: HostRuntime) -> R
     assert_scenes(rt.alloc(), true, PRNS_TO_A_SERVER)
 }
 
-const BRA: &[u8] = &[0x40, 0x00];
+/// As many brackets as may be open go on, of either side, and one more gets HUH: ERR comes before it. 62 brackets make
+/// 125 tokens; one bracket more makes two tokens more, and its answer four beside.
+const AT_62: &[Scene] = &[(
+    &[
+        Says(Bot, "02 00 00 FA  48 06  62*4000  62*4001"),
+        Sees(Look::Sent(Bot, "")),
+        Sees(Look::Sent(Server, "02 00 00 FA  48 06  62*4000  62*4001")),
+        Says(Bot, "02 00 00 FE  48 06  63*4000  63*4001"),
+        Sees(Look::Sent(
+            Bot,
+            "02 00 01 06  48 06 40 00  48 06  62*4000  49 02 40 00  64*4001",
+        )),
+        Sees(Look::Sent(Server, "")),
+        Says(Server, "02 00 00 FA  48 06  62*4000  62*4001"),
+        Sees(Look::Sent(Server, "")),
+        Sees(Look::Sent(Bot, "02 00 00 FA  48 06  62*4000  62*4001")),
+        Says(Server, "02 00 00 FE  48 06  63*4000  63*4001"),
+    ],
+    "",
+    "02 00 01 06  48 06 40 00  48 06  62*4000  49 02 40 00  64*4001",
+)];
 
-const KET: &[u8] = &[0x40, 0x01];
-
-/// A depth; the start of HUH with as many brackets, of HUH with one more, and of the answer to that.
-type Depth = (u16, &'static str, &'static str, &'static str);
-
-/// 62 brackets make 125 tokens, and 254 make 509; one bracket more makes two tokens more, and its answer four beside.
-const DEPTHS: &[Depth] = &[
-    (
-        62,
-        "02 00 00 FA  48 06",
-        "02 00 00 FE  48 06",
-        "02 00 01 06  48 06 40 00  48 06",
-    ),
-    (
-        254,
-        "02 00 03 FA  48 06",
-        "02 00 03 FE  48 06",
-        "02 00 04 06  48 06 40 00  48 06",
-    ),
-];
-
-/// A frame that starts so, and then has so many brackets.
-fn bracketed(alloc: Global, start: &str, brackets: u16) -> Result<Vec<u8>, Fail> {
-    let mut frame = bytes_of(alloc, start)?;
-    add_words(&mut frame, BRA, usize::from(brackets))?;
-    add_words(&mut frame, KET, usize::from(brackets))?;
-    Ok(frame)
-}
-
-/// An answer that starts so, to one bracket more than these: ERR comes before the last BRA.
-fn answer_to_one_more(alloc: Global, start: &str, brackets: u16) -> Result<Vec<u8>, Fail> {
-    let mut frame = bytes_of(alloc, start)?;
-    add_words(&mut frame, BRA, usize::from(brackets))?;
-    frame.extend_from_slice(&[0x49, 0x02, 0x40, 0x00])?;
-    add_words(&mut frame, KET, usize::from(brackets) + 2)?;
-    Ok(frame)
-}
-
-/// A side says a frame, of which these bytes reach that side and those the other.
-fn assert_frame(
-    script: &mut Script,
-    side: Side,
-    frame: &[u8],
-    piece: usize,
-    back: &[u8],
-    onward: &[u8],
-) -> Result<(), Fail> {
-    script.say(side, frame, piece)?;
-    holds(script.sent.to(side) == back, "back")?;
-    holds(script.sent.to(other(side)) == onward, "onward")?;
-    script.forget();
-    Ok(())
-}
-
-/// What is said of a depth: as many brackets as may be open, one more, and the answer to that.
-#[derive(Drop)]
-struct Frames {
-    deep: Vec<u8>,
-    deeper: Vec<u8>,
-    answer: Vec<u8>,
-}
-
-/// The frames of a depth.
-fn frames_of(alloc: Global, depth: &Depth) -> Result<Frames, Fail> {
-    let (most, start, start_of_more, start_of_answer) = depth;
-    let deep = bracketed(alloc, start, *most)?;
-    let deeper = bracketed(alloc, start_of_more, most.saturating_add(1))?;
-    let answer = answer_to_one_more(alloc, start_of_answer, *most)?;
-    Ok(Frames {
-        deep,
-        deeper,
-        answer,
-    })
-}
-
-/// Of a side: as many brackets as may be open go on, and one more gets HUH.
-fn assert_frames(
-    script: &mut Script,
-    side: Side,
-    piece: usize,
-    frames: &Frames,
-) -> Result<(), Fail> {
-    let deep = frames.deep.as_slice();
-    assert_frame(script, side, deep, piece, &[], deep)?;
-    let answer = frames.answer.as_slice();
-    assert_frame(script, side, frames.deeper.as_slice(), piece, answer, &[])
-}
-
-/// Of either side, in a fresh session.
-fn assert_both_sides(
-    script: &mut Script,
-    alloc: Global,
-    piece: usize,
-    frames: &Frames,
-) -> Result<(), Fail> {
-    script.open(alloc, piece)?;
-    assert_frames(script, Bot, piece, frames)?;
-    assert_frames(script, Server, piece, frames)
-}
-
-/// In pieces of so many bytes, in a session of that depth.
-fn assert_pieces(alloc: Global, max_depth: u16, piece: usize, frames: &Frames) -> Result<(), Fail> {
-    let mut script = script_within(alloc, max_depth)?;
-    assert_both_sides(&mut script, alloc, piece, frames)
-}
-
-/// Whole and byte by byte.
-fn assert_depth(alloc: Global, depth: &Depth) -> Result<(), Fail> {
-    let frames = frames_of(alloc, depth)?;
-    for piece in PIECES {
-        assert_pieces(alloc, depth.0, *piece, &frames)?;
-    }
-    Ok(())
-}
+/// The same of 254, which make 509 tokens.
+const AT_254: &[Scene] = &[(
+    &[
+        Says(Bot, "02 00 03 FA  48 06  254*4000  254*4001"),
+        Sees(Look::Sent(Bot, "")),
+        Sees(Look::Sent(Server, "02 00 03 FA  48 06  254*4000  254*4001")),
+        Says(Bot, "02 00 03 FE  48 06  255*4000  255*4001"),
+        Sees(Look::Sent(
+            Bot,
+            "02 00 04 06  48 06 40 00  48 06  254*4000  49 02 40 00  256*4001",
+        )),
+        Sees(Look::Sent(Server, "")),
+        Says(Server, "02 00 03 FA  48 06  254*4000  254*4001"),
+        Sees(Look::Sent(Server, "")),
+        Sees(Look::Sent(Bot, "02 00 03 FA  48 06  254*4000  254*4001")),
+        Says(Server, "02 00 03 FE  48 06  255*4000  255*4001"),
+    ],
+    "",
+    "02 00 04 06  48 06 40 00  48 06  254*4000  49 02 40 00  256*4001",
+)];
 
 #[test]
 fn brackets_go_on_to_the_depth_and_one_more_gets_huh(rt: HostRuntime) -> Result<(), Fail> {
-    for depth in DEPTHS {
-        assert_depth(rt.alloc(), depth)?;
-    }
-    Ok(())
+    assert_scenes_within(rt.alloc(), config_of(62), true, AT_62)?;
+    assert_scenes_within(rt.alloc(), config_of(254), true, AT_254)
 }

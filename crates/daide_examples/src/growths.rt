@@ -1,6 +1,6 @@
 //! How often a session takes memory, and how much: twice, in `new`, a body each.
 
-use crate::script::{IM, PIECES, RM, Sent, bytes_of, with_gofs};
+use crate::script::{IM, PIECES, RM, Sent, bytes_of};
 use crate::words::two_words;
 use daide_frame::side::Side::{self, Bot, Server};
 use daide_session::config::Config;
@@ -93,7 +93,7 @@ fn new_takes_two_bodies_and_no_byte_more(rt: HostRuntime) -> Result<(), Fail> {
     Ok(())
 }
 
-/// All that a session can be told: relays, answers, HLO and press; the longest bodies and an end come after it.
+/// All that a session can be told before its end: relays, answers, HLO and press, and the longest bodies.
 #[rattlefmt::skip]
 const TOLD: &[(Side, &str)] = &[
     (Bot, IM),
@@ -104,6 +104,9 @@ const TOLD: &[(Side, &str)] = &[
     (Server, "02 00 00 02  48 0F"),
     (Server, "02 00 00 1A  48 04 40 00 41 01 40 01 40 00 04 D2 40 01 40 00 40 00 49 03 00 0A 40 01 40 01"),
     (Bot, "02 00 00 1C  48 17 40 00 41 02 40 01 40 00 4A 13 40 00 4A 10 40 00 41 01 41 02 40 01 40 01 40 01"),
+    // a message of 512 bytes: HUH and 255 times GOF, and so a word too many after its first
+    (Bot, "02 00 02 00  48 06  255*4803"),
+    (Server, "02 00 02 00  48 06  255*4803"),
 ];
 
 /// A session in a heap, which is as full as it is after each step, and what it sent.
@@ -138,16 +141,6 @@ impl Watched<'_> {
         holds(self.session.phase() == Phase::Over, "the end")?;
         holds(self.heap.used() == self.used, "memory is taken at the end")
     }
-
-    /// All that can be told, the longest bodies, and the end take none.
-    fn hear_whole(&mut self, alloc: Global, piece: usize) -> Result<(), Fail> {
-        self.hear_all(alloc, piece)?;
-        // a message of 512 bytes: HUH and 255 times GOF, and so a word too many after its first
-        let longest = with_gofs(alloc, "02 00 02 00  48 06", 255, &[])?;
-        self.hear(Bot, longest.as_slice(), piece)?;
-        self.hear(Server, longest.as_slice(), piece)?;
-        self.end()
-    }
 }
 
 /// A session in a heap, which takes two bodies.
@@ -165,7 +158,8 @@ fn watched_in(alloc: Global, heap: &LocalHeap) -> Result<Watched<'_>, Fail> {
 /// What a whole session in a heap sent, whose two bodies are all that it takes.
 fn sent_over(alloc: Global, heap: &LocalHeap, piece: usize) -> Result<Sent, Fail> {
     let mut watched = watched_in(alloc, heap)?;
-    watched.hear_whole(alloc, piece)?;
+    watched.hear_all(alloc, piece)?;
+    watched.end()?;
     same(&watched.used, &1024, &"two bodies")?;
     Ok(watched.sent)
 }

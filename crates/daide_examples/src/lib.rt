@@ -1,9 +1,13 @@
-//! Tests that cross crates: the worked examples of docs/EXAMPLES.md, and each rule of the grammar.
+//! Tests of the libraries: the worked examples of docs/EXAMPLES.md, each rule of the grammar, tables worked out by
+//! hand, and each public call once on its happy path.
 //!
-//! There is nothing here to call. What a contract says is proved and not tested; these tests hold the
-//! definitions against verdicts and bytes that were worked out from the protocol.
+//! There is nothing here to call. What a contract says is proved and not tested; these tests hold the definitions
+//! against verdicts and bytes that were worked out from the protocol. They stand apart, since a crate with tests is
+//! proved twice, with them and without, and in one crate, since the check of each reads what it uses anew.
 #![tactic(auto)]
 
+#[cfg(test)]
+mod added;
 #[cfg(test)]
 mod answers;
 #[cfg(test)]
@@ -11,9 +15,15 @@ mod breaks;
 #[cfg(test)]
 mod chains;
 #[cfg(test)]
+mod frame;
+#[cfg(test)]
+mod grammar;
+#[cfg(test)]
 mod growths;
 #[cfg(test)]
 mod hubs;
+#[cfg(test)]
+mod log;
 #[cfg(test)]
 mod messages;
 #[cfg(test)]
@@ -30,6 +40,8 @@ mod serving;
 mod sessions;
 #[cfg(test)]
 mod settings;
+#[cfg(test)]
+mod token;
 #[cfg(test)]
 mod verdicts;
 #[cfg(test)]

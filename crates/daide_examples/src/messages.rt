@@ -1,5 +1,6 @@
 //! Messages written as text, and the verdicts on them.
 
+use crate::script::counted;
 use daide_grammar::dense::Dense;
 use daide_grammar::level::Level;
 use daide_grammar::plain::Plain;
@@ -13,7 +14,44 @@ use std::alloc::{AllocError, Global};
 use std::test::Fail;
 
 /// Whose message it is, the level, the message as text, and the verdict on it.
-pub type Example = (Side2, Level, &'static str, Verdict);
+type Example<'a> = (Side2, Level, &'a str, Verdict);
+
+/// A side by its word.
+fn side_of(word: &str) -> Option<Side2> {
+    match word {
+        "client" => Some(Side2::Client),
+        "server" => Some(Side2::ServerEnd),
+        _ => None,
+    }
+}
+
+/// A level by its number.
+fn level_of(word: &str) -> Option<Level> {
+    match word.parse() {
+        Ok(number) => Level::of(number),
+        Err(_) => None,
+    }
+}
+
+/// A verdict by its word, and the place behind a HUH.
+fn verdict_of(text: &str) -> Option<Verdict> {
+    match text {
+        "relay" => Some(Verdict::Relay),
+        "prn" => Some(Verdict::Prn),
+        _ => match text.strip_prefix("huh ")?.parse() {
+            Ok(place) => Some(Verdict::Huh(place)),
+            Err(_) => None,
+        },
+    }
+}
+
+/// A row of a table: a side and a level | a message | the verdict, as `client 60 | GOF GOF | huh 1`.
+fn example_of(row: &str) -> Option<Example<'_>> {
+    let (sender, rest) = row.split_once(" | ")?;
+    let (text, verdict) = rest.split_once(" | ")?;
+    let (side, level) = sender.split_once(' ')?;
+    Some((side_of(side)?, level_of(level)?, text, verdict_of(verdict)?))
+}
 
 /// The token of `#` and four hexadecimal digits.
 fn token_of_code(word: &str) -> Option<Token> {
@@ -60,12 +98,21 @@ fn push_letters(tokens: &mut Vec<Token>, letters: &[u8]) -> Result<(), Fail> {
 }
 
 /// The tokens of a word, each letter of a text in quotes being one.
-fn read_word(tokens: &mut Vec<Token>, word: &str) -> Result<(), Fail> {
+fn push_word(tokens: &mut Vec<Token>, word: &str) -> Result<(), Fail> {
     match word.as_bytes() {
         [] => Ok(()),
         [b'\'', letters @ .., b'\''] => push_letters(tokens, letters),
         _ => push(tokens, token_of(word), word),
     }
+}
+
+/// The tokens of a word, as often as it stands: `62*(` is 62 brackets.
+fn read_word(tokens: &mut Vec<Token>, word: &str) -> Result<(), Fail> {
+    let (count, word) = counted(word);
+    for _time in 0..count {
+        push_word(tokens, word)?;
+    }
+    Ok(())
 }
 
 /// The tokens of a message that is written in the text form, a space between its words.
@@ -106,19 +153,6 @@ fn course_of<T: Predict, const N: usize>(
     Ok(Course { verdict, steps })
 }
 
-/// The verdict on a message, at a depth of 62 brackets.
-pub fn verdict_on(side: Side2, level: Level, message: &[Token]) -> Verdict {
-    let mut reader: Reader<Plain, 512> = Reader::new(Plain::new(), 62);
-    reader.start(side, level);
-    for token in message {
-        if reader.is_full() {
-            break;
-        }
-        reader.push(*token);
-    }
-    reader.finish()
-}
-
 /// The readers of all examples, over both tables and with either room.
 #[derive(Drop)]
 struct Readers {
@@ -132,7 +166,7 @@ struct Readers {
 fn assert_alike<T: Predict, const N: usize>(
     alloc: Global,
     reader: &mut Reader<T, N>,
-    row: &Example,
+    row: &Example<'_>,
     message: &[Token],
     want: &Course,
 ) -> Result<(), Fail> {
@@ -147,7 +181,7 @@ impl Readers {
     fn assert_all_alike(
         &mut self,
         alloc: Global,
-        row: &Example,
+        row: &Example<'_>,
         message: &[Token],
         want: &Course,
     ) -> Result<(), Fail> {
@@ -157,38 +191,34 @@ impl Readers {
     }
 
     /// An example has its verdict, and the same course in each reader.
-    fn assert_verdict(&mut self, alloc: Global, row: &Example) -> Result<(), Fail> {
+    fn assert_verdict(&mut self, alloc: Global, row: &Example<'_>) -> Result<(), Fail> {
         let (side, level, text, want) = row;
         let message = tokens_of_text(alloc, text)?;
         let course = course_of(alloc, &mut self.plain, *side, *level, message.as_slice())?;
-        same(&course.verdict, want, row)?;
+        same(&course.verdict, want, text)?;
         self.assert_all_alike(alloc, row, message.as_slice(), &course)
+    }
+
+    /// The same of a row of a table.
+    fn assert_row(&mut self, alloc: Global, row: &str) -> Result<(), Fail> {
+        match example_of(row) {
+            Some(example) => self.assert_verdict(alloc, &example),
+            None => Err(Fail::new(row)),
+        }
     }
 }
 
-/// Each example has its verdict, and the same course over both tables and with either room.
-pub fn assert_verdicts(alloc: Global, rows: &[Example]) -> Result<(), Fail> {
+/// Each example has its verdict, and the same course over both tables and with either room. A row of the table is a
+/// side and a level | a message | the verdict on it.
+pub fn assert_verdicts(alloc: Global, rows: &str) -> Result<(), Fail> {
     let mut readers = Readers {
         plain: Reader::new(Plain::new(), 62),
         roomy: Reader::new(Plain::new(), 62),
         dense: Reader::new(Dense::new(), 62),
         both: Reader::new(Dense::new(), 62),
     };
-    for row in rows {
-        readers.assert_verdict(alloc, row)?;
+    for row in rows.lines() {
+        readers.assert_row(alloc, row)?;
     }
     Ok(())
-}
-
-/// HUH and that many opening and closing brackets.
-pub fn nested(alloc: Global, brackets: usize) -> Result<Vec<Token>, Fail> {
-    let mut message = Vec::new(alloc);
-    message.push(Token::from_code(0x4806))?;
-    for _ in 0..brackets {
-        message.push(Token::from_code(0x4000))?;
-    }
-    for _ in 0..brackets {
-        message.push(Token::from_code(0x4001))?;
-    }
-    Ok(message)
 }

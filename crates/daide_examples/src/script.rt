@@ -67,25 +67,30 @@ pub const IM: &str = "00 00 00 04  00 01 DA 10";
 /// The server's answer for the standard map.
 pub const RM: &str = "01 00 00 00";
 
-/// The bytes of hexadecimal digits with blanks between them.
-pub fn bytes_of(alloc: Global, text: &str) -> Result<Vec<u8>, Fail> {
-    let digits = text.replace(alloc, " ", "")?;
-    Ok(hex::decode(alloc, digits.as_bytes())?)
+/// How often a word stands, and the word: `62*4000` is 4000 for 62 times.
+pub fn counted(word: &str) -> (usize, &str) {
+    match word.split_once('*') {
+        Some((count, word)) => (count.parse().unwrap_or(0), word),
+        None => (1, word),
+    }
 }
 
-/// A word of two bytes over and over, at the end of these bytes.
-pub fn add_words(bytes: &mut Vec<u8>, word: &[u8], count: usize) -> Result<(), Fail> {
-    for _word in 0..count {
-        bytes.extend_from_slice(word)?;
+/// The bytes of a word of hexadecimal digits, as often as it stands.
+fn add_word(alloc: Global, bytes: &mut Vec<u8>, word: &str) -> Result<(), Fail> {
+    let (count, digits) = counted(word);
+    let part = hex::decode(alloc, digits.as_bytes())?;
+    for _time in 0..count {
+        bytes.extend_from_slice(part.as_slice())?;
     }
     Ok(())
 }
 
-/// These bytes, then so many times GOF, and then these words.
-pub fn with_gofs(alloc: Global, front: &str, count: usize, last: &[u8]) -> Result<Vec<u8>, Fail> {
-    let mut bytes = bytes_of(alloc, front)?;
-    add_words(&mut bytes, &[0x48, 0x03], count)?;
-    bytes.extend_from_slice(last)?;
+/// The bytes of words of hexadecimal digits.
+pub fn bytes_of(alloc: Global, text: &str) -> Result<Vec<u8>, Fail> {
+    let mut bytes = Vec::new(alloc);
+    for word in text.split_whitespace() {
+        add_word(alloc, &mut bytes, word)?;
+    }
     Ok(bytes)
 }
 

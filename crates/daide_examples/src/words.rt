@@ -4,11 +4,11 @@
 
 ghost use Rattle.std.specs.Prelude.{◌≤◌};
 
-use crate::messages::{nested, tokens_of_text};
+use crate::messages::tokens_of_text;
 use daide_frame::side::Side;
 use daide_gate::frame_view::{ShowFault, show, show_with};
 use daide_grammar::level::Level;
-use daide_grammar::level::Level::{L10, L20, L30, L50};
+use daide_grammar::level::Level::{L10, L20, L30, L50, L60};
 use daide_grammar::side::Side2;
 use daide_reader::reader::Reader;
 use daide_reader::verdict::Verdict;
@@ -79,11 +79,16 @@ type Message = (&'static str, Level, Verdict, Verdict);
 #[rattlefmt::skip]
 const MESSAGES: &[Message] = &[
     ("SND ( FRA ) ( #4a40 ( ENG ) )", L20, Relay, Huh(5)),
+    ("SND ( FRA ) ( #4a40 ( ENG ) )", L60, Relay, Huh(5)),
     ("SND ( FRA ) ( #4a40 ( ENG ) )", L10, Huh(5), Huh(5)),
+    ("SND ( FRA ) ( #4a40 ( ENG FRA ) )", L20, Huh(8), Huh(5)),
     ("SND ( FRA ) ( TRY ( #4a40 ) )", L10, Relay, Relay),
+    ("SND ( FRA ) ( PRP ( #4a40 ( ENG ) ) )", L20, Huh(7), Huh(7)),
+    ("SND ( FRA ) ( PRP ( #4a41 ( DRW ) ) )", L20, Huh(7), Huh(7)),
     ("SND ( FRA ) ( PRP ( AND ( #4a41 ( DRW ) ) ( DRW ) ) )", L30, Relay, Huh(9)),
     ("SND ( FRA ) ( PRP ( AND ( #4a41 ( AND ( DRW ) ( DRW ) ) ) ( DRW ) ) )", L30, Huh(11), Huh(9)),
     ("SND ( FRA ) ( PRP ( AND ( #4a41 ( AND ( DRW ) ( DRW ) ) ) ( DRW ) ) )", L50, Relay, Huh(9)),
+    ("SND ( FRA ) ( FCT ( #4a41 ( QRY ( DRW ) ) ) )", L60, Huh(9), Huh(7)),
 ];
 
 /// Readers of either room have the verdicts of a row.
@@ -113,20 +118,20 @@ fn words_stand_from_their_level(rt: HostRuntime) -> Result<(), Fail> {
     Ok(())
 }
 
-/// How many brackets HUH has, and the verdict where 62 may be open, and where 254 may be.
-type Depth = (usize, Verdict, Verdict);
+/// HUH and brackets, and the verdict where 62 may be open, and where 254 may be.
+type Depth = (&'static str, Verdict, Verdict);
 
 const DEPTHS: &[Depth] = &[
-    (62, Relay, Relay),
-    (63, Huh(63), Relay),
-    (254, Huh(63), Relay),
-    (255, Huh(63), Huh(255)),
+    ("HUH 62*( 62*)", Relay, Relay),
+    ("HUH 63*( 63*)", Huh(63), Relay),
+    ("HUH 254*( 254*)", Huh(63), Relay),
+    ("HUH 255*( 255*)", Huh(63), Huh(255)),
 ];
 
 /// Readers of either room have the verdicts of a row.
 fn assert_depth(alloc: Global, row: &Depth) -> Result<(), Fail> {
-    let (brackets, shallow, deep) = row;
-    let tokens = nested(alloc, *brackets)?;
+    let (text, shallow, deep) = row;
+    let tokens = tokens_of_text(alloc, text)?;
     let message = tokens.as_slice();
     same(&verdict_on_512(Words::new(), L10, message), shallow, row)?;
     same(

@@ -1,19 +1,8 @@
-//! Tests of one crate each: tables worked out by hand, and each public call once on its happy path.
+//! What all tests hold their rows against, and streams that fail.
 //!
-//! They stand apart, since a crate with tests is proved twice, with them and without; tests that cross crates are
-//! those of `daide_examples`. What is here to call is for tests alone: what a row is held against, and streams that
-//! fail.
+//! There is no test here, and nothing to call but for tests: those of the libraries are in `daide_examples`, those of
+//! the program in `daide_gate_tests`.
 #![tactic(auto)]
 
 pub mod fakes;
-#[cfg(test)]
-mod frame;
-#[cfg(test)]
-mod grammar;
-#[cfg(test)]
-mod log;
 pub mod rows;
-#[cfg(test)]
-mod token;
-#[cfg(test)]
-mod words;

@@ -1,9 +1,9 @@
 //! Logs worked out by hand, and their reports.
 
-use crate::rows::same;
 use daide_log::LogFault;
 use daide_log::check::check_log;
 use daide_log::report::Summary;
+use daide_tests::rows::same;
 use std::alloc::Global;
 use std::test::Fail;
 

@@ -1,6 +1,5 @@
 //! What no clause shows: numbers worked out by hand, each call once, and that answers are small.
 
-use crate::rows::same;
 use daide_grammar::column::Column;
 use daide_grammar::dense::Dense;
 use daide_grammar::level::Level;
@@ -9,8 +8,10 @@ use daide_grammar::plain::Plain;
 use daide_grammar::predict::{Move, Predict};
 use daide_grammar::side::Side2;
 use daide_grammar::symbol::{Sym, Symbol};
+use daide_tests::rows::same;
 use daide_token::class::Class;
 use daide_token::token::Token;
+use daide_words::{Extended, Words};
 use std::mem::size_of;
 use std::test::Fail;
 
@@ -109,6 +110,11 @@ fn plain_answers_and_counts(_rt: HostRuntime) -> Result<(), Fail> {
 #[test]
 fn dense_answers_and_counts(_rt: HostRuntime) -> Result<(), Fail> {
     answers_and_counts(&mut Dense::new())
+}
+
+#[test]
+fn extended_answers_and_counts(_rt: HostRuntime) -> Result<(), Fail> {
+    answers_and_counts(&mut Extended::new(Words::new()))
 }
 
 #[test]

@@ -1,11 +1,11 @@
 //! Lines of the log of a match.
 
-use crate::rows::same;
 use daide_frame::Side;
 use daide_lines::event_line::{MOST, Told};
 use daide_lines::match_line::{MatchTold, is_match_name, read_match_event};
 use daide_log::config_line::{MatchConfig, read_match_config};
 use daide_session::Config;
+use daide_tests::rows::same;
 use std::test::Fail;
 
 const CONFIG: Config = Config {

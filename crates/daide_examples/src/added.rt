@@ -1,11 +1,9 @@
-//! What no clause shows: words and messages worked out by hand, and each call once.
+//! What no clause shows of an operator's words: which are added, and each call once.
 
-use crate::rows::{holds, same};
-use daide_grammar::column::Column;
 use daide_grammar::level::Level;
 use daide_grammar::predict::Predict;
 use daide_grammar::side::Side2;
-use daide_grammar::symbol::Symbol;
+use daide_tests::rows::{holds, same};
 use daide_token::class::Class;
 use daide_token::token::Token;
 use daide_words::extended::Extended;
@@ -13,7 +11,6 @@ use daide_words::operand::Operand;
 use daide_words::slot::Slot;
 use daide_words::word::{Word, WordError};
 use daide_words::words::Words;
-use std::alloc::{AllocError, Global};
 use std::test::Fail;
 
 /// A word by its parts.
@@ -153,163 +150,6 @@ fn seventeenth_word_is_refused(_rt: HostRuntime) -> Result<(), Fail> {
     same(&words.names().len(), &16, &"names")?;
     let class = Extended::new(words).class_of(Token::from_code(0x4A5F));
     same(&class.class(), &Class::Word(15), &"the sixteenth")
-}
-
-/// The tokens of a message as it is printed.
-fn tokens_of(alloc: Global, text: &str) -> Result<Vec<Token>, AllocError> {
-    let mut tokens = Vec::new(alloc);
-    for word in text.split_whitespace() {
-        let token = match word {
-            "(" => Some(Token::from_code(0x4000)),
-            ")" => Some(Token::from_code(0x4001)),
-            "XYZ" => Some(xyz().code),
-            "QQQ" => Some(qqq().code),
-            _ => Token::by_name(word),
-        };
-        tokens.push(token.unwrap_or(Token::from_code(0xFFFF)))?;
-    }
-    Ok(tokens)
-}
-
-/// Whether the table takes a token of this class with these symbols open, the last one being the next; what it leaves
-/// open then.
-fn takes(table: &mut Extended, stack: &mut Vec<Symbol>, class: Column) -> Result<bool, AllocError> {
-    for _ in 0..64 {
-        let Some(symbol) = stack.pop() else {
-            return Ok(false);
-        };
-        let answer = table.predict(symbol, class);
-        if answer.is_stop() {
-            return Ok(false);
-        }
-        let cells = answer.cells();
-        for cell in cells.iter().take(answer.len()) {
-            stack.push(*cell)?;
-        }
-        if answer.is_take() {
-            return Ok(true);
-        }
-    }
-    Ok(true)
-}
-
-/// Whether a message may end with these symbols open.
-fn may_end(table: &mut Extended, stack: &[Symbol]) -> bool {
-    for symbol in stack {
-        if !table.may_end(*symbol) {
-            return false;
-        }
-    }
-    true
-}
-
-/// The place of the first token of a bot's message that no message continues, its length where it merely stops early;
-/// None for a whole message.
-fn place_in(
-    alloc: Global,
-    table: &mut Extended,
-    level: Level,
-    tokens: &[Token],
-) -> Result<Option<usize>, AllocError> {
-    let mut stack: Vec<Symbol> = Vec::new(alloc);
-    stack.push(table.start(Side2::Client, level))?;
-    for (place, token) in tokens.iter().enumerate() {
-        let class = table.class_of(*token);
-        if !takes(table, &mut stack, class)? {
-            return Ok(Some(place));
-        }
-    }
-    if may_end(table, stack.as_slice()) {
-        return Ok(None);
-    }
-    Ok(Some(tokens.len()))
-}
-
-/// A bot's message at a level, and its place with the words and without.
-const MESSAGES: &[(&str, Level, Option<usize>, Option<usize>)] = &[
-    ("SND ( FRA ) ( XYZ ( ENG ) )", Level::L20, None, Some(5)),
-    ("SND ( FRA ) ( XYZ ( ENG ) )", Level::L60, None, Some(5)),
-    ("SND ( FRA ) ( XYZ ( ENG ) )", Level::L10, Some(5), Some(5)),
-    (
-        "SND ( FRA ) ( XYZ ( ENG FRA ) )",
-        Level::L20,
-        Some(8),
-        Some(5),
-    ),
-    ("SND ( FRA ) ( TRY ( XYZ ) )", Level::L10, None, None),
-    (
-        "SND ( FRA ) ( PRP ( XYZ ( ENG ) ) )",
-        Level::L20,
-        Some(7),
-        Some(7),
-    ),
-    (
-        "SND ( FRA ) ( PRP ( QQQ ( DRW ) ) )",
-        Level::L20,
-        Some(7),
-        Some(7),
-    ),
-    (
-        "SND ( FRA ) ( PRP ( AND ( QQQ ( DRW ) ) ( DRW ) ) )",
-        Level::L30,
-        None,
-        Some(9),
-    ),
-    (
-        "SND ( FRA ) ( PRP ( AND ( QQQ ( AND ( DRW ) ( DRW ) ) ) ( DRW ) ) )",
-        Level::L30,
-        Some(11),
-        Some(9),
-    ),
-    (
-        "SND ( FRA ) ( PRP ( AND ( QQQ ( AND ( DRW ) ( DRW ) ) ) ( DRW ) ) )",
-        Level::L50,
-        None,
-        Some(9),
-    ),
-    (
-        "SND ( FRA ) ( FCT ( QQQ ( QRY ( DRW ) ) ) )",
-        Level::L60,
-        Some(9),
-        Some(7),
-    ),
-];
-
-/// The place of a message over these words.
-fn place_over(
-    alloc: Global,
-    words: Words,
-    level: Level,
-    text: &str,
-) -> Result<Option<usize>, AllocError> {
-    let tokens = tokens_of(alloc, text)?;
-    place_in(alloc, &mut Extended::new(words), level, tokens.as_slice())
-}
-
-/// A message has these places, with the words and without.
-fn check_message(
-    alloc: Global,
-    words: Words,
-    row: &(&str, Level, Option<usize>, Option<usize>),
-) -> Result<(), Fail> {
-    let (text, level, with, without) = row;
-    same(&place_over(alloc, words, *level, text)?, with, text)?;
-    same(
-        &place_over(alloc, Words::new(), *level, text)?,
-        without,
-        text,
-    )
-}
-
-#[test]
-fn words_stand_where_they_may(rt: HostRuntime) -> Result<(), Fail> {
-    let mut words = Words::new();
-    let is_added = words.add(xyz()) == Ok(()) && words.add(qqq()) == Ok(());
-    holds(is_added, "both words")?;
-    for row in MESSAGES {
-        check_message(rt.alloc(), words, row)?;
-    }
-    Ok(())
 }
 
 #[test]

@@ -1,10 +1,10 @@
 //! Logs of any length, and readers, writers and heaps that refuse.
 
-use crate::fakes::{FailsAtRead, FailsAtWrite};
-use crate::rows::{holds, same};
 use daide_log::LogFault;
 use daide_log::check::check_log;
 use daide_log::report::Summary;
+use daide_tests::fakes::{FailsAtRead, FailsAtWrite};
+use daide_tests::rows::{holds, same};
 use linked_list_allocator::LocalHeap;
 use std::alloc::Global;
 use std::io;

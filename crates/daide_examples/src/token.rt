@@ -1,6 +1,6 @@
 //! Tables of tokens, their classes, names and printed text, byte for byte as the protocol has them.
 
-use crate::rows::same;
+use daide_tests::rows::same;
 use daide_token::class::Class;
 use daide_token::text::{write_text, write_text_with};
 use daide_token::token::Token;

@@ -1,10 +1,10 @@
 //! Tables of headers, initial messages and frames, byte for byte as the protocol has them.
 
-use crate::rows::{holds, same};
 use daide_frame::code::Code;
 use daide_frame::cutter::{Cutter, Step};
 use daide_frame::head::{Head, Kind, read_head, write_head};
 use daide_frame::initial_message::check_im;
+use daide_tests::rows::{holds, same};
 use linked_list_allocator::LocalHeap;
 use std::alloc::{Allocator, Global};
 use std::test::Fail;

@@ -1,7 +1,7 @@
 //! Logs of matches, and their reports.
 
 use super::{check_rows, checked, checked_row};
-use crate::rows::{holds, same};
+use daide_tests::rows::{holds, same};
 use std::alloc::Global;
 use std::test::Fail;
 
