@@ -2,7 +2,8 @@
 
 use crate::script::Act::{Ends, Loses, Pops, Says, Sees, Sends, Stops, Takes, Tells};
 use crate::script::{
-    Act, IM, Look, RM, Scene, WIDEST, assert_acts, assert_scenes, assert_scenes_within,
+    Act, IM, Look, RM, Scene, WIDEST, assert_acts, assert_scenes, assert_scenes_within, bytes_of,
+    script_of,
 };
 use daide_frame::code::Code;
 use daide_frame::head::{Head, Kind};
@@ -11,6 +12,7 @@ use daide_grammar::level::Level;
 use daide_session::config::{Config, ConfigError};
 use daide_session::session::{Deed, Note, Phase, Session, SessionError};
 use daide_tests::rows::{holds, same};
+use std::alloc::Global;
 use std::test::Fail;
 
 /// An FM, and two EMs: one that is passed on, and the start of those that are made here.
@@ -315,6 +317,63 @@ const HLOS: &[Act] = &[
 #[test]
 fn only_a_relayed_hlo_of_the_server_sets_the_level(rt: HostRuntime) -> Result<(), Fail> {
     assert_acts(rt.alloc(), AT_30, HLOS)
+}
+
+/// Messages of the server, the level after each under the operator's level 30, where it was 0 before, and how many
+/// of its tokens are looked at for that.
+const CUT_HLOS: &[(&str, Level, u64)] = &[
+    // HLO ( ENG ) ( 1234 ) ( ( MTL 30 ) ( LVL 25 ) )
+    (
+        "02 00 00 22  48 04 40 00 41 01 40 01 40 00 04 D2 40 01 40 00 40 00 49 05 00 1E 40 01 40 00 \
+         49 03 00 19 40 01 40 01",
+        Level::L20,
+        16,
+    ),
+    // HLO ( UNO ) ( 0 ) ( ( LVL 10 ) ( LVL 30 ) )
+    (
+        "02 00 00 22  48 04 40 00 49 0B 40 01 40 00 00 00 40 01 40 00 40 00 49 03 00 0A 40 01 40 00 \
+         49 03 00 1E 40 01 40 01",
+        Level::L10,
+        12,
+    ),
+    // HLO ( ENG ) ( 1234 ) ( ( LVL ) ( LVL 10 ) )
+    (
+        "02 00 00 20  48 04 40 00 41 01 40 01 40 00 04 D2 40 01 40 00 40 00 49 03 40 01 40 00 49 03 00 0A 40 01 40 01",
+        Level::L10,
+        15,
+    ),
+    // YES ( HLO )
+    ("02 00 00 08  48 1C 40 00 48 04 40 01", Level::L0, 1),
+];
+
+/// A message of the server that comes in two pieces sets this level, and not before its last byte. So many of its
+/// tokens are looked at.
+fn assert_level_of_pieces(
+    alloc: Global,
+    first: &[u8],
+    second: &[u8],
+    want: Level,
+    looked_at: u64,
+) -> Result<(), Fail> {
+    let mut script = script_of(alloc, AT_30)?;
+    script.open(alloc, 65_530)?;
+    script.say(Server, first, 65_530)?;
+    holds(script.session.level() == Level::L0, "level before the end")?;
+    script.say(Server, second, 65_530)?;
+    holds(script.session.level() == want, "level")?;
+    holds(script.session.looked_at(Server) == looked_at, "looked at")
+}
+
+#[test]
+fn hlo_cut_at_each_byte_sets_its_level(rt: HostRuntime) -> Result<(), Fail> {
+    for (text, want, looked_at) in CUT_HLOS {
+        let bytes = bytes_of(rt.alloc(), text)?;
+        for cut in 0..bytes.len() {
+            let (first, second) = bytes.split_at(cut);
+            assert_level_of_pieces(rt.alloc(), first, second, *want, *looked_at)?;
+        }
+    }
+    Ok(())
 }
 
 /// The narrowest limits.

@@ -15,7 +15,7 @@ use Rattle.daide_machine.specs.declared.note.Deed.TheVariants as Deeds
 use Rattle.daide_machine.specs.declared.note.Note.TheVariants as Notes
 use Rattle.daide_machine.specs.Machine.{Limits, Sent, fm_bytes, in_phase, opening, with_pending}
 use Rattle.daide_machine.specs.Wires.{Gateway, Holding, waiting, room_of, is_awaited, is_closed, without, first_len}
-use Rattle.daide_machine.specs.Wires.{bytes_of, held_after, grown, counts_from, asked_at_most}
+use Rattle.daide_machine.specs.Wires.{bytes_of, held_after, grown, counts_from, asked_at_most, looked_at_most}
 use Rattle.daide_machine.specs.Weight.{weight_of, weight_bound, steps_bound, IsKeptSmall}
 
 -- ---- sessions of which this is held
@@ -26,10 +26,10 @@ usual = record { cap = 65526; top_level = L60; max_depth = 62; words = [] }
 abbrev small : Limits
 small = record { cap = 512; top_level = L60; max_depth = 62; words = [] }
 
--- these bytes of a side's frame, with 4 entries on its reader's stack, and 9 answers of its table, 5 of them before
--- this message
+-- these bytes of a side's frame, with 4 entries on its reader's stack, 9 answers of its table, 5 of them before this
+-- message, and 7 tokens looked at for the level of an HLO
 abbrev holds : List ℕ → Holding
-holds bytes = record { held = bytes; entries = 4; total = 9; total_before = 5 }
+holds bytes = record { held = bytes; entries = 4; total = 9; total_before = 5; looked_at = 7 }
 
 -- these bytes of the two sides came since their last whole frames, and nothing waits
 abbrev holding_both : Limits → List ℕ → List ℕ → Gateway
@@ -155,8 +155,8 @@ unfolding weight_bound announced head_in head_of
 bound_of_an_answer = (refl, refl)
 
 -- of a side that holds the HUH at most 8 * 2 + 16 entries are kept; four bytes of a body of two are too many
-kept_of_a_huh : (n : ℕ) → IsKeptSmall 65526 (record { held = huh_begun; entries = n; total = 9; total_before = 5 }) →
-    n ≤ 32
+kept_of_a_huh : (n : ℕ) →
+    IsKeptSmall 65526 (record { held = huh_begun; entries = n; total = 9; total_before = 5; looked_at = 7 }) → n ≤ 32
 unfolding announced head_in head_of
 kept_of_a_huh n kept = kept.entries
 
@@ -198,6 +198,9 @@ steps_of_messages = (refl, refl, refl, refl, refl, refl, refl, refl)
 -- a piece of five bytes ends or begins three tokens at most: 4 * 3, and 4
 asked_of_pieces : (asked_at_most (0x06 ∷ 0x40 ∷ 0x00 ∷ 0x40 ∷ 0x00 ∷ []) ≡ 16) × (asked_at_most (0x06 ∷ []) ≡ 8)
 asked_of_pieces = (refl, refl)
+
+looked_at_of_pieces : (looked_at_most (0x06 ∷ 0x40 ∷ 0x00 ∷ 0x40 ∷ 0x00 ∷ []) ≡ 3) × (looked_at_most (0x06 ∷ []) ≡ 1)
+looked_at_of_pieces = (refl, refl)
 
 -- ---- the room
 

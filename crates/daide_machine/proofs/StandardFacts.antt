@@ -1,6 +1,6 @@
 -- Rows of the protocol's table of faults and of the session's rules, computed from the definitions, so
 -- that a wrong row of theirs does not check.
-use Rattle.std.proofs.Common.{◌≡◌, ℕ, List, [], ◌∷◌, ◌++◌, length, Some, None, refl}
+use Rattle.std.proofs.Common.{◌≡◌, ℕ, List, [], ◌∷◌, ◌++◌, length, take, Some, None, refl}
 use Rattle.std.specs.Prelude.{pos}
 use Rattle.daide_frame.specs.declared.side.Side.{Side}
 use Rattle.daide_frame.specs.declared.side.Side.TheVariants.{Bot, Server}
@@ -19,7 +19,8 @@ use Rattle.daide_machine.specs.declared.note.Deed.TheVariants as Deeds
 use Rattle.daide_machine.specs.declared.note.Note.TheVariants as Notes
 use Rattle.daide_machine.specs.Events.{Comes, Ends, Loses, Pops}
 use Rattle.daide_machine.specs.Answers.{prn_open, huh_open, err_word, close_word, answer_body, answer_bytes}
-use Rattle.daide_machine.specs.HloLevel.{first_level, level_told}
+use Rattle.daide_machine.specs.declared.hlo.Found.TheVariants.{NoToken, NoHlo, NoNumber, Number}
+use Rattle.daide_machine.specs.HloLevel.{first_level, found_in, level_told}
 use Rattle.daide_machine.specs.Machine.{Limits, SessionState, Outcome, coming, opening, in_phase, nothing, begun}
 use Rattle.daide_machine.specs.Machine.{with_coming, untimely, whole, fault, end, level_after, event_outcome, question}
 use Rattle.daide_machine.specs.Wires.{sent_to, bytes_of, note_of}
@@ -343,6 +344,25 @@ level_of_other_frames side = (refl, refl, refl, refl)
 -- the first option with a number counts
 hlo_with_two : first_level (0x4000 ∷ 0x4903 ∷ 0x0014 ∷ 0x4001 ∷ 0x4000 ∷ 0x4903 ∷ 0x000A ∷ 0x4001 ∷ []) ≡ Some (pos 20)
 hlo_with_two = refl
+
+-- as the tokens come: the number is found with the bracket that closes its option, whatever comes later
+found_token_by_token : (found_in [] ≡ NoToken) × (found_in (take 1 (hlo_with 25)) ≡ NoNumber 0 0 0x4804)
+    × (found_in (take 2 (hlo_with 25)) ≡ NoNumber 0 0x4804 0x4000)
+    × (found_in (take 9 (hlo_with 25)) ≡ NoNumber 0x4001 0x4000 0x4000)
+    × (found_in (take 10 (hlo_with 25)) ≡ NoNumber 0x4000 0x4000 0x4903)
+    × (found_in (take 11 (hlo_with 25)) ≡ NoNumber 0x4000 0x4903 0x0019)
+    × (found_in (take 12 (hlo_with 25)) ≡ Number (pos 25)) × (found_in (hlo_with 25) ≡ Number (pos 25))
+    × (found_in (hlo_with 25 ++ hlo_with 10) ≡ Number (pos 25))
+found_token_by_token = (refl, refl, refl, refl, refl, refl, refl, refl, refl)
+
+-- an option without a number, or one that is not closed behind it, is passed over: ( LVL ( LVL 20 ( LVL 10 )
+found_after_broken_options : found_in (0x4804 ∷ 0x4000 ∷ 0x4903 ∷ 0x4000 ∷ 0x4903 ∷ 0x0014 ∷ 0x4000 ∷ 0x4903 ∷ 0x000A
+    ∷ 0x4001 ∷ []) ≡ Number (pos 10)
+found_after_broken_options = refl
+
+-- in a message that is no HLO nothing is found, options or none: YES ( HLO ( .. ) ( .. ) ( ( LVL 25 ) ) )
+found_in_no_hlo : found_in (0x481C ∷ 0x4000 ∷ hlo_with 25 ++ 0x4001 ∷ []) ≡ NoHlo
+found_in_no_hlo = refl
 
 -- another message leaves it
 other_message : level_told L60 (0x4810 ∷ []) L10 ≡ L10

@@ -1,10 +1,13 @@
 -- The level of press that a server's HLO sets: HLO ( power ) ( passcode ) ( ( LVL n ) .. ). The rule is
 -- that of docs/PROTOCOL.md, "The session".
-use Rattle.std.specs.Prelude.{ℕ, ℤ, Bool, false, ◌&&◌, ◌==◌, List, [], ◌∷◌, Option, Some, None, if◌then◌else◌}
+use Rattle.std.specs.Prelude.{ℕ, ℤ, Bool, false, ◌&&◌, ◌==◌, List, [], ◌∷◌, reverse, get_or, Option, Some, None}
+use Rattle.std.specs.Prelude.{if◌then◌else◌}
 use Rattle.daide_token.specs.Token.{bra, ket, hlo, lvl, number_of}
 use Rattle.daide_grammar.specs.declared.level.Level.{Level}
 use Rattle.daide_grammar.specs.declared.level.Level.TheVariants.{L0}
 use Rattle.daide_grammar.specs.Level.{greatest_level}
+use Rattle.daide_machine.specs.declared.hlo.Found.{Found}
+use Rattle.daide_machine.specs.declared.hlo.Found.TheVariants.{NoToken, NoHlo, NoNumber, Number}
 
 -- the number of an option ( LVL n ) that these tokens begin with
 abbrev pub option_number : List ℕ → Option ℤ
@@ -36,3 +39,19 @@ begins_with_hlo (token ∷ tokens) = token == hlo
 -- the level after a message of the server that was relayed: only an HLO sets it
 abbrev pub level_told : Level → List ℕ → Level → Level
 level_told top tokens level = if begins_with_hlo tokens then level_of_hlo top tokens else level
+
+-- ---- as the tokens come
+
+-- the token so many places before the last one; 0, which is no bracket, where there are fewer
+abbrev pub before_last : ℕ → List ℕ → ℕ
+before_last places tokens = get_or (reverse tokens) places 0
+
+abbrev pub found_by : Option ℤ → List ℕ → Found
+found_by (Some number) tokens = Number number
+found_by None tokens = NoNumber (before_last 2 tokens) (before_last 1 tokens) (before_last 0 tokens)
+
+-- what is found in the tokens of a message so far: whether it is an HLO, and, if so, the number of its first option
+-- ( LVL n ) or, without one, its last three tokens, with which a later token may end an option
+abbrev pub found_in : List ℕ → Found
+found_in [] = NoToken
+found_in (token ∷ tokens) = if token == hlo then found_by (first_level (token ∷ tokens)) (token ∷ tokens) else NoHlo

@@ -50,13 +50,14 @@ note_of (effect ∷ effects) = note_or effect.told (note_of effects)
 -- ---- the value of a session
 
 -- what is held of a side: the bytes of its frame, also while the answer to it waits; the entries of its
--- reader's stack; the answers of its reader's table in all, and those before the present message,
--- both modulo 2^64
+-- reader's stack; the answers of its reader's table in all, and those before the present message; and how many
+-- tokens were looked at for the level of an HLO. These three are modulo 2^64.
 pub record Holding : Type 0 where
   pub held : List ℕ
   pub entries : ℕ
   pub total : ℕ
   pub total_before : ℕ
+  pub looked_at : ℕ
 
 pub record Gateway : Type 0 where
   pub state : SessionState
@@ -144,13 +145,14 @@ IsFrontOf xs (frame ∷ frames) = (0 < length xs) × ((rest : List ℕ) × (fram
 
 -- ---- what a call does
 
--- a new session: nothing came, nothing is held, nothing waits, and no table was asked
+-- a new session: nothing came, nothing is held, nothing waits, no table was asked and no token looked at
 pub record IsNew (limits : Limits) (g : Gateway) : Type 0 where
   pub state : g.state ≡ opening limits
   pub to_bot : g.to_bot ≡ []
   pub to_server : g.to_server ≡ []
   pub held : (g.bot.held ≡ []) × (g.server.held ≡ [])
   pub unasked : (g.bot.total ≡ 0) × (g.server.total ≡ 0)
+  pub unlooked : (g.bot.looked_at ≡ 0) × (g.server.looked_at ≡ 0)
 
 -- By these events the session goes from old to new with what the note tells, and what they cause waits
 -- behind what waited.
@@ -222,9 +224,13 @@ head_by g bytes = head_in g.state.limits.cap bytes
 abbrev pub asked_at_most : List ℕ → ℕ
 asked_at_most piece = 4 * (length piece / 2 + 1) + 4
 
+-- the most tokens that are looked at for the level of an HLO: those that a piece may end
+abbrev pub looked_at_most : List ℕ → ℕ
+looked_at_most piece = length piece / 2 + 1
+
 -- Bytes of a side came: its frame has them, its table was asked for a message alone, each token once and
--- as it came, and nothing changed of what is held of the other side. Where no byte came, nothing changed
--- at all.
+-- as it came, as each was looked at for the level of an HLO, and nothing changed of what is held of the other
+-- side. Where no byte came, nothing changed at all.
 pub record Takes (old : Gateway) (side : Side) (piece : List ℕ) (told : Note) (new : Gateway) : Type 0 where
   pub nothing : piece ≡ [] → holding new side ≡ holding old side
   pub bytes : (holding new side).held ≡ held_after told (grown old side piece)
@@ -233,6 +239,7 @@ pub record Takes (old : Gateway) (side : Side) (piece : List ℕ) (told : Note) 
   pub no_message : is_dm_head (head_by old (grown old side piece)) ≡ false →
       (holding new side).total ≡ (holding old side).total
   pub raised : IsRaised (asked_at_most piece) (holding old side).total (holding new side).total
+  pub looked_at : IsRaised (looked_at_most piece) (holding old side).looked_at (holding new side).looked_at
   pub other_side : holding new (other side) ≡ holding old (other side)
 
 -- nothing changed of what is held
@@ -242,3 +249,7 @@ HoldsTheSame old new = (new.bot ≡ old.bot) × (new.server ≡ old.server)
 -- no table was asked
 abbrev pub AsksNothing : Gateway → Gateway → Type 0
 AsksNothing old new = (new.bot.total ≡ old.bot.total) × (new.server.total ≡ old.server.total)
+
+-- no token was looked at for the level of an HLO
+abbrev pub LooksAtNothing : Gateway → Gateway → Type 0
+LooksAtNothing old new = (new.bot.looked_at ≡ old.bot.looked_at) × (new.server.looked_at ≡ old.server.looked_at)

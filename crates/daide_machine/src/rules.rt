@@ -1,15 +1,15 @@
 //! The session's rules, one small function each: what may come when, where an answer goes, and what a frame
 //! changes. Each has the rows of its table in `specs/Machine`, in their order.
 
-ghost use Rattle.std.specs.Prelude.{◌≡◌};
-ghost use Rattle.daide_token.specs.Token.{tokens_of};
+ghost use Rattle.std.specs.Prelude.{◌≡◌, ℕ, List};
 ghost use Rattle.daide_machine.specs.Events.{other as opposite};
+ghost use Rattle.daide_machine.specs.HloLevel.{found_in};
 ghost use Rattle.daide_machine.specs.Machine.{untimely as untimely_code, may_reach as may_reach_side};
 ghost use Rattle.daide_machine.specs.Machine.{is_sent as is_sent_to, destination as destination_of, deed_of as deed_by};
 ghost use Rattle.daide_machine.specs.Machine.{phase_after as next_phase, level_after as next_level};
 ghost use Rattle.daide_machine.specs.Machine.{side2_of as grammar_side};
 
-use crate::hlo::level_told;
+use crate::hlo::{Found, level_told};
 use crate::note::Deed;
 use crate::phase::Phase;
 use daide_frame::{Code, Kind, Side};
@@ -143,23 +143,24 @@ pub fn phase_after(kind: Kind, phase: Phase) -> Phase
     }
 }
 
-/// The level after a side's frame of a kind, with this body, was answered: a relayed HLO of the server
-/// sets it, to at most `top`. A bot's HLO never touches it.
+/// The level after a side's frame of a kind, in whose message this is found, was answered: a relayed HLO of the
+/// server sets it, to at most `top`. A bot's HLO never touches it.
 pub fn level_after(
     top: Level,
     kind: Kind,
     side: Side,
     verdict: Verdict,
-    body: &[u8],
+    found: Found,
     level: Level,
 ) -> Level
-    ensures { result ≡ next_level top kind side verdict (tokens_of body.now) level }
+    ensures { (tokens : List ℕ) → found ≡ found_in tokens →
+        result ≡ next_level top kind side verdict tokens level }
 {
     match kind {
         Kind::Im | Kind::Rm | Kind::Fm | Kind::Em => Level::L0,
         Kind::Dm => match (side, verdict) {
             (Side::Bot, Verdict::Relay | Verdict::Prn | Verdict::Huh(_)) => level,
-            (Side::Server, Verdict::Relay) => level_told(top, body, level),
+            (Side::Server, Verdict::Relay) => level_told(top, found, level),
             (Side::Server, Verdict::Prn | Verdict::Huh(_)) => level,
         },
     }

@@ -21,7 +21,7 @@ use Rattle.daide_machine.specs.Machine.{Sent, Outcome, SessionState, Coming, Run
 use Rattle.daide_machine.specs.Machine.{with_pending}
 use Rattle.daide_machine.specs.Machine.{is_over, items_outcome, asked_by}
 use Rattle.daide_machine.specs.Wires.{Gateway, Holding, waiting, holding, sent_to, note_of, held_after, counts_from}
-use Rattle.daide_machine.specs.Wires.{is_dm_head, asked_at_most, Goes, Takes}
+use Rattle.daide_machine.specs.Wires.{is_dm_head, asked_at_most, looked_at_most, Goes, Takes}
 use Rattle.daide_machine.proofs.PieceRuns.{piece_runs, piece_outcome, IsTaken}
 use Rattle.daide_session.specs.declared.stage.Stage.{Stage}
 use Rattle.daide_traffic.specs.Both.{at}
@@ -186,13 +186,15 @@ record TakesIn (limit : ℕ) (piece : List ℕ) (note : Note) (old new : Holding
   base : new.total_before ≡ counts_from (head_in limit old.held) (head_in limit (fed limit old.held piece)) old
   no_message : is_dm_head (head_in limit (fed limit old.held piece)) ≡ false → new.total ≡ old.total
   raised : IsRaised (asked_at_most piece) old.total new.total
+  looked_at : IsRaised (looked_at_most piece) old.looked_at new.looked_at
 
 takes_in : (limit : ℕ) (a b : Arrival) (new : Holding) (x : ℕ) (piece : List ℕ) (note : Note) →
     IsGrown limit a (fed limit a.coming.pending (x ∷ piece)) b →
     IsRaised (4 * tokens_ended limit a.coming.pending (x ∷ piece)) a.holding.total b.holding.total →
+    IsRaised (looked_at_most (x ∷ piece)) a.holding.looked_at b.holding.looked_at →
     new.held ≡ held_after note b.holding.held → Asks limit b.holding new →
     TakesIn limit (x ∷ piece) note a.holding new
-takes_in limit a b new x piece note pending raised held asks = record {
+takes_in limit a b new x piece note pending raised looked_at held asks = record {
   bytes = held ∙ ap (held_after note) grown.held;
   base = ⊎_elim
       (λ (e : new.total_before ≡ b.holding.total_before). e ∙ grown.base)
@@ -205,6 +207,8 @@ takes_in limit a b new x piece note pending raised held asks = record {
   raised = raised_more (4 * tokens_ended limit a.coming.pending (x ∷ piece)) 4 (asked_at_most (x ∷ piece))
       a.holding.total b.holding.total new.total
       (let few = few_ended limit a.coming.pending (x ∷ piece) in omega (arith, few)) raised asks.raised;
+  looked_at = subst (λ (n : ℕ). IsRaised (looked_at_most (x ∷ piece)) a.holding.looked_at n) (sym asks.looked_at)
+      looked_at;
 }
   where
     fed_bytes : List ℕ
@@ -230,14 +234,16 @@ takes_piece : (t u v : Traffic) (s r : Stage) (side : Side) (x : ℕ) (piece : L
     IsGrown t.cap (at t.sides side) (fed t.cap (pending t side) (x ∷ piece)) (at u.sides side) →
     IsRaised (4 * tokens_ended t.cap (pending t side) (x ∷ piece)) (at t.sides side).holding.total
     (at u.sides side).holding.total →
+    IsRaised (looked_at_most (x ∷ piece)) (at t.sides side).holding.looked_at (at u.sides side).holding.looked_at →
     Reacts (gateway_of u s) side items note (gateway_of v r) →
     Takes (gateway_of t s) side (x ∷ piece) note (gateway_of v r)
-takes_piece t u v s r side x piece items note keeps grown raised h = record {
+takes_piece t u v s r side x piece items note keeps grown raised looked_at h = record {
   nothing = λ none. absurd (cc);
   bytes = taken.bytes;
   base = taken.base;
   no_message = taken.no_message;
   raised = taken.raised;
+  looked_at = taken.looked_at;
   other_side = h.other_side ∙ holding_same t u s s (other side) keeps.other_side;
 }
   where
@@ -250,7 +256,7 @@ takes_piece t u v s r side x piece items note keeps grown raised h = record {
 
     taken : TakesIn t.cap (x ∷ piece) note (holding (gateway_of t s) side) now
     taken = subst (λ (k : Holding). TakesIn t.cap (x ∷ piece) note k now) (sym (holding_at t s side))
-        (takes_in t.cap (at t.sides side) (at u.sides side) now x piece note grown raised
+        (takes_in t.cap (at t.sides side) (at u.sides side) now x piece note grown raised looked_at
         (h.held ∙ ap (λ (k : Holding). held_after note k.held) (holding_at u s side)) asks)
 
 -- the same for any piece that has a byte
@@ -259,11 +265,12 @@ pub takes_some : (t u v : Traffic) (s r : Stage) (side : Side) (piece : List ℕ
     IsGrown t.cap (at t.sides side) (fed t.cap (pending t side) piece) (at u.sides side) →
     IsRaised (4 * tokens_ended t.cap (pending t side) piece) (at t.sides side).holding.total
     (at u.sides side).holding.total →
+    IsRaised (looked_at_most piece) (at t.sides side).holding.looked_at (at u.sides side).holding.looked_at →
     Reacts (gateway_of u s) side items note (gateway_of v r) →
     Takes (gateway_of t s) side piece note (gateway_of v r)
-takes_some t u v s r side [] items note some keeps grown raised h = absurd (omega (arith, some))
-takes_some t u v s r side (x ∷ piece) items note some keeps grown raised h =
-    takes_piece t u v s r side x piece items note keeps grown raised h
+takes_some t u v s r side [] items note some keeps grown raised looked_at h = absurd (omega (arith, some))
+takes_some t u v s r side (x ∷ piece) items note some keeps grown raised looked_at h =
+    takes_piece t u v s r side x piece items note keeps grown raised looked_at h
 
 -- its table was asked for the tokens that the piece ended, and at the message's end
 pub piece_worked : (t u v : Traffic) (s r : Stage) (side : Side) (piece : List ℕ) (items : List Item) (step : Step)
@@ -327,6 +334,7 @@ takes_nothing g side [] e = record {
   base = sym (counts_same (head_in g.state.limits.cap (holding g side).held) (holding g side));
   no_message = λ _. refl;
   raised = raised_none (holding g side).total (holding g side).total refl;
+  looked_at = raised_none (holding g side).looked_at (holding g side).looked_at refl;
   other_side = refl;
 }
 takes_nothing g side (x ∷ piece) e = absurd (omega (arith, e))

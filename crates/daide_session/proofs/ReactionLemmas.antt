@@ -106,6 +106,7 @@ begun_alone t u s side head live timely bodiless tied b = record {
     );
     raised = raised_none _ _ total;
     no_message = λ none. total;
+    looked_at = rw (holding_at u s side, holding_at t s side) b.started.looked_at;
   };
   other_side = holding_same t u s s (other side) b.keeps.other_side;
 }
@@ -141,6 +142,7 @@ begun_and_empty t u v s r q side head told live timely bodiless b h = record {
         h.asks.base;
     raised = subst (λ (n : ℕ). IsRaised 4 n (holding (gateway_of v q) side).total) total h.asks.raised;
     no_message = λ none. h.asks.no_message (head_same ∙ none) ∙ total;
+    looked_at = h.asks.looked_at ∙ looked_at;
   };
   other_side = h.other_side ∙ holding_same t u s r (other side) b.keeps.other_side;
 }
@@ -172,6 +174,9 @@ begun_and_empty t u v s r q side head told live timely bodiless b h = record {
 
     total : (holding (gateway_of u r) side).total ≡ (holding (gateway_of t s) side).total
     total = rw (holding_at u r side, holding_at t s side) b.started.total
+
+    looked_at : (holding (gateway_of u r) side).looked_at ≡ (holding (gateway_of t s) side).looked_at
+    looked_at = rw (holding_at u r side, holding_at t s side) b.started.looked_at
 
     unread : IsUnread t.cap (holding (gateway_of t s) side).held
     unread = inl (ap (λ (h : Holding). drop 4 h.held) (holding_at t s side) ∙ bodiless)
@@ -231,6 +236,7 @@ dropped_whole t u s side head body phase live unsent tied head_is now keeps wait
     );
     raised = raised_none _ _ total;
     no_message = λ none. total;
+    looked_at = rw (holding_at u later side, holding_at t s side) cleared.looked_at;
   };
   other_side = holding_same t u s later (other side) keeps.other_side;
 }

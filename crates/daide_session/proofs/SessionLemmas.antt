@@ -157,6 +157,7 @@ new_of config words t level q e = record {
   to_server = q.waiting Server;
   held = (q.held Bot, q.held Server);
   unasked = (q.unasked Bot, q.unasked Server);
+  unlooked = (q.unlooked Bot, q.unlooked Server);
 }
 
 pub standing_new : (cap : ℕ) (rules : Rules) (t : Traffic) (level : Level) → IsQuiet cap rules t →

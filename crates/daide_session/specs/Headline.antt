@@ -15,7 +15,7 @@ use Rattle.daide_session.specs.Turn.{Turn}
 
 -- of a side that nothing came of
 abbrev pub nothing_held : Holding
-nothing_held = record { held = []; entries = 0; total = 0; total_before = 0 }
+nothing_held = record { held = []; entries = 0; total = 0; total_before = 0; looked_at = 0 }
 
 -- a session that nothing came to
 abbrev pub untouched : Limits → Gateway

@@ -104,6 +104,7 @@ record IsSideAfter (old new : Inbound) (its : Bool) : Type 0 where
   same : IsSameSide old new
   coming : (arrival_of new).coming ≡ (arrival_of old).coming
   total : new.total ≡ old.total
+  looked_at : new.looked_at ≡ old.looked_at
   fewer : is_some old.verdict ≡ false → is_some new.verdict ≡ false
   gone : is_some old.verdict ≡ true → is_some new.verdict ≡ false → new.held ≡ []
   kept : is_some new.verdict ≡ is_some old.verdict → (arrival_of new).holding ≡ (arrival_of old).holding
@@ -115,6 +116,7 @@ same_after i = record {
   same = record { side = refl; cap = refl; rules = refl };
   coming = refl;
   total = refl;
+  looked_at = refl;
   fewer = λ e. e;
   gone = λ some none. absurd (cc);
   kept = λ e. refl;
@@ -130,6 +132,7 @@ released_after old new b some = record {
       { pending = bytes; noted = old.level })
       (blank old.verdict some));
   total = b.total;
+  looked_at = b.looked_at;
   fewer = λ e. ap is_some b.unanswered;
   gone = λ waits none. b.held;
   kept = λ e. absurd (still old.verdict some (sym e ∙ ap is_some b.unanswered));
@@ -272,6 +275,8 @@ module _ (f : Fields) (b : Both Inbound) (to : Side) (i : IsSound f)
       coming = λ one. rw ((now one).arrival, (was one).arrival) (side one).coming;
       total = λ one. ap (λ (a : Arrival). a.holding.total) (now one).arrival ∙ (side one).total
           ∙ sym (ap (λ (a : Arrival). a.holding.total) (was one).arrival);
+      looked_at = λ one. ap (λ (a : Arrival). a.holding.looked_at) (now one).arrival ∙ (side one).looked_at
+          ∙ sym (ap (λ (a : Arrival). a.holding.looked_at) (was one).arrival);
       fewer = λ one. rw ((now one).awaited, (was one).awaited) (side one).fewer;
       gone = λ one. rw ((now one).awaited, (was one).awaited)
           (λ some none. ap (λ (a : Arrival). a.holding.held) (now one).arrival ∙ (side one).gone some none);

@@ -11,6 +11,8 @@ use Rattle.daide_frame.specs.declared.side.Side.{Side}
 use Rattle.daide_frame.specs.declared.head.Head.{Head}
 use Rattle.daide_frame.specs.Frames.{Cut, fed, head_in, head_part, is_nothing, last_items}
 use Rattle.daide_frame.proofs.FramesLemmas.{head_in-short, head_in-whole, head_of-append4}
+use Rattle.daide_machine.specs.declared.hlo.HloScan.{HloScan}
+use Rattle.daide_machine.specs.HloLevel.{found_in}
 use Rattle.daide_machine.specs.Weight.{tokens_held}
 use Rattle.daide_machine.specs.Wires.{is_dm_head}
 use Rattle.daide_machine.specs.Machine.{IsRight, question_of, is_dm, side2_of}
@@ -197,21 +199,25 @@ stands_deep table side level v w cut depth words stands =
 
 -- what is read stays read where the frame has other bytes and no answer
 pub read_along : {T : Type 0} (table : Ghosts T) (asked : T → ℕ) (side : Side) (level : Level) (old new : Cut)
-    (v w : Reading T) (header : List ℕ) (verdict : Option Verdict) →
-    IsReadOn table asked side level old v header verdict → verdict ≡ None → new.cap ≡ old.cap →
+    (v w : Reading T) (hlo now : HloScan) (header : List ℕ) (verdict : Option Verdict) →
+    IsReadOn table asked side level old v hlo header verdict → verdict ≡ None → new.cap ≡ old.cap →
     w.max_depth ≡ v.max_depth → table.words w.table ≡ table.words v.table → w.finished ≡ false →
     StandsAfter table (table.words v.table) (opening_of (side2_of side) level) v.max_depth w
     (tokens_held new.cap new.bytes) →
+    now.found ≡ found_in (tokens_held new.cap new.bytes) →
     (is_dm_head (head_in new.cap new.bytes) ≡ false → w.asked_before ≡ asked w.table) →
-    IsReadOn table asked side level new w header verdict
-read_along table asked side level old new v w header verdict h none same depth words goes_on stands uncounted = record {
-  four = h.four;
-  place = subst (λ (a : Option Verdict). HasPlace new.bytes a) (sym none) tt;
-  capped = rw same h.capped;
-  stands = stands_deep table side level v w new depth words stands;
-  unfinished = λ free. goes_on;
-  uncounted = uncounted;
-}
+    IsReadOn table asked side level new w now header verdict
+read_along table asked side level old new v w hlo now header verdict h none same depth words goes_on stands found
+    uncounted =
+    record {
+      four = h.four;
+      place = subst (λ (a : Option Verdict). HasPlace new.bytes a) (sym none) tt;
+      capped = rw same h.capped;
+      stands = stands_deep table side level v w new depth words stands;
+      found = found;
+      unfinished = λ free. goes_on;
+      uncounted = uncounted;
+    }
 
 -- where neither the depth nor the words change, a reader judges as before
 pub rules_kept : {T : Type 0} (words : T → Words) (v w : Reading T) → w.max_depth ≡ v.max_depth →
@@ -220,14 +226,16 @@ rules_kept words v w depth same = rw (depth, same) refl
 
 -- nothing changed of a side but its bytes, and how far its message is read
 pub reads_of : {T : Type 0} (table : Ghosts T) (words : T → Words) (asked : T → ℕ) (side : Side) (level : Level)
-    (old new : Cut) (v w : Reading T) (header : List ℕ) (verdict : Option Verdict) (bytes : List ℕ) →
-    IsReadOn table asked side level old v header verdict → verdict ≡ None → new.cap ≡ old.cap → new.bytes ≡ bytes →
+    (old new : Cut) (v w : Reading T) (hlo now : HloScan) (header : List ℕ) (verdict : Option Verdict)
+    (bytes : List ℕ) → IsReadOn table asked side level old v hlo header verdict → verdict ≡ None →
+    new.cap ≡ old.cap → new.bytes ≡ bytes →
     rules_of words w ≡ rules_of words v → w.asked_before ≡ v.asked_before →
     (is_dm_head (head_in new.cap new.bytes) ≡ false → asked w.table ≡ asked v.table) →
     (drop 4 new.bytes ≡ [] → asked w.table ≡ asked v.table) →
-    Reads (inbound_of words asked side level old v header verdict) bytes
-    (inbound_of words asked side level new w header verdict)
-reads_of table words asked side level old new v w header verdict bytes h none same are rules base no_message bodiless =
+    Reads (inbound_of words asked side level old v hlo header verdict) bytes
+    (inbound_of words asked side level new w now header verdict)
+reads_of table words asked side level old new v w hlo now header verdict bytes h none same are rules base no_message
+    bodiless =
     record {
       side = refl;
       cap = same;
@@ -261,11 +269,12 @@ raised_none most n = record { by = 0; few = omega arith; sum = ap (λ (k : ℕ).
 
 -- a frame was judged: how far its message is read then, and what becomes of the frame
 pub record IsJudged {T : Type 0} (table : Ghosts T) (words : T → Words) (asked : T → ℕ) (old : Inbound) (side : Side)
-    (level : Level) (cut : Cut) (v : Reading T) (head : Head) (verdict : Verdict) : Type 0 where
+    (level : Level) (cut : Cut) (v : Reading T) (hlo : HloScan) (head : Head) (verdict : Verdict) : Type 0 where
   pub capped : cut.cap ≤ 65526
   pub place : IsPlaceIn (drop 4 cut.bytes) verdict
   pub stands : StandsAfter table (table.words v.table) (opening_of (side2_of side) level) v.max_depth v
       (tokens_held cut.cap cut.bytes)
+  pub found : hlo.found ≡ found_in (tokens_held cut.cap cut.bytes)
   pub uncounted : is_dm_head (head_in cut.cap cut.bytes) ≡ false → v.asked_before ≡ asked v.table
   pub right : IsRight old.rules.words old.rules.max_depth (question_of old.side old.level head (drop 4 old.held)) verdict
   pub same_side : side ≡ old.side
@@ -276,6 +285,7 @@ pub record IsJudged {T : Type 0} (table : Ghosts T) (words : T → Words) (asked
   pub base : v.asked_before ≡ old.total_before
   pub raised : IsRaised 4 old.total (asked v.table)
   pub no_message : is_dm head.kind ≡ false → asked v.table ≡ old.total
+  pub looked_at : hlo.looked_at ≡ old.looked_at
 
 -- ---- a message begins anew
 
@@ -290,18 +300,19 @@ none_begun limit b e =
 
 -- a reader stands at the start of a message of which no token is held
 pub fresh_on : {T : Type 0} (table : Ghosts T) (asked : T → ℕ) (side : Side) (level : Level) (cut : Cut)
-    (v w : Reading T) (header : List ℕ) (now : Option Verdict) → length header ≡ 4 → cut.cap ≤ 65526 →
+    (v w : Reading T) (hlo : HloScan) (header : List ℕ) (now : Option Verdict) → length header ≡ 4 → cut.cap ≤ 65526 →
     drop 4 cut.bytes ≡ [] → HasPlace cut.bytes now → w.table ≡ v.table → w.asked_before ≡ asked v.table →
     w.finished ≡ false →
     StandsAfter table (table.words v.table) (opening_of (side2_of side) level) v.max_depth w [] →
-    IsReadOn table asked side level cut w header now
-fresh_on table asked side level cut v w header now four capped none place kept base goes_on stands = record {
+    hlo.found ≡ found_in [] → IsReadOn table asked side level cut w hlo header now
+fresh_on table asked side level cut v w hlo header now four capped none place kept base goes_on stands found = record {
   four = four;
   place = place;
   capped = capped;
   stands = stands_deep table side level v w cut stands.depth_kept stands.words_kept
       (subst (λ (p : List ℕ). StandsAfter table (table.words v.table) (opening_of (side2_of side) level) v.max_depth
       w p) (sym (none_begun cut.cap cut.bytes none)) stands);
+  found = found ∙ ap found_in (sym (none_begun cut.cap cut.bytes none));
   unfinished = λ free. goes_on;
   uncounted = λ no. base ∙ ap asked (sym kept);
 }
@@ -311,12 +322,16 @@ pub rules_set : {T : Type 0} (words : T → Words) (w : Reading T) (most : ℕ) 
 rules_set words w most all depth same = rw (depth, same) refl
 
 pub begins_of : {T : Type 0} (words : T → Words) (asked : T → ℕ) (side : Side) (before after level : Level)
-    (old cut : Cut) (v w : Reading T) (header : List ℕ) (verdict now : Option Verdict) (bytes : List ℕ) (t : Inbound) →
-    inbound_of words asked side before old v header verdict ≡ t → after ≡ level → cut.cap ≡ old.cap →
+    (old cut : Cut) (v w : Reading T) (hlo later : HloScan) (header : List ℕ) (verdict now : Option Verdict)
+    (bytes : List ℕ) (t : Inbound) → inbound_of words asked side before old v hlo header verdict ≡ t →
+    after ≡ level → cut.cap ≡ old.cap →
     cut.bytes ≡ bytes → now ≡ None → w.max_depth ≡ v.max_depth → w.table ≡ v.table → w.asked_before ≡ asked v.table →
-    Begins t level bytes (inbound_of words asked side after cut w header now)
-begins_of words asked side before after level old cut v w header verdict now bytes t is set same are none depth kept base =
-    subst (λ (x : Inbound). Begins x level bytes (inbound_of words asked side after cut w header now)) is (record {
+    later.looked_at ≡ hlo.looked_at →
+    Begins t level bytes (inbound_of words asked side after cut w later header now)
+begins_of words asked side before after level old cut v w hlo later header verdict now bytes t is set same are none
+    depth kept base looked_at =
+    subst (λ (x : Inbound). Begins x level bytes (inbound_of words asked side after cut w later header now)) is
+    (record {
       side = refl;
       cap = same;
       rules = rules_kept words v w depth (ap words kept);
@@ -325,4 +340,5 @@ begins_of words asked side before after level old cut v w header verdict now byt
       unanswered = none;
       total = ap asked kept;
       base = base;
+      looked_at = looked_at;
     })

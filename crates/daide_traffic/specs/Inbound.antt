@@ -17,7 +17,9 @@ use Rattle.daide_reader.specs.Reading.{Reading, StandsAfter}
 use Rattle.daide_reader.specs.declared.verdict.Verdict.{Verdict}
 use Rattle.daide_reader.specs.declared.verdict.Verdict.TheVariants.{Relay, Prn, Huh}
 use Rattle.daide_reader.specs.Verdict.{IsPlaceIn}
+use Rattle.daide_machine.specs.declared.hlo.HloScan.{HloScan}
 use Rattle.daide_machine.specs.Answers.{answer_body, answer_head, prn_open, huh_open, err_word, close_word}
+use Rattle.daide_machine.specs.HloLevel.{found_in}
 use Rattle.daide_machine.specs.Machine.{side2_of}
 use Rattle.daide_machine.specs.Weight.{tokens_held}
 use Rattle.daide_machine.specs.Wires.{is_dm_head}
@@ -42,6 +44,8 @@ pub record Inbound : Type 0 where
   -- the table's answers in all, and those before the message, both modulo 2^64
   pub total : ℕ
   pub total_before : ℕ
+  -- the tokens that were looked at for the level of an HLO, modulo 2^64
+  pub looked_at : ℕ
 
 -- how many tokens of a message a piece ends, where these bytes of its frame came before
 abbrev pub tokens_ended : ℕ → List ℕ → List ℕ → ℕ
@@ -88,9 +92,9 @@ words_in table = spoken (spoken_words table)
 abbrev pub rules_of : {T : Type 0} → (T → Words) → Reading T → Rules
 rules_of words v = record { max_depth = v.max_depth; words = words v.table }
 
-abbrev pub inbound_of : {T : Type 0} → (T → Words) → (T → ℕ) → Side → Level → Cut → Reading T → List ℕ →
+abbrev pub inbound_of : {T : Type 0} → (T → Words) → (T → ℕ) → Side → Level → Cut → Reading T → HloScan → List ℕ →
     Option Verdict → Inbound
-inbound_of words asked side level cut v header verdict = record {
+inbound_of words asked side level cut v hlo header verdict = record {
   side = side;
   cap = cut.cap;
   rules = rules_of words v;
@@ -101,21 +105,23 @@ inbound_of words asked side level cut v header verdict = record {
   entries = length v.stack;
   total = asked v.table;
   total_before = v.asked_before;
+  looked_at = hlo.looked_at;
 }
 
 abbrev pub HasPlace : List ℕ → Option Verdict → Type 0
 HasPlace held None = Unit {0}
 HasPlace held (Some verdict) = IsPlaceIn (drop 4 held) verdict
 
--- The reader stands after the whole tokens of the message that is held: at a header, in the midst of a body, at its
--- end, and while the answer waits.
+-- The reader stands after the whole tokens of the message that is held, and so does what is found of an HLO: at a
+-- header, in the midst of a body, at its end, and while the answer waits.
 pub record IsReadOn {T : Type 0} (table : Ghosts T) (asked : T → ℕ) (side : Side) (level : Level) (cut : Cut)
-    (v : Reading T) (header : List ℕ) (verdict : Option Verdict) : Type 0 where
+    (v : Reading T) (hlo : HloScan) (header : List ℕ) (verdict : Option Verdict) : Type 0 where
   pub four : length header ≡ 4
   pub place : HasPlace cut.bytes verdict
   pub capped : cut.cap ≤ 65526
   pub stands : StandsAfter table (table.words v.table) (opening_of (side2_of side) level) v.max_depth v
       (tokens_held cut.cap cut.bytes)
+  pub found : hlo.found ≡ found_in (tokens_held cut.cap cut.bytes)
   pub unfinished : verdict ≡ None → v.finished ≡ false
   -- the table was asked for a message alone
   pub uncounted : is_dm_head (head_in cut.cap cut.bytes) ≡ false → v.asked_before ≡ asked v.table
@@ -132,6 +138,7 @@ pub record Begins (old : Inbound) (level : Level) (bytes : List ℕ) (new : Inbo
   pub unanswered : new.verdict ≡ None
   pub total : new.total ≡ old.total
   pub base : new.total_before ≡ old.total
+  pub looked_at : new.looked_at ≡ old.looked_at
 
 -- the frame has these bytes now, and its message was read on: the table is asked for tokens of a message alone
 pub record Reads (old : Inbound) (bytes : List ℕ) (new : Inbound) : Type 0 where
@@ -156,6 +163,7 @@ pub record Answers (old : Inbound) (head : Head) (verdict : Verdict) (new : Inbo
   pub header : new.header ≡ head_bytes (answer_head head verdict)
   pub verdict_set : new.verdict ≡ Some verdict
   pub base : new.total_before ≡ old.total_before
+  pub looked_at : new.looked_at ≡ old.looked_at
 
 -- the table's answers for the present message, modulo 2^64
 abbrev pub steps_in : Inbound → ℕ

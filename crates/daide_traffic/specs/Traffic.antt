@@ -50,6 +50,7 @@ pub record IsQuiet (cap : ℕ) (rules : Rules) (t : Traffic) : Type 0 where
   pub coming : (side : Side) → (at t.sides side).coming ≡ record { pending = []; noted = L0 }
   pub held : (side : Side) → (holding t side).held ≡ []
   pub unasked : (side : Side) → (holding t side).total ≡ 0
+  pub unlooked : (side : Side) → (holding t side).looked_at ≡ 0
   pub waiting : (to : Side) → at t.waiting to ≡ []
 
 -- the limits stay, and what came of the other side
@@ -74,12 +75,14 @@ pub record IsStarted (old : Arrival) (level : Level) (new : Arrival) : Type 0 wh
   pub held : new.holding.held ≡ old.holding.held
   pub total : new.holding.total ≡ old.holding.total
   pub base : new.holding.total_before ≡ old.holding.total
+  pub looked_at : new.holding.looked_at ≡ old.holding.looked_at
 
 -- a side's frame was answered
 pub record IsAnswered (old new : Arrival) : Type 0 where
   pub coming : new.coming ≡ record { pending = []; noted = old.coming.noted }
   pub held : new.holding.held ≡ old.holding.held
   pub base : new.holding.total_before ≡ old.holding.total_before
+  pub looked_at : new.holding.looked_at ≡ old.holding.looked_at
 
 -- a side's frame was dropped
 pub record IsCleared (old new : Arrival) : Type 0 where
@@ -87,14 +90,16 @@ pub record IsCleared (old new : Arrival) : Type 0 where
   pub held : new.holding.held ≡ []
   pub total : new.holding.total ≡ old.holding.total
   pub base : new.holding.total_before ≡ old.holding.total
+  pub looked_at : new.holding.looked_at ≡ old.holding.looked_at
 
 -- Frames that waited are gone: nothing is held of a side whose answer was among them, and of any other what was held.
--- No table was asked.
+-- No table was asked, and no token looked at.
 pub record LetsGo (old new : Traffic) : Type 0 where
   pub cap : new.cap ≡ old.cap
   pub rules : new.rules ≡ old.rules
   pub coming : (side : Side) → (at new.sides side).coming ≡ (at old.sides side).coming
   pub total : (side : Side) → (holding new side).total ≡ (holding old side).total
+  pub looked_at : (side : Side) → (holding new side).looked_at ≡ (holding old side).looked_at
   pub fewer : (side : Side) → is_awaited (at old.waiting) side ≡ false → is_awaited (at new.waiting) side ≡ false
   pub gone : (side : Side) → is_awaited (at old.waiting) side ≡ true → is_awaited (at new.waiting) side ≡ false →
       (holding new side).held ≡ []
@@ -184,7 +189,13 @@ pending_by (Some verdict) bytes = []
 abbrev pub arrival_of : Inbound → Arrival
 arrival_of i = record {
   coming = record { pending = pending_by i.verdict i.held; noted = i.level };
-  holding = record { held = i.held; entries = i.entries; total = i.total; total_before = i.total_before };
+  holding = record {
+    held = i.held;
+    entries = i.entries;
+    total = i.total;
+    total_before = i.total_before;
+    looked_at = i.looked_at;
+  };
 }
 
 abbrev pub traffic_of : Fields → Traffic

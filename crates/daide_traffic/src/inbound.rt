@@ -2,9 +2,9 @@
 //! frame, in place.
 //!
 //! A message is read as its bytes come: each piece is cut, and then the reader takes the tokens that the
-//! piece ends. An answer is sent from the frame that it answers: only its header is written anew, `PRN (`,
-//! `HUH (`, `ERR` and `)` are fixed words, and the body stays where it came. So a side holds one body, and
-//! a frame takes no more memory when it is answered.
+//! piece ends, and they are looked at for the level that an HLO sets. An answer is sent from the frame that
+//! it answers: only its header is written anew, `PRN (`, `HUH (`, `ERR` and `)` are fixed words, and the body
+//! stays where it came. So a side holds one body, and a frame takes no more memory when it is answered.
 
 ghost use Rattle.std.specs.Prelude.{◌≡◌, ℕ, ◌+◌, ◌-◌, ◌*◌, ◌/◌, ◌<◌, ◌≤◌, List, [], ◌∷◌, ◌++◌, length, drop, ◌⊎◌};
 ghost use Rattle.std.specs.Prelude.{true, false, is_some, Some, None, IfOk, if◌then◌else◌};
@@ -13,6 +13,7 @@ ghost use Rattle.daide_frame.specs.Frames.{announced};
 ghost use Rattle.daide_frame.specs.declared.cutter.Step.TheVariants.{Bodied};
 ghost use Rattle.daide_grammar.specs.Depth.{open_brackets};
 ghost use Rattle.daide_grammar.specs.declared.level.Level.{Level};
+ghost use Rattle.daide_machine.specs.HloLevel.{found_in};
 ghost use Rattle.daide_machine.specs.Machine.{IsRight, question_of, is_dm};
 ghost use Rattle.daide_machine.specs.Weight.{tokens_held};
 ghost use Rattle.daide_machine.specs.Wires.{is_dm_head};
@@ -30,6 +31,7 @@ use daide_grammar::level::Level;
 use daide_grammar::predict::Predict;
 use daide_machine::answers::{CLOSE_WORD, ERR_WORD, HUH_OPEN, PRN_OPEN, answer_head};
 use daide_machine::bounds::STACK_ENTRIES;
+use daide_machine::hlo::{Found, HloScan};
 use daide_machine::rules::side2_of;
 use daide_reader::reader::Reader;
 use daide_reader::verdict::Verdict;
@@ -38,11 +40,12 @@ use daide_words::words::Words;
 use std::alloc::{AllocError, Allocator, Global};
 use std::marker::Model;
 
-/// One side's frame, its reader, and the answer that the frame becomes.
+/// One side's frame, how far its message is read, and the answer that the frame becomes.
 #[derive(Drop)]
 pub struct Inbound<A: Allocator = Global> {
     cutter: Cutter<A>,
     reader: Reader<Extended, STACK_ENTRIES>,
+    hlo: HloScan,
     side: Side,
     level: Level,
     header: [u8; 4],
@@ -54,11 +57,11 @@ impl<A: Allocator> Model for Inbound<A> {
 
     ghost Value = { Inbound };
 
-    ghost view = { λ i. inbound_of words_in ⟦<Extended as Predict>⟧.asked i.side i.level i.cutter i.reader i.header
-        i.verdict };
+    ghost view = { λ i. inbound_of words_in ⟦<Extended as Predict>⟧.asked i.side i.level i.cutter i.reader i.hlo
+        i.header i.verdict };
 
     ghost invariant = { λ i. IsReadOn ⟦<Extended as Predict>⟧ ⟦<Extended as Predict>⟧.asked i.side i.level i.cutter
-        i.reader i.header i.verdict };
+        i.reader i.hlo i.header i.verdict };
 }
 
 /// Whether a header is whole, good and a message's.
@@ -127,6 +130,7 @@ impl<A: Allocator> Inbound<A> {
             ≡ record { max_depth = max_depth; words = grammar_words (words_of words) }) }
         ensures empty { IfOk result (λ i. (i.held ≡ []) × (i.verdict ≡ None)) }
         ensures unasked { IfOk result (λ i. i.total ≡ 0) }
+        ensures unlooked { IfOk result (λ i. i.looked_at ≡ 0) }
     {
         // Where a reader is made over words, the prover wants their codes' type among the function's own.
         let _names = words.names();
@@ -136,6 +140,7 @@ impl<A: Allocator> Inbound<A> {
         Ok(Inbound {
             cutter,
             reader,
+            hlo: HloScan::new(),
             side,
             level: Level::L0,
             header: [0; 4],
@@ -182,15 +187,18 @@ impl<A: Allocator> Inbound<A> {
     {
         self.level = level;
         self.reader.start(side2_of(self.side), level);
+        self.hlo.start();
     }
 
-    /// Takes the next bytes, at most as many as there is room for, and reads the tokens that they end.
+    /// Takes the next bytes, at most as many as there is room for, and reads the tokens that they end, each of
+    /// which is looked at for the level of an HLO at most once.
     pub fn feed(&mut self, piece: &[u8]) -> Step
         requires free { self.old.verdict ≡ None }
         requires room { length piece.now ≤ missing self.old.cap self.old.held }
         ensures reads { Reads self.old (fed self.old.cap self.old.held piece.now) self.new }
         ensures raised { IsRaised (4 * tokens_ended self.old.cap self.old.held piece.now) self.old.total
             self.new.total }
+        ensures looked_at { IsRaised (length piece.now / 2 + 1) self.old.looked_at self.new.looked_at }
         ensures items { fed_items self.old.cap self.old.held piece.now
             ≡ told result (head_in self.new.cap self.new.held) (drop 4 self.new.held) }
         ensures whole { IsFault result ⊎ (self.new.held ≡ self.old.held ++ piece.now) }
@@ -198,7 +206,9 @@ impl<A: Allocator> Inbound<A> {
     {
         let step = self.cutter.feed(piece);
         if is_message(self.cutter.head()) {
+            let read = self.reader.tokens();
             self.reader.read(self.cutter.body());
+            self.hlo.read(self.cutter.body(), read);
         }
         step
     }
@@ -278,6 +288,21 @@ impl<A: Allocator> Inbound<A> {
         self.cutter.reset();
         self.verdict = None;
         self.reader.start(side2_of(self.side), self.level);
+        self.hlo.start();
+    }
+
+    /// What is found of an HLO in the message that is held, also while its answer waits.
+    pub fn found(&self) -> Found
+        ensures { result ≡ found_in (tokens_held self.now.cap self.now.held) }
+    {
+        self.hlo.found()
+    }
+
+    /// How many tokens were looked at for the level of an HLO, modulo 2^64.
+    pub fn looked_at(&self) -> u64
+        ensures { result ≡ self.now.looked_at }
+    {
+        self.hlo.looked_at()
     }
 
     /// How many entries the reader's stack has.

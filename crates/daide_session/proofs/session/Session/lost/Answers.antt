@@ -33,6 +33,16 @@ returns-clause-other_front g c =
     (other_front c.self.inside.traffic c.stop.new.traffic c.lose.new.self c.self.inside.stage c.stop.new.stage
     c.args.side [] c.stop.ensures.fronts c.lose.ensures.waiting c.lose.ensures.other_front)
 
+pub returns-clause-looks_at_nothing : goal.returns-clause-looks_at_nothing
+returns-clause-looks_at_nothing g c = (
+  c.lose.ensures.lets_go.looked_at Bot
+      ∙ (ap (λ (x : Both Arrival). x.bot.holding.looked_at) c.stop.ensures.keeps.sides
+      ∙ ap (λ (v : Gateway). v.bot.looked_at) c.self.view_is),
+  c.lose.ensures.lets_go.looked_at Server
+      ∙ (ap (λ (x : Both Arrival). x.server.holding.looked_at) c.stop.ensures.keeps.sides
+      ∙ ap (λ (v : Gateway). v.server.looked_at) c.self.view_is),
+)
+
 pub returns-clause-asks_nothing : goal.returns-clause-asks_nothing
 returns-clause-asks_nothing g c = (
   c.lose.ensures.lets_go.total Bot

@@ -35,8 +35,8 @@ answer_head-requires g c =
 -- what the verdict is, and what was read
 judged : (g : given.Over) (c : goal.After-self-2-1 g) →
     IsJudged ghosts words_in answers_given c.args.self.now c.if-is_message.self-inside.side
-    c.if-is_message.self-inside.level c.if-is_message.self-inside.cutter c.if-is_message.self-inside.reader c.args.head
-    c.if-is_message.verdict
+    c.if-is_message.self-inside.level c.if-is_message.self-inside.cutter c.if-is_message.self-inside.reader
+    c.if-is_message.self-inside.hlo c.args.head c.if-is_message.verdict
 judged g c = elim c.if-is_message.branch [
   | then-is_message w ↦ rw (w.self-inside-is, w.verdict-is) (
       let i = c.self.inside in
@@ -64,6 +64,7 @@ judged g c = elim c.if-is_message.branch [
             w.finish-verdict.ensures.depth w.finish-verdict.ensures.words
             (w.finish-verdict.ensures.stands_after (spoken_words i.reader.table)
             (opening_of (side2_of i.side) i.level) i.reader.max_depth tokens c.self.invariant.stands);
+        found = c.self.invariant.found;
         uncounted = λ no. absurd (cc);
         right = subst (λ (v : Inbound). IsRight v.rules.words v.rules.max_depth
             (question_of v.side v.level c.args.head (drop 4 v.held)) w.finish-verdict.result) c.self.view_is
@@ -80,6 +81,7 @@ judged g c = elim c.if-is_message.branch [
         raised = subst (λ (v : Inbound). IsRaised 4 v.total (answers_given w.finish-verdict.new.self.table))
             c.self.view_is w.finish-verdict.ensures.raised;
         no_message = λ no. absurd (cc);
+        looked_at = ap (λ (v : Inbound). v.looked_at) c.self.view_is;
       })
   | else-is_message w ↦ rw (w.self-inside-is, w.verdict-is) (
       let i = c.self.inside in
@@ -88,6 +90,7 @@ judged g c = elim c.if-is_message.branch [
         capped = c.self.invariant.capped;
         place = tt;
         stands = c.self.invariant.stands;
+        found = c.self.invariant.found;
         uncounted = c.self.invariant.uncounted;
         right = subst (λ (v : Inbound). IsRight v.rules.words v.rules.max_depth
             (question_of v.side v.level c.args.head (drop 4 v.held)) Relay)
@@ -102,6 +105,7 @@ judged g c = elim c.if-is_message.branch [
         raised = subst (λ (v : Inbound). IsRaised 4 v.total (answers_given i.reader.table)) c.self.view_is
             (raised_none 4 (answers_given i.reader.table));
         no_message = λ _. ap (λ (v : Inbound). v.total) c.self.view_is;
+        looked_at = ap (λ (v : Inbound). v.looked_at) c.self.view_is;
       })
 ]
 
@@ -114,6 +118,7 @@ invariant_of-self g c =
       place = j.place;
       capped = j.capped;
       stands = j.stands;
+      found = j.found;
       unfinished = λ none. absurd (cc);
       uncounted = j.uncounted;
     }
@@ -133,6 +138,7 @@ returns-clause-answers g c =
       header = c.write_head-self-inside.ensures ∙ ap head_bytes c.answer_head.ensures;
       verdict_set = refl;
       base = j.base;
+      looked_at = j.looked_at;
     }
 
 pub returns-clause-raised : goal.returns-clause-raised

@@ -12,18 +12,19 @@ pub invariant_of-self : goal.invariant_of-self
 invariant_of-self g c =
     let i = c.self.inside in
     let e = c.start.ensures in
-    fresh_on ghosts answers_given i.side c.args.level i.cutter i.reader c.start.new.self i.header i.verdict
-    c.self.invariant.four c.self.invariant.capped
+    fresh_on ghosts answers_given i.side c.args.level i.cutter i.reader c.start.new.self c.start-2.new.self i.header
+    i.verdict c.self.invariant.four c.self.invariant.capped
     (ap (λ (v : Inbound). drop 4 v.held) c.self.view_is ∙ c.requires.bodiless) c.self.invariant.place e.table e.base
     e.unfinished
     (subst (λ (s : Side2). StandsAfter ghosts (spoken_words i.reader.table) (opening_of s c.args.level)
-    i.reader.max_depth c.start.new.self []) c.side2_of.ensures e.stands_after)
+    i.reader.max_depth c.start.new.self []) c.side2_of.ensures e.stands_after) c.start-2.ensures.found
 
 pub returns : goal.returns
 returns g c =
     let i = c.self.inside in
     let e = c.start.ensures in
     begins_of words_in answers_given i.side i.level c.args.level c.args.level i.cutter i.cutter i.reader c.start.new.self
-    i.header i.verdict i.verdict c.args.self.now.held c.args.self.now c.self.view_is refl refl
+    i.hlo c.start-2.new.self i.header i.verdict i.verdict c.args.self.now.held c.args.self.now c.self.view_is refl refl
     (ap (λ (v : Inbound). v.held) c.self.view_is)
     (ap (λ (v : Inbound). v.verdict) c.self.view_is ∙ c.requires.free) e.stands_after.depth_kept e.table e.base
+    c.start-2.ensures.looked_at

@@ -1,4 +1,4 @@
-use Rattle.std.proofs.Common.{◌≡◌, ℕ, ◌-◌, ◌*◌, ◌/◌, ◌≤◌, List, None, true, false, length, take, drop, rules}
+use Rattle.std.proofs.Common.{◌≡◌, ℕ, ◌+◌, ◌-◌, ◌*◌, ◌/◌, ◌≤◌, List, None, true, false, length, take, drop, rules}
 use Rattle.std.proofs.Common.{refl, sym, ap, ◌∙◌, subst, arith}
 use Rattle.daide_token.specs.Token.{tokens_of}
 use Rattle.daide_frame.specs.Frames.{fed, head_in}
@@ -7,13 +7,14 @@ use Rattle.daide_words.specs.declared.extended.Extended.{Extended}
 use Rattle.daide_words.specs.contracts.extended.ExtendedPredict.TheImpl.{ghosts}
 use Rattle.daide_words.specs.Extended.{answers_given, spoken_words}
 use Rattle.daide_words.specs.OverWords.{spoken}
+use Rattle.daide_machine.specs.HloLevel.{found_in}
 use Rattle.daide_machine.specs.Machine.{side2_of}
 use Rattle.daide_machine.specs.Weight.{tokens_held}
 use Rattle.daide_machine.specs.Wires.{is_dm_head}
 use Rattle.daide_reader.specs.Reading.{Reading, IsRaised, StandsAfter, tokens_read}
 use Rattle.daide_traffic.specs.Inbound.{Inbound, Reads, inbound_of, tokens_ended, words_in}
-use Rattle.daide_traffic.proofs.InboundLemmas.{fed_on, fed_past, none_held, read_along, reads_of, rules_kept}
-use Rattle.daide_traffic.proofs.InboundLemmas.{raised_most}
+use Rattle.daide_traffic.proofs.InboundLemmas.{few_ended, fed_on, fed_past, none_held, raised_most}
+use Rattle.daide_traffic.proofs.InboundLemmas.{read_along, reads_of, rules_kept}
 use Rattle.daide_traffic.proofs.inbound.Inbound.feed.Goals as goal
 
 pub read-requires : goal.read-requires
@@ -34,6 +35,19 @@ read-requires g c =
     let same = c.feed-step.ensures.cap in
     (search rules, (c.self.invariant.unfinished none, (omega arith, omega arith)))
 
+pub read-requires-then-is_message-clause-came_before : goal.read-requires-then-is_message-clause-came_before
+read-requires-then-is_message-clause-came_before g c =
+    let i = c.self.inside in
+    let cut = c.feed-step.new.self in
+    let dm : is_dm_head (head_in cut.cap cut.bytes) ≡ true =
+    ap is_dm_head (sym c.head.ensures) ∙ (sym c.is_message.ensures ∙ c.if-is_message.true) in
+    let on = fed_on i.cutter.cap i.cutter.bytes c.args.piece.now cut c.feed-step.ensures.cap c.feed-step.ensures.bytes
+    dm in
+    let read = c.tokens-read.ensures ∙ c.self.invariant.stands.outline.tokens in
+    let within = on.within in
+    let value = ap length c.body-then-is_message.ensures.value in
+    omega arith
+
 pub invariant_of-self : goal.invariant_of-self
 invariant_of-self g c =
     let i = c.self.inside in
@@ -53,10 +67,21 @@ invariant_of-self g c =
     let stands = c.read.ensures.stands_after (spoken_words i.reader.table) first i.reader.max_depth
     (subst (λ (p : List ℕ). StandsAfter ghosts (spoken_words i.reader.table) first i.reader.max_depth i.reader p)
     (sym seen) c.self.invariant.stands) in
-    read_along ghosts answers_given i.side i.level i.cutter cut i.reader c.read.new.self i.header i.verdict
+    let hlo = c.read-then-is_message in
+    let whole = c.body-then-is_message in
+    let seen_again : tokens_of (take (2 * c.tokens-read.result) whole.result.now)
+    ≡ tokens_held i.cutter.cap i.cutter.bytes =
+    ap (λ (n : ℕ). tokens_of (take (2 * n) whole.result.now)) (c.tokens-read.ensures ∙ read)
+    ∙ ap (λ (x : List ℕ). tokens_of (take (2 * length (tokens_held i.cutter.cap i.cutter.bytes)) x))
+    whole.ensures.value
+    ∙ on.front in
+    let found = hlo.ensures.found (c.self.invariant.found ∙ ap found_in (sym seen_again))
+    ∙ ap found_in (ap tokens_of whole.ensures.value ∙ sym on.all) in
+    read_along ghosts answers_given i.side i.level i.cutter cut i.reader c.read.new.self i.hlo hlo.new.self i.header
+    i.verdict
     c.self.invariant none c.feed-step.ensures.cap c.read.ensures.depth c.read.ensures.words c.read.ensures.unfinished
     (subst (λ (p : List ℕ). StandsAfter ghosts (spoken_words i.reader.table) first i.reader.max_depth c.read.new.self p)
-    (ap tokens_of c.body.ensures.value ∙ sym on.all) stands) (λ no. absurd (cc))
+    (ap tokens_of c.body.ensures.value ∙ sym on.all) stands) found (λ no. absurd (cc))
 
 pub invariant_of-self-else-is_message : goal.invariant_of-self-else-is_message
 invariant_of-self-else-is_message g c =
@@ -68,10 +93,12 @@ invariant_of-self-else-is_message g c =
     let past = fed_past i.cutter.cap i.cutter.bytes c.args.piece.now cut c.feed-step.ensures.cap
     c.feed-step.ensures.bytes dm in
     let none : i.verdict ≡ None = ap (λ (v : Inbound). v.verdict) c.self.view_is ∙ c.requires.free in
-    read_along ghosts answers_given i.side i.level i.cutter cut i.reader i.reader i.header i.verdict
+    read_along ghosts answers_given i.side i.level i.cutter cut i.reader i.reader i.hlo i.hlo i.header i.verdict
     c.self.invariant none c.feed-step.ensures.cap refl refl (c.self.invariant.unfinished none)
     (subst (λ (p : List ℕ). StandsAfter ghosts (spoken_words i.reader.table) first i.reader.max_depth i.reader p)
     (none_held i.cutter.cap i.cutter.bytes past ∙ sym (none_held cut.cap cut.bytes dm)) c.self.invariant.stands)
+    (c.self.invariant.found ∙ ap found_in (none_held i.cutter.cap i.cutter.bytes past
+    ∙ sym (none_held cut.cap cut.bytes dm)))
     (λ no. c.self.invariant.uncounted past)
 
 pub returns-then-is_message-clause-reads : goal.returns-then-is_message-clause-reads
@@ -86,10 +113,11 @@ returns-then-is_message-clause-reads g c =
     let within = on.within in
     let none : i.verdict ≡ None = ap (λ (v : Inbound). v.verdict) c.self.view_is ∙ c.requires.free in
     let value : length c.body.result.now ≡ length (drop 4 cut.bytes) = ap length c.body.ensures.value in
-    let new = inbound_of words_in answers_given i.side i.level cut c.read.new.self i.header i.verdict in
+    let hlo = c.read-then-is_message.new.self in
+    let new = inbound_of words_in answers_given i.side i.level cut c.read.new.self hlo i.header i.verdict in
     subst (λ (v : Inbound). Reads v (fed v.cap v.held c.args.piece.now) new) c.self.view_is
-    (reads_of ghosts words_in answers_given i.side i.level i.cutter cut i.reader c.read.new.self i.header i.verdict
-    (fed i.cutter.cap i.cutter.bytes c.args.piece.now) c.self.invariant none c.feed-step.ensures.cap
+    (reads_of ghosts words_in answers_given i.side i.level i.cutter cut i.reader c.read.new.self i.hlo hlo i.header
+    i.verdict (fed i.cutter.cap i.cutter.bytes c.args.piece.now) c.self.invariant none c.feed-step.ensures.cap
     c.feed-step.ensures.bytes
     (rules_kept words_in i.reader c.read.new.self c.read.ensures.depth (ap spoken c.read.ensures.words))
     c.read.ensures.base (λ no. absurd (cc))
@@ -112,3 +140,22 @@ returns-then-is_message-clause-raised g c =
     subst (λ (v : Inbound). IsRaised (4 * tokens_ended v.cap v.held c.args.piece.now) v.total
     (answers_given c.read.new.self.table))
     c.self.view_is (raised_most _ _ _ _ le c.read.ensures.raised)
+
+pub returns-then-is_message-clause-looked_at : goal.returns-then-is_message-clause-looked_at
+returns-then-is_message-clause-looked_at g c =
+    let i = c.self.inside in
+    let cut = c.feed-step.new.self in
+    let dm : is_dm_head (head_in cut.cap cut.bytes) ≡ true =
+    ap is_dm_head (sym c.head.ensures) ∙ (sym c.is_message.ensures ∙ c.if-is_message.true) in
+    let on = fed_on i.cutter.cap i.cutter.bytes c.args.piece.now cut c.feed-step.ensures.cap c.feed-step.ensures.bytes
+    dm in
+    let read = c.tokens-read.ensures ∙ c.self.invariant.stands.outline.tokens in
+    let ended = on.ended in
+    let few = few_ended i.cutter.cap i.cutter.bytes c.args.piece.now in
+    let hlo = c.read-then-is_message in
+    let whole = c.body-then-is_message in
+    let value : length whole.result.now ≡ length (drop 4 cut.bytes) = ap length whole.ensures.value in
+    let le : length whole.result.now / 2 - c.tokens-read.result ≤ length c.args.piece.now / 2 + 1 = rw
+    (value, read) (omega (arith, ended, few)) in
+    subst (λ (v : Inbound). IsRaised (length c.args.piece.now / 2 + 1) v.looked_at hlo.new.self.looked_at)
+    c.self.view_is (raised_most _ _ _ _ le hlo.ensures.looked_at)

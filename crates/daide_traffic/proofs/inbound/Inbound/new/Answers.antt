@@ -15,10 +15,10 @@ invariant_of-result g c =
     let v = c.new-reader.result in
     let e = c.start.ensures in
     let cap = c.in_ok-cutter.ensures.cap in
-    fresh_on ghosts answers_given c.args.side L0 c.in_ok-cutter.cutter v c.start.new.self _ _ refl (omega arith)
+    fresh_on ghosts answers_given c.args.side L0 c.in_ok-cutter.cutter v c.start.new.self _ _ _ refl (omega arith)
     (ap (drop 4) c.in_ok-cutter.ensures.empty) tt e.table e.base e.unfinished
     (subst (λ (s : Side2). StandsAfter ghosts (spoken_words v.table) (opening_of s L0) v.max_depth c.start.new.self [])
-    c.side2_of.ensures e.stands_after)
+    c.side2_of.ensures e.stands_after) c.new-3.ensures.found
 
 pub returns-clause-limits : goal.returns-clause-limits
 returns-clause-limits g c = (c.in_ok-cutter.ensures.cap, refl)
@@ -36,3 +36,6 @@ returns-clause-empty g c = (c.in_ok-cutter.ensures.empty, refl)
 
 pub returns-clause-unasked : goal.returns-clause-unasked
 returns-clause-unasked g c = ap answers_given (c.start.ensures.table ∙ c.new-reader.ensures.table) ∙ c.new-2.ensures.asked
+
+pub returns-clause-unlooked : goal.returns-clause-unlooked
+returns-clause-unlooked g c = c.new-3.ensures.looked_at

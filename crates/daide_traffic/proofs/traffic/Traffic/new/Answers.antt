@@ -19,6 +19,7 @@ made g c =
       empty = bot.empty.0;
       unanswered = bot.empty.1;
       unasked = bot.unasked;
+      unlooked = bot.unlooked;
     })
     (record {
       its_side = server.side;
@@ -28,6 +29,7 @@ made g c =
       empty = server.empty.0;
       unanswered = server.empty.1;
       unasked = server.unasked;
+      unlooked = server.unlooked;
     }) c.new-3.ensures c.new-4.ensures
 
 pub invariant_of-result : goal.invariant_of-result

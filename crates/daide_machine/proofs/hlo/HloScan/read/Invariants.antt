@@ -1,0 +1,12 @@
+use Rattle.std.proofs.Common.{◌≡◌, ◌-◌, ◌*◌, take}
+use Rattle.daide_token.specs.Token.{tokens_of}
+use Rattle.daide_reader.specs.Reading.{IsRaised}
+use Rattle.daide_machine.specs.HloLevel.{found_in}
+use Rattle.daide_machine.proofs.hlo.HloScan.read.Given as goal
+
+-- each token before i was looked at, once
+abbrev pub invariant-loop-i : goal.invariant-loop-i
+invariant-loop-i l =
+    (l.initial.self.found ≡ found_in (tokens_of (take (2 * l.from) l.body)) →
+    l.self.found ≡ found_in (take l.i (tokens_of l.body)))
+    × IsRaised (l.i - l.from) l.initial.self.looked_at l.self.looked_at
