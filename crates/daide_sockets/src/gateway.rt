@@ -1,8 +1,15 @@
 //! The gateway at the addresses of its settings.
 
+ghost use Rattle.std.specs.Prelude.{◌≡◌, List, IfErr, OnOk};
+ghost use Rattle.daide_service.specs.Served.{IsWholeRun};
+ghost use Rattle.daide_service.specs.System.{SystemAnswer};
+ghost use Rattle.daide_sockets.specs.Gateway.{IsBeforeServing, IsGatewayCause};
+
+use crate::ports::SocketPorts;
 use crate::system::{Sockets, most_sockets};
 use crate::watch::{Watch, WatchFault};
 use daide_service::{ServeFault, serve};
+use daide_session::ports::Ports;
 use daide_settings::Settings;
 use mio::net::TcpListener;
 use std::alloc::{AllocError, Global};
@@ -29,17 +36,17 @@ pub enum GatewayFault {
     Serve(ServeFault),
 }
 
-/// A listener at the first of an address's meanings that can be listened on.
-fn listener_at<R: Net>(net: &R, address: &str) -> Result<TcpListener, GatewayFault> {
+/// A listener at the first of an address's meanings that can be listened on, if there is one.
+fn listener_at<R: Net>(net: &R, address: &str) -> Option<TcpListener> {
     let Ok(addresses) = address.to_socket_addrs(net) else {
-        return Err(GatewayFault::Listen);
+        return None;
     };
     for address in addresses {
         if let Ok(listener) = TcpListener::bind(net, address) {
-            return Ok(listener);
+            return Some(listener);
         }
     }
-    Err(GatewayFault::Listen)
+    None
 }
 
 /// The meanings of the server's address; none of a name that nobody knows, so that no bot's connect succeeds. Want of
@@ -58,15 +65,23 @@ fn servers_at<R: Net>(
     Ok(servers)
 }
 
-/// Listens, says so, and serves until all bots were served. `Listen` and `Memory` come before anything is printed,
-/// `Serve` after it. Whom it serves is the system's to say.
+/// Listens, says so, and serves until all bots were served: by what the system answered, a whole run of the settings.
+/// `Listen` and `Memory` come before anything is printed, `Serve` after it and for the run's own cause. Whom it serves is
+/// the system's to say.
 pub fn serve_at<R: AllocGlobal + Clock + Net, O: Write, E: Write>(
     rt: &R,
     settings: &Settings,
     output: &mut O,
     errors: &mut E,
-) -> Result<(), GatewayFault> {
-    let listener = listener_at(rt, settings.listen.as_str())?;
+) -> Result<(), GatewayFault>
+    ensures unprinted { IfErr result (λ fault. IsBeforeServing fault → output.new ≡ output.old) }
+    ensures refused { IfErr result (IsGatewayCause settings.now) }
+    ensures served { OnOk result ((answers : List (SystemAnswer _))
+        × IsWholeRun ⟦<SocketPorts<'static, &'static R> as Ports>⟧.becomes settings.now answers) }
+{
+    let Some(listener) = listener_at(rt, settings.listen.as_str()) else {
+        return Err(GatewayFault::Listen);
+    };
     let Ok(servers) = servers_at(rt.alloc(), rt, settings.server.as_str()) else {
         return Err(GatewayFault::Memory);
     };
@@ -91,5 +106,8 @@ pub fn serve_at<R: AllocGlobal + Clock + Net, O: Write, E: Write>(
     let _ = output.flush();
     let served = serve(rt.alloc(), settings, &mut system);
     system.finish();
-    served.map_err(GatewayFault::Serve)
+    match served {
+        Ok(()) => Ok(()),
+        Err(fault) => Err(GatewayFault::Serve(fault)),
+    }
 }

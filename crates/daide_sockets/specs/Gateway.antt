@@ -1,0 +1,17 @@
+-- What a gateway's faults say.
+use Rattle.daide_settings.specs.declared.settings.Settings.{Settings}
+use Rattle.daide_service.specs.Serving.{IsServeCause}
+use Rattle.daide_sockets.specs.declared.gateway.GatewayFault.{GatewayFault}
+use Rattle.daide_sockets.specs.declared.gateway.GatewayFault.TheVariants.{Listen, Memory, Serve}
+
+-- a fault that comes before the gateway serves
+abbrev pub IsBeforeServing : GatewayFault → Type 0
+IsBeforeServing Listen = Unit {0}
+IsBeforeServing Memory = Unit {0}
+IsBeforeServing (Serve fault) = ⊥
+
+-- a fault of the run comes for its cause
+abbrev pub IsGatewayCause : Settings → GatewayFault → Type 0
+IsGatewayCause settings Listen = Unit {0}
+IsGatewayCause settings Memory = Unit {0}
+IsGatewayCause settings (Serve fault) = IsServeCause settings fault
