@@ -16,22 +16,22 @@ use std::net::{Net, SocketAddr, TcpListener, TcpStream};
 use std::test::Fail;
 use std::time::Duration;
 
-const IM: &[u8] = b"\x00\x00\x00\x04\x00\x01\xda\x10";
+pub const IM: &[u8] = b"\x00\x00\x00\x04\x00\x01\xda\x10";
 
-const RM: &[u8] = b"\x01\x00\x00\x00";
+pub const RM: &[u8] = b"\x01\x00\x00\x00";
 
-const FM: &[u8] = b"\x03\x00\x00\x00";
+pub const FM: &[u8] = b"\x03\x00\x00\x00";
 
 /// The initial message came too late.
 const EM_01: &[u8] = b"\x04\x00\x00\x02\x00\x01";
 
-const OBS: &[u8] = b"\x02\x00\x00\x02\x48\x0f";
+pub const OBS: &[u8] = b"\x02\x00\x00\x02\x48\x0f";
 
 /// `GOF (`.
-const UNCLOSED: &[u8] = b"\x02\x00\x00\x04\x48\x03\x40\x00";
+pub const UNCLOSED: &[u8] = b"\x02\x00\x00\x04\x48\x03\x40\x00";
 
 /// `PRN ( GOF ( )`.
-const ITS_PRN: &[u8] = b"\x02\x00\x00\x0a\x48\x13\x40\x00\x48\x03\x40\x00\x40\x01";
+pub const ITS_PRN: &[u8] = b"\x02\x00\x00\x0a\x48\x13\x40\x00\x48\x03\x40\x00\x40\x01";
 
 /// Nothing went wrong, and this was told.
 fn check(report: &Report, told: &str) -> Result<(), Fail> {

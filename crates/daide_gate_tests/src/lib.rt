@@ -6,6 +6,8 @@
 #[cfg(test)]
 mod gateway;
 #[cfg(test)]
+mod memory;
+#[cfg(test)]
 mod refusals;
 #[cfg(test)]
 mod runs;
@@ -13,5 +15,7 @@ mod runs;
 mod settings;
 #[cfg(test)]
 mod stage;
+#[cfg(test)]
+mod streams;
 #[cfg(test)]
 mod words;

@@ -1,7 +1,7 @@
 //! The text of a file of settings: its bound, and what can't be read.
 
 use daide_streams::text::{TextFault, read_text};
-use daide_tests::rows::same;
+use daide_tests::rows::{holds, same};
 use std::alloc::Global;
 use std::io;
 use std::io::{ErrorKind, Read};
@@ -14,6 +14,26 @@ struct Fails(ErrorKind);
 impl Read for Fails {
     fn read(&mut self, _buffer: &mut [u8]) -> io::Result<usize> {
         Err(io::Error::from(self.0))
+    }
+}
+
+/// A reader that gives a byte at a time, and is interrupted before each.
+#[derive(Drop)]
+struct Halting {
+    bytes: &'static [u8],
+    is_next: bool,
+}
+
+impl Read for Halting {
+    fn read(&mut self, buffer: &mut [u8]) -> io::Result<usize> {
+        self.is_next = !self.is_next;
+        if self.is_next {
+            return Err(ErrorKind::Interrupted.into());
+        }
+        let count = self.bytes.len().min(buffer.len()).min(1);
+        buffer[..count].copy_from_slice(&self.bytes[..count]);
+        self.bytes = &self.bytes[count..];
+        Ok(count)
     }
 }
 
@@ -47,6 +67,20 @@ fn settings_that_cannot_be_read(rt: HostRuntime) -> Result<(), Fail> {
     same(&refusal(rt.alloc(), &mut not_text), &unreadable, &"no text")?;
     let other = refusal_at(rt.alloc(), ErrorKind::Other);
     same(&other, &unreadable, &"another error")?;
+    let waits = refusal_at(rt.alloc(), ErrorKind::WouldBlock);
+    same(&waits, &unreadable, &"a read that would wait")?;
+    let reset = refusal_at(rt.alloc(), ErrorKind::ConnectionReset);
+    same(&reset, &unreadable, &"a reset")?;
     let memory = refusal_at(rt.alloc(), ErrorKind::OutOfMemory);
     same(&memory, &Some(TextFault::Memory), &"want of memory")
+}
+
+#[test]
+fn settings_that_come_in_parts(rt: HostRuntime) -> Result<(), Fail> {
+    let mut parts = Halting {
+        bytes: b"listen = ",
+        is_next: false,
+    };
+    let text = read_text(rt.alloc(), &mut parts)?;
+    holds(text.as_str() == "listen = ", text.as_str())
 }

@@ -4,8 +4,10 @@
 //! never arrive. So writing is shut down first; what still comes is read and dropped, within bounds; then the socket
 //! is closed.
 
-ghost use Rattle.std.specs.Prelude.{◌≡◌, ◌+◌, List, ℕ, length};
+ghost use Rattle.std.specs.Prelude.{◌≡◌, ◌+◌, List, [], ◌∷◌, ℕ, length};
 ghost use Rattle.std.specs.Io.KnownBytes.{Consumes};
+ghost use Rattle.daide_session.specs.Record.{Tells};
+ghost use Rattle.daide_streams.specs.Calls.{WritingEnded};
 
 use crate::connection::Connection;
 use crate::ports::{Socket, SocketPorts};
@@ -37,11 +39,12 @@ struct Closing<'w, S: Duplex + Drop = Connection> {
 }
 
 impl<'w, S: Duplex + Drop> Closing<'w, S> {
-    /// Shuts down writing. What the stream took, and what it has still to give, is as it was.
+    /// Shuts down writing, and does nothing else to the stream: what it took, and what it has still to give, is as it was.
     fn new<R: Clock>(watch: &Watch<R>, socket: Socket<'w, S>) -> Closing<'w, S>
         ensures rest { result.rest ≡ MOST_DROPPED }
         ensures taken { S.taken result.socket.stream ≡ S.taken socket.entry.stream }
         ensures apart { S.to_give result.socket.stream ≡ S.to_give socket.entry.stream }
+        ensures ended { Tells (S.calls socket.entry.stream) (WritingEnded ∷ []) (S.calls result.socket.stream) }
     {
         let mut socket = socket;
         socket.stream.end_writing();
@@ -64,8 +67,11 @@ impl<'w, S: Duplex + Drop> Closing<'w, S> {
         ensures apart { S.taken self.new.socket.stream ≡ S.taken self.old.socket.stream }
     {
         let Socket { stream, place } = &mut self.socket;
-        let is_last = self.rest.drop_piece(stream, &place.flags.is_readable);
-        let due = place.flags.due.get();
+        let flags = place.flags;
+        let mut is_readable = flags.is_readable.get();
+        let is_last = self.rest.drop_piece(stream, &mut is_readable);
+        flags.is_readable.set(is_readable);
+        let due = flags.due.get();
         is_last || due.is_none() || watch.is_over(due)
     }
 }

@@ -6,7 +6,7 @@ use std::io;
 use std::io::{Read, Write};
 use std::net::Shutdown;
 
-/// A connection of the system's. Of its bytes nothing is known.
+/// A connection of the system's. Of its bytes and its calls nothing is known.
 #[derive(Drop)]
 pub struct Connection(pub TcpStream);
 
@@ -16,6 +16,8 @@ impl Duplex for Connection {
     ghost to_give = { λ _. None };
 
     ghost taken = { λ _. None };
+
+    ghost calls = { λ _. None };
 
     fn read(&mut self, buffer: &mut [u8]) -> io::Result<usize> {
         self.0.read(buffer)

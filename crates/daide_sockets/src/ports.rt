@@ -53,7 +53,11 @@ impl<S: Duplex + Drop> Socket<'_, S> {
             (take (pulled_len result) buffer.new) }
         ensures apart { S.taken self.new.stream ≡ S.taken self.old.stream }
     {
-        pull_from(&mut self.stream, &self.place.flags.is_readable, buffer)
+        let flag = &self.place.flags.is_readable;
+        let mut is_readable = flag.get();
+        let pull = pull_from(&mut self.stream, &mut is_readable, buffer);
+        flag.set(is_readable);
+        pull
     }
 
     /// Writes what the connection takes, exactly as much as is told as `Took`.
@@ -62,7 +66,11 @@ impl<S: Duplex + Drop> Socket<'_, S> {
         ensures taken { IsTaken (S.taken self.old.stream) bytes.now result (S.taken self.new.stream) }
         ensures apart { S.to_give self.new.stream ≡ S.to_give self.old.stream }
     {
-        put_to(&mut self.stream, &self.place.flags.is_writable, bytes)
+        let flag = &self.place.flags.is_writable;
+        let mut is_writable = flag.get();
+        let put = put_to(&mut self.stream, &mut is_writable, bytes);
+        flag.set(is_writable);
+        put
     }
 }
 

@@ -3,78 +3,105 @@
 ghost use Rattle.std.specs.Prelude.{◌≡◌, length, take};
 ghost use Rattle.std.specs.Io.KnownBytes.{Consumes};
 ghost use Rattle.daide_session.specs.Record.{IsPullWithin, IsPutWithin, pulled_len};
+ghost use Rattle.daide_streams.specs.Calls.{Tries, Read, Written, IsPull, IsPut, pull_of, put_of};
 ghost use Rattle.daide_streams.specs.Taking.{IsTaken};
 
 use crate::duplex::Duplex;
+use crate::outcome::Outcome;
 use daide_session::ports::{Pull, Put};
-use std::cell::Cell;
-use std::io::ErrorKind;
 
-/// How often an interrupted call is made in all.
-const TRIES: usize = 8;
+/// How often an interrupted call is made again.
+const AGAIN: usize = 7;
 
 /// The most bytes that one write hands to the system, so that a long frame holds up no other session for its length.
 const MOST_AT_ONCE: usize = 16_384;
+
+/// Reads once more where it was interrupted, eight times in all. The last read's outcome is told, and no other gave
+/// anything.
+#[tactic(auto, using(crate::proofs::Consumed::consumes_after, crate::proofs::Consumed::keeps_after))]
+fn read_on<S: Duplex>(stream: &mut S, buffer: &mut [u8]) -> Outcome
+    ensures tries { Tries (Read (length buffer.old)) (S.calls stream.old) result (S.calls stream.new) }
+    ensures within { IsPullWithin (pull_of result) (length buffer.old) }
+    ensures len { length buffer.new ≡ length buffer.old }
+    ensures given { Consumes (S.to_give stream.old) (S.to_give stream.new)
+        (take (pulled_len (pull_of result)) buffer.new) }
+    ensures apart { S.taken stream.new ≡ S.taken stream.old }
+{
+    for _ in 0..AGAIN {
+        match Outcome::of(&stream.read(buffer)) {
+            Outcome::Interrupted => {}
+            outcome => return outcome,
+        }
+    }
+    Outcome::of(&stream.read(buffer))
+}
 
 /// Reads what is there, where something may be, and notes where nothing was. Into an empty buffer nothing is read.
 ///
 /// What is told as `Got` stands at the buffer's front, and is what the stream gave next; at `Idle`, and at `Ended`, which
 /// is the stream's end or a failure, it gave nothing.
-#[tactic(auto, using(crate::proofs::Consumed::consumes_none, crate::proofs::Consumed::consumes_after, crate::proofs::Consumed::keeps_after))]
-pub fn pull_from<S: Duplex>(stream: &mut S, is_readable: &Cell<bool>, buffer: &mut [u8]) -> Pull
+pub fn pull_from<S: Duplex>(stream: &mut S, is_readable: &mut bool, buffer: &mut [u8]) -> Pull
+    ensures asked { IsPull S.calls (length buffer.old) is_readable.old stream.old result is_readable.new stream.new }
     ensures within { IsPullWithin result (length buffer.old) }
     ensures len { length buffer.new ≡ length buffer.old }
     ensures given { Consumes (S.to_give stream.old) (S.to_give stream.new) (take (pulled_len result) buffer.new) }
     ensures apart { S.taken stream.new ≡ S.taken stream.old }
-    ensures no_room { length buffer.old ≡ 0 → result ≡ Pull.Idle }
 {
-    if buffer.is_empty() || !is_readable.get() {
+    if buffer.is_empty() || !*is_readable {
         return Pull::Idle;
     }
-    for _ in 0..TRIES {
-        match stream.read(buffer) {
-            Ok(0) => return Pull::Ended,
-            Ok(count) => return Pull::Got(count),
-            Err(error) => match error.kind() {
-                ErrorKind::Interrupted => {}
-                ErrorKind::WouldBlock => {
-                    is_readable.set(false);
-                    return Pull::Idle;
-                }
-                _ => return Pull::Ended,
-            },
+    match read_on(stream, buffer) {
+        Outcome::Moved(0) | Outcome::Failed => Pull::Ended,
+        Outcome::Moved(count) => Pull::Got(count),
+        Outcome::Interrupted => Pull::Idle,
+        Outcome::NotNow => {
+            *is_readable = false;
+            Pull::Idle
         }
     }
-    Pull::Idle
+}
+
+/// Writes once more where it was interrupted, eight times in all. The last write's outcome is told, and none before it
+/// took anything.
+#[tactic(auto, using(crate::proofs::Consumed::keeps_after))]
+fn write_on<S: Duplex>(stream: &mut S, bytes: &[u8]) -> Outcome
+    ensures tries { Tries (Written bytes.now) (S.calls stream.old) result (S.calls stream.new) }
+    ensures within { IsPutWithin (put_of result) (length bytes.now) }
+    ensures taken { IsTaken (S.taken stream.old) bytes.now (put_of result) (S.taken stream.new) }
+    ensures apart { S.to_give stream.new ≡ S.to_give stream.old }
+{
+    for _ in 0..AGAIN {
+        match Outcome::of(&stream.write(bytes)) {
+            Outcome::Interrupted => {}
+            outcome => return outcome,
+        }
+    }
+    Outcome::of(&stream.write(bytes))
 }
 
 /// Writes what the stream takes, where it may take something, and notes where it took nothing. It hands on the front
 /// of what it was given, of `MOST_AT_ONCE` bytes where there are more.
 ///
 /// What is told as `Took` is exactly what the stream took, the front of these bytes; at `Failed` it took nothing more.
-#[tactic(auto, using(crate::proofs::Consumed::keeps_after))]
-pub fn put_to<S: Duplex>(stream: &mut S, is_writable: &Cell<bool>, bytes: &[u8]) -> Put
+#[tactic(auto, using(std::proofs::lemmas::List::take_min))]
+pub fn put_to<S: Duplex>(stream: &mut S, is_writable: &mut bool, bytes: &[u8]) -> Put
+    ensures asked { IsPut S.calls (take MOST_AT_ONCE bytes.now) is_writable.old stream.old result is_writable.new
+        stream.new }
     ensures within { IsPutWithin result (length bytes.now) }
-    ensures at_most { IsPutWithin result MOST_AT_ONCE }
     ensures taken { IsTaken (S.taken stream.old) bytes.now result (S.taken stream.new) }
     ensures apart { S.to_give stream.new ≡ S.to_give stream.old }
 {
-    if !is_writable.get() {
+    if !*is_writable {
         return Put::Took(0);
     }
-    let front = &bytes[..bytes.len().min(MOST_AT_ONCE)];
-    for _ in 0..TRIES {
-        match stream.write(front) {
-            Ok(count) => return Put::Took(count),
-            Err(error) => match error.kind() {
-                ErrorKind::Interrupted => {}
-                ErrorKind::WouldBlock => {
-                    is_writable.set(false);
-                    return Put::Took(0);
-                }
-                _ => return Put::Failed,
-            },
+    let front = &bytes[..MOST_AT_ONCE.min(bytes.len())];
+    match write_on(stream, front) {
+        Outcome::Moved(count) => Put::Took(count),
+        Outcome::Interrupted => Put::Took(0),
+        Outcome::NotNow => {
+            *is_writable = false;
+            Put::Took(0)
         }
+        Outcome::Failed => Put::Failed,
     }
-    Put::Took(0)
 }

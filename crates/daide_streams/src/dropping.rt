@@ -1,12 +1,13 @@
 //! What is read and dropped of a stream that closes.
 
-ghost use Rattle.std.specs.Prelude.{◌≡◌, ◌+◌, ◌≤◌, ℕ, List, length, true};
+ghost use Rattle.std.specs.Prelude.{◌≡◌, ◌+◌, ◌≤◌, ℕ, List, length, true, min};
 ghost use Rattle.std.specs.Io.KnownBytes.{Consumes};
+ghost use Rattle.daide_session.specs.declared.ports.Pull.{Pull};
+ghost use Rattle.daide_streams.specs.Calls.{IsPull, is_last_piece};
 
 use crate::calls::pull_from;
 use crate::duplex::Duplex;
 use daide_session::ports::Pull;
-use std::cell::Cell;
 use std::marker::Model;
 
 /// The most bytes that are dropped at once.
@@ -32,12 +33,14 @@ impl Dropping {
         Dropping { left: most }
     }
 
-    /// Drops a piece of what came, and answers whether no more is to be dropped. What it drops is what the stream gives
-    /// next, exactly as much as less may be dropped then.
-    pub fn drop_piece<S: Duplex>(&mut self, stream: &mut S, is_readable: &Cell<bool>) -> bool
+    /// Drops a piece of what came, by one pull, and answers whether no more is to be dropped: at the stream's end, or where
+    /// all was dropped that may be. What it drops is what the stream gives next, exactly as much as less may be dropped
+    /// then.
+    pub fn drop_piece<S: Duplex>(&mut self, stream: &mut S, is_readable: &mut bool) -> bool
+        ensures pulled { (pull : Pull) × IsPull S.calls (min self.old PIECE) is_readable.old stream.old pull
+            is_readable.new stream.new × (result ≡ is_last_piece pull self.new) }
         ensures fewer { self.new ≤ self.old }
         ensures piece { self.old ≤ self.new + PIECE }
-        ensures all_dropped { self.new ≡ 0 → result ≡ true }
         ensures dropped { (bytes : List ℕ) × (self.old ≡ self.new + length bytes)
             × Consumes (S.to_give stream.old) (S.to_give stream.new) bytes }
         ensures apart { S.taken stream.new ≡ S.taken stream.old }

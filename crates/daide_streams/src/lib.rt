@@ -6,4 +6,5 @@ pub mod calls;
 pub mod dropping;
 pub mod duplex;
 pub mod laws;
+pub mod outcome;
 pub mod text;

@@ -1,0 +1,236 @@
+//! The ports that ship, driven over streams in memory: what each of a session's sides takes is known to the byte.
+//!
+//! The streams give and take little at once, are interrupted, and often have nothing. So a frame comes and goes in pieces.
+
+use crate::gateway::{FM, IM, ITS_PRN, OBS, RM, UNCLOSED};
+use crate::stage::any_port;
+use daide_gate::relaying::{RelayEnd, relay};
+use daide_session::config::Config;
+use daide_session::session::Session;
+use daide_sockets::ports::{Socket, SocketPorts};
+use daide_sockets::watch::{Flags, Place, Watch};
+use daide_sockets::{Interest, TcpListener};
+use daide_streams::duplex::Duplex;
+use daide_tests::rows::{holds, same};
+use std::alloc::{Allocator, Global};
+use std::io;
+use std::io::ErrorKind;
+use std::test::Fail;
+
+/// The most bytes that one read gives.
+const MOST_GIVEN: usize = 5;
+
+/// The most bytes that one write takes.
+const MOST_TAKEN: usize = 3;
+
+/// The most turns of a talk.
+const MOST_TURNS: usize = 1000;
+
+/// Any session will do.
+const CONFIG: Config = Config {
+    top_level: 60,
+    max_body: 512,
+    max_depth: 8,
+};
+
+/// A second initial message came.
+const EM_SECOND_IM: &[u8] = b"\x04\x00\x00\x02\x00\x06";
+
+/// What one end says: when it took so many bytes, these; no bytes are its end.
+type Part = (usize, &'static [u8]);
+
+/// A stream in memory.
+#[derive(Drop)]
+struct Line {
+    /// What it has still to say, in order.
+    says: &'static [Part],
+    /// How many bytes of the first part it gave.
+    given: usize,
+    took: Vec<u8>,
+    reads: usize,
+    writes: usize,
+}
+
+/// Of three calls one is interrupted, and one finds nothing.
+fn hold_up(call: usize) -> io::Result<()> {
+    match call % 3 {
+        0 => Err(ErrorKind::Interrupted.into()),
+        1 => Err(ErrorKind::WouldBlock.into()),
+        _ => Ok(()),
+    }
+}
+
+impl Line {
+    /// A stream that says these parts, and took nothing yet.
+    fn new(alloc: Global, says: &'static [Part]) -> Line {
+        Line {
+            says,
+            given: 0,
+            took: Vec::new(alloc),
+            reads: 0,
+            writes: 0,
+        }
+    }
+
+    /// So many bytes more of the first part were given.
+    fn go_on(&mut self, count: usize) {
+        self.given = self.given.saturating_add(count);
+        if let Some(((_, bytes), rest)) = self.says.split_first() {
+            if !bytes.is_empty() && self.given >= bytes.len() {
+                self.says = rest;
+                self.given = 0;
+            }
+        }
+    }
+}
+
+impl Duplex for Line {
+    ghost use Rattle.std.specs.Prelude.{None};
+
+    ghost to_give = { λ _. None };
+
+    ghost taken = { λ _. None };
+
+    ghost calls = { λ _. None };
+
+    fn read(&mut self, buffer: &mut [u8]) -> io::Result<usize> {
+        let call = self.reads;
+        self.reads = call.wrapping_add(1);
+        hold_up(call)?;
+        let Some((after, bytes)) = self.says.first() else {
+            return Err(ErrorKind::WouldBlock.into());
+        };
+        if self.took.len() < *after {
+            return Err(ErrorKind::WouldBlock.into());
+        }
+        let left = &bytes[self.given.min(bytes.len())..];
+        let count = left.len().min(buffer.len()).min(MOST_GIVEN);
+        buffer[..count].copy_from_slice(&left[..count]);
+        self.go_on(count);
+        Ok(count)
+    }
+
+    fn write(&mut self, bytes: &[u8]) -> io::Result<usize> {
+        let call = self.writes;
+        self.writes = call.wrapping_add(1);
+        hold_up(call)?;
+        let count = bytes.len().min(MOST_TAKEN);
+        if self.took.extend_from_slice(&bytes[..count]).is_err() {
+            return Err(ErrorKind::OutOfMemory.into());
+        }
+        Ok(count)
+    }
+
+    fn end_writing(&mut self) {}
+}
+
+/// What the bot and the server say, and what each of them gets.
+struct Talk {
+    bot: &'static [Part],
+    server: &'static [Part],
+    to_bot: &'static [&'static [u8]],
+    to_server: &'static [&'static [u8]],
+}
+
+/// A row of the table for a stream in memory: a listener's, since the system must know what it follows.
+fn row_for<'w>(watch: &'w Watch<&HostRuntime>, door: &mut TcpListener) -> Result<Place<'w>, Fail> {
+    match watch.follow(door, Interest::READABLE) {
+        Some(place) => Ok(place),
+        None => Err(Fail::new("no row")),
+    }
+}
+
+/// Turns until the session is closed; whether it is. Before each, a call of any stream may do something.
+fn relay_to_the_end<'w, A: Allocator>(
+    session: &mut Session<A>,
+    ports: &mut SocketPorts<'w, &HostRuntime, Line>,
+    bot: &Flags,
+    server: &Flags,
+) -> bool {
+    for _ in 0..MOST_TURNS {
+        bot.note(true, true);
+        server.note(true, true);
+        if relay(session, ports, 1) == RelayEnd::Closed {
+            return true;
+        }
+    }
+    false
+}
+
+/// These bytes, and no others, were taken.
+fn took(line: &Line, wanted: &[&[u8]], who: &str) -> Result<(), Fail> {
+    let mut left = line.took.as_slice();
+    for bytes in wanted {
+        let Some(rest) = left.strip_prefix(*bytes) else {
+            return Err(Fail::new(format_args!("{who} took {:?}", line.took)));
+        };
+        left = rest;
+    }
+    same(&left.len(), &0, &who)
+}
+
+/// A session between the two ends of a talk, until it is closed.
+fn talks(rt: &HostRuntime, talk: &Talk) -> Result<(), Fail> {
+    let mut door = TcpListener::bind(rt, any_port())?;
+    let mut other_door = TcpListener::bind(rt, any_port())?;
+    let watch = Watch::new(rt.alloc(), rt, rt, 2)?;
+    let bot = row_for(&watch, &mut door)?;
+    let server = row_for(&watch, &mut other_door)?;
+    let (bot_flags, server_flags) = (bot.flags, server.flags);
+    let mut ports = SocketPorts::new(
+        &watch,
+        Socket {
+            stream: Line::new(rt.alloc(), talk.bot),
+            place: bot,
+        },
+        Socket {
+            stream: Line::new(rt.alloc(), talk.server),
+            place: server,
+        },
+    );
+    let mut session = Session::new(rt.alloc(), CONFIG)?;
+    let is_closed = relay_to_the_end(&mut session, &mut ports, bot_flags, server_flags);
+    let (bot, server) = ports.into_sockets();
+    took(&bot.stream, talk.to_bot, "the bot")?;
+    took(&server.stream, talk.to_server, "the server")?;
+    holds(is_closed, "the session is not over")
+}
+
+/// A message whose bracket never closes goes back to the bot in a `PRN`, and the server sees nothing of it.
+const UNCLOSED_BRACKET: Talk = Talk {
+    bot: &[(0, IM), (4, UNCLOSED), (4, OBS), (4, FM)],
+    server: &[(8, RM)],
+    to_bot: &[RM, ITS_PRN],
+    to_server: &[IM, OBS, FM],
+};
+
+/// A second initial message is an error, told to the bot; the server hears the end.
+const SECOND_IM: Talk = Talk {
+    bot: &[(0, IM), (4, IM)],
+    server: &[(8, RM)],
+    to_bot: &[RM, EM_SECOND_IM],
+    to_server: &[IM, FM],
+};
+
+/// A server that goes without a word: the bot hears the end, and what it said before has come.
+const SERVER_GOES: Talk = Talk {
+    bot: &[(0, IM), (4, OBS)],
+    server: &[(8, RM), (14, b"")],
+    to_bot: &[RM, FM],
+    to_server: &[IM, OBS],
+};
+
+#[test]
+fn unclosed_bracket_over_streams_in_memory(rt: HostRuntime) -> Result<(), Fail> {
+    talks(&rt, &UNCLOSED_BRACKET)
+}
+
+#[test]
+fn second_im_over_streams_in_memory(rt: HostRuntime) -> Result<(), Fail> {
+    talks(&rt, &SECOND_IM)
+}
+
+#[test]
+fn server_goes_over_streams_in_memory(rt: HostRuntime) -> Result<(), Fail> {
+    talks(&rt, &SERVER_GOES)
+}

@@ -1,0 +1,225 @@
+//! A pull, a put and a dropped piece, a row for each answer that a stream's calls may give: what is told of it, and
+//! whether a call may do something behind it.
+
+use crate::streams::Answer::{Fails, Gives, Takes};
+use daide_session::ports::{Pull, Put};
+use daide_streams::calls::{pull_from, put_to};
+use daide_streams::dropping::Dropping;
+use daide_streams::duplex::Duplex;
+use daide_tests::rows::{holds, same};
+use std::io;
+use std::io::ErrorKind;
+use std::io::ErrorKind::{BrokenPipe, ConnectionReset, Interrupted, WouldBlock};
+use std::test::Fail;
+
+/// What one call of a stream answers.
+#[derive(Clone, Copy)]
+enum Answer {
+    /// A read gives these, as far as there is room; none are the end.
+    Gives(&'static [u8]),
+    /// A write takes so many, as far as there are.
+    Takes(usize),
+    Fails(ErrorKind),
+}
+
+/// A stream whose calls answer what a row says, and would wait behind that.
+#[derive(Drop)]
+struct Scripted {
+    answers: &'static [Answer],
+    calls: usize,
+    /// The most bytes that one write was handed.
+    handed: usize,
+}
+
+impl Scripted {
+    fn new(answers: &'static [Answer]) -> Scripted {
+        Scripted {
+            answers,
+            calls: 0,
+            handed: 0,
+        }
+    }
+
+    fn answer(&mut self) -> Answer {
+        self.calls = self.calls.saturating_add(1);
+        match self.answers.split_first() {
+            Some((answer, rest)) => {
+                self.answers = rest;
+                *answer
+            }
+            None => Fails(WouldBlock),
+        }
+    }
+}
+
+impl Duplex for Scripted {
+    ghost use Rattle.std.specs.Prelude.{None};
+
+    ghost to_give = { λ _. None };
+
+    ghost taken = { λ _. None };
+
+    ghost calls = { λ _. None };
+
+    fn read(&mut self, buffer: &mut [u8]) -> io::Result<usize> {
+        match self.answer() {
+            Gives(bytes) => {
+                let count = bytes.len().min(buffer.len());
+                buffer[..count].copy_from_slice(&bytes[..count]);
+                Ok(count)
+            }
+            Takes(_) => Ok(0),
+            Fails(kind) => Err(kind.into()),
+        }
+    }
+
+    fn write(&mut self, bytes: &[u8]) -> io::Result<usize> {
+        self.handed = self.handed.max(bytes.len());
+        match self.answer() {
+            Takes(count) => Ok(count.min(bytes.len())),
+            Gives(_) => Ok(0),
+            Fails(kind) => Err(kind.into()),
+        }
+    }
+
+    fn end_writing(&mut self) {}
+}
+
+/// Eight interruptions, which is as often as a call is made.
+const ALL_INTERRUPTED: &[Answer] = &[
+    Fails(Interrupted),
+    Fails(Interrupted),
+    Fails(Interrupted),
+    Fails(Interrupted),
+    Fails(Interrupted),
+    Fails(Interrupted),
+    Fails(Interrupted),
+    Fails(Interrupted),
+    Gives(b"abc"),
+];
+
+/// A pull: what the stream answers; what is told, and whether a read may give something then; how many reads there are.
+type Pulling = (&'static [Answer], Pull, bool, usize);
+
+/// Into four bytes, where something may be there.
+const PULLS: &[Pulling] = &[
+    (&[Gives(b"ab")], Pull::Got(2), true, 1),
+    (&[Gives(b"abcdef")], Pull::Got(4), true, 1),
+    (&[Gives(b"")], Pull::Ended, true, 1),
+    (&[Fails(WouldBlock)], Pull::Idle, false, 1),
+    (&[Fails(ConnectionReset)], Pull::Ended, true, 1),
+    (&[Fails(Interrupted), Gives(b"abc")], Pull::Got(3), true, 2),
+    (&[Fails(Interrupted), Gives(b"")], Pull::Ended, true, 2),
+    (&[Fails(Interrupted), Fails(WouldBlock)], Pull::Idle, false, 2),
+    (ALL_INTERRUPTED, Pull::Idle, true, 8),
+];
+
+#[test]
+fn pulls_by_rows(rt: HostRuntime) -> Result<(), Fail> {
+    for (row, (answers, told, may_still, reads)) in PULLS.iter().enumerate() {
+        let mut stream = Scripted::new(answers);
+        let mut buffer = [b'.'; 4];
+        let mut is_readable = true;
+        let pull = pull_from(&mut stream, &mut is_readable, &mut buffer);
+        same(&pull, told, &row)?;
+        same(&(is_readable, stream.calls), &(*may_still, *reads), &row)?;
+        let count = if let Pull::Got(count) = pull { count } else { 0 };
+        holds(buffer[..count] == b"abcd"[..count], "what came, in order")?;
+    }
+    Ok(())
+}
+
+/// Where nothing can be there, or there is no room, the stream is left alone.
+#[test]
+fn pulls_that_ask_nothing(rt: HostRuntime) -> Result<(), Fail> {
+    let mut stream = Scripted::new(&[Gives(b"ab")]);
+    let mut is_readable = false;
+    let mut buffer = [0; 4];
+    let pull = pull_from(&mut stream, &mut is_readable, &mut buffer);
+    same(&(pull, is_readable), &(Pull::Idle, false), &"nothing can be there")?;
+    is_readable = true;
+    let pull = pull_from(&mut stream, &mut is_readable, &mut []);
+    same(&(pull, is_readable), &(Pull::Idle, true), &"no room")?;
+    same(&stream.calls, &0, &"reads")
+}
+
+/// A put: what the stream answers; what is told, and whether a write may take something then; how many writes there are.
+type Putting = (&'static [Answer], Put, bool, usize);
+
+/// Of 20,000 bytes, where some may be taken.
+const PUTS: &[Putting] = &[
+    (&[Takes(3)], Put::Took(3), true, 1),
+    (&[Takes(20_000)], Put::Took(16_384), true, 1),
+    (&[Takes(0)], Put::Took(0), true, 1),
+    (&[Fails(WouldBlock)], Put::Took(0), false, 1),
+    (&[Fails(ConnectionReset)], Put::Failed, true, 1),
+    (&[Fails(BrokenPipe)], Put::Failed, true, 1),
+    (&[Fails(Interrupted), Takes(5)], Put::Took(5), true, 2),
+    (&[Fails(Interrupted), Fails(WouldBlock)], Put::Took(0), false, 2),
+    (ALL_INTERRUPTED, Put::Took(0), true, 8),
+];
+
+#[test]
+fn puts_by_rows(rt: HostRuntime) -> Result<(), Fail> {
+    let bytes = [0; 20_000];
+    for (row, (answers, told, may_still, writes)) in PUTS.iter().enumerate() {
+        let mut stream = Scripted::new(answers);
+        let mut is_writable = true;
+        let put = put_to(&mut stream, &mut is_writable, &bytes);
+        same(&put, told, &row)?;
+        same(&(is_writable, stream.calls), &(*may_still, *writes), &row)?;
+        same(&stream.handed, &16_384, &row)?;
+    }
+    Ok(())
+}
+
+#[test]
+fn put_that_asks_nothing(rt: HostRuntime) -> Result<(), Fail> {
+    let mut stream = Scripted::new(&[Takes(2)]);
+    let mut is_writable = false;
+    let put = put_to(&mut stream, &mut is_writable, b"ab");
+    same(&(put, is_writable), &(Put::Took(0), false), &"nothing can be taken")?;
+    same(&stream.calls, &0, &"writes")
+}
+
+/// A drop: how much may be dropped; what the stream answers; which piece is the last, counted from 0; whether a read may
+/// give something then.
+type Drops = (usize, &'static [Answer], usize, bool);
+
+/// A stream that waits is not at its end, nor is one that was interrupted.
+const DROPS: &[Drops] = &[
+    (9, &[Gives(b"abc"), Gives(b"")], 1, true),
+    (3, &[Gives(b"abc"), Gives(b"d")], 0, true),
+    (4, &[Gives(b"abc"), Gives(b"de"), Gives(b"f")], 1, true),
+    (9, &[Fails(ConnectionReset)], 0, true),
+    (3, ALL_INTERRUPTED, 1, true),
+];
+
+#[test]
+fn drops_by_rows(rt: HostRuntime) -> Result<(), Fail> {
+    for (row, (most, answers, last, may_still)) in DROPS.iter().enumerate() {
+        let mut stream = Scripted::new(answers);
+        let mut dropping = Dropping::new(*most);
+        let mut is_readable = true;
+        for _ in 0..*last {
+            let is_last = dropping.drop_piece(&mut stream, &mut is_readable);
+            same(&is_last, &false, &row)?;
+        }
+        let is_last = dropping.drop_piece(&mut stream, &mut is_readable);
+        same(&(is_last, is_readable), &(true, *may_still), &row)?;
+    }
+    Ok(())
+}
+
+/// A stream of which nothing has come yet is not let go.
+#[test]
+fn idle_is_no_end_of_a_drop(rt: HostRuntime) -> Result<(), Fail> {
+    let mut stream = Scripted::new(&[Fails(WouldBlock), Gives(b"")]);
+    let mut dropping = Dropping::new(9);
+    let mut is_readable = true;
+    let is_last = dropping.drop_piece(&mut stream, &mut is_readable);
+    same(&(is_last, is_readable), &(false, false), &"nothing came")?;
+    is_readable = true;
+    let is_last = dropping.drop_piece(&mut stream, &mut is_readable);
+    same(&is_last, &true, &"the end")
+}

@@ -1,0 +1,14 @@
+-- So many reads were interrupted: each gave nothing and left what the stream took, and the buffer keeps its length.
+use Rattle.std.proofs.Common.{◌≡◌, length, replicate}
+use Rattle.std.specs.Io.KnownBytes.{Keeps}
+use Rattle.daide_session.specs.Record.{Tells}
+use Rattle.daide_streams.specs.Calls.{Read}
+use Rattle.daide_streams.specs.declared.outcome.Outcome.TheVariants.{Interrupted}
+use Rattle.daide_streams.proofs.calls.read_on.Given as goal
+
+abbrev pub invariant-loop : goal.invariant-loop
+invariant-loop g l =
+    (length l.buffer ≡ length l.fn.buffer) × Keeps (g.S.Duplex.to_give l.fn.stream) (g.S.Duplex.to_give l.stream)
+    × (g.S.Duplex.taken l.stream ≡ g.S.Duplex.taken l.fn.stream)
+    × Tells (g.S.Duplex.calls l.fn.stream) (replicate l.counter (Read (length l.fn.buffer) Interrupted))
+        (g.S.Duplex.calls l.stream)
