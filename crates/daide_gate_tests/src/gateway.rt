@@ -34,7 +34,7 @@ pub const UNCLOSED: &[u8] = b"\x02\x00\x00\x04\x48\x03\x40\x00";
 pub const ITS_PRN: &[u8] = b"\x02\x00\x00\x0a\x48\x13\x40\x00\x48\x03\x40\x00\x40\x01";
 
 /// Nothing went wrong, and this was told.
-fn check(report: &Report, told: &str) -> Result<(), Fail> {
+pub fn check(report: &Report, told: &str) -> Result<(), Fail> {
     if let Some(act) = report.wrong {
         return Err(Fail::new(format_args!("act {act} went wrong")));
     }
@@ -42,7 +42,7 @@ fn check(report: &Report, told: &str) -> Result<(), Fail> {
 }
 
 /// All is acted as it stands here, and nothing is told.
-fn plays(rt: &HostRuntime, settings: &str, acts: &[Act]) -> Result<(), Fail> {
+pub fn plays(rt: &HostRuntime, settings: &str, acts: &[Act]) -> Result<(), Fail> {
     check(&run_beside(rt, settings, acts, None)?, "")
 }
 

@@ -8,6 +8,8 @@ mod gateway;
 #[cfg(test)]
 mod memory;
 #[cfg(test)]
+mod peers;
+#[cfg(test)]
 mod refusals;
 #[cfg(test)]
 mod runs;

@@ -38,6 +38,12 @@ pub enum Act {
     Says(Who, &'static [u8]),
     /// Has heard these bytes, and no more, since it last did.
     Hears(Who, &'static [u8]),
+    /// Begins to send these bytes so many times, as they are taken, beside the acts that follow.
+    Pours(Who, &'static [u8], usize),
+    /// Has heard these bytes so many times, and no more, since it last did.
+    HearsTimes(Who, &'static [u8], usize),
+    /// So many milliseconds pass.
+    Passes(u64),
     /// Ends its stream, and hears further.
     Ends(Who),
     /// Hears the end of the other's stream.
@@ -65,10 +71,10 @@ const MOST_SECONDS: u64 = 20;
 const MOST_ROUNDS: u64 = 100_000_000;
 
 /// The most sockets of the bots and the server.
-const MOST_PEERS: usize = 256;
+const MOST_PEERS: usize = 320;
 
 /// How many milliseconds a server is tried for a bot.
-const CONNECT_TIME: u64 = 100;
+const CONNECT_TIME: u64 = 1_000;
 
 /// What an act came to.
 #[derive(Clone, Copy, PartialEq, Eq)]
@@ -85,11 +91,16 @@ struct Peer<'w> {
     /// What is read at once.
     piece: Vec<u8>,
     heard: Vec<u8>,
+    /// How often it heard what `HearsTimes` waits for.
+    times: usize,
     has_ended: bool,
 }
 
 /// How many bytes of an end are read at once.
 const PIECE: usize = 4096;
+
+/// How often an end that pours sends in one round.
+const MOST_POURED: usize = 64;
 
 /// An end of this connection, of which nothing was heard.
 fn peer_of(alloc: Global, socket: Socket<'_>) -> Option<Peer<'_>> {
@@ -100,6 +111,7 @@ fn peer_of(alloc: Global, socket: Socket<'_>) -> Option<Peer<'_>> {
         socket,
         piece,
         heard: Vec::new(alloc),
+        times: 0,
         has_ended: false,
     })
 }
@@ -143,6 +155,24 @@ impl Peer<'_> {
         }
     }
 
+    /// Has heard these bytes so many times since it last did; not yet, where they come still.
+    fn hears_times(&mut self, want: &[u8], times: usize) -> Played {
+        self.listen();
+        let mut left = self.heard.as_slice();
+        while let Some(rest) = left.strip_prefix(want) {
+            self.times = self.times.saturating_add(1);
+            left = rest;
+        }
+        let is_part = want.starts_with(left);
+        let count = self.heard.len().saturating_sub(left.len());
+        self.heard.drain(..count);
+        match (self.times == times && self.heard.is_empty(), is_part) {
+            (true, _) => Played::Done,
+            (false, true) if self.times < times && !self.has_ended => Played::NotYet,
+            _ => Played::Wrong,
+        }
+    }
+
     /// Hears the end of the other's stream, and nothing before it.
     fn hears_end(&mut self) -> Played {
         self.listen();
@@ -181,6 +211,16 @@ struct Flood {
     until: Option<Instant>,
 }
 
+/// What one end sends beside what is acted.
+#[derive(Clone, Copy)]
+struct Pour {
+    who: Who,
+    bytes: &'static [u8],
+    /// How much of `bytes` went out, and how often all of it has still to.
+    sent: usize,
+    left: usize,
+}
+
 /// The bots and the server, and what they do.
 #[derive(Drop)]
 struct Stage<'s, 'w, R: Clock + Net + AllocGlobal> {
@@ -193,6 +233,10 @@ struct Stage<'s, 'w, R: Clock + Net + AllocGlobal> {
     bots: Vec<Peer<'w>>,
     servers: Vec<Peer<'w>>,
     flood: Option<Flood>,
+    pour: Option<Pour>,
+    /// The end of the play's time, and of the time that passes now.
+    end: Option<Instant>,
+    pause: Option<Instant>,
     acts: &'s [Act],
     at: usize,
     /// Whether an act went wrong, or came too late.
@@ -207,6 +251,7 @@ fn play_one(peers: &mut Vec<Peer<'_>>, number: usize, act: Act) -> Played {
     match act {
         Act::Says(_, bytes) => peer.says(bytes),
         Act::Hears(_, bytes) => peer.hears(bytes),
+        Act::HearsTimes(_, bytes, times) => peer.hears_times(bytes, times),
         Act::Ends(_) => peer.ends(),
         _ => peer.hears_end(),
     }
@@ -250,6 +295,9 @@ impl<'s, 'w, R: Clock + Net + AllocGlobal> Stage<'s, 'w, R> {
             bots: Vec::new(rt.alloc()),
             servers: Vec::new(rt.alloc()),
             flood: None,
+            pour: None,
+            end: watch.after(Duration::from_secs(MOST_SECONDS)),
+            pause: None,
             acts,
             at: 0,
             is_wrong: false,
@@ -301,6 +349,22 @@ impl<'s, 'w, R: Clock + Net + AllocGlobal> Stage<'s, 'w, R> {
             .is_some_and(|flood| self.watch.is_over(flood.until))
     }
 
+    /// Whether so many milliseconds passed since this was first asked. A wait ends then.
+    fn has_passed(&mut self, millis: u64) -> bool {
+        if self.pause.is_none() {
+            self.pause = self.watch.after(Duration::from_millis(millis));
+        }
+        let is_over = self.watch.is_over(self.pause);
+        if is_over {
+            self.pause = None;
+        }
+        self.door
+            .flags
+            .due
+            .set(if is_over { self.end } else { self.pause });
+        is_over
+    }
+
     /// All bots go.
     fn leave(&mut self) {
         self.flood = None;
@@ -313,7 +377,11 @@ impl<'s, 'w, R: Clock + Net + AllocGlobal> Stage<'s, 'w, R> {
             Act::Comes => return self.comes(),
             Act::Meets => return self.meets(),
             Act::MeetsNobody => return done_where(self.meets() == Played::NotYet),
-            Act::Says(who, _) | Act::Hears(who, _) | Act::Ends(who) | Act::HearsEnd(who) => {
+            Act::Says(who, _)
+            | Act::Hears(who, _)
+            | Act::HearsTimes(who, _, _)
+            | Act::Ends(who)
+            | Act::HearsEnd(who) => {
                 return match who {
                     Who::Bot(number) => play_one(&mut self.bots, number, act),
                     Who::Server(number) => play_one(&mut self.servers, number, act),
@@ -323,6 +391,16 @@ impl<'s, 'w, R: Clock + Net + AllocGlobal> Stage<'s, 'w, R> {
                 self.begin_flood(bot);
                 true
             }
+            Act::Pours(who, bytes, left) => {
+                self.pour = Some(Pour {
+                    who,
+                    bytes,
+                    sent: 0,
+                    left,
+                });
+                true
+            }
+            Act::Passes(millis) => self.has_passed(millis),
             Act::Leave => {
                 self.leave();
                 true
@@ -352,16 +430,44 @@ impl<'s, 'w, R: Clock + Net + AllocGlobal> Stage<'s, 'w, R> {
         }
     }
 
+    /// Sends what the socket of the end that pours takes.
+    fn pour_on(&mut self) {
+        let Some(pour) = &mut self.pour else {
+            return;
+        };
+        let peer = match pour.who {
+            Who::Bot(number) => self.bots.get_mut(number),
+            Who::Server(number) => self.servers.get_mut(number),
+        };
+        let Some(peer) = peer else {
+            return;
+        };
+        for _ in 0..MOST_POURED {
+            if pour.left == 0 {
+                return;
+            }
+            match peer.socket.put(&pour.bytes[pour.sent.min(pour.bytes.len())..]) {
+                Put::Took(0) | Put::Failed => return,
+                Put::Took(count) => pour.sent = pour.sent.saturating_add(count),
+            }
+            if pour.sent >= pour.bytes.len() {
+                pour.sent = 0;
+                pour.left = pour.left.saturating_sub(1);
+            }
+        }
+    }
+
     /// Acts as far as can be, and answers whether nothing is left to act.
     fn act(&mut self, is_served: bool) -> bool {
         self.flood_on();
+        self.pour_on();
         for _ in 0..self.acts.len() {
             let Some(act) = self.acts.get(self.at) else {
                 return true;
             };
             match self.play(*act, is_served) {
                 Played::Done => self.at = self.at.saturating_add(1),
-                Played::NotYet if !self.watch.is_over(self.door.flags.due.get()) => return false,
+                Played::NotYet if !self.watch.is_over(self.end) => return false,
                 _ => {
                     self.is_wrong = true;
                     return false;
