@@ -42,9 +42,10 @@ type Part = (usize, &'static [u8]);
 /// A stream in memory.
 #[derive(Drop)]
 struct Line {
-    /// What it has still to say, in order.
+    /// What it says, in order.
     says: &'static [Part],
-    /// How many bytes of the first part it gave.
+    /// Which of these is next, and how many bytes of it were given.
+    part: usize,
     given: usize,
     took: Vec<u8>,
     reads: usize,
@@ -65,6 +66,7 @@ impl Line {
     fn new(alloc: Global, says: &'static [Part]) -> Line {
         Line {
             says,
+            part: 0,
             given: 0,
             took: Vec::new(alloc),
             reads: 0,
@@ -72,14 +74,12 @@ impl Line {
         }
     }
 
-    /// So many bytes more of the first part were given.
-    fn go_on(&mut self, count: usize) {
+    /// So many bytes more were given of a part that has this many. Its end stays the end.
+    fn go_on(&mut self, count: usize, len: usize) {
         self.given = self.given.saturating_add(count);
-        if let Some(((_, bytes), rest)) = self.says.split_first() {
-            if !bytes.is_empty() && self.given >= bytes.len() {
-                self.says = rest;
-                self.given = 0;
-            }
+        if len > 0 && self.given >= len {
+            self.part = self.part.saturating_add(1);
+            self.given = 0;
         }
     }
 }
@@ -97,7 +97,7 @@ impl Duplex for Line {
         let call = self.reads;
         self.reads = call.wrapping_add(1);
         hold_up(call)?;
-        let Some((after, bytes)) = self.says.first() else {
+        let Some((after, bytes)) = self.says.get(self.part) else {
             return Err(ErrorKind::WouldBlock.into());
         };
         if self.took.len() < *after {
@@ -106,7 +106,7 @@ impl Duplex for Line {
         let left = &bytes[self.given.min(bytes.len())..];
         let count = left.len().min(buffer.len()).min(MOST_GIVEN);
         buffer[..count].copy_from_slice(&left[..count]);
-        self.go_on(count);
+        self.go_on(count, bytes.len());
         Ok(count)
     }
 

@@ -116,6 +116,18 @@ fn peer_of(alloc: Global, socket: Socket<'_>) -> Option<Peer<'_>> {
     })
 }
 
+/// How often bytes begin with these, and what is left behind that.
+fn times_in<'b>(bytes: &'b [u8], want: &[u8]) -> (usize, &'b [u8]) {
+    let mut left = bytes;
+    for count in 0..bytes.len() {
+        match left.strip_prefix(want) {
+            Some(rest) => left = rest,
+            None => return (count, left),
+        }
+    }
+    (bytes.len(), left)
+}
+
 impl Peer<'_> {
     /// Takes a piece of what is there, and tells whether more may be.
     fn listen_once(&mut self) -> bool {
@@ -158,18 +170,19 @@ impl Peer<'_> {
     /// Has heard these bytes so many times since it last did; not yet, where they come still.
     fn hears_times(&mut self, want: &[u8], times: usize) -> Played {
         self.listen();
-        let mut left = self.heard.as_slice();
-        while let Some(rest) = left.strip_prefix(want) {
-            self.times = self.times.saturating_add(1);
-            left = rest;
-        }
-        let is_part = want.starts_with(left);
-        let count = self.heard.len().saturating_sub(left.len());
-        self.heard.drain(..count);
-        match (self.times == times && self.heard.is_empty(), is_part) {
-            (true, _) => Played::Done,
-            (false, true) if self.times < times && !self.has_ended => Played::NotYet,
-            _ => Played::Wrong,
+        let (count, rest) = times_in(self.heard.as_slice(), want);
+        let is_part = want.starts_with(rest);
+        let left = rest.len();
+        self.times = self.times.saturating_add(count);
+        let heard = self.heard.len();
+        self.heard.copy_within(heard.saturating_sub(left).., 0);
+        self.heard.truncate(left);
+        if self.times == times && left == 0 {
+            Played::Done
+        } else if is_part && self.times < times && !self.has_ended {
+            Played::NotYet
+        } else {
+            Played::Wrong
         }
     }
 
@@ -219,6 +232,35 @@ struct Pour {
     /// How much of `bytes` went out, and how often all of it has still to.
     sent: usize,
     left: usize,
+}
+
+impl Pour {
+    /// What is left once the end sent what its socket takes.
+    fn sent_to(self, peer: &mut Peer<'_>) -> Pour {
+        let mut pour = self;
+        for _ in 0..MOST_POURED {
+            if pour.left == 0 {
+                return pour;
+            }
+            match peer.socket.put(&pour.bytes[pour.sent.min(pour.bytes.len())..]) {
+                Put::Took(0) | Put::Failed => return pour,
+                Put::Took(count) => pour.sent = pour.sent.saturating_add(count),
+            }
+            if pour.sent >= pour.bytes.len() {
+                pour.sent = 0;
+                pour.left = pour.left.saturating_sub(1);
+            }
+        }
+        pour
+    }
+}
+
+/// What is left once the end of this number sent what its socket takes.
+fn pour_one(peers: &mut Vec<Peer<'_>>, number: usize, pour: Pour) -> Pour {
+    match peers.get_mut(number) {
+        Some(peer) => pour.sent_to(peer),
+        None => pour,
+    }
 }
 
 /// The bots and the server, and what they do.
@@ -432,29 +474,13 @@ impl<'s, 'w, R: Clock + Net + AllocGlobal> Stage<'s, 'w, R> {
 
     /// Sends what the socket of the end that pours takes.
     fn pour_on(&mut self) {
-        let Some(pour) = &mut self.pour else {
+        let Some(pour) = self.pour else {
             return;
         };
-        let peer = match pour.who {
-            Who::Bot(number) => self.bots.get_mut(number),
-            Who::Server(number) => self.servers.get_mut(number),
-        };
-        let Some(peer) = peer else {
-            return;
-        };
-        for _ in 0..MOST_POURED {
-            if pour.left == 0 {
-                return;
-            }
-            match peer.socket.put(&pour.bytes[pour.sent.min(pour.bytes.len())..]) {
-                Put::Took(0) | Put::Failed => return,
-                Put::Took(count) => pour.sent = pour.sent.saturating_add(count),
-            }
-            if pour.sent >= pour.bytes.len() {
-                pour.sent = 0;
-                pour.left = pour.left.saturating_sub(1);
-            }
-        }
+        self.pour = Some(match pour.who {
+            Who::Bot(number) => pour_one(&mut self.bots, number, pour),
+            Who::Server(number) => pour_one(&mut self.servers, number, pour),
+        });
     }
 
     /// Acts as far as can be, and answers whether nothing is left to act.
