@@ -242,7 +242,10 @@ impl Pour {
             if pour.left == 0 {
                 return pour;
             }
-            match peer.socket.put(&pour.bytes[pour.sent.min(pour.bytes.len())..]) {
+            match peer
+                .socket
+                .put(&pour.bytes[pour.sent.min(pour.bytes.len())..])
+            {
                 Put::Took(0) | Put::Failed => return pour,
                 Put::Took(count) => pour.sent = pour.sent.saturating_add(count),
             }

@@ -110,7 +110,12 @@ const PULLS: &[Pulling] = &[
     (&[Fails(ConnectionReset)], Pull::Ended, true, 1),
     (&[Fails(Interrupted), Gives(b"abc")], Pull::Got(3), true, 2),
     (&[Fails(Interrupted), Gives(b"")], Pull::Ended, true, 2),
-    (&[Fails(Interrupted), Fails(WouldBlock)], Pull::Idle, false, 2),
+    (
+        &[Fails(Interrupted), Fails(WouldBlock)],
+        Pull::Idle,
+        false,
+        2,
+    ),
     (ALL_INTERRUPTED, Pull::Idle, true, 8),
 ];
 
@@ -123,7 +128,11 @@ fn pulls_by_rows(rt: HostRuntime) -> Result<(), Fail> {
         let pull = pull_from(&mut stream, &mut is_readable, &mut buffer);
         same(&pull, told, &row)?;
         same(&(is_readable, stream.calls), &(*may_still, *reads), &row)?;
-        let count = if let Pull::Got(count) = pull { count } else { 0 };
+        let count = if let Pull::Got(count) = pull {
+            count
+        } else {
+            0
+        };
         holds(buffer[..count] == b"abcd"[..count], "what came, in order")?;
     }
     Ok(())
@@ -136,7 +145,11 @@ fn pulls_that_ask_nothing(rt: HostRuntime) -> Result<(), Fail> {
     let mut is_readable = false;
     let mut buffer = [0; 4];
     let pull = pull_from(&mut stream, &mut is_readable, &mut buffer);
-    same(&(pull, is_readable), &(Pull::Idle, false), &"nothing can be there")?;
+    same(
+        &(pull, is_readable),
+        &(Pull::Idle, false),
+        &"nothing can be there",
+    )?;
     is_readable = true;
     let pull = pull_from(&mut stream, &mut is_readable, &mut []);
     same(&(pull, is_readable), &(Pull::Idle, true), &"no room")?;
@@ -155,7 +168,12 @@ const PUTS: &[Putting] = &[
     (&[Fails(ConnectionReset)], Put::Failed, true, 1),
     (&[Fails(BrokenPipe)], Put::Failed, true, 1),
     (&[Fails(Interrupted), Takes(5)], Put::Took(5), true, 2),
-    (&[Fails(Interrupted), Fails(WouldBlock)], Put::Took(0), false, 2),
+    (
+        &[Fails(Interrupted), Fails(WouldBlock)],
+        Put::Took(0),
+        false,
+        2,
+    ),
     (ALL_INTERRUPTED, Put::Took(0), true, 8),
 ];
 
@@ -178,7 +196,11 @@ fn put_that_asks_nothing(rt: HostRuntime) -> Result<(), Fail> {
     let mut stream = Scripted::new(&[Takes(2)]);
     let mut is_writable = false;
     let put = put_to(&mut stream, &mut is_writable, b"ab");
-    same(&(put, is_writable), &(Put::Took(0), false), &"nothing can be taken")?;
+    same(
+        &(put, is_writable),
+        &(Put::Took(0), false),
+        &"nothing can be taken",
+    )?;
     same(&stream.calls, &0, &"writes")
 }
 

@@ -11,4 +11,4 @@ invariant-loop g l =
     (length l.buffer ≡ length l.fn.buffer) × Keeps (g.S.Duplex.to_give l.fn.stream) (g.S.Duplex.to_give l.stream)
     × (g.S.Duplex.taken l.stream ≡ g.S.Duplex.taken l.fn.stream)
     × Tells (g.S.Duplex.calls l.fn.stream) (replicate l.counter (Read (length l.fn.buffer) Interrupted))
-        (g.S.Duplex.calls l.stream)
+    (g.S.Duplex.calls l.stream)
