@@ -16,15 +16,19 @@ use std::net::{Net, SocketAddr, TcpListener, TcpStream};
 use std::test::Fail;
 use std::time::Duration;
 
+/// The initial message.
 pub const IM: &[u8] = b"\x00\x00\x00\x04\x00\x01\xda\x10";
 
+/// The answer to it.
 pub const RM: &[u8] = b"\x01\x00\x00\x00";
 
+/// The final message.
 pub const FM: &[u8] = b"\x03\x00\x00\x00";
 
 /// The initial message came too late.
 const EM_01: &[u8] = b"\x04\x00\x00\x02\x00\x01";
 
+/// A message `OBS`.
 pub const OBS: &[u8] = b"\x02\x00\x00\x02\x48\x0f";
 
 /// `GOF (`.

@@ -157,6 +157,14 @@ fn relay_to_the_end<'w, A: Allocator>(
     false
 }
 
+/// Writes what is held.
+fn write_out(socket: &mut Socket<'_, Line>) {
+    for _ in 0..MOST_TURNS {
+        socket.place.flags.note(true, true);
+        socket.flush();
+    }
+}
+
 /// These bytes, and no others, were taken.
 fn took(line: &Line, wanted: &[&[u8]], who: &str) -> Result<(), Fail> {
     let mut left = line.took.as_slice();
@@ -179,20 +187,16 @@ fn talks(rt: &HostRuntime, talk: &Talk) -> Result<(), Fail> {
     let (bot_flags, server_flags) = (bot.flags, server.flags);
     let mut ports = SocketPorts::new(
         &watch,
-        Socket {
-            stream: Line::new(rt.alloc(), talk.bot),
-            place: bot,
-        },
-        Socket {
-            stream: Line::new(rt.alloc(), talk.server),
-            place: server,
-        },
+        Socket::over(&watch, Line::new(rt.alloc(), talk.bot), bot),
+        Socket::over(&watch, Line::new(rt.alloc(), talk.server), server),
     );
     let mut session = Session::new(rt.alloc(), CONFIG)?;
     let is_closed = relay_to_the_end(&mut session, &mut ports, bot_flags, server_flags);
-    let (bot, server) = ports.into_sockets();
-    took(&bot.stream, talk.to_bot, "the bot")?;
-    took(&server.stream, talk.to_server, "the server")?;
+    let (mut bot, mut server) = ports.into_sockets();
+    write_out(&mut bot);
+    write_out(&mut server);
+    took(bot.connection(), talk.to_bot, "the bot")?;
+    took(server.connection(), talk.to_server, "the server")?;
     holds(is_closed, "the session is not over")
 }
 

@@ -198,7 +198,9 @@ impl Peer<'_> {
 
     /// Sends bytes that have room at once.
     fn says(&mut self, bytes: &[u8]) -> Played {
-        match self.socket.put(bytes) {
+        let put = self.socket.put(bytes);
+        self.socket.flush();
+        match put {
             Put::Took(0) => Played::NotYet,
             Put::Took(count) if count == bytes.len() => Played::Done,
             _ => Played::Wrong,
@@ -207,7 +209,7 @@ impl Peer<'_> {
 
     /// Ends its stream.
     fn ends(&mut self) -> Played {
-        match self.socket.stream.0.shutdown(Shutdown::Write) {
+        match self.socket.connection().0.shutdown(Shutdown::Write) {
             Ok(()) => Played::Done,
             Err(_) => Played::Wrong,
         }
@@ -486,10 +488,21 @@ impl<'s, 'w, R: Clock + Net + AllocGlobal> Stage<'s, 'w, R> {
         });
     }
 
+    /// Writes what is held of all ends, as far as that is without waiting.
+    fn flush(&mut self) {
+        for bot in self.bots.iter_mut() {
+            bot.socket.flush();
+        }
+        for server in self.servers.iter_mut() {
+            server.socket.flush();
+        }
+    }
+
     /// Acts as far as can be, and answers whether nothing is left to act.
     fn act(&mut self, is_served: bool) -> bool {
         self.flood_on();
         self.pour_on();
+        self.flush();
         for _ in 0..self.acts.len() {
             let Some(act) = self.acts.get(self.at) else {
                 return true;

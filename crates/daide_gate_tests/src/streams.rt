@@ -3,10 +3,14 @@
 
 use crate::streams::Answer::{Fails, Gives, Takes};
 use daide_session::ports::{Pull, Put};
+use daide_streams::buffered::Buffered;
 use daide_streams::calls::{pull_from, put_to};
 use daide_streams::dropping::Dropping;
 use daide_streams::duplex::Duplex;
+use daide_streams::pool::Pool;
+use daide_streams::readiness::Readiness;
 use daide_tests::rows::{holds, same};
+use std::alloc::Global;
 use std::io;
 use std::io::ErrorKind;
 use std::io::ErrorKind::{BrokenPipe, ConnectionReset, Interrupted, WouldBlock};
@@ -85,6 +89,20 @@ impl Duplex for Scripted {
     fn end_writing(&mut self) {}
 }
 
+/// A call may do something, and one that moves less than it might is the last.
+const READY: Readiness = Readiness {
+    may_read: true,
+    may_write: true,
+    reads_on: false,
+};
+
+/// The end was told, a failure, or an urgent byte.
+const READS_ON: Readiness = Readiness {
+    may_read: true,
+    may_write: true,
+    reads_on: true,
+};
+
 /// Eight interruptions, which is as often as a call is made.
 const ALL_INTERRUPTED: &[Answer] = &[
     Fails(Interrupted),
@@ -103,12 +121,13 @@ type Pulling = (&'static [Answer], Pull, bool, usize);
 
 /// Into four bytes, where something may be there.
 const PULLS: &[Pulling] = &[
-    (&[Gives(b"ab")], Pull::Got(2), true, 1),
+    (&[Gives(b"ab")], Pull::Got(2), false, 1),
+    (&[Gives(b"abcd")], Pull::Got(4), true, 1),
     (&[Gives(b"abcdef")], Pull::Got(4), true, 1),
     (&[Gives(b"")], Pull::Ended, true, 1),
     (&[Fails(WouldBlock)], Pull::Idle, false, 1),
     (&[Fails(ConnectionReset)], Pull::Ended, true, 1),
-    (&[Fails(Interrupted), Gives(b"abc")], Pull::Got(3), true, 2),
+    (&[Fails(Interrupted), Gives(b"abc")], Pull::Got(3), false, 2),
     (&[Fails(Interrupted), Gives(b"")], Pull::Ended, true, 2),
     (
         &[Fails(Interrupted), Fails(WouldBlock)],
@@ -124,10 +143,14 @@ fn pulls_by_rows(rt: HostRuntime) -> Result<(), Fail> {
     for (row, (answers, told, may_still, reads)) in PULLS.iter().enumerate() {
         let mut stream = Scripted::new(answers);
         let mut buffer = [b'.'; 4];
-        let mut is_readable = true;
-        let pull = pull_from(&mut stream, &mut is_readable, &mut buffer);
+        let mut readiness = READY;
+        let pull = pull_from(&mut stream, &mut readiness, &mut buffer);
         same(&pull, told, &row)?;
-        same(&(is_readable, stream.calls), &(*may_still, *reads), &row)?;
+        same(
+            &(readiness.may_read, stream.calls),
+            &(*may_still, *reads),
+            &row,
+        )?;
         let count = if let Pull::Got(count) = pull {
             count
         } else {
@@ -138,21 +161,38 @@ fn pulls_by_rows(rt: HostRuntime) -> Result<(), Fail> {
     Ok(())
 }
 
+/// Behind an end, a failure or an urgent byte a short read isn't the last: it is told but once.
+#[test]
+fn short_read_goes_on_where_the_end_was_told(rt: HostRuntime) -> Result<(), Fail> {
+    let mut stream = Scripted::new(&[Gives(b"ab"), Gives(b"")]);
+    let mut readiness = READS_ON;
+    let mut buffer = [0; 4];
+    let pull = pull_from(&mut stream, &mut readiness, &mut buffer);
+    same(
+        &(pull, readiness),
+        &(Pull::Got(2), READS_ON),
+        &"the last bytes",
+    )?;
+    let pull = pull_from(&mut stream, &mut readiness, &mut buffer);
+    same(&pull, &Pull::Ended, &"the end")
+}
+
 /// Where nothing can be there, or there is no room, the stream is left alone.
 #[test]
 fn pulls_that_ask_nothing(rt: HostRuntime) -> Result<(), Fail> {
     let mut stream = Scripted::new(&[Gives(b"ab")]);
-    let mut is_readable = false;
+    let mut readiness = Readiness::UNKNOWN;
     let mut buffer = [0; 4];
-    let pull = pull_from(&mut stream, &mut is_readable, &mut buffer);
+    let pull = pull_from(&mut stream, &mut readiness, &mut buffer);
+    let told = (pull, readiness);
     same(
-        &(pull, is_readable),
-        &(Pull::Idle, false),
+        &told,
+        &(Pull::Idle, Readiness::UNKNOWN),
         &"nothing can be there",
     )?;
-    is_readable = true;
-    let pull = pull_from(&mut stream, &mut is_readable, &mut []);
-    same(&(pull, is_readable), &(Pull::Idle, true), &"no room")?;
+    readiness = READY;
+    let pull = pull_from(&mut stream, &mut readiness, &mut []);
+    same(&(pull, readiness), &(Pull::Idle, READY), &"no room")?;
     same(&stream.calls, &0, &"reads")
 }
 
@@ -161,13 +201,13 @@ type Putting = (&'static [Answer], Put, bool, usize);
 
 /// Of 20,000 bytes, where some may be taken.
 const PUTS: &[Putting] = &[
-    (&[Takes(3)], Put::Took(3), true, 1),
+    (&[Takes(3)], Put::Took(3), false, 1),
     (&[Takes(20_000)], Put::Took(16_384), true, 1),
-    (&[Takes(0)], Put::Took(0), true, 1),
+    (&[Takes(0)], Put::Took(0), false, 1),
     (&[Fails(WouldBlock)], Put::Took(0), false, 1),
     (&[Fails(ConnectionReset)], Put::Failed, true, 1),
     (&[Fails(BrokenPipe)], Put::Failed, true, 1),
-    (&[Fails(Interrupted), Takes(5)], Put::Took(5), true, 2),
+    (&[Fails(Interrupted), Takes(5)], Put::Took(5), false, 2),
     (
         &[Fails(Interrupted), Fails(WouldBlock)],
         Put::Took(0),
@@ -182,10 +222,14 @@ fn puts_by_rows(rt: HostRuntime) -> Result<(), Fail> {
     let bytes = [0; 20_000];
     for (row, (answers, told, may_still, writes)) in PUTS.iter().enumerate() {
         let mut stream = Scripted::new(answers);
-        let mut is_writable = true;
-        let put = put_to(&mut stream, &mut is_writable, &bytes);
+        let mut readiness = READY;
+        let put = put_to(&mut stream, &mut readiness, &bytes);
         same(&put, told, &row)?;
-        same(&(is_writable, stream.calls), &(*may_still, *writes), &row)?;
+        same(
+            &(readiness.may_write, stream.calls),
+            &(*may_still, *writes),
+            &row,
+        )?;
         same(&stream.handed, &16_384, &row)?;
     }
     Ok(())
@@ -194,54 +238,48 @@ fn puts_by_rows(rt: HostRuntime) -> Result<(), Fail> {
 #[test]
 fn put_that_asks_nothing(rt: HostRuntime) -> Result<(), Fail> {
     let mut stream = Scripted::new(&[Takes(2)]);
-    let mut is_writable = false;
-    let put = put_to(&mut stream, &mut is_writable, b"ab");
+    let mut readiness = Readiness::UNKNOWN;
+    let put = put_to(&mut stream, &mut readiness, b"ab");
+    let told = (put, readiness);
     same(
-        &(put, is_writable),
-        &(Put::Took(0), false),
+        &told,
+        &(Put::Took(0), Readiness::UNKNOWN),
         &"nothing can be taken",
     )?;
     same(&stream.calls, &0, &"writes")
 }
 
-/// A drop: how much may be dropped; what the stream answers; which piece is the last, counted from 0; whether a read may
-/// give something then.
-type Drops = (usize, &'static [Answer], usize, bool);
+/// A drop: how much may be dropped; what the stream answers; which piece is the last, counted from 0.
+type Drops = (usize, &'static [Answer], usize);
 
 /// A stream that waits is not at its end, nor is one that was interrupted.
 const DROPS: &[Drops] = &[
-    (9, &[Gives(b"abc"), Gives(b"")], 1, true),
-    (3, &[Gives(b"abc"), Gives(b"d")], 0, true),
-    (4, &[Gives(b"abc"), Gives(b"de"), Gives(b"f")], 1, true),
-    (9, &[Fails(ConnectionReset)], 0, true),
-    (3, ALL_INTERRUPTED, 1, true),
+    (9, &[Gives(b"abc"), Gives(b"")], 1),
+    (3, &[Gives(b"abc"), Gives(b"d")], 0),
+    (4, &[Gives(b"abc"), Gives(b"de"), Gives(b"f")], 1),
+    (9, &[Fails(ConnectionReset)], 0),
+    (3, ALL_INTERRUPTED, 1),
+    (9, &[Fails(WouldBlock), Gives(b"")], 1),
 ];
 
-#[test]
-fn drops_by_rows(rt: HostRuntime) -> Result<(), Fail> {
-    for (row, (most, answers, last, may_still)) in DROPS.iter().enumerate() {
-        let mut stream = Scripted::new(answers);
-        let mut dropping = Dropping::new(*most);
-        let mut is_readable = true;
-        for _ in 0..*last {
-            let is_last = dropping.drop_piece(&mut stream, &mut is_readable);
-            same(&is_last, &false, &row)?;
-        }
-        let is_last = dropping.drop_piece(&mut stream, &mut is_readable);
-        same(&(is_last, is_readable), &(true, *may_still), &row)?;
+/// So many pieces are dropped, each where a read may give something: only the last is told as the last.
+fn drops(alloc: Global, row: usize, drop: &Drops) -> Result<(), Fail> {
+    let (most, answers, last) = *drop;
+    let pool = Pool::new(alloc);
+    let mut stream = Buffered::new(Scripted::new(answers));
+    let mut dropping = Dropping::new(most);
+    for piece in 0..=last {
+        let mut readiness = READY;
+        let is_last = dropping.drop_piece(&mut stream, &pool, &mut readiness);
+        same(&is_last, &(piece == last), &row)?;
     }
     Ok(())
 }
 
-/// A stream of which nothing has come yet is not let go.
 #[test]
-fn idle_is_no_end_of_a_drop(rt: HostRuntime) -> Result<(), Fail> {
-    let mut stream = Scripted::new(&[Fails(WouldBlock), Gives(b"")]);
-    let mut dropping = Dropping::new(9);
-    let mut is_readable = true;
-    let is_last = dropping.drop_piece(&mut stream, &mut is_readable);
-    same(&(is_last, is_readable), &(false, false), &"nothing came")?;
-    is_readable = true;
-    let is_last = dropping.drop_piece(&mut stream, &mut is_readable);
-    same(&is_last, &true, &"the end")
+fn drops_by_rows(rt: HostRuntime) -> Result<(), Fail> {
+    for (row, drop) in DROPS.iter().enumerate() {
+        drops(rt.alloc(), row, drop)?;
+    }
+    Ok(())
 }

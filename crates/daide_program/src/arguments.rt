@@ -96,6 +96,7 @@ fn run_command<'a>(alloc: Global) -> Result<Command<'a>, AllocError> {
 /// The command line that is understood.
 pub(crate) fn command<'a>(alloc: Global) -> Result<Command<'a>, AllocError> {
     Command::new(alloc, "daide-gate")
+        .bin_name("daide-gate")?
         .version("0.1.0")
         .about("A gateway between one bot and a DAIDE server")
         .after_help(NOTES)

@@ -11,18 +11,19 @@ use Rattle.daide_service.specs.Metered.{Meter, Meters, BecomesWhile, IsSpentAnsw
 use Rattle.daide_service.specs.Serving.{fresh}
 use Rattle.daide_service.specs.Served.{IsServed, run_limits}
 use Rattle.daide_service.specs.System.{SystemAnswer, Connects}
+use Rattle.daide_streams.specs.Buffers.{Buffer}
 use Rattle.daide_streams.specs.Streams.{Moves, Exchanges}
-use Rattle.daide_streams.proofs.StreamLemmas.{still_moves, looked_moves, exchanged}
+use Rattle.daide_streams.proofs.StreamLemmas.{still_moves, exchanged}
 
-module _ {P S : Type 0} (streams : P → S × S) (to_give taken : S → Option (List ℕ)) where
+module _ {P S : Type 0} (streams : P → Buffer S × Buffer S) (to_give taken : S → Option (List ℕ)) where
   -- what one call does to the streams
   abbrev pub MovesOf : P → PortAnswer → P → Type 0
   MovesOf old answer new = Moves to_give taken (streams old) answer (streams new)
 
   -- spent ports are asked nothing, and say that nothing came and nothing went
-  spent_moves : (answer : PortAnswer) (old new : S × S) → IsSpentAnswer answer → new ≡ old →
+  spent_moves : (answer : PortAnswer) (old new : Buffer S × Buffer S) → IsSpentAnswer answer → new ≡ old →
       Moves to_give taken old answer new
-  spent_moves (Clock popped) old new h e = looked_moves to_give taken old new popped e
+  spent_moves (Clock popped) old new h e = still_moves to_give taken old new _ (λ one. refl) (λ one. refl) e
   spent_moves (Pulled side buffer pull bytes) old new h e =
       subst (λ (p : Pull). Moves to_give taken old (Pulled side buffer p bytes) new) (sym h)
       (still_moves to_give taken old new _ (λ one. refl) (λ one. refl) e)

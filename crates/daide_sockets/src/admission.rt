@@ -36,7 +36,7 @@ impl<'w> Door<'w> {
         let flags = self.place.flags;
         if watch.is_over(flags.due.get()) {
             flags.due.set(None);
-            flags.is_readable.set(true);
+            flags.note(true, false);
         }
     }
 
@@ -44,7 +44,7 @@ impl<'w> Door<'w> {
     /// failed.
     pub fn accept<R: Clock>(&self, watch: &Watch<R>) -> Option<TcpStream> {
         self.reopen(watch);
-        if !self.place.flags.is_readable.get() {
+        if !self.place.flags.readiness.get().may_read {
             return None;
         }
         match self.take(watch) {
@@ -66,7 +66,7 @@ impl<'w> Door<'w> {
     /// Notes that an accept gave none: another is made once a bot comes, or after a pause where it failed.
     pub fn refused<R: Clock>(&self, watch: &Watch<R>, why: ErrorKind) {
         let flags = self.place.flags;
-        flags.is_readable.set(false);
+        flags.found_nothing();
         if why != ErrorKind::WouldBlock {
             flags
                 .due
@@ -153,17 +153,19 @@ impl<'w> Arrival<'w> {
         let Some(server) = &self.server else {
             return Progress::Failed;
         };
-        if !server.place.flags.is_writable.get() {
+        let flags = server.place.flags;
+        if !flags.readiness.get().may_write {
             return Progress::Pending;
         }
-        match server.stream.0.take_error() {
+        let connection = &server.connection().0;
+        match connection.take_error() {
             Ok(None) => {}
             _ => return Progress::Failed,
         }
-        if server.stream.0.peer_addr().is_ok() {
+        if connection.peer_addr().is_ok() {
             return Progress::Connected;
         }
-        server.place.flags.is_writable.set(false);
+        flags.took_nothing();
         Progress::Pending
     }
 
@@ -193,11 +195,18 @@ impl<'w> Arrival<'w> {
 
     /// The ports of a bot whose server is there.
     fn join<R: Clock>(self, watch: &'w Watch<R>) -> Outcome<'w, R> {
-        let Some(server) = self.server else {
-            return Outcome::Unreached(self.bot);
+        let Arrival {
+            bot,
+            server,
+            tried: _,
+            gives_up: _,
+            im_over,
+        } = self;
+        let Some(server) = server else {
+            return Outcome::Unreached(bot);
         };
         server.place.flags.due.set(None);
-        self.bot.place.flags.due.set(self.im_over);
-        Outcome::Joined(SocketPorts::new(watch, self.bot, server))
+        bot.place.flags.due.set(im_over);
+        Outcome::Joined(SocketPorts::new(watch, bot, server))
     }
 }

@@ -1,13 +1,11 @@
 //! Closing in stages, so that the last message of a session isn't destroyed by a reset.
 //!
 //! A socket that is closed while bytes of its peer are unread resets the connection, and what was written last may
-//! never arrive. So writing is shut down first; what still comes is read and dropped, within bounds; then the socket
-//! is closed.
+//! never arrive. So what is held is written, and writing is shut down; what still comes is read and dropped, within bounds;
+//! then the socket is closed. Where the peer doesn't read, what is held is written once it does.
 
-ghost use Rattle.std.specs.Prelude.{◌≡◌, ◌+◌, List, [], ◌∷◌, ℕ, length};
-ghost use Rattle.std.specs.Io.KnownBytes.{Consumes};
-ghost use Rattle.daide_session.specs.Record.{Tells};
-ghost use Rattle.daide_streams.specs.Calls.{WritingEnded};
+ghost use Rattle.std.specs.Prelude.{◌≡◌, ◌+◌, List, [], ℕ, length};
+ghost use Rattle.daide_streams.specs.Buffers.{Passes, IsUnread, IsUnwritten};
 
 use crate::connection::Connection;
 use crate::ports::{Socket, SocketPorts};
@@ -30,49 +28,97 @@ const MOST_LOOKS: usize = 8;
 /// How many sockets close at once; where one more comes, the one that began first is closed.
 pub const MOST_CLOSING: usize = 256;
 
-/// A socket whose writing is shut down.
+/// A socket that closes.
 #[derive(Drop)]
 struct Closing<'w, S: Duplex + Drop = Connection> {
     socket: Socket<'w, S>,
     /// What may still be dropped of it.
     rest: Dropping,
+    /// Whether its writing is over.
+    is_ended: bool,
 }
 
 impl<'w, S: Duplex + Drop> Closing<'w, S> {
-    /// Shuts down writing, and does nothing else to the stream: what it took, and what it has still to give, is as it was.
-    fn new<R: Clock>(watch: &Watch<R>, socket: Socket<'w, S>) -> Closing<'w, S>
+    /// A socket of which nothing is to be read any more.
+    fn new(socket: Socket<'w, S>) -> Closing<'w, S>
         ensures rest { result.rest ≡ MOST_DROPPED }
-        ensures taken { S.taken result.socket.stream ≡ S.taken socket.entry.stream }
-        ensures apart { S.to_give result.socket.stream ≡ S.to_give socket.entry.stream }
-        ensures ended { Tells (S.calls socket.entry.stream) (WritingEnded ∷ []) (S.calls result.socket.stream) }
+        ensures stream { result.socket.stream ≡ socket.entry.stream }
     {
-        let mut socket = socket;
-        socket.stream.end_writing();
-        socket
-            .place
-            .flags
-            .due
-            .set(watch.after(Duration::from_secs(SECONDS)));
+        // Until all that it holds is written, no moment is waited for.
+        socket.place.flags.due.set(None);
         Closing {
             socket,
             rest: Dropping::new(MOST_DROPPED),
+            is_ended: false,
         }
+    }
+
+    /// Shuts down writing, where all that was held is written. One whose writing failed has nothing to shut down.
+    fn shut_down(&mut self)
+        ensures rest { self.new.rest ≡ self.old.rest }
+        ensures passes { Passes S.to_give S.taken self.old.socket.stream [] [] self.new.socket.stream }
+        ensures unread { IsUnread S.to_give self.old.socket.stream self.new.socket.stream }
+        ensures unwritten { IsUnwritten S.taken self.old.socket.stream self.new.socket.stream }
+    {
+        if !self.socket.stream.is_written() {
+            return;
+        }
+        self.socket.stream.end_writing();
+    }
+
+    /// Writes what is held, and shuts down writing once that is all. Of its bytes none is read, and none is lost.
+    fn end_writing<R: Clock>(&mut self, watch: &Watch<R>)
+        ensures rest { self.new.rest ≡ self.old.rest }
+        ensures passes { Passes S.to_give S.taken self.old.socket.stream [] [] self.new.socket.stream }
+        ensures unread { IsUnread S.to_give self.old.socket.stream self.new.socket.stream }
+    {
+        self.socket.flush();
+        if self.socket.stream.is_behind() {
+            return;
+        }
+        self.is_ended = true;
+        let due = watch.after(Duration::from_secs(SECONDS));
+        self.socket.place.flags.due.set(due);
+        self.shut_down();
     }
 
     /// Drops a piece of what came, and answers whether the socket is to be closed now. What it drops is what the stream
     /// gives next, behind all that its session read, and the stream takes nothing more.
     fn drops_last<R: Clock>(&mut self, watch: &Watch<R>) -> bool
         ensures dropped { (bytes : List ℕ) × (self.old.rest ≡ self.new.rest + length bytes)
-            × Consumes (S.to_give self.old.socket.stream) (S.to_give self.new.socket.stream) bytes }
-        ensures apart { S.taken self.new.socket.stream ≡ S.taken self.old.socket.stream }
+            × Passes S.to_give S.taken self.old.socket.stream bytes [] self.new.socket.stream }
+        ensures unwritten { IsUnwritten S.taken self.old.socket.stream self.new.socket.stream }
     {
-        let Socket { stream, place } = &mut self.socket;
+        let Socket {
+            stream,
+            place,
+            pool,
+        } = &mut self.socket;
         let flags = place.flags;
-        let mut is_readable = flags.is_readable.get();
-        let is_last = self.rest.drop_piece(stream, &mut is_readable);
-        flags.is_readable.set(is_readable);
+        let mut readiness = flags.readiness.get();
+        let is_last = self.rest.drop_piece(stream, *pool, &mut readiness);
+        flags.readiness.set(readiness);
         let due = flags.due.get();
         is_last || due.is_none() || watch.is_over(due)
+    }
+
+    /// Goes on, and answers whether the socket is to be closed now.
+    fn advances<R: Clock>(&mut self, watch: &Watch<R>) -> bool {
+        if self.is_ended {
+            return self.drops_last(watch);
+        }
+        self.end_writing(watch);
+        false
+    }
+
+    /// Whether a call may do something.
+    fn is_ready(&self) -> bool {
+        let readiness = self.socket.place.flags.readiness.get();
+        if self.is_ended {
+            readiness.may_read || self.socket.stream.is_ahead()
+        } else {
+            readiness.may_write
+        }
     }
 }
 
@@ -95,8 +141,10 @@ impl<'w> Closings<'w> {
         if self.sockets.len() >= MOST_CLOSING {
             self.sockets.remove(0);
         }
+        let mut closing = Closing::new(socket);
+        closing.end_writing(watch);
         // There is room: a socket for which there were none would be closed at once.
-        let _ = self.sockets.push(Closing::new(watch, socket));
+        let _ = self.sockets.push(closing);
     }
 
     /// Begins to close both sockets of a session.
@@ -106,14 +154,14 @@ impl<'w> Closings<'w> {
         self.begin(watch, server);
     }
 
-    /// Drops a piece of what came on the next few, and closes those that are to be.
+    /// Goes on with the next few, and closes those that are to be.
     pub fn advance<R: Clock>(&mut self, watch: &Watch<R>) {
         for _ in 0..self.sockets.len().min(MOST_LOOKS) {
             if self.sockets.is_empty() {
                 return;
             }
             let mut closing = self.sockets.remove(0);
-            if !closing.drops_last(watch) {
+            if !closing.advances(watch) {
                 // There is room for as many as there were.
                 let _ = self.sockets.push(closing);
             }
@@ -125,10 +173,8 @@ impl<'w> Closings<'w> {
         self.sockets.is_empty()
     }
 
-    /// Whether more may have come on one of them.
+    /// Whether one of them may go on.
     pub fn is_ready(&self) -> bool {
-        self.sockets
-            .iter()
-            .any(|closing| closing.socket.place.flags.is_readable.get())
+        self.sockets.iter().any(|closing| closing.is_ready())
     }
 }

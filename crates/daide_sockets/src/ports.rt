@@ -1,32 +1,39 @@
 //! A session's ports over two sockets.
 //!
-//! They read no more than they are asked for, so what the process holds of a peer is what its session weighs. They are
-//! ports over any two streams, and say by their answers what these gave and took. Of the system's own connections
-//! nothing is known, so there it is what the system's read and write answered.
+//! A socket reads ahead, and gathers what it is handed in small parts; so what the process holds of a peer is what its
+//! session weighs, and at most `MOST_HELD` bytes each way of each socket. They are ports over any two streams, and say by
+//! their answers what these gave and took. Of the system's own connections nothing is known, so there it is what the
+//! system's read and write answered.
 
-ghost use Rattle.std.specs.Prelude.{◌≡◌, length, take};
-ghost use Rattle.std.specs.Io.KnownBytes.{Consumes};
+ghost use Rattle.std.specs.Prelude.{◌≡◌, [], length, take};
 ghost use Rattle.daide_session.specs.Record.{IsPullWithin, IsPutWithin, pulled_len};
-ghost use Rattle.daide_streams.specs.Taking.{IsTaken};
+ghost use Rattle.daide_streams.specs.Buffers.{Passes, IsUnread};
 ghost use Rattle.daide_streams.specs.Streams.{Moves};
+ghost use Rattle.daide_streams.specs.Taking.{front_of};
 
 use crate::connection::Connection;
 use crate::watch::{Place, Watch};
 use daide_frame::side::Side;
 use daide_session::ports::{Ports, Pull, Put};
-use daide_streams::calls::{pull_from, put_to};
+use daide_streams::buffered::Buffered;
 use daide_streams::duplex::Duplex;
+use daide_streams::pool::Pool;
 use mio::Interest;
 use mio::net::TcpStream;
 use std::rt::Clock;
 
-/// A connection whose calls never wait, and its row of the table.
+/// For how many turns bytes are held at most that may be written, though more come all the time.
+const MOST_TURNS_HELD: usize = 16;
+
+/// A connection whose calls never wait, what is held of it, and its row of the table.
 #[derive(Drop)]
 pub struct Socket<'w, S: Drop = Connection> {
-    /// The connection itself.
-    pub stream: S,
+    /// The connection, and what is held of it.
+    pub stream: Buffered<S>,
     /// Its row, by which its flags are seen.
     pub place: Place<'w>,
+    /// Room for what is held.
+    pub(crate) pool: &'w Pool,
 }
 
 impl<'w> Socket<'w> {
@@ -36,42 +43,113 @@ impl<'w> Socket<'w> {
         let mut stream = stream;
         // A connection that keeps small writes back is slower, and right.
         let _ = stream.set_nodelay(true);
-        let place = watch.follow(&mut stream, Interest::READABLE | Interest::WRITABLE)?;
-        Some(Socket {
-            stream: Connection(stream),
+        // A read stops before an urgent byte, and that is told as a priority.
+        let interest = Interest::READABLE | Interest::WRITABLE | Interest::PRIORITY;
+        let place = watch.follow(&mut stream, interest)?;
+        Some(Socket::over(watch, Connection(stream), place))
+    }
+}
+
+impl<'w, S: Drop> Socket<'w, S> {
+    /// Any stream, of which nothing is held yet, and its row of the table.
+    pub fn over<R: Clock>(watch: &'w Watch<R>, stream: S, place: Place<'w>) -> Socket<'w, S>
+        ensures stream { result.stream ≡ record { stream = stream; ahead = []; behind = [] } }
+    {
+        Socket {
+            stream: Buffered::new(stream),
             place,
-        })
+            pool: watch.pool(),
+        }
+    }
+
+    /// The connection itself.
+    pub fn connection(&self) -> &S
+        ensures { result.now ≡ self.now.stream.stream }
+    {
+        self.stream.stream()
     }
 }
 
 impl<S: Duplex + Drop> Socket<'_, S> {
-    /// Reads what is there: what is told as `Got` is what the connection gave next.
+    /// Hands out what was read ahead, or reads what is there: what is told as `Got` is, in order, what the connection
+    /// gave.
     pub fn pull(&mut self, buffer: &mut [u8]) -> Pull
         ensures within { IsPullWithin result (length buffer.old) }
         ensures len { length buffer.new ≡ length buffer.old }
-        ensures given { Consumes (S.to_give self.old.stream) (S.to_give self.new.stream)
-            (take (pulled_len result) buffer.new) }
-        ensures apart { S.taken self.new.stream ≡ S.taken self.old.stream }
+        ensures passes { Passes S.to_give S.taken self.old.stream (take (pulled_len result) buffer.new) []
+            self.new.stream }
     {
-        let flag = &self.place.flags.is_readable;
-        let mut is_readable = flag.get();
-        let pull = pull_from(&mut self.stream, &mut is_readable, buffer);
-        flag.set(is_readable);
+        let flags = self.place.flags;
+        let mut readiness = flags.readiness.get();
+        let pull = self.stream.pull(self.pool, &mut readiness, buffer);
+        flags.readiness.set(readiness);
         pull
     }
 
-    /// Writes what the connection takes, exactly as much as is told as `Took`.
+    /// Holds what has room, or writes what the connection takes: what is told as `Took` stands, in order, in the
+    /// connection or behind what it took. A failure that a flush met is told here.
     pub fn put(&mut self, bytes: &[u8]) -> Put
         ensures within { IsPutWithin result (length bytes.now) }
-        ensures taken { IsTaken (S.taken self.old.stream) bytes.now result (S.taken self.new.stream) }
-        ensures apart { S.to_give self.new.stream ≡ S.to_give self.old.stream }
+        ensures passes { Passes S.to_give S.taken self.old.stream [] (front_of result bytes.now) self.new.stream }
     {
-        let flag = &self.place.flags.is_writable;
-        let mut is_writable = flag.get();
-        let put = put_to(&mut self.stream, &mut is_writable, bytes);
-        flag.set(is_writable);
+        let flags = self.place.flags;
+        let mut readiness = flags.readiness.get();
+        let put = self.stream.put(self.pool, &mut readiness, bytes);
+        flags.readiness.set(readiness);
         put
     }
+
+    /// Writes what is held, as much as the connection takes.
+    pub fn flush(&mut self)
+        ensures passes { Passes S.to_give S.taken self.old.stream [] [] self.new.stream }
+        ensures unread { IsUnread S.to_give self.old.stream self.new.stream }
+    {
+        let flags = self.place.flags;
+        let mut readiness = flags.readiness.get();
+        self.stream.flush(self.pool, &mut readiness);
+        flags.readiness.set(readiness);
+    }
+}
+
+/// Pulls of one socket of a session. Where nothing comes, nothing more comes now that is for the other: what is held of
+/// it is written.
+fn pull_past<S: Duplex + Drop>(
+    own: &mut Socket<'_, S>,
+    other: &mut Socket<'_, S>,
+    buffer: &mut [u8],
+) -> Pull
+    ensures within { IsPullWithin result (length buffer.old) }
+    ensures len { length buffer.new ≡ length buffer.old }
+    ensures own { Passes S.to_give S.taken own.old.stream (take (pulled_len result) buffer.new) [] own.new.stream }
+    ensures other { Passes S.to_give S.taken other.old.stream [] [] other.new.stream }
+    ensures unread { IsUnread S.to_give other.old.stream other.new.stream }
+{
+    let pull = own.pull(buffer);
+    if pull != Pull::Idle {
+        return pull;
+    }
+    other.flush();
+    pull
+}
+
+/// Puts to one socket of a session. Where it takes nothing, its session may have nothing more to do: what is held of the
+/// other is written.
+fn put_past<S: Duplex + Drop>(
+    own: &mut Socket<'_, S>,
+    other: &mut Socket<'_, S>,
+    bytes: &[u8],
+) -> Put
+    ensures within { IsPutWithin result (length bytes.now) }
+    ensures own { Passes S.to_give S.taken own.old.stream [] (front_of result bytes.now) own.new.stream }
+    ensures other { Passes S.to_give S.taken other.old.stream [] [] other.new.stream }
+    ensures unread { IsUnread S.to_give other.old.stream other.new.stream }
+{
+    let put = own.put(bytes);
+    if put != Put::Took(0) {
+        return put;
+    }
+    other.flush();
+    put
 }
 
 /// The connections of a session. The moment that the bot's waits for is that of its initial message.
@@ -80,6 +158,8 @@ pub struct SocketPorts<'w, R: Clock, S: Drop = Connection> {
     watch: &'w Watch<R>,
     /// The round of the last turn, if there was one.
     turned: Option<u64>,
+    /// For how many turns something was held that may be written.
+    held: usize,
     bot: Socket<'w, S>,
     server: Socket<'w, S>,
 }
@@ -97,6 +177,7 @@ impl<'w, R: Clock, S: Drop> SocketPorts<'w, R, S> {
         SocketPorts {
             watch,
             turned: None,
+            held: 0,
             bot,
             server,
         }
@@ -110,6 +191,7 @@ impl<'w, R: Clock, S: Drop> SocketPorts<'w, R, S> {
         let SocketPorts {
             watch: _,
             turned: _,
+            held: _,
             bot,
             server,
         } = self;
@@ -123,9 +205,32 @@ impl<'w, R: Clock, S: Drop> SocketPorts<'w, R, S> {
         ensures server { self.new.server ≡ self.old.server }
     {
         if self.turned == Some(self.watch.round()) {
-            self.watch.look();
+            self.watch.next_round();
         }
         self.turned = Some(self.watch.round());
+        self.watch.note_turn();
+        self.held = if self.bot.stream.is_behind() || self.server.stream.is_behind() {
+            self.held.saturating_add(1)
+        } else {
+            0
+        };
+    }
+}
+
+impl<R: Clock, S: Duplex + Drop> SocketPorts<'_, R, S> {
+    /// Writes what was held for long enough.
+    fn flush_late(&mut self)
+        ensures bot { Passes S.to_give S.taken self.old.bot.stream [] [] self.new.bot.stream }
+        ensures server { Passes S.to_give S.taken self.old.server.stream [] [] self.new.server.stream }
+        ensures bot_unread { IsUnread S.to_give self.old.bot.stream self.new.bot.stream }
+        ensures server_unread { IsUnread S.to_give self.old.server.stream self.new.server.stream }
+    {
+        if self.held < MOST_TURNS_HELD {
+            return;
+        }
+        self.held = 0;
+        self.bot.flush();
+        self.server.flush();
     }
 }
 
@@ -136,22 +241,23 @@ impl<R: Clock, S: Duplex + Drop> Ports for SocketPorts<'_, R, S> {
     #[tactic(auto, using(daide_streams::proofs::StreamLemmas::pulled_moves))]
     fn pull(&mut self, side: Side, buffer: &mut [u8]) -> Pull {
         match side {
-            Side::Bot => self.bot.pull(buffer),
-            Side::Server => self.server.pull(buffer),
+            Side::Bot => pull_past(&mut self.bot, &mut self.server, buffer),
+            Side::Server => pull_past(&mut self.server, &mut self.bot, buffer),
         }
     }
 
     #[tactic(auto, using(daide_streams::proofs::StreamLemmas::offered_moves))]
     fn put(&mut self, side: Side, bytes: &[u8]) -> Put {
         match side {
-            Side::Bot => self.bot.put(bytes),
-            Side::Server => self.server.put(bytes),
+            Side::Bot => put_past(&mut self.bot, &mut self.server, bytes),
+            Side::Server => put_past(&mut self.server, &mut self.bot, bytes),
         }
     }
 
     #[tactic(auto, using(daide_streams::proofs::StreamLemmas::looked_moves))]
     fn clock_popped(&mut self) -> bool {
         self.begin_turn();
+        self.flush_late();
         let due = &self.bot.place.flags.due;
         let is_over = self.watch.is_over(due.get());
         if is_over {

@@ -77,7 +77,7 @@ impl<'w, R: Clock + Net, E: Write + Drop> Sockets<'w, R, E> {
         self.closings.advance(self.watch);
     }
 
-    /// Waits until the last sockets are closed, which takes a second at most.
+    /// Waits until the last sockets are closed, which takes a second at most once their peers took what they hold.
     pub fn finish(&mut self) {
         for _ in 0..u64::MAX {
             if !self.is_closing() {

@@ -2,10 +2,12 @@
 //! to be done though nothing comes.
 //!
 //! The table is shared by `&`, so that the ports in a hub see what the loop's wait was told. An idle session reads
-//! two flags of it, and makes no call to the system.
+//! two flags of it, and makes no call to the system. Beside the table stands the room for what the sockets hold.
 
 ghost use Rattle.std.specs.Prelude.{◌≡◌, IsNone, false};
 
+use daide_streams::pool::Pool;
+use daide_streams::readiness::Readiness;
 use mio::event::{Event, Source};
 use mio::{Events, Interest, Poll, Registry, Token};
 use std::alloc::{AllocError, Global};
@@ -18,14 +20,16 @@ use std::time::{Duration, Instant};
 /// How many events one wait takes over; what is more comes with the next.
 const EVENTS: usize = 256;
 
+/// After how many turns the system is asked again, though something moves: so many share the price of the call, and none
+/// waits longer for news than as many turns, or than a round where that is longer.
+const MOST_TURNS: u64 = 32;
+
 /// What is known of one socket.
 #[derive(Drop)]
 pub struct Flags {
     is_taken: Cell<bool>,
-    /// Whether a read, or a listener's accept, may give something.
-    pub(crate) is_readable: Cell<bool>,
-    /// Whether a write may take something.
-    pub(crate) is_writable: Cell<bool>,
+    /// Whether a read, or a listener's accept, may give something, and whether a write may take something.
+    pub readiness: Cell<Readiness>,
     /// The moment at which something is to be done.
     pub due: Cell<Option<Instant>>,
 }
@@ -39,8 +43,13 @@ pub struct Watch<R: Clock> {
     /// None where the clock can't be read: then no time passes.
     now: Cell<Option<Instant>>,
     round: Cell<u64>,
+    /// How many turns were begun since the system was asked.
+    turns: Cell<u64>,
+    /// How many rows, from the first on, were ever taken.
+    used: Cell<usize>,
     /// Whether something was told since the last wait, so that what was asked before may have missed it.
     has_news: Cell<bool>,
+    pool: Pool,
     flags: Vec<Flags>,
 }
 
@@ -78,8 +87,7 @@ impl Flags {
     fn new() -> Flags {
         Flags {
             is_taken: Cell::new(false),
-            is_readable: Cell::new(false),
-            is_writable: Cell::new(false),
+            readiness: Cell::new(Readiness::UNKNOWN),
             due: Cell::new(None),
         }
     }
@@ -96,27 +104,44 @@ impl Flags {
     /// Takes the row for a socket of which nothing is known.
     fn take(&self) {
         self.is_taken.set(true);
-        self.is_readable.set(false);
-        self.is_writable.set(false);
+        self.readiness.set(Readiness::UNKNOWN);
         self.due.set(None);
     }
 
     /// Notes that a read may give something, or a write take something. What was noted before stays so.
     pub fn note(&self, is_readable: bool, is_writable: bool) {
-        if is_readable {
-            self.is_readable.set(true);
-        }
-        if is_writable {
-            self.is_writable.set(true);
-        }
+        let mut readiness = self.readiness.get();
+        readiness.may_read = readiness.may_read || is_readable;
+        readiness.may_write = readiness.may_write || is_writable;
+        self.readiness.set(readiness);
     }
 
-    /// Notes what the system told of the socket. An end or a failure is told by the next call.
+    /// Notes that a call would find nothing.
+    pub(crate) fn found_nothing(&self) {
+        let mut readiness = self.readiness.get();
+        readiness.may_read = false;
+        self.readiness.set(readiness);
+    }
+
+    /// Notes that a connect isn't done yet.
+    pub(crate) fn took_nothing(&self) {
+        let mut readiness = self.readiness.get();
+        readiness.may_write = false;
+        self.readiness.set(readiness);
+    }
+
+    /// Notes what the system told of the socket. An end or a failure is told by the next call, and an urgent byte stops a
+    /// read before it: neither is told once more, so from then on no read is the last that gives less than it might.
     fn note_event(&self, event: &Event) {
         self.note(
             event.is_readable() || event.is_read_closed() || event.is_error(),
             event.is_writable() || event.is_write_closed() || event.is_error(),
         );
+        if event.is_read_closed() || event.is_error() || event.is_priority() {
+            let mut readiness = self.readiness.get();
+            readiness.reads_on = true;
+            self.readiness.set(readiness);
+        }
     }
 
     /// The moment that is waited for, of a socket that is there.
@@ -156,7 +181,10 @@ impl<R: Clock + Drop> Watch<R> {
             waiter: RefCell::new(Waiter { poll, events }),
             now: Cell::new(now),
             round: Cell::new(0),
+            turns: Cell::new(0),
+            used: Cell::new(0),
             has_news: Cell::new(false),
+            pool: Pool::new(alloc),
             flags,
         })
     }
@@ -166,6 +194,11 @@ impl<R: Clock> Watch<R> {
     /// The number of the present round.
     pub(crate) fn round(&self) -> u64 {
         self.round.get()
+    }
+
+    /// The room for what the sockets hold.
+    pub fn pool(&self) -> &Pool {
+        &self.pool
     }
 
     /// So long after the moment of the present round; none where the clock can't be read, or no such moment is known.
@@ -188,6 +221,7 @@ impl<R: Clock> Watch<R> {
         for (token, flags) in self.flags.iter().enumerate() {
             if !flags.is_taken.get() {
                 flags.take();
+                self.used.set(self.used.get().max(token.saturating_add(1)));
                 let place = Place { flags };
                 self.registry.register(source, Token(token), interest).ok()?;
                 return Some(place);
@@ -203,13 +237,15 @@ impl<R: Clock> Watch<R> {
 
     /// How long nothing is to be done, if nothing comes; none where no moment is waited for.
     fn patience(&self) -> Option<Duration> {
-        let nearest = self.flags.iter().filter_map(|flags| flags.awaited()).min()?;
+        let used = self.flags.iter().take(self.used.get());
+        let nearest = used.filter_map(|flags| flags.awaited()).min()?;
         Some(nearest.saturating_duration_since(self.now.get()?))
     }
 
     /// Begins a round: takes over what the system tells within a time, and reads the clock.
     fn begin_round(&self, timeout: Option<Duration>) {
         self.round.set(self.round.get().wrapping_add(1));
+        self.turns.set(0);
         if let Ok(mut waiter) = self.waiter.try_borrow_mut() {
             let Waiter { poll, events } = &mut *waiter;
             // Of a wait that fails there are no events.
@@ -224,6 +260,20 @@ impl<R: Clock> Watch<R> {
         }
         if let Ok(now) = Instant::now(&self.clock) {
             self.now.set(Some(now));
+        }
+    }
+
+    /// Notes that a turn began.
+    pub(crate) fn note_turn(&self) {
+        self.turns.set(self.turns.get().saturating_add(1));
+    }
+
+    /// Begins a round; with what the system tells now, where it wasn't asked for `MOST_TURNS` turns.
+    pub(crate) fn next_round(&self) {
+        if self.turns.get() >= MOST_TURNS {
+            self.look();
+        } else {
+            self.round.set(self.round.get().wrapping_add(1));
         }
     }
 

@@ -1,6 +1,6 @@
 -- Known bytes behind reads and writes that moved none.
-use Rattle.std.proofs.Common.{◌≡◌, ℕ, List, [], ◌++◌, Option, Some, None, sym, ◌∙◌}
-use Rattle.std.specs.Io.KnownBytes.{Consumes, Keeps, Appends}
+use Rattle.std.proofs.Common.{ℕ, List, [], Option, Some, None, sym, ◌∙◌}
+use Rattle.std.specs.Io.KnownBytes.{Consumes, Keeps}
 
 -- what was kept was consumed by no byte
 pub consumes_none : (old new : Option (List ℕ)) → Keeps old new → Consumes old new []

@@ -1,3 +1,5 @@
 mod Reading
 mod Consumed
+pub mod BufferLemmas
+pub mod CallLemmas
 pub mod StreamLemmas

@@ -1,7 +1,7 @@
 -- Streams along a history of answers.
-use Rattle.std.proofs.Common.{◌≡◌, ℕ, Bool, true, false, List, [], ◌∷◌, ◌++◌, Option, Some, None, take, refl, sym, ap}
+use Rattle.std.proofs.Common.{◌≡◌, ℕ, Bool, true, false, List, [], ◌∷◌, ◌++◌, Option, take, refl, sym, ap}
 use Rattle.std.proofs.Common.{◌∙◌, subst, append_assoc, append-nil}
-use Rattle.std.specs.Io.KnownBytes.{Consumes, Keeps, Appends}
+use Rattle.std.specs.Io.KnownBytes.{Consumes, Appends}
 use Rattle.daide_frame.specs.declared.side.Side.{Side}
 use Rattle.daide_frame.specs.declared.side.Side.TheVariants.{Bot, Server}
 use Rattle.daide_machine.specs.Events.{Event, Comes, Ends, Loses, Pops, bytes_come, other}
@@ -15,63 +15,22 @@ use Rattle.daide_session.specs.declared.ports.Pull.{Pull}
 use Rattle.daide_session.specs.declared.ports.Pull.TheVariants.{Got, Idle, Ended}
 use Rattle.daide_session.specs.declared.ports.Put.{Put}
 use Rattle.daide_session.specs.declared.ports.Put.TheVariants.{Took, Failed}
-use Rattle.daide_streams.specs.Taking.{IsTaken}
+use Rattle.daide_streams.specs.Buffers.{Buffer, Passes, IsUnread}
+use Rattle.daide_streams.specs.Taking.{front_of}
 use Rattle.daide_streams.specs.Streams.{stream_of, gave, given, is_of, Moves, Exchanges}
+use Rattle.daide_streams.proofs.BufferLemmas.{same_passes, passes_then}
 
 true_not_false : true ≡ false → ⊥
 true_not_false e = absurd (cc)
 
--- ---- known bytes, one call after another
+-- ---- one call moves the streams
 
-consumes_same : (known : Option (List ℕ)) → Consumes known known []
-consumes_same None = tt
-consumes_same (Some xs) = refl
-
-consumes_then : (a b c : Option (List ℕ)) (xs ys : List ℕ) → Consumes a b xs → Consumes b c ys → Consumes a c (xs ++ ys)
-consumes_then None b c xs ys h k = tt
-consumes_then (Some l) None c xs ys h k = absurd h
-consumes_then (Some l) (Some m) None xs ys h k = absurd k
-consumes_then (Some l) (Some m) (Some n) xs ys h k =
-    h ∙ ap (λ (t : List ℕ). xs ++ t) k ∙ sym (append_assoc xs ys n)
-
-appends_same : (known : Option (List ℕ)) → Appends known known []
-appends_same None = tt
-appends_same (Some xs) = sym (append-nil xs)
-
-appends_then : (a b c : Option (List ℕ)) (xs ys : List ℕ) → Appends a b xs → Appends b c ys → Appends a c (xs ++ ys)
-appends_then None b c xs ys h k = tt
-appends_then (Some l) None c xs ys h k = absurd h
-appends_then (Some l) (Some m) None xs ys h k = absurd k
-appends_then (Some l) (Some m) (Some n) xs ys h k =
-    k ∙ ap (λ (t : List ℕ). t ++ ys) h ∙ append_assoc l xs ys
-
-keeps_appends : (old new : Option (List ℕ)) → Keeps old new → Appends old new []
-keeps_appends None new h = tt
-keeps_appends (Some xs) None h = absurd h
-keeps_appends (Some xs) (Some ys) h = h ∙ sym (append-nil xs)
-
--- ---- one call moves the stream of its own side
-
-same_consumes : (old new : Option (List ℕ)) → new ≡ old → Consumes old new []
-same_consumes old new e = subst (λ (known : Option (List ℕ)). Consumes old known []) (sym e) (consumes_same old)
-
-same_appends : (old new : Option (List ℕ)) → new ≡ old → Appends old new []
-same_appends old new e = subst (λ (known : Option (List ℕ)). Appends old known []) (sym e) (appends_same old)
-
-taken_appends : (old new : Option (List ℕ)) (side : Side) (bytes : List ℕ) (put : Put) → IsTaken old bytes put new →
-    Appends old new (took side (Offered side bytes put))
-taken_appends old new Bot bytes (Took n) h = h
-taken_appends old new Server bytes (Took n) h = h
-taken_appends old new Bot bytes Failed h = keeps_appends old new h
-taken_appends old new Server bytes Failed h = keeps_appends old new h
-
-given_consumes : (old new : Option (List ℕ)) (side : Side) (buffer : ℕ) (pull : Pull) (bytes : List ℕ) →
-    Consumes old new (take (pulled_len pull) bytes) →
-    Consumes old new (gave side (Pulled side buffer pull (take (pulled_len pull) bytes)))
-given_consumes old new Bot buffer (Got n) bytes h = h
-given_consumes old new Server buffer (Got n) bytes h = h
-given_consumes old new side buffer Idle bytes h = h
-given_consumes old new side buffer Ended bytes h = h
+own_given : (side : Side) (buffer : ℕ) (pull : Pull) (bytes : List ℕ) →
+    gave side (Pulled side buffer pull (take (pulled_len pull) bytes)) ≡ take (pulled_len pull) bytes
+own_given Bot buffer (Got n) bytes = refl
+own_given Server buffer (Got n) bytes = refl
+own_given side buffer Idle bytes = refl
+own_given side buffer Ended bytes = refl
 
 none_given : (side : Side) (buffer : ℕ) (pull : Pull) (bytes : List ℕ) →
     gave (other side) (Pulled side buffer pull bytes) ≡ []
@@ -79,6 +38,11 @@ none_given Bot buffer (Got n) bytes = refl
 none_given Server buffer (Got n) bytes = refl
 none_given side buffer Idle bytes = refl
 none_given side buffer Ended bytes = refl
+
+own_taken : (side : Side) (bytes : List ℕ) (put : Put) → took side (Offered side bytes put) ≡ front_of put bytes
+own_taken Bot bytes (Took n) = refl
+own_taken Server bytes (Took n) = refl
+own_taken side bytes Failed = refl
 
 none_taken : (side : Side) (bytes : List ℕ) (put : Put) → took (other side) (Offered side bytes put) ≡ []
 none_taken Bot bytes (Took n) = refl
@@ -96,57 +60,66 @@ own_answer : (side : Side) → same_side side side ≡ true
 own_answer Bot = refl
 own_answer Server = refl
 
-module _ {S : Type 0} (to_give got : S → Option (List ℕ)) (old new : S × S) where
-  -- an answer that gives nothing and takes nothing moves none
-  pub still_moves : (answer : PortAnswer) → ((side : Side) → gave side answer ≡ []) →
-      ((side : Side) → took side answer ≡ []) → new ≡ old → Moves to_give got old answer new
-  still_moves answer none_gave none_took e = record {
-    gives = λ side. rw (none_gave side) (same_consumes (to_give (stream_of old side)) (to_give (stream_of new side))
-        (ap (λ (streams : S × S). to_give (stream_of streams side)) e));
-    takes = λ side. rw (none_took side) (same_appends (got (stream_of old side)) (got (stream_of new side))
-        (ap (λ (streams : S × S). got (stream_of streams side)) e));
-    apart = λ side f. ap (λ (streams : S × S). stream_of streams side) e;
-  }
+module _ {S : Type 0} (to_give got : S → Option (List ℕ)) where
+  passes_as : (old new : Buffer S) (out over more further : List ℕ) → more ≡ out → further ≡ over →
+      Passes to_give got old out over new → Passes to_give got old more further new
+  passes_as old new out over more further e f h = rw e (rw f h)
 
-  pub looked_moves : (popped : Bool) → new ≡ old → Moves to_give got old (Clock popped) new
-  looked_moves popped e = still_moves (Clock popped) (λ side. refl) (λ side. refl) e
+  module _ (old new : Buffer S × Buffer S) where
+    -- a call of which both streams are the other's
+    pub looked_moves : (popped : Bool) →
+        Passes to_give got old.0 [] [] new.0 → IsUnread to_give old.0 new.0 →
+        Passes to_give got old.1 [] [] new.1 → IsUnread to_give old.1 new.1 →
+        Moves to_give got old (Clock popped) new
+    looked_moves popped bot unread server also = record {
+      passes = of_both (λ one. Passes to_give got (stream_of old one) [] [] (stream_of new one)) Bot bot server;
+      unread = λ side f. of_both (λ one. IsUnread to_give (stream_of old one) (stream_of new one)) Bot unread also side;
+    }
 
-  pub pulled_moves : (side : Side) (buffer : ℕ) (pull : Pull) (bytes : List ℕ) →
-      Consumes (to_give (stream_of old side)) (to_give (stream_of new side)) (take (pulled_len pull) bytes) →
-      got (stream_of new side) ≡ got (stream_of old side) →
-      stream_of new (other side) ≡ stream_of old (other side) →
-      Moves to_give got old (Pulled side buffer pull (take (pulled_len pull) bytes)) new
-  pulled_moves side buffer pull bytes own kept rest =
-      let call = Pulled side buffer pull (take (pulled_len pull) bytes) in record {
-        gives = of_both (λ one. Consumes (to_give (stream_of old one)) (to_give (stream_of new one)) (gave one call)) side
-            (given_consumes (to_give (stream_of old side)) (to_give (stream_of new side)) side buffer pull bytes own)
-            (rw (none_given side buffer pull (take (pulled_len pull) bytes)) (same_consumes
-            (to_give (stream_of old (other side))) (to_give (stream_of new (other side))) (ap to_give rest)));
-        takes = of_both (λ one. Appends (got (stream_of old one)) (got (stream_of new one)) []) side
-            (same_appends (got (stream_of old side)) (got (stream_of new side)) kept)
-            (same_appends (got (stream_of old (other side))) (got (stream_of new (other side))) (ap got rest));
-        apart = of_both (λ one. is_of one call ≡ false → stream_of new one ≡ stream_of old one) side
-            (λ f. absurd (true_not_false (sym (own_answer side) ∙ f))) (λ f. rest);
-      }
+    pub pulled_moves : (side : Side) (buffer : ℕ) (pull : Pull) (bytes : List ℕ) →
+        Passes to_give got (stream_of old side) (take (pulled_len pull) bytes) [] (stream_of new side) →
+        Passes to_give got (stream_of old (other side)) [] [] (stream_of new (other side)) →
+        IsUnread to_give (stream_of old (other side)) (stream_of new (other side)) →
+        Moves to_give got old (Pulled side buffer pull (take (pulled_len pull) bytes)) new
+    pulled_moves side buffer pull bytes own rest unread =
+        let call = Pulled side buffer pull (take (pulled_len pull) bytes) in record {
+          passes = of_both (λ one. Passes to_give got (stream_of old one) (gave one call) [] (stream_of new one)) side
+              (passes_as (stream_of old side) (stream_of new side) (take (pulled_len pull) bytes) [] (gave side call) []
+              (own_given side buffer pull bytes) refl own)
+              (passes_as (stream_of old (other side)) (stream_of new (other side)) [] [] (gave (other side) call) []
+              (none_given side buffer pull (take (pulled_len pull) bytes)) refl rest);
+          unread = of_both
+              (λ one. is_of one call ≡ false → IsUnread to_give (stream_of old one) (stream_of new one)) side
+              (λ f. absurd (true_not_false (sym (own_answer side) ∙ f))) (λ f. unread);
+        }
 
-  pub offered_moves : (side : Side) (bytes : List ℕ) (put : Put) →
-      IsTaken (got (stream_of old side)) bytes put (got (stream_of new side)) →
-      to_give (stream_of new side) ≡ to_give (stream_of old side) →
-      stream_of new (other side) ≡ stream_of old (other side) →
-      Moves to_give got old (Offered side bytes put) new
-  offered_moves side bytes put own kept rest =
-      let call = Offered side bytes put in record {
-        gives = of_both (λ one. Consumes (to_give (stream_of old one)) (to_give (stream_of new one)) []) side
-            (same_consumes (to_give (stream_of old side)) (to_give (stream_of new side)) kept)
-            (same_consumes (to_give (stream_of old (other side))) (to_give (stream_of new (other side)))
-            (ap to_give rest));
-        takes = of_both (λ one. Appends (got (stream_of old one)) (got (stream_of new one)) (took one call)) side
-            (taken_appends (got (stream_of old side)) (got (stream_of new side)) side bytes put own)
-            (rw (none_taken side bytes put) (same_appends
-            (got (stream_of old (other side))) (got (stream_of new (other side))) (ap got rest)));
-        apart = of_both (λ one. is_of one call ≡ false → stream_of new one ≡ stream_of old one) side
-            (λ f. absurd (true_not_false (sym (own_answer side) ∙ f))) (λ f. rest);
-      }
+    pub offered_moves : (side : Side) (bytes : List ℕ) (put : Put) →
+        Passes to_give got (stream_of old side) [] (front_of put bytes) (stream_of new side) →
+        Passes to_give got (stream_of old (other side)) [] [] (stream_of new (other side)) →
+        IsUnread to_give (stream_of old (other side)) (stream_of new (other side)) →
+        Moves to_give got old (Offered side bytes put) new
+    offered_moves side bytes put own rest unread =
+        let call = Offered side bytes put in record {
+          passes = of_both (λ one. Passes to_give got (stream_of old one) [] (took one call) (stream_of new one)) side
+              (passes_as (stream_of old side) (stream_of new side) [] (front_of put bytes) [] (took side call)
+              refl (own_taken side bytes put) own)
+              (passes_as (stream_of old (other side)) (stream_of new (other side)) [] [] [] (took (other side) call)
+              refl (none_taken side bytes put) rest);
+          unread = of_both
+              (λ one. is_of one call ≡ false → IsUnread to_give (stream_of old one) (stream_of new one)) side
+              (λ f. absurd (true_not_false (sym (own_answer side) ∙ f))) (λ f. unread);
+        }
+
+    -- an answer that gives nothing and takes nothing moves none
+    pub still_moves : (answer : PortAnswer) → ((side : Side) → gave side answer ≡ []) →
+        ((side : Side) → took side answer ≡ []) → new ≡ old → Moves to_give got old answer new
+    still_moves answer none_gave none_took e =
+        subst (λ (streams : Buffer S × Buffer S). Moves to_give got old answer streams) (sym e) (record {
+          passes = λ side. passes_as (stream_of old side) (stream_of old side) [] [] (gave side answer) (took side answer)
+              (none_gave side) (none_took side)
+              (same_passes to_give got (stream_of old side));
+          unread = λ side f. record { ahead = refl; gives = refl };
+        })
 
 -- ---- the bytes of the events are those that were given
 
@@ -203,23 +176,16 @@ bytes_of_events side (answer ∷ answers) =
 -- ---- a history
 
 module _ {S : Type 0} (to_give got : S → Option (List ℕ)) where
-  gave_all : (history : List PortAnswer) (first now : S × S) → BecomesBy (Moves to_give got) first history now →
-      (side : Side) → Consumes (to_give (stream_of first side)) (to_give (stream_of now side)) (given side history)
-  gave_all [] first now h side =
-      subst (λ (streams : S × S). Consumes (to_give (stream_of first side)) (to_give (stream_of streams side)) []) (sym h)
-      (consumes_same (to_give (stream_of first side)))
-  gave_all (answer ∷ history) first now h side =
-      consumes_then (to_give (stream_of first side)) (to_give (stream_of h.0 side)) (to_give (stream_of now side))
-      (gave side answer) (given side history) (h.1.gives side) (gave_all history h.0 now h.2 side)
-
-  took_all : (history : List PortAnswer) (first now : S × S) → BecomesBy (Moves to_give got) first history now →
-      (side : Side) → Appends (got (stream_of first side)) (got (stream_of now side)) (taken side history)
-  took_all [] first now h side =
-      subst (λ (streams : S × S). Appends (got (stream_of first side)) (got (stream_of streams side)) []) (sym h)
-      (appends_same (got (stream_of first side)))
-  took_all (answer ∷ history) first now h side =
-      appends_then (got (stream_of first side)) (got (stream_of h.0 side)) (got (stream_of now side))
-      (took side answer) (taken side history) (h.1.takes side) (took_all history h.0 now h.2 side)
+  all_passed : (history : List PortAnswer) (first now : Buffer S × Buffer S) →
+      BecomesBy (Moves to_give got) first history now → (side : Side) →
+      Passes to_give got (stream_of first side) (given side history) (taken side history) (stream_of now side)
+  all_passed [] first now h side =
+      subst (λ (streams : Buffer S × Buffer S). Passes to_give got (stream_of first side) [] [] (stream_of streams side))
+      (sym h) (same_passes to_give got (stream_of first side))
+  all_passed (answer ∷ history) first now h side =
+      passes_then to_give got (stream_of first side) (stream_of h.0 side) (stream_of now side)
+      (gave side answer) (took side answer) (given side history) (taken side history)
+      (h.1.passes side) (all_passed history h.0 now h.2 side)
 
   front_of_answers : (failed over : Bool) (waited answers took waits : List ℕ) → waited ≡ [] →
       Moved failed over waited answers took waits → (rest : List ℕ) × (answers ≡ took ++ rest)
@@ -232,18 +198,51 @@ module _ {S : Type 0} (to_give got : S → Option (List ℕ)) where
   nothing_waited limits Bot = refl
   nothing_waited limits Server = refl
 
-  pub exchanged : (limits : Limits) (history : List PortAnswer) (first now : S × S) (g : Gateway) →
+  -- where nothing was held at first, the stream gave what was handed out and what is held now
+  heard_of : (old new : Buffer S) (out over : List ℕ) → Passes to_give got old out over new → old.ahead ≡ [] →
+      Consumes (to_give old.stream) (to_give new.stream) (out ++ new.ahead)
+  heard_of old new out over h none =
+      subst (λ (bytes : List ℕ). Consumes (to_give old.stream) (to_give new.stream) bytes)
+      (ap (λ (l : List ℕ). l ++ h.came) (sym none) ∙ h.ahead) h.gives
+
+  sent_of : (old new : Buffer S) (out over answers : List ℕ) → Passes to_give got old out over new → old.behind ≡ [] →
+      (rest : List ℕ) × (answers ≡ over ++ rest) →
+      (went rest : List ℕ) × Appends (got old.stream) (got new.stream) went × (answers ≡ went ++ (new.behind ++ rest))
+  sent_of old new out over answers h none front = (
+    h.went,
+    front.0,
+    h.takes,
+    front.1 ∙ ap (λ (l : List ℕ). l ++ front.0) (ap (λ (l : List ℕ). l ++ over) (sym none) ∙ h.behind)
+        ∙ append_assoc h.went new.behind front.0,
+  )
+
+  whole_of : (old new : Buffer S) (out over answers : List ℕ) → Passes to_give got old out over new → old.behind ≡ [] →
+      new.behind ≡ [] → over ≡ answers → Appends (got old.stream) (got new.stream) answers
+  whole_of old new out over answers h none written all =
+      subst (λ (bytes : List ℕ). Appends (got old.stream) (got new.stream) bytes)
+      (sym (append-nil h.went) ∙ ap (λ (l : List ℕ). h.went ++ l) (sym written) ∙ sym h.behind
+      ∙ ap (λ (l : List ℕ). l ++ over) none ∙ all) h.takes
+
+  pub exchanged : (limits : Limits) (history : List PortAnswer) (first now : Buffer S × Buffer S) (g : Gateway) →
       BecomesBy (Moves to_give got) first history now → IsBoundedAndExact limits history g →
       Exchanges to_give got limits history first g now
-  exchanged limits history first now g moves h = record {
-    effects = h.sends.effects;
-    run = h.sends.run;
-    heard = λ side. subst
-        (λ (bytes : List ℕ). Consumes (to_give (stream_of first side)) (to_give (stream_of now side)) bytes)
-        (sym (bytes_of_events side history)) (gave_all history first now moves side);
-    sent = λ side. took_all history first now moves side;
-    front = λ side. front_of_answers _ _ _ _ _ _ (nothing_waited limits side) (h.sends.wires side);
-    whole = λ closed side kept. subst
-        (λ (bytes : List ℕ). Appends (got (stream_of first side)) (got (stream_of now side)) bytes)
-        (h.all_sent closed side kept) (took_all history first now moves side);
-  }
+  exchanged limits history first now g moves h =
+      let fronts = λ (side : Side).
+      front_of_answers _ _ _ _ _ _ (nothing_waited limits side) (h.sends.wires side) in
+      let passed : (side : Side) → Passes to_give got (stream_of first side) (bytes_from side (events_of history))
+      (taken side history) (stream_of now side) =
+      λ side. subst
+      (λ (bytes : List ℕ). Passes to_give got (stream_of first side) bytes (taken side history) (stream_of now side))
+      (sym (bytes_of_events side history)) (all_passed history first now moves side) in
+      record {
+        effects = h.sends.effects;
+        run = h.sends.run;
+        passes = passed;
+        front = fronts;
+        all = h.all_sent;
+        heard = λ side. heard_of (stream_of first side) (stream_of now side) _ _ (passed side);
+        sent = λ side none.
+            sent_of (stream_of first side) (stream_of now side) _ _ _ (passed side) none (fronts side);
+        whole = λ closed side kept none written. whole_of (stream_of first side) (stream_of now side) _ _ _
+            (passed side) none written (h.all_sent closed side kept);
+      }

@@ -1,5 +1,5 @@
 -- The calls of a stream whose calls never wait, and what a pull and a put make of their answers. (own)
-use Rattle.std.specs.Prelude.{◌≡◌, ℕ, zero, suc, ◌<◌, ◌⊎◌, ◌==◌, Bool, true, false, List, [], ◌∷◌, ◌++◌, length, take, Option}
+use Rattle.std.specs.Prelude.{◌≡◌, ℕ, zero, suc, ◌<◌, ◌⊎◌, ◌==◌, ◌&&◌, not, nat_lt, if◌then◌else◌, Bool, true, false, List, [], ◌∷◌, ◌++◌, length, take, Option}
 use Rattle.std.specs.Prelude.{Result, Ok, Err, replicate}
 use Rattle.std.specs.IoError.{error_kind}
 use Rattle.std.specs.declared.io.Error.{Error}
@@ -11,6 +11,7 @@ use Rattle.daide_session.specs.declared.ports.Pull.TheVariants as Pulls
 use Rattle.daide_session.specs.declared.ports.Put.{Put}
 use Rattle.daide_session.specs.declared.ports.Put.TheVariants as Puts
 use Rattle.daide_streams.specs.declared.outcome.Outcome.{Outcome}
+use Rattle.daide_streams.specs.declared.readiness.Readiness.{Readiness}
 use Rattle.daide_streams.specs.declared.outcome.Outcome.TheVariants.{Moved, Interrupted, NotNow, Failed}
 
 -- a failure is an interruption, a call that would have waited, or any other
@@ -39,10 +40,30 @@ pub record Tries (call : Outcome → StreamCall) (old : Option (List StreamCall)
   pub spent : outcome ≡ Interrupted → suc before ≡ 8
   pub told : Tells old (replicate before (call Interrupted) ++ call outcome ∷ []) new
 
--- whether a call may do something behind one of this outcome; one that would have waited may not, until more is told
-abbrev pub may_after : Outcome → Bool
-may_after NotNow = false
-may_after outcome = true
+-- ---- what is known behind a call
+
+abbrev pub without_reads : Readiness → Readiness
+without_reads known = record { may_read = false; may_write = known.may_write; reads_on = known.reads_on }
+
+abbrev pub without_writes : Readiness → Readiness
+without_writes known = record { may_read = known.may_read; may_write = false; reads_on = known.reads_on }
+
+-- A read that would have waited finds nothing until more is told; nor does one behind a read that gave something, and less
+-- than it had room for, but where an end, a failure or an urgent byte was told.
+abbrev pub after_read : Readiness → ℕ → Outcome → Readiness
+after_read known room (Moved zero) = known
+after_read known room (Moved (suc count)) =
+    if (nat_lt (suc count) room) && (not known.reads_on) then without_reads known else known
+after_read known room Interrupted = known
+after_read known room NotNow = without_reads known
+after_read known room Failed = known
+
+-- a write that would have waited, or took less than it was handed, is the last until more is told
+abbrev pub after_write : Readiness → ℕ → Outcome → Readiness
+after_write known handed (Moved count) = if nat_lt count handed then without_writes known else known
+after_write known handed Interrupted = known
+after_write known handed NotNow = without_writes known
+after_write known handed Failed = known
 
 -- ---- a pull
 
@@ -54,13 +75,13 @@ pull_of Interrupted = Pulls.Idle
 pull_of NotNow = Pulls.Idle
 pull_of Failed = Pulls.Ended
 
--- Where the flag says that nothing can come, or there is no room, the stream is left alone. Else it is read into the
--- whole room, and what the outcome says is told.
-pub record IsPull {S : Type 0} (calls : S → Option (List StreamCall)) (room : ℕ) (may : Bool) (old : S) (pull : Pull)
-    (may_still : Bool) (new : S) : Type 0 where
-  pub spared : (may ≡ false) ⊎ (room ≡ 0) → (pull ≡ Pulls.Idle) × (new ≡ old) × (may_still ≡ may)
-  pub made : may ≡ true → 0 < room → (outcome : Outcome) × Tries (Read room) (calls old) outcome (calls new)
-      × (pull ≡ pull_of outcome) × (may_still ≡ may_after outcome)
+-- Where it is known that nothing can come, or there is no room, the stream is left alone. Else it is read into the whole
+-- room, and what the outcome says is told.
+pub record IsPull {S : Type 0} (calls : S → Option (List StreamCall)) (room : ℕ) (known : Readiness) (old : S)
+    (pull : Pull) (still : Readiness) (new : S) : Type 0 where
+  pub spared : (known.may_read ≡ false) ⊎ (room ≡ 0) → (pull ≡ Pulls.Idle) × (new ≡ old) × (still ≡ known)
+  pub made : known.may_read ≡ true → 0 < room → (outcome : Outcome) × Tries (Read room) (calls old) outcome (calls new)
+      × (pull ≡ pull_of outcome) × (still ≡ after_read known room outcome)
 
 -- whether nothing more is to be dropped of a stream, behind a piece and with so many bytes left
 abbrev pub is_last_piece : Pull → ℕ → Bool
@@ -76,10 +97,10 @@ put_of Interrupted = Puts.Took 0
 put_of NotNow = Puts.Took 0
 put_of Failed = Puts.Failed
 
--- Where the flag says that nothing can be taken, the stream is left alone. Else these bytes are written, and what the
+-- Where it is known that nothing can be taken, the stream is left alone. Else these bytes are written, and what the
 -- outcome says is told.
-pub record IsPut {S : Type 0} (calls : S → Option (List StreamCall)) (bytes : List ℕ) (may : Bool) (old : S) (put : Put)
-    (may_still : Bool) (new : S) : Type 0 where
-  pub spared : may ≡ false → (put ≡ Puts.Took 0) × (new ≡ old) × (may_still ≡ may)
-  pub made : may ≡ true → (outcome : Outcome) × Tries (Written bytes) (calls old) outcome (calls new)
-      × (put ≡ put_of outcome) × (may_still ≡ may_after outcome)
+pub record IsPut {S : Type 0} (calls : S → Option (List StreamCall)) (bytes : List ℕ) (known : Readiness) (old : S)
+    (put : Put) (still : Readiness) (new : S) : Type 0 where
+  pub spared : known.may_write ≡ false → (put ≡ Puts.Took 0) × (new ≡ old) × (still ≡ known)
+  pub made : known.may_write ≡ true → (outcome : Outcome) × Tries (Written bytes) (calls old) outcome (calls new)
+      × (put ≡ put_of outcome) × (still ≡ after_write known (length bytes) outcome)

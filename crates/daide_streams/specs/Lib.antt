@@ -1,3 +1,4 @@
 pub mod Calls
 pub mod Taking
+pub mod Buffers
 pub mod Streams

@@ -10,6 +10,7 @@ use Rattle.daide_session.specs.Headline.{IsBoundedAndExact}
 use Rattle.daide_session.specs.Record.{PortAnswer, Clock, Pulled, Offered, BecomesBy, events_of, took, taken}
 use Rattle.daide_session.specs.Record.{has_failed}
 use Rattle.daide_session.specs.declared.ports.Pull.TheVariants.{Got, Idle, Ended}
+use Rattle.daide_streams.specs.Buffers.{Buffer, Passes, IsUnread}
 
 -- ---- what an answer says of the streams
 
@@ -37,34 +38,48 @@ is_of side (Clock popped) = false
 is_of side (Pulled from buffer pull bytes) = same_side from side
 is_of side (Offered to bytes put) = same_side to side
 
--- The streams of the bot and of the server, by the bytes that each has still to give and those that it took: each gave
--- what the answer says that it gave, and took what the answer says that it took; one that the answer isn't of is as it
--- was.
-pub record Moves {S : Type 0} (to_give got : S → Option (List ℕ)) (old : S × S) (answer : PortAnswer) (new : S × S) :
-    Type 0 where
-  pub gives : (side : Side) → Consumes (to_give (stream_of old side)) (to_give (stream_of new side)) (gave side answer)
-  pub takes : (side : Side) → Appends (got (stream_of old side)) (got (stream_of new side)) (took side answer)
-  pub apart : (side : Side) → is_of side answer ≡ false → stream_of new side ≡ stream_of old side
+-- The buffered streams of the bot and of the server: each handed out what the answer says that it gave, and was handed
+-- what the answer says that it took; of one that the answer isn't of nothing was read, and what was written is what was
+-- held.
+pub record Moves {S : Type 0} (to_give got : S → Option (List ℕ)) (old : Buffer S × Buffer S) (answer : PortAnswer)
+    (new : Buffer S × Buffer S) : Type 0 where
+  pub passes : (side : Side) →
+      Passes to_give got (stream_of old side) (gave side answer) (took side answer) (stream_of new side)
+  pub unread : (side : Side) → is_of side answer ≡ false →
+      IsUnread to_give (stream_of old side) (stream_of new side)
 
 -- ---- what a session exchanges with its streams
 
--- By a history of answers a session that began at two streams stands at two others. The machine went by events whose
--- bytes of each side are those that the side's stream gave, in order; what each stream took is a front of the machine's
--- answers to these events, and all of them where the session is closed and the wire didn't fail.
+-- By a history of answers a session that began at two buffered streams stands at two others. The machine went by events
+-- whose bytes of each side are those that were handed out of that side's stream, in order; what was handed over for each
+-- stream is a front of the machine's answers to these events, and all of them where the session is closed and the wire
+-- didn't fail.
 pub record Exchanges {S : Type 0} (to_give got : S → Option (List ℕ)) (limits : Limits) (history : List PortAnswer)
-    (first : S × S) (g : Gateway) (now : S × S) : Type 0 where
+    (first : Buffer S × Buffer S) (g : Gateway) (now : Buffer S × Buffer S) : Type 0 where
   pub effects : List Effect
   pub run : Runs (opening limits) (events_of history) effects g.state
-  pub heard : (side : Side) → Consumes (to_give (stream_of first side)) (to_give (stream_of now side))
-      (bytes_from side (events_of history))
-  pub sent : (side : Side) → Appends (got (stream_of first side)) (got (stream_of now side)) (taken side history)
+  pub passes : (side : Side) → Passes to_give got (stream_of first side) (bytes_from side (events_of history))
+      (taken side history) (stream_of now side)
   pub front : (side : Side) → (rest : List ℕ) × (bytes_of (sent_to side effects) ≡ taken side history ++ rest)
+  pub all : is_closed g ≡ true → (side : Side) → has_failed side history ≡ false →
+      taken side history ≡ bytes_of (sent_to side effects)
+  -- Of a stream that began with nothing held: what it gave is what the session heard, and then what is held ahead; what
+  -- it took is a front of the machine's answers, what is held behind comes next, and where nothing is, it took all of them
+  -- once the session is closed and the wire didn't fail.
+  pub heard : (side : Side) → (stream_of first side).ahead ≡ [] →
+      Consumes (to_give (stream_of first side).stream) (to_give (stream_of now side).stream)
+      (bytes_from side (events_of history) ++ (stream_of now side).ahead)
+  pub sent : (side : Side) → (stream_of first side).behind ≡ [] →
+      (went rest : List ℕ) × Appends (got (stream_of first side).stream) (got (stream_of now side).stream) went
+      × (bytes_of (sent_to side effects) ≡ went ++ ((stream_of now side).behind ++ rest))
   pub whole : is_closed g ≡ true → (side : Side) → has_failed side history ≡ false →
-      Appends (got (stream_of first side)) (got (stream_of now side)) (bytes_of (sent_to side effects))
+      (stream_of first side).behind ≡ [] → (stream_of now side).behind ≡ [] →
+      Appends (got (stream_of first side).stream) (got (stream_of now side).stream) (bytes_of (sent_to side effects))
 
--- A session that is bounded and exact by what ports over two streams answered exchanges with these streams exactly what
+-- A session that is bounded and exact by what ports over two buffered streams answered exchanges with these streams exactly what
 -- the machine hears and answers.
 abbrev pub SessionsExchange : {S : Type 0} → (S → Option (List ℕ)) → (S → Option (List ℕ)) → Type 0
-SessionsExchange {S} to_give got = (limits : Limits) (history : List PortAnswer) (first now : S × S) (g : Gateway) →
+SessionsExchange {S} to_give got =
+    (limits : Limits) (history : List PortAnswer) (first now : Buffer S × Buffer S) (g : Gateway) →
     BecomesBy (Moves to_give got) first history now → IsBoundedAndExact limits history g →
     Exchanges to_give got limits history first g now

@@ -8,3 +8,12 @@ use Rattle.daide_session.specs.declared.ports.Put.TheVariants.{Took, Failed}
 abbrev pub IsTaken : Option (List ℕ) → List ℕ → Put → Option (List ℕ) → Type 0
 IsTaken old bytes (Took n) new = Appends old new (take n bytes)
 IsTaken old bytes Failed new = Keeps old new
+
+-- how many bytes a put took
+abbrev pub taken_len : Put → ℕ
+taken_len (Took n) = n
+taken_len Failed = 0
+
+-- the bytes that it took, of those that it was handed
+abbrev pub front_of : Put → List ℕ → List ℕ
+front_of put bytes = take (taken_len put) bytes

@@ -8,6 +8,7 @@ ghost use Rattle.daide_streams.specs.Taking.{IsTaken};
 
 use crate::duplex::Duplex;
 use crate::outcome::Outcome;
+use crate::readiness::Readiness;
 use daide_session::ports::{Pull, Put};
 
 /// How often an interrupted call is made again.
@@ -36,28 +37,27 @@ fn read_on<S: Duplex>(stream: &mut S, buffer: &mut [u8]) -> Outcome
     Outcome::of(&stream.read(buffer))
 }
 
-/// Reads what is there, where something may be, and notes where nothing was. Into an empty buffer nothing is read.
+/// Reads what is there, where something may be, and notes where nothing was or nothing more is. Into an empty buffer
+/// nothing is read.
 ///
 /// What is told as `Got` stands at the buffer's front, and is what the stream gave next; at `Idle`, and at `Ended`, which
 /// is the stream's end or a failure, it gave nothing.
-pub fn pull_from<S: Duplex>(stream: &mut S, is_readable: &mut bool, buffer: &mut [u8]) -> Pull
-    ensures asked { IsPull S.calls (length buffer.old) is_readable.old stream.old result is_readable.new stream.new }
+pub fn pull_from<S: Duplex>(stream: &mut S, readiness: &mut Readiness, buffer: &mut [u8]) -> Pull
+    ensures asked { IsPull S.calls (length buffer.old) readiness.old stream.old result readiness.new stream.new }
     ensures within { IsPullWithin result (length buffer.old) }
     ensures len { length buffer.new ≡ length buffer.old }
     ensures given { Consumes (S.to_give stream.old) (S.to_give stream.new) (take (pulled_len result) buffer.new) }
     ensures apart { S.taken stream.new ≡ S.taken stream.old }
 {
-    if buffer.is_empty() || !*is_readable {
+    if buffer.is_empty() || !readiness.may_read {
         return Pull::Idle;
     }
-    match read_on(stream, buffer) {
+    let outcome = read_on(stream, buffer);
+    readiness.note_read(buffer.len(), outcome);
+    match outcome {
         Outcome::Moved(0) | Outcome::Failed => Pull::Ended,
         Outcome::Moved(count) => Pull::Got(count),
-        Outcome::Interrupted => Pull::Idle,
-        Outcome::NotNow => {
-            *is_readable = false;
-            Pull::Idle
-        }
+        Outcome::Interrupted | Outcome::NotNow => Pull::Idle,
     }
 }
 
@@ -79,29 +79,27 @@ fn write_on<S: Duplex>(stream: &mut S, bytes: &[u8]) -> Outcome
     Outcome::of(&stream.write(bytes))
 }
 
-/// Writes what the stream takes, where it may take something, and notes where it took nothing. It hands on the front
-/// of what it was given, of `MOST_AT_ONCE` bytes where there are more.
+/// Writes what the stream takes, where it may take something, and notes where it took less than it was handed. It hands
+/// on the front of what it was given, of `MOST_AT_ONCE` bytes where there are more.
 ///
 /// What is told as `Took` is exactly what the stream took, the front of these bytes; at `Failed` it took nothing more.
 #[tactic(auto, using(std::proofs::lemmas::List::take_min))]
-pub fn put_to<S: Duplex>(stream: &mut S, is_writable: &mut bool, bytes: &[u8]) -> Put
-    ensures asked { IsPut S.calls (take MOST_AT_ONCE bytes.now) is_writable.old stream.old result is_writable.new
+pub fn put_to<S: Duplex>(stream: &mut S, readiness: &mut Readiness, bytes: &[u8]) -> Put
+    ensures asked { IsPut S.calls (take MOST_AT_ONCE bytes.now) readiness.old stream.old result readiness.new
         stream.new }
     ensures within { IsPutWithin result (length bytes.now) }
     ensures taken { IsTaken (S.taken stream.old) bytes.now result (S.taken stream.new) }
     ensures apart { S.to_give stream.new ≡ S.to_give stream.old }
 {
-    if !*is_writable {
+    if !readiness.may_write {
         return Put::Took(0);
     }
     let front = &bytes[..MOST_AT_ONCE.min(bytes.len())];
-    match write_on(stream, front) {
+    let outcome = write_on(stream, front);
+    readiness.note_write(front.len(), outcome);
+    match outcome {
         Outcome::Moved(count) => Put::Took(count),
-        Outcome::Interrupted => Put::Took(0),
-        Outcome::NotNow => {
-            *is_writable = false;
-            Put::Took(0)
-        }
+        Outcome::Interrupted | Outcome::NotNow => Put::Took(0),
         Outcome::Failed => Put::Failed,
     }
 }

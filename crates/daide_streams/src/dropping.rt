@@ -1,12 +1,14 @@
 //! What is read and dropped of a stream that closes.
 
-ghost use Rattle.std.specs.Prelude.{◌≡◌, ◌+◌, ◌≤◌, ℕ, List, length, true, min};
-ghost use Rattle.std.specs.Io.KnownBytes.{Consumes};
+ghost use Rattle.std.specs.Prelude.{◌≡◌, ◌+◌, ◌≤◌, ℕ, List, [], length, true};
 ghost use Rattle.daide_session.specs.declared.ports.Pull.{Pull};
-ghost use Rattle.daide_streams.specs.Calls.{IsPull, is_last_piece};
+ghost use Rattle.daide_streams.specs.Buffers.{Passes, IsUnwritten, IsBufferedPull};
+ghost use Rattle.daide_streams.specs.Calls.{is_last_piece};
 
-use crate::calls::pull_from;
+use crate::buffered::Buffered;
 use crate::duplex::Duplex;
+use crate::pool::Pool;
+use crate::readiness::Readiness;
 use daide_session::ports::Pull;
 use std::marker::Model;
 
@@ -36,18 +38,23 @@ impl Dropping {
     /// Drops a piece of what came, by one pull, and answers whether no more is to be dropped: at the stream's end, or where
     /// all was dropped that may be. What it drops is what the stream gives next, exactly as much as less may be dropped
     /// then.
-    pub fn drop_piece<S: Duplex>(&mut self, stream: &mut S, is_readable: &mut bool) -> bool
-        ensures pulled { (pull : Pull) × IsPull S.calls (min self.old PIECE) is_readable.old stream.old pull
-            is_readable.new stream.new × (result ≡ is_last_piece pull self.new) }
+    pub fn drop_piece<S: Duplex + Drop>(
+        &mut self,
+        stream: &mut Buffered<S>,
+        pool: &Pool,
+        readiness: &mut Readiness,
+    ) -> bool
+        ensures pulled { (room : ℕ) × (pull : Pull) × IsBufferedPull S.calls room readiness.old stream.old pull
+            readiness.new stream.new × (result ≡ is_last_piece pull self.new) }
         ensures fewer { self.new ≤ self.old }
         ensures piece { self.old ≤ self.new + PIECE }
         ensures dropped { (bytes : List ℕ) × (self.old ≡ self.new + length bytes)
-            × Consumes (S.to_give stream.old) (S.to_give stream.new) bytes }
-        ensures apart { S.taken stream.new ≡ S.taken stream.old }
+            × Passes S.to_give S.taken stream.old bytes [] stream.new }
+        ensures unwritten { IsUnwritten S.taken stream.old stream.new }
     {
         let mut piece = [0; PIECE];
         let room = self.left.min(PIECE);
-        match pull_from(stream, is_readable, &mut piece[..room]) {
+        match stream.pull(pool, readiness, &mut piece[..room]) {
             Pull::Got(count) => self.left -= count,
             Pull::Idle => {}
             Pull::Ended => return true,

@@ -1,10 +1,14 @@
-//! What the program takes of streams, whichever they are: calls that never wait, what is dropped of one that closes,
-//! and a text that has a bound.
+//! What the program takes of streams, whichever they are: calls that never wait, what is read ahead and what is held to
+//! be written, what is dropped of a stream that closes, and a text that has a bound.
 #![tactic(auto)]
 
+pub mod buffered;
 pub mod calls;
 pub mod dropping;
 pub mod duplex;
+pub mod held;
 pub mod laws;
 pub mod outcome;
+pub mod pool;
+pub mod readiness;
 pub mod text;

@@ -1,0 +1,186 @@
+-- Streams with buffers: what is held of them, and one call after another.
+use Rattle.std.proofs.Common.{◌≡◌, ℕ, zero, suc, ◌+◌, ◌-◌, ◌≤◌, List, [], ◌∷◌, ◌++◌, length, take, drop, arith, refl, sym, ap, ◌∙◌}
+use Rattle.std.proofs.Common.{Option, Some, None, append_assoc, append-nil, take-append-drop, length-append, length-take-le}
+use Rattle.std.proofs.Common.{length-drop, subst}
+use Rattle.std.proofs.lemmas.List.{drop-take, drop-drop, drop-append-le, take_at}
+use Rattle.std.proofs.lemmas.Slice.{between_is}
+use Rattle.std.proofs.KnownBytes.{Consumes-nil, Consumes-trans, Appends-nil, Appends-trans}
+use Rattle.std.specs.Io.KnownBytes.{Consumes, Keeps, Appends}
+use Rattle.daide_session.specs.declared.ports.Put.{Put}
+use Rattle.daide_session.specs.declared.ports.Put.TheVariants.{Took, Failed}
+use Rattle.daide_streams.specs.Buffers.{Buffer, Passes, IsUnread, IsUnwritten}
+use Rattle.daide_streams.specs.Taking.{IsTaken, taken_len, front_of}
+
+-- ---- bytes in an array
+
+-- the first bytes let go
+pub skipped : (bytes : List ℕ) (from to n : ℕ) → n ≤ length (take (to - from) (drop from bytes)) →
+    take (to - (from + n)) (drop (from + n) bytes) ≡ drop n (take (to - from) (drop from bytes))
+skipped bytes from to n h =
+    let few = front_few (to - from) (drop from bytes) in
+    let size : to - from ≡ n + (to - (from + n)) = omega arith in
+    ap (take (to - (from + n))) (sym (drop-drop n from bytes))
+    ∙ sym (drop-take n (to - (from + n)) (drop from bytes))
+    ∙ ap (λ (k : ℕ). drop n (take k (drop from bytes))) (sym size)
+  where
+    front_few : (n : ℕ) (l : List ℕ) → length (take n l) ≤ n
+    front_few zero l = omega arith
+    front_few (suc n) [] = omega arith
+    front_few (suc n) (x ∷ l) = omega (arith, front_few n l)
+
+-- bytes put behind those that are there
+pub gathered : (xs ys rest : List ℕ) (from to n : ℕ) → from ≤ to → to ≤ length xs → length ys ≡ n →
+    take ((to + n) - from) (drop from (take to xs ++ (ys ++ rest))) ≡ take (to - from) (drop from xs) ++ ys
+gathered xs ys rest from to n below within size =
+    let held = drop from (take to xs) in
+    let front : length (take to xs) ≡ to = length-take-le to xs within in
+    let least : from ≤ length (take to xs) = omega (arith, front, below) in
+    let all : length (held ++ ys) ≡ (to + n) - from =
+    length-append held ys ∙ grind (arith, length-drop from (take to xs), front, size, below) in
+    ap (take ((to + n) - from)) (drop-append-le from (take to xs) (ys ++ rest) least ∙ sym (append_assoc held ys rest))
+    ∙ take_at (held ++ ys) rest ((to + n) - from) all
+    ∙ ap (λ (l : List ℕ). l ++ ys) (sym (between_is xs from to))
+
+pub none_of : (l : List ℕ) → length l ≡ 0 → l ≡ []
+none_of [] e = refl
+none_of (x ∷ l) e = absurd (omega (arith, e))
+
+-- ---- one call
+
+module _ {S : Type 0} (to_give got : S → Option (List ℕ)) where
+  same_gives : (old new : S) → to_give new ≡ to_give old → Consumes (to_give old) (to_give new) []
+  same_gives old new e =
+      subst (λ (known : Option (List ℕ)). Consumes (to_give old) known []) (sym e) (Consumes-nil (to_give old))
+
+  same_takes : (old new : S) → got new ≡ got old → Appends (got old) (got new) []
+  same_takes old new e =
+      subst (λ (known : Option (List ℕ)). Appends (got old) known []) (sym e) (Appends-nil (got old))
+
+  -- nothing moved
+  pub still_passes : (old new : Buffer S) → IsUnread to_give old new → IsUnwritten got old new →
+      Passes to_give got old [] [] new
+  still_passes old new unread unwritten = record {
+    came = [];
+    went = [];
+    gives = same_gives old.stream new.stream unread.gives;
+    takes = same_takes old.stream new.stream unwritten.takes;
+    ahead = append-nil old.ahead ∙ sym unread.ahead;
+    behind = append-nil old.behind ∙ sym unwritten.behind;
+  }
+
+  pub same_passes : (b : Buffer S) → Passes to_give got b [] [] b
+  same_passes b = still_passes b b (record { ahead = refl; gives = refl }) (record { behind = refl; takes = refl })
+
+  -- bytes came, and some were handed out
+  pub read_passes : (old new : Buffer S) (came out : List ℕ) → Consumes (to_give old.stream) (to_give new.stream) came →
+      old.ahead ++ came ≡ out ++ new.ahead → IsUnwritten got old new → Passes to_give got old out [] new
+  read_passes old new came out gives ahead unwritten = record {
+    came = came;
+    went = [];
+    gives = gives;
+    takes = same_takes old.stream new.stream unwritten.takes;
+    ahead = ahead;
+    behind = append-nil old.behind ∙ sym unwritten.behind;
+  }
+
+  -- bytes were handed over, and some went
+  pub write_passes : (old new : Buffer S) (went over : List ℕ) → Appends (got old.stream) (got new.stream) went →
+      old.behind ++ over ≡ went ++ new.behind → IsUnread to_give old new → Passes to_give got old [] over new
+  write_passes old new went over takes behind unread = record {
+    came = [];
+    went = went;
+    gives = same_gives old.stream new.stream unread.gives;
+    takes = takes;
+    ahead = append-nil old.ahead ∙ sym unread.ahead;
+    behind = behind;
+  }
+
+  -- what was held was written, as much as the stream took
+  pub drain_passes : (old new : Buffer S) (put : Put) (held rest : List ℕ) → old.behind ≡ held → new.behind ≡ rest →
+      IsTaken (got old.stream) held put (got new.stream) → rest ≡ drop (taken_len put) held →
+      IsUnread to_give old new → Passes to_give got old [] [] new
+  drain_passes old new (Took n) held rest before after takes left unread =
+      write_passes old new (take n held) [] takes
+      (append-nil old.behind ∙ before ∙ sym (take-append-drop n held)
+      ∙ ap (λ (l : List ℕ). take n held ++ l) (sym left ∙ sym after)) unread
+  drain_passes old new Failed held rest before after takes left unread =
+      write_passes old new [] [] (kept_appends (got old.stream) (got new.stream) takes)
+      (append-nil old.behind ∙ before ∙ sym left ∙ sym after) unread
+    where
+      kept_appends : (a b : Option (List ℕ)) → Keeps a b → Appends a b []
+      kept_appends None b h = tt
+      kept_appends (Some x) None h = absurd h
+      kept_appends (Some x) (Some y) h = h ∙ sym (append-nil x)
+
+  -- bytes went past the buffer, where nothing is held
+  pub straight_passes : (old new : Buffer S) (bytes : List ℕ) (put : Put) → old.behind ≡ [] → new.behind ≡ [] →
+      IsTaken (got old.stream) bytes put (got new.stream) → IsUnread to_give old new →
+      Passes to_give got old [] (front_of put bytes) new
+  straight_passes old new bytes (Took n) none still takes unread =
+      write_passes old new (take n bytes) (take n bytes) takes
+      (ap (λ (l : List ℕ). l ++ take n bytes) none ∙ sym (append-nil (take n bytes))
+      ∙ ap (λ (l : List ℕ). take n bytes ++ l) (sym still)) unread
+  straight_passes old new bytes Failed none still takes unread =
+      drain_passes old new Failed [] [] none still takes refl unread
+
+  -- bytes were held behind the others
+  pub hold_passes : (old new : Buffer S) (over : List ℕ) → got new.stream ≡ got old.stream →
+      new.behind ≡ old.behind ++ over → IsUnread to_give old new → Passes to_give got old [] over new
+  hold_passes old new over takes behind unread =
+      write_passes old new [] over (same_takes old.stream new.stream takes) (sym behind) unread
+
+  -- ---- one call, by the values that it made on its way
+
+  -- what is known of a value is known of what a call sees of it
+  pub of_view : (seen old new : Buffer S) (out over : List ℕ) → seen ≡ old → Passes to_give got seen out over new →
+      Passes to_give got old out over new
+  of_view seen old new out over e h = subst (λ (b : Buffer S). Passes to_give got b out over new) e h
+
+  -- bytes were read where nothing was held, and some were handed out
+  pub ahead_passes : (old new : Buffer S) (between : S) (came out : List ℕ) →
+      Consumes (to_give old.stream) (to_give between) came → got between ≡ got old.stream → new.stream ≡ between →
+      old.ahead ≡ [] → came ≡ out ++ new.ahead → new.behind ≡ old.behind → Passes to_give got old out [] new
+  ahead_passes old new between came out gives takes stream none ahead behind =
+      read_passes old new came out
+      (subst (λ (s : S). Consumes (to_give old.stream) (to_give s) came) (sym stream) gives)
+      (ap (λ (l : List ℕ). l ++ came) none ∙ ahead)
+      (record { behind = behind; takes = ap got stream ∙ takes })
+
+  -- bytes that were held were handed out
+  pub out_passes : (old new : Buffer S) (held out : List ℕ) → new.stream ≡ old.stream → old.ahead ≡ held →
+      held ≡ out ++ new.ahead → new.behind ≡ old.behind → Passes to_give got old out [] new
+  out_passes old new held out stream ahead bytes behind =
+      read_passes old new [] out (same_gives old.stream new.stream (ap to_give stream))
+      (append-nil old.ahead ∙ ahead ∙ bytes) (record { behind = behind; takes = ap got stream })
+
+  -- ---- one call after another
+
+  pub passes_then : (a b c : Buffer S) (out over more further : List ℕ) → Passes to_give got a out over b →
+      Passes to_give got b more further c → Passes to_give got a (out ++ more) (over ++ further) c
+  passes_then a b c out over more further first next = record {
+    came = first.came ++ next.came;
+    went = first.went ++ next.went;
+    gives = Consumes-trans (to_give a.stream) (to_give b.stream) (to_give c.stream) first.came next.came
+        first.gives next.gives;
+    takes = Appends-trans (got a.stream) (got b.stream) (got c.stream) first.went next.went first.takes next.takes;
+    ahead = sym (append_assoc a.ahead first.came next.came)
+        ∙ ap (λ (l : List ℕ). l ++ next.came) first.ahead
+        ∙ append_assoc out b.ahead next.came
+        ∙ ap (λ (l : List ℕ). out ++ l) next.ahead
+        ∙ sym (append_assoc out more c.ahead);
+    behind = sym (append_assoc a.behind over further)
+        ∙ ap (λ (l : List ℕ). l ++ further) first.behind
+        ∙ append_assoc first.went b.behind further
+        ∙ ap (λ (l : List ℕ). first.went ++ l) next.behind
+        ∙ sym (append_assoc first.went next.went c.behind);
+  }
+
+  -- a call behind a flush
+  pub flush_then : (a b c : Buffer S) (over : List ℕ) → Passes to_give got a [] [] b → Passes to_give got b [] over c →
+      Passes to_give got a [] over c
+  flush_then a b c over first next = passes_then a b c [] [] [] over first next
+
+  -- a call that hands out bytes, behind one that moved nothing
+  pub still_then : (a b c : Buffer S) (out : List ℕ) → Passes to_give got a [] [] b → Passes to_give got b out [] c →
+      Passes to_give got a out [] c
+  still_then a b c out first next = passes_then a b c [] [] out [] first next

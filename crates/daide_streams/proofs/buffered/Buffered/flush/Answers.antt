@@ -1,0 +1,23 @@
+use Rattle.std.proofs.Common.{rules, refl, ◌≡◌}
+use Rattle.daide_streams.specs.Buffers.{held_in}
+use Rattle.daide_streams.proofs.BufferLemmas.{of_view, still_passes, drain_passes}
+use Rattle.daide_streams.proofs.buffered.Buffered.flush.Goals as goal
+
+pub returns-then-self-clause-passes : goal.returns-then-self-clause-passes
+returns-then-self-clause-passes g c =
+    still_passes g.S.Duplex.to_give g.S.Duplex.taken _ _ (record { ahead = refl; gives = refl })
+    (record { behind = refl; takes = refl })
+
+pub returns-in_default-clause-passes : goal.returns-in_default-clause-passes
+returns-in_default-clause-passes g c =
+    of_view g.S.Duplex.to_give g.S.Duplex.taken _ _ _ _ _ c.self.view_is
+    (still_passes g.S.Duplex.to_give g.S.Duplex.taken _ _ (record { ahead = refl; gives = refl })
+    (record { behind = search rules; takes = refl }))
+
+pub returns-clause-passes : goal.returns-clause-passes
+returns-clause-passes g c =
+    let same : held_in c.self.inside.behind ≡ c.in-Some.held = search rules in
+    of_view g.S.Duplex.to_give g.S.Duplex.taken _ _ _ _ _ c.self.view_is
+    (drain_passes g.S.Duplex.to_give g.S.Duplex.taken _ _ c.drain.result c.in-Some.held c.drain.new.self same
+    c.kept.ensures c.drain.ensures.taken c.drain.ensures.rest
+    (record { ahead = refl; gives = c.drain.ensures.apart }))

@@ -1,0 +1,25 @@
+use Rattle.std.proofs.Common.{rules, ◌≡◌, ◌∙◌, [], ap}
+use Rattle.daide_streams.specs.Buffers.{Buffer}
+use Rattle.daide_streams.proofs.BufferLemmas.{out_passes, still_passes}
+use Rattle.daide_streams.proofs.buffered.Buffered.pull.Goals as goal
+
+pub returns-in-Some-clause-passes : goal.returns-in-Some-clause-passes
+returns-in-Some-clause-passes g c =
+    let same : c.args.self.now.ahead ≡ c.in-Some.held = search rules in
+    out_passes g.S.Duplex.to_give g.S.Duplex.taken c.args.self.now _ c.in-Some.held _
+    (c.hand_out.ensures.rest.0 ∙ ap (λ (b : Buffer g.row.S.Denot). b.stream) c.take_ahead.ensures.rest) same
+    c.hand_out.ensures.bytes
+    (c.hand_out.ensures.rest.1 ∙ ap (λ (b : Buffer g.row.S.Denot). b.behind) c.take_ahead.ensures.rest)
+
+pub returns-then-is_empty-clause-passes : goal.returns-then-is_empty-clause-passes
+returns-then-is_empty-clause-passes g c =
+    let none : [] ≡ c.args.self.now.ahead = search rules in
+    still_passes g.S.Duplex.to_give g.S.Duplex.taken c.args.self.now _
+    (record {
+      ahead = ap (λ (b : Buffer g.row.S.Denot). b.ahead) c.take_ahead.ensures.rest ∙ none;
+      gives = ap (λ (b : Buffer g.row.S.Denot). g.S.Duplex.to_give b.stream) c.take_ahead.ensures.rest;
+    })
+    (record {
+      behind = ap (λ (b : Buffer g.row.S.Denot). b.behind) c.take_ahead.ensures.rest;
+      takes = ap (λ (b : Buffer g.row.S.Denot). g.S.Duplex.taken b.stream) c.take_ahead.ensures.rest;
+    })

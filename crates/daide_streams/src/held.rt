@@ -1,0 +1,140 @@
+//! Bytes that wait in the process, between a stream and who calls it.
+
+ghost use Rattle.std.specs.Prelude.{◌≡◌, ◌≤◌, ◌++◌, [], min, length, take, drop, IfOk};
+ghost use Rattle.std.specs.Io.KnownBytes.{Consumes};
+ghost use Rattle.daide_session.specs.Record.{pulled_len};
+ghost use Rattle.daide_streams.specs.Calls.{IsPull};
+ghost use Rattle.daide_streams.specs.Taking.{IsTaken, taken_len};
+
+use crate::calls::{pull_from, put_to};
+use crate::duplex::Duplex;
+use crate::readiness::Readiness;
+use daide_session::ports::{Pull, Put};
+use std::alloc::{AllocError, Global};
+use std::marker::Model;
+
+/// How many bytes are held at most.
+pub const MOST_HELD: usize = 4096;
+
+/// Bytes in their order, `MOST_HELD` at most, in room that is taken at once. Contracts see their list.
+#[derive(Drop)]
+pub struct Held {
+    bytes: Vec<u8>,
+    from: usize,
+    to: usize,
+}
+
+impl Model for Held {
+    ghost use Rattle.std.specs.Prelude.{ℕ, List, ◌≡◌, ◌≤◌, ◌-◌, take, drop, vec_len};
+
+    ghost Value = { List ℕ };
+
+    ghost view = { λ h. take (h.to - h.from) (drop h.from h.bytes.items) };
+
+    ghost invariant = { λ h. (h.from ≤ h.to) × (h.to ≤ vec_len h.bytes) × (vec_len h.bytes ≡ 4096) };
+}
+
+impl Held {
+    /// Room, with no bytes yet.
+    pub fn new(alloc: Global) -> Result<Held, AllocError>
+        ensures { IfOk result (λ held. held ≡ []) }
+    {
+        let mut bytes = Vec::with_capacity(alloc, MOST_HELD)?;
+        bytes.resize(MOST_HELD, 0)?;
+        Ok(Held {
+            bytes,
+            from: 0,
+            to: 0,
+        })
+    }
+
+    /// The bytes.
+    pub fn as_slice(&self) -> &[u8]
+        ensures value { result.now ≡ self.now }
+        ensures few { length result.now ≤ MOST_HELD }
+    {
+        &self.bytes[self.from..self.to]
+    }
+
+    /// How many more it takes.
+    pub fn room(&self) -> usize
+        ensures { result ≤ MOST_HELD }
+    {
+        MOST_HELD - self.to
+    }
+
+    /// Lets all bytes go.
+    pub fn clear(&mut self)
+        ensures { self.new ≡ [] }
+    {
+        self.from = 0;
+        self.to = 0;
+    }
+
+    /// Lets the first bytes go.
+    pub fn skip(&mut self, count: usize)
+        requires { count ≤ length self.old }
+        ensures { self.new ≡ drop count self.old }
+    {
+        self.from += count;
+    }
+
+    /// Hands out the first bytes, as many as the buffer takes.
+    pub fn give(&mut self, buffer: &mut [u8]) -> usize
+        ensures count { result ≡ min (length self.old) (length buffer.old) }
+        ensures len { length buffer.new ≡ length buffer.old }
+        ensures bytes { self.old ≡ take result buffer.new ++ self.new }
+        ensures few { length self.new ≤ MOST_HELD }
+    {
+        let held = self.as_slice();
+        let count = held.len().min(buffer.len());
+        buffer[..count].copy_from_slice(&held[..count]);
+        self.skip(count);
+        count
+    }
+
+    /// Takes bytes behind those that are held, as many as there is room for.
+    pub fn gather(&mut self, bytes: &[u8]) -> usize
+        ensures within { result ≤ length bytes.now }
+        ensures held { self.new ≡ self.old ++ take result bytes.now }
+        ensures few { length self.new ≤ MOST_HELD }
+    {
+        let start = self.to;
+        let count = (MOST_HELD - start).min(bytes.len());
+        self.bytes[start..start + count].copy_from_slice(&bytes[..count]);
+        self.to = start + count;
+        count
+    }
+
+    /// Reads what is there of a stream, in place of what is held.
+    pub fn refill<S: Duplex>(&mut self, stream: &mut S, readiness: &mut Readiness) -> Pull
+        ensures given { Consumes (S.to_give stream.old) (S.to_give stream.new) self.new }
+        ensures asked { IsPull S.calls MOST_HELD readiness.old stream.old result readiness.new stream.new }
+        ensures count { length self.new ≡ pulled_len result }
+        ensures apart { S.taken stream.new ≡ S.taken stream.old }
+    {
+        self.from = 0;
+        self.to = 0;
+        let pull = pull_from(stream, readiness, self.bytes.as_mut_slice());
+        if let Pull::Got(count) = pull {
+            self.to = count;
+        }
+        pull
+    }
+
+    /// Writes what the stream takes of the bytes, and lets it go.
+    pub fn drain<S: Duplex>(&mut self, stream: &mut S, readiness: &mut Readiness) -> Put
+        ensures taken { IsTaken (S.taken stream.old) self.old result (S.taken stream.new) }
+        ensures rest { self.new ≡ drop (taken_len result) self.old }
+        ensures apart { S.to_give stream.new ≡ S.to_give stream.old }
+        ensures few { length self.new ≤ MOST_HELD }
+    {
+        match put_to(stream, readiness, self.as_slice()) {
+            Put::Took(taken) => {
+                self.skip(taken);
+                Put::Took(taken)
+            }
+            Put::Failed => Put::Failed,
+        }
+    }
+}

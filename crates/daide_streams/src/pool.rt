@@ -1,0 +1,59 @@
+//! Room for bytes that are held, of which as much is there as is needed at once.
+
+ghost use Rattle.std.specs.Prelude.{◌≡◌, [], IfSome};
+
+use crate::held::Held;
+use std::alloc::Global;
+use std::cell::RefCell;
+
+/// How many rooms are kept while nothing is held in them; what is more is given back to the system.
+const MOST_FREE: usize = 64;
+
+/// Room for what a run's sockets hold, taken where the first byte comes and back here with the last.
+#[derive(Drop)]
+pub struct Pool {
+    alloc: Global,
+    free: RefCell<Vec<Held>>,
+}
+
+impl Pool {
+    /// A pool that has no room yet.
+    pub fn new(alloc: Global) -> Pool {
+        Pool {
+            alloc,
+            free: RefCell::new(Vec::new(alloc)),
+        }
+    }
+
+    /// Room that was given back, if there is some.
+    fn take_back(&self) -> Option<Held> {
+        let Ok(mut free) = self.free.try_borrow_mut() else {
+            return None;
+        };
+        free.pop()
+    }
+
+    /// Room with no bytes; none where memory is refused.
+    pub fn take(&self) -> Option<Held>
+        ensures { IfSome result (λ held. held ≡ []) }
+    {
+        match self.take_back() {
+            Some(held) => {
+                let mut held = held;
+                held.clear();
+                Some(held)
+            }
+            None => Held::new(self.alloc).ok(),
+        }
+    }
+
+    /// Gives room back.
+    pub fn give_back(&self, held: Held) {
+        if let Ok(mut free) = self.free.try_borrow_mut() {
+            if free.len() < MOST_FREE {
+                // Where memory for its place is refused, it is the system's again.
+                let _ = free.push(held);
+            }
+        }
+    }
+}
