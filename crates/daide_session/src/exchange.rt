@@ -20,7 +20,7 @@ use daide_frame::side::Side;
 use std::alloc::Allocator;
 
 /// How many bytes a turn reads of a side at most.
-const BUFFER: usize = 512;
+pub(crate) const BUFFER: usize = 512;
 
 /// Tells the session where the time for its initial message is over.
 fn ask_clock<A: Allocator, P: Ports>(session: &mut Session<A>, ports: &mut P)
@@ -75,7 +75,12 @@ fn pull_into<A: Allocator, P: Ports>(
 }
 
 /// Reads what a side sent, as much as the session has room for and the buffer holds.
-fn pull<A: Allocator, P: Ports>(session: &mut Session<A>, ports: &mut P, side: Side)
+fn pull<A: Allocator, P: Ports>(
+    session: &mut Session<A>,
+    ports: &mut P,
+    side: Side,
+    buffer: &mut [u8; BUFFER],
+)
     ensures pulls { Carries P.becomes (Working (Pulls side)) (session.old, ports.old) (session.new, ports.new) }
     ensures asked { IsRaised turn_steps (holding session.old side).total (holding session.new side).total }
     ensures other_side { (holding session.new (other side)).total ≡ (holding session.old (other side)).total }
@@ -85,7 +90,6 @@ fn pull<A: Allocator, P: Ports>(session: &mut Session<A>, ports: &mut P, side: S
     if room == 0 {
         return;
     }
-    let mut buffer = [0; BUFFER];
     let len = room.min(BUFFER);
     pull_into(session, ports, side, &mut buffer[..len]);
 }
@@ -98,10 +102,24 @@ pub fn turn<A: Allocator, P: Ports>(session: &mut Session<A>, ports: &mut P)
     ensures weight { weight_of session.new ≤ weight_bound session.new }
     ensures limits { session.new.state.limits ≡ session.old.state.limits }
 {
+    turn_through(session, ports, &mut [0; BUFFER]);
+}
+
+/// One turn, which reads through a buffer that it is lent: what the buffer holds before is not looked at.
+pub(crate) fn turn_through<A: Allocator, P: Ports>(
+    session: &mut Session<A>,
+    ports: &mut P,
+    buffer: &mut [u8; BUFFER],
+)
+    ensures exchange { Carries P.becomes WholeTurn (session.old, ports.old) (session.new, ports.new) }
+    ensures asked { AsksAtMost turn_steps session.old session.new }
+    ensures weight { weight_of session.new ≤ weight_bound session.new }
+    ensures limits { session.new.state.limits ≡ session.old.state.limits }
+{
     ask_clock(session, ports);
     put_front(session, ports, Side::Bot);
     put_front(session, ports, Side::Server);
-    pull(session, ports, Side::Bot);
-    pull(session, ports, Side::Server);
+    pull(session, ports, Side::Bot, buffer);
+    pull(session, ports, Side::Server, buffer);
     session.bounds();
 }

@@ -13,7 +13,7 @@ ghost use Rattle.daide_session.specs.Hub.{Hosting, IsHubSize, IsHubCause, IsAddC
 ghost use Rattle.daide_session.specs.Hub.{weight_at, session_bound};
 
 use crate::config::{Config, ConfigError};
-use crate::exchange::turn;
+use crate::exchange::{BUFFER, turn_through};
 use crate::ports::Ports;
 use crate::session::Session;
 use daide_words::words::Words;
@@ -51,7 +51,7 @@ struct Place<P: Ports, A: Allocator> {
 }
 
 /// Sessions in one loop. Contracts see the limits of its sessions, how many there may be, and at each place a
-/// session's value and its ports.
+/// session's value and its ports. All turns read through one buffer, which would else be made anew for each.
 #[derive(Drop)]
 pub struct Hub<P: Ports, A: Allocator = Global> {
     alloc: A,
@@ -59,6 +59,7 @@ pub struct Hub<P: Ports, A: Allocator = Global> {
     words: Words,
     max: usize,
     places: Vec<Place<P, A>, A>,
+    buffer: [u8; BUFFER],
 }
 
 impl<P: Ports, A: Allocator> Model for Hub<P, A> {
@@ -117,6 +118,7 @@ impl<P: Ports, A: Allocator + Copy> Hub<P, A> {
             words,
             max,
             places,
+            buffer: [0; BUFFER],
         })
     }
 
@@ -147,7 +149,7 @@ impl<P: Ports, A: Allocator + Copy> Hub<P, A> {
         ensures { Changes (IsTurned P.becomes) self.old i self.new }
     {
         let place = &mut self.places[i];
-        turn(&mut place.session, &mut place.ports);
+        turn_through(&mut place.session, &mut place.ports, &mut self.buffer);
     }
 
     /// The session at a place.

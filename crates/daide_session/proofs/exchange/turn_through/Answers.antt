@@ -5,7 +5,7 @@ use Rattle.daide_session.specs.Headline.{WholeTurn}
 use Rattle.daide_session.proofs.Stretches.{carries_then, carries_weaker}
 use Rattle.daide_session.proofs.TurnLemmas.{WorkingTurn}
 use Rattle.daide_session.proofs.Standing.{one_turn}
-use Rattle.daide_session.proofs.exchange.turn.Goals as goal
+use Rattle.daide_session.proofs.exchange.turn_through.Goals as goal
 
 pub returns-clause-exchange : goal.returns-clause-exchange
 returns-clause-exchange g c =
