@@ -1,15 +1,20 @@
 #!/usr/bin/env python3
-"""Measures a gateway at work over loopback: bench/run_load.py PROGRAM [round-trip] [bulk] [memory] [hostile]
+"""Measures a gateway at work over loopback, beside socat and haproxy in the same run:
 
-PROGRAM is the built program, bin/daide-gate. Without further words all four are measured. bulk compares with socat, which
-must be installed. All bots and the server are played here; nothing leaves the machine.
+    bench/run_load.py PROGRAM [--before PROGRAM] [calls] [round-trip] [bulk] [memory] [busy] [hostile]
+
+PROGRAM is the built program, bin/daide-gate; one named with --before is measured beside it. Without further words all six
+are measured. socat and haproxy are measured where they are installed; calls wants strace. All bots and the server are
+played here; nothing leaves the machine.
 """
 
+import argparse
 import contextlib
 import os
 import selectors
 import shutil
 import socket
+import statistics
 import subprocess
 import sys
 import tempfile
@@ -65,21 +70,23 @@ def heard(stream, size):
     return piece
 
 
-class Gateway:
-    """A gateway at work, and its server's listener."""
+class Between:
+    """What stands between bots and a server: a process that listens for bots, and the listener of the server."""
 
-    def __init__(self, program):
-        self.listener, server = listening()
+    def __init__(self):
+        self.listener, self.server = listening()
         self.port = free_port()
         self.folder = tempfile.TemporaryDirectory()
-        path = os.path.join(self.folder.name, "settings.toml")
-        with open(path, "w", encoding="ascii") as settings:
-            settings.write(f'listen = "127.0.0.1:{self.port}"\nserver = "127.0.0.1:{server}"\n')
-            settings.write("max_sessions = 256\nsessions = 1000000\nim_seconds = 3600\nturns = 1000000000000\n")
-        self.process = subprocess.Popen(
-            [program, "run", path], stdout=subprocess.PIPE, stderr=subprocess.DEVNULL
-        )
-        self.process.stdout.readline()
+
+    def begin(self, words, **streams):
+        self.process = subprocess.Popen(words, stderr=subprocess.DEVNULL, **streams)
+
+    def written(self, name, text):
+        """The path of a new file in the folder."""
+        path = os.path.join(self.folder.name, name)
+        with open(path, "w", encoding="ascii") as file:
+            file.write(text)
+        return path
 
     def __enter__(self):
         return self
@@ -87,7 +94,8 @@ class Gateway:
     def __exit__(self, *_):
         self.process.kill()
         self.process.wait()
-        self.process.stdout.close()
+        if self.process.stdout:
+            self.process.stdout.close()
         self.listener.close()
         self.folder.cleanup()
 
@@ -110,6 +118,53 @@ class Gateway:
         """Resident memory in kilobytes."""
         with open(f"/proc/{self.process.pid}/status", encoding="ascii") as status:
             return next(int(line.split()[1]) for line in status if line.startswith("VmRSS"))
+
+
+class Gateway(Between):
+    """A gateway, perhaps under a program that watches it."""
+
+    def __init__(self, program, watcher=()):
+        super().__init__()
+        path = self.written(
+            "settings.toml",
+            f'listen = "127.0.0.1:{self.port}"\nserver = "127.0.0.1:{self.server}"\n'
+            "max_sessions = 256\nsessions = 1000000\nim_seconds = 3600\nturns = 1000000000000\n",
+        )
+        self.begin([*watcher, program, "run", path], stdout=subprocess.PIPE)
+        self.process.stdout.readline()
+
+
+class Socat(Between):
+    """A plain copy, with a process for each connection."""
+
+    def __init__(self):
+        super().__init__()
+        self.begin(
+            ["socat", f"TCP-LISTEN:{self.port},bind=127.0.0.1,nodelay,fork", f"TCP:127.0.0.1:{self.server},nodelay"]
+        )
+
+
+class Haproxy(Between):
+    """A plain copy, by one process with one thread."""
+
+    def __init__(self):
+        super().__init__()
+        path = self.written(
+            "haproxy.cfg",
+            "global\n nbthread 1\n maxconn 2000\n"
+            "defaults\n mode tcp\n timeout connect 5s\n timeout client 1h\n timeout server 1h\n"
+            f"listen bots\n bind 127.0.0.1:{self.port}\n server one 127.0.0.1:{self.server}\n",
+        )
+        self.begin(["haproxy", "-db", "-f", path])
+
+
+def contenders(programs):
+    """What is measured by turns: by name, how each is begun."""
+    found = {name: (lambda program=program: Gateway(program)) for name, program in programs.items()}
+    for name, kind in (("socat", Socat), ("haproxy", Haproxy)):
+        if shutil.which(name):
+            found[name] = kind
+    return found
 
 
 def round_trip(bot, server):
@@ -143,20 +198,70 @@ def tell_times(name, found):
     print(f"{name}: p50 {part(found, 0.5):.3f} ms, p99 {part(found, 0.99):.3f} ms of {len(found)}", flush=True)
 
 
-def measure_round_trip(program):
-    tell_times("round trip with no gateway", direct_round_trip(5000))
-    for idle in (0, 100):
-        with Gateway(program) as gateway:
-            held = [gateway.session() for _ in range(idle)]
-            bot, server = gateway.session()
-            for _ in range(500):
-                round_trip(bot, server)
-            tell_times(f"round trip beside {idle} idle sessions", [round_trip(bot, server) for _ in range(5000)])
-            before = gateway.processor_seconds()
-            time.sleep(10)
-            share = (gateway.processor_seconds() - before) / 10
-            print(f"processor while {idle + 1} sessions are idle: {share * 100:.4f} %", flush=True)
-            del held
+def medians(programs, measure, runs=5):
+    """By name, the median of each figure of so many runs, each of which measures all by turns."""
+    found = {name: [] for name in contenders(programs)}
+    for _ in range(runs):
+        for name, begin in contenders(programs).items():
+            with begin() as between:
+                found[name].append(measure(between))
+    return {name: [statistics.median(column) for column in zip(*rows)] for name, rows in found.items()}
+
+
+def tell_beside(name, found, unit, first="socat"):
+    """A line for each, with its share of the first's figure."""
+    base = found.get(first, next(iter(found.values())))
+    for key, figures in found.items():
+        told = " / ".join(f"{figure:.4g}" for figure in figures)
+        print(f"{name}, {key}: {told} {unit}, {figures[0] / base[0]:.2f} of {first}", flush=True)
+
+
+def trips(between, times=2000):
+    bot, server = between.session()
+    for _ in range(200):
+        round_trip(bot, server)
+    found = [round_trip(bot, server) for _ in range(times)]
+    return part(found, 0.5) * 1000, part(found, 0.99) * 1000
+
+
+def measure_round_trip(programs):
+    tell_times("round trip with nothing between", direct_round_trip(5000))
+    tell_beside("round trip, p50 / p99", medians(programs, trips), "us")
+
+    def beside_idle(between):
+        held = [between.session() for _ in range(100)]
+        found = trips(between)
+        del held
+        return found
+
+    for name, program in programs.items():
+        found = []
+        for _ in range(5):
+            with Gateway(program) as gateway:
+                found.append(beside_idle(gateway))
+        p50, p99 = (statistics.median(column) for column in zip(*found))
+        print(f"round trip beside 100 idle sessions, p50 / p99, {name}: {p50:.4g} / {p99:.4g} us", flush=True)
+
+
+def measure_calls(programs):
+    """Calls of the system for a frame that a side sends, in a lone session: what 2,000 trips of two frames take."""
+    if not shutil.which("strace"):
+        sys.exit("strace is not installed")
+    for name, program in programs.items():
+        with tempfile.NamedTemporaryFile("r", encoding="ascii") as counts:
+            watcher = ["strace", "-f", "-c", "-U", "calls,name", "-o", counts.name]
+            with Gateway(program, watcher) as gateway:
+                bot, server = gateway.session()
+                for _ in range(2000):
+                    round_trip(bot, server)
+                bot.close()
+                server.close()
+                subprocess.run(["pkill", "-TERM", "-P", str(gateway.process.pid)], check=True)
+                gateway.process.wait()
+            rows = [line.split() for line in counts.read().splitlines()]
+        found = {row[1]: int(row[0]) for row in rows if len(row) == 2 and row[0].isdigit() and row[1] != "total"}
+        told = ", ".join(f"{count} {call}" for call, count in found.items() if count >= 1000)
+        print(f"calls of 4000 frames, {name}: {told}; {sum(found.values()) / 4000:.2f} a frame", flush=True)
 
 
 def transfer(bot, server, message, size):
@@ -178,52 +283,43 @@ def transfer(bot, server, message, size):
     return pieces * len(piece) / took / 1e6
 
 
-def transfer_by_gateway(program, message, size):
-    with Gateway(program) as gateway:
-        bot, server = gateway.session()
-        return transfer(bot, server, message, size)
-
-
-def transfer_by_socat(message, size):
-    listener, to = listening()
-    port = free_port()
-    copier = subprocess.Popen(
-        ["socat", f"TCP-LISTEN:{port},bind=127.0.0.1,nodelay", f"TCP:127.0.0.1:{to},nodelay"]
-    )
-    bot = connected(port)
-    server, _ = listener.accept()
-    speed = transfer(bot, server, message, size)
-    for stream in (bot, server, listener):
-        stream.close()
-    copier.wait()
-    return speed
-
-
-def measure_bulk(program):
-    if not shutil.which("socat"):
-        sys.exit("socat is not installed")
+def measure_bulk(programs):
     for size in (512, 4096, 65526):
         message = frame(name_message(size))
-        ours = socats = 0
-        for _ in range(3):
-            ours = max(ours, transfer_by_gateway(program, message, 64 << 20))
-            socats = max(socats, transfer_by_socat(message, 512 << 20))
-        print(
-            f"bodies of {size} bytes: {ours:.0f} MB/s, socat {socats:.0f} MB/s, ratio {ours / socats:.3f}",
-            flush=True,
-        )
+
+        def speed(between):
+            bot, server = between.session()
+            return [transfer(bot, server, message, 64 << 20)]
+
+        tell_beside(f"bulk, bodies of {size} bytes", medians(programs, speed), "MB/s")
 
 
-def measure_memory(program):
-    with Gateway(program) as gateway:
-        before = gateway.resident()
-        held = [gateway.session() for _ in range(256)]
-        after = gateway.resident()
-        print(f"resident with no session: {before} KB, with 256 idle sessions: {after} KB", flush=True)
-        for stream in (stream for ends in held for stream in ends):
-            stream.close()
-        time.sleep(3)
-        print(f"resident once they ended: {gateway.resident()} KB", flush=True)
+def measure_memory(programs):
+    for name, program in programs.items():
+        with Gateway(program) as gateway:
+            before = gateway.resident()
+            held = [gateway.session() for _ in range(256)]
+            idle = gateway.resident()
+            message = frame(name_message(4096)) * 16
+            for bot, server in held:
+                bot.sendall(message)
+                heard(server, len(message))
+                server.sendall(message)
+                heard(bot, len(message))
+            used = gateway.resident()
+            began = gateway.processor_seconds()
+            time.sleep(10)
+            share = (gateway.processor_seconds() - began) / 10
+            print(
+                f"resident, {name}: {before} KB with no session, {(idle - before) / 256:.1f} KB a session with 256 idle"
+                f" ones, {(used - before) / 256:.1f} KB after 64 KB each way; processor while they are idle:"
+                f" {share * 100:.3f} %",
+                flush=True,
+            )
+            for stream in (stream for ends in held for stream in ends):
+                stream.close()
+            time.sleep(3)
+            print(f"resident once they ended, {name}: {gateway.resident()} KB", flush=True)
 
 
 def hostile_bytes(kind):
@@ -286,11 +382,10 @@ class Hostile:
                 self.waiting = self.waiting[1:] if self.waiting else OBS[1:]
 
 
-def attack(port):
-    """Two hundred hostile connections, until it is killed."""
+def attack(port, count, kinds):
+    """So many connections of these kinds by turns, until it is killed."""
     selector = selectors.DefaultSelector()
-    kinds = ["garbage", "zeros", "brackets", "slow", "deaf", "longest"]
-    hostile = [Hostile(kinds[i % 6], port, selector) for i in range(200)]
+    hostile = [Hostile(kinds[i % len(kinds)], port, selector) for i in range(count)]
     ticked = ended = time.monotonic()
     while True:
         for key, events in selector.select(0.05):
@@ -371,35 +466,60 @@ def good_times(good, seconds):
     return found
 
 
-def measure_hostile(program):
-    with Gateway(program) as gateway:
-        keep_to(0, gateway.process.pid)
-        keep_to(1)
-        good = [gateway.session() for _ in range(3)]
-        tell_times("three good sessions alone", good_times(good, 5))
-        print(f"resident before: {gateway.resident()} KB", flush=True)
-        with beside(2, serve_all, gateway.listener):
-            with beside(3, attack, gateway.port):
+def measure_beside(programs, name, count, kinds):
+    """Three good sessions alone, beside so many others, and afterwards."""
+    for key, program in programs.items():
+        with Gateway(program) as gateway:
+            keep_to(0, gateway.process.pid)
+            keep_to(1)
+            good = [gateway.session() for _ in range(3)]
+            tell_times(f"three good sessions alone, {key}", good_times(good, 5))
+            print(f"resident before, {key}: {gateway.resident()} KB", flush=True)
+            with beside(2, serve_all, gateway.listener):
+                with beside(3, attack, gateway.port, count, kinds):
+                    time.sleep(3)
+                    before, began = gateway.processor_seconds(), time.monotonic()
+                    tell_times(f"three good sessions beside {count} {name} ones, {key}", good_times(good, 20))
+                    share = (gateway.processor_seconds() - before) / (time.monotonic() - began)
+                    print(f"processor, {key}: {share * 100:.0f} %, resident: {gateway.resident()} KB", flush=True)
                 time.sleep(3)
-                before, began = gateway.processor_seconds(), time.monotonic()
-                tell_times("three good sessions beside 200 hostile ones", good_times(good, 20))
-                share = (gateway.processor_seconds() - before) / (time.monotonic() - began)
-                print(f"processor: {share * 100:.0f} %, resident: {gateway.resident()} KB", flush=True)
-            time.sleep(3)
-            print(f"resident after: {gateway.resident()} KB", flush=True)
-            tell_times("three good sessions afterwards", good_times(good, 5))
-    os.sched_setaffinity(0, PROCESSORS)
+                print(f"resident after, {key}: {gateway.resident()} KB", flush=True)
+        os.sched_setaffinity(0, PROCESSORS)
+
+
+def measure_busy(programs):
+    for count in (64, 200):
+        measure_beside(programs, "busy", count, ["longest"])
+
+
+def measure_hostile(programs):
+    measure_beside(programs, "hostile", 200, ["garbage", "zeros", "brackets", "slow", "deaf", "longest"])
 
 
 MEASURES = {
+    "calls": measure_calls,
     "round-trip": measure_round_trip,
     "bulk": measure_bulk,
     "memory": measure_memory,
+    "busy": measure_busy,
     "hostile": measure_hostile,
 }
 
+
+def main():
+    words = argparse.ArgumentParser(description=__doc__, formatter_class=argparse.RawDescriptionHelpFormatter)
+    words.add_argument("program", metavar="PROGRAM")
+    words.add_argument("--before", metavar="PROGRAM")
+    words.add_argument("measures", nargs="*", metavar="MEASURE", help=", ".join(MEASURES))
+    given = words.parse_args()
+    if any(measure not in MEASURES for measure in given.measures):
+        words.error(f"a measure is one of {', '.join(MEASURES)}")
+    programs = {"gateway": os.path.abspath(given.program)}
+    if given.before:
+        programs["before"] = os.path.abspath(given.before)
+    for measure in given.measures or MEASURES:
+        MEASURES[measure](programs)
+
+
 if __name__ == "__main__":
-    if len(sys.argv) < 2 or any(word not in MEASURES for word in sys.argv[2:]):
-        sys.exit(__doc__)
-    for word in sys.argv[2:] or MEASURES:
-        MEASURES[word](os.path.abspath(sys.argv[1]))
+    main()
