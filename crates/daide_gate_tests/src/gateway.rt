@@ -1,5 +1,6 @@
 //! The gateway at work, over real sockets on loopback.
 
+use crate::runtimes::Named;
 use crate::stage::Act::{
     Comes, Ends, Flooded, Floods, Hears, HearsEnd, Leave, Meets, MeetsNobody, Rests, Says,
 };
@@ -13,6 +14,7 @@ use daide_tests::rows::holds;
 use std::io;
 use std::io::{ErrorKind, Read, Write};
 use std::net::{Net, SocketAddr, TcpListener, TcpStream};
+use std::rt::Clock;
 use std::test::Fail;
 use std::time::Duration;
 
@@ -26,7 +28,7 @@ pub const RM: &[u8] = b"\x01\x00\x00\x00";
 pub const FM: &[u8] = b"\x03\x00\x00\x00";
 
 /// The initial message came too late.
-const EM_01: &[u8] = b"\x04\x00\x00\x02\x00\x01";
+pub const EM_01: &[u8] = b"\x04\x00\x00\x02\x00\x01";
 
 /// A message `OBS`.
 pub const OBS: &[u8] = b"\x02\x00\x00\x02\x48\x0f";
@@ -356,8 +358,12 @@ impl<R: Net> Write for Announced<'_, R> {
 }
 
 /// A run with a bot that comes once it listens: what it prints is one line, and nothing is told.
-fn serves_one(rt: &HostRuntime, at: &str, to: &str) -> Result<(), Fail> {
-    let settings = format!(in rt.alloc(); "listen = '{at}'\nserver = '{to}'")?;
+fn serves_one<R: AllocGlobal + Clock + Net>(
+    rt: &R,
+    (listen, at): (&str, &str),
+    to: &str,
+) -> Result<(), Fail> {
+    let settings = format!(in rt.alloc(); "listen = '{listen}'\nserver = '{to}'")?;
     let mut output = Announced {
         rt,
         gate: at,
@@ -387,13 +393,45 @@ fn serves_one_to(rt: &HostRuntime, to: SocketAddr) -> Result<(), Fail> {
     let free = TcpListener::bind(rt, any_port())?.local_addr()?;
     let at = free.to_string(rt.alloc())?;
     let to = to.to_string(rt.alloc())?;
-    serves_one(rt, at.as_str(), to.as_str())
+    serves_one(rt, (at.as_str(), at.as_str()), to.as_str())
 }
 
 #[test]
 fn whole_run_listens_serves_and_ends(rt: HostRuntime) -> Result<(), Fail> {
     let server = TcpListener::bind(&rt, any_port())?;
     serves_one_to(&rt, server.local_addr()?)?;
+    holds(brought_both(&rt, &server)?, "both frames")
+}
+
+/// Of a name's addresses nobody listens at the first, and the server at the second: the bot is served there, and
+/// nothing is told.
+#[test]
+fn second_address_of_the_server_is_tried(rt: HostRuntime) -> Result<(), Fail> {
+    let server = TcpListener::bind(&rt, any_port())?;
+    let nobody = TcpListener::bind(&rt, any_port())?.local_addr()?;
+    let names = Named {
+        rt: &rt,
+        addresses: [nobody, server.local_addr()?],
+    };
+    let at = TcpListener::bind(&rt, any_port())?.local_addr()?;
+    let at = at.to_string(rt.alloc())?;
+    serves_one(&names, (at.as_str(), at.as_str()), "server:1")?;
+    holds(brought_both(&rt, &server)?, "both frames")
+}
+
+/// The first of a name's addresses is taken by another: bots come at the second.
+#[test]
+fn second_address_is_listened_on(rt: HostRuntime) -> Result<(), Fail> {
+    let server = TcpListener::bind(&rt, any_port())?;
+    let taken = TcpListener::bind(&rt, any_port())?;
+    let free = TcpListener::bind(&rt, any_port())?.local_addr()?;
+    let names = Named {
+        rt: &rt,
+        addresses: [taken.local_addr()?, free],
+    };
+    let at = free.to_string(rt.alloc())?;
+    let to = server.local_addr()?.to_string(rt.alloc())?;
+    serves_one(&names, ("gate:1", at.as_str()), to.as_str())?;
     holds(brought_both(&rt, &server)?, "both frames")
 }
 

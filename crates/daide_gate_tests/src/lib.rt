@@ -4,15 +4,23 @@
 #![tactic(auto)]
 
 #[cfg(test)]
+mod descriptors;
+#[cfg(test)]
 mod gateway;
+#[cfg(test)]
+mod late;
 #[cfg(test)]
 mod memory;
 #[cfg(test)]
 mod peers;
 #[cfg(test)]
+mod program;
+#[cfg(test)]
 mod refusals;
 #[cfg(test)]
 mod runs;
+#[cfg(test)]
+mod runtimes;
 #[cfg(test)]
 mod settings;
 #[cfg(test)]

@@ -13,7 +13,7 @@ use daide_sockets::system::{Sockets, most_sockets};
 use daide_sockets::watch::{Place, Watch};
 use daide_sockets::{Interest, TcpListener, TcpStream};
 use std::alloc::Global;
-use std::net::{Net, Shutdown, SocketAddr};
+use std::net::{Net, Shutdown, SocketAddr, UdpSocket};
 use std::rt::Clock;
 use std::test::Fail;
 use std::time::{Duration, Instant};
@@ -34,6 +34,12 @@ pub enum Act {
     Meets,
     /// Nobody connects to the server.
     MeetsNobody,
+    /// The server accepts all connections that wait, and lets them go.
+    Empties,
+    /// All descriptors of the process are taken, but for so many.
+    Hoards(usize),
+    /// They are given back.
+    Frees,
     /// Sends these bytes.
     Says(Who, &'static [u8]),
     /// Has heard these bytes, and no more, since it last did.
@@ -48,6 +54,8 @@ pub enum Act {
     Ends(Who),
     /// Hears the end of the other's stream.
     HearsEnd(Who),
+    /// Sends a message again and again, until that fails.
+    IsGone(Who),
     /// A bot begins to send messages without end whose bracket never closes, and drops what it hears.
     Floods(usize),
     /// It has done so for a second.
@@ -73,8 +81,17 @@ const MOST_ROUNDS: u64 = 100_000_000;
 /// The most sockets of the bots and the server.
 const MOST_PEERS: usize = 320;
 
-/// How many milliseconds a server is tried for a bot.
+/// How many milliseconds a server is tried for a bot, where a play doesn't say.
 const CONNECT_TIME: u64 = 1_000;
+
+/// How many descriptors are taken at most.
+const MOST_HOARDED: usize = 30_000;
+
+/// How often an end sends a message until that fails.
+const MOST_SENT: usize = 1_000;
+
+/// A message `OBS`.
+const ANY_MESSAGE: &[u8] = b"\x02\x00\x00\x02\x48\x0f";
 
 /// What an act came to.
 #[derive(Clone, Copy, PartialEq, Eq)]
@@ -91,7 +108,7 @@ struct Peer<'w> {
     /// What is read at once.
     piece: Vec<u8>,
     heard: Vec<u8>,
-    /// How often it heard what `HearsTimes` waits for.
+    /// How often it heard what `HearsTimes` waits for, or sent what `IsGone` sends.
     times: usize,
     has_ended: bool,
 }
@@ -207,6 +224,20 @@ impl Peer<'_> {
         }
     }
 
+    /// Sends a message, and hears nothing; done where that fails, and wrong where it was sent too often.
+    fn is_gone(&mut self) -> Played {
+        let put = self.socket.put(ANY_MESSAGE);
+        self.socket.flush();
+        self.times = self.times.saturating_add(1);
+        if put == Put::Failed {
+            Played::Done
+        } else if self.times < MOST_SENT {
+            Played::NotYet
+        } else {
+            Played::Wrong
+        }
+    }
+
     /// Ends its stream.
     fn ends(&mut self) -> Played {
         match self.socket.connection().0.shutdown(Shutdown::Write) {
@@ -281,6 +312,7 @@ struct Stage<'s, 'w, R: Clock + Net + AllocGlobal> {
     servers: Vec<Peer<'w>>,
     flood: Option<Flood>,
     pour: Option<Pour>,
+    hoard: Vec<UdpSocket>,
     /// The end of the play's time, and of the time that passes now.
     end: Option<Instant>,
     pause: Option<Instant>,
@@ -300,6 +332,7 @@ fn play_one(peers: &mut Vec<Peer<'_>>, number: usize, act: Act) -> Played {
         Act::Hears(_, bytes) => peer.hears(bytes),
         Act::HearsTimes(_, bytes, times) => peer.hears_times(bytes, times),
         Act::Ends(_) => peer.ends(),
+        Act::IsGone(_) => peer.is_gone(),
         _ => peer.hears_end(),
     }
 }
@@ -343,6 +376,7 @@ impl<'s, 'w, R: Clock + Net + AllocGlobal> Stage<'s, 'w, R> {
             servers: Vec::new(rt.alloc()),
             flood: None,
             pour: None,
+            hoard: Vec::new(rt.alloc()),
             end: watch.after(Duration::from_secs(MOST_SECONDS)),
             pause: None,
             acts,
@@ -379,6 +413,26 @@ impl<'s, 'w, R: Clock + Net + AllocGlobal> Stage<'s, 'w, R> {
             Some(server) => done_where(self.servers.push(server).is_ok()),
             None => Played::Wrong,
         }
+    }
+
+    /// The server lets all connections go that wait.
+    fn empty(&mut self) -> Played {
+        for _ in 0..MOST_HOARDED {
+            if self.server.accept().is_err() {
+                return Played::Done;
+            }
+        }
+        Played::Wrong
+    }
+
+    /// Takes all descriptors but for so many.
+    fn hoard(&mut self, left: usize) -> Played {
+        let Some(mut hoard) = all_descriptors(self.rt) else {
+            return Played::Wrong;
+        };
+        hoard.truncate(hoard.len().saturating_sub(left));
+        self.hoard = hoard;
+        Played::Done
     }
 
     /// A bot begins to flood, for a second.
@@ -424,10 +478,17 @@ impl<'s, 'w, R: Clock + Net + AllocGlobal> Stage<'s, 'w, R> {
             Act::Comes => return self.comes(),
             Act::Meets => return self.meets(),
             Act::MeetsNobody => return done_where(self.meets() == Played::NotYet),
+            Act::Empties => return self.empty(),
+            Act::Hoards(left) => return self.hoard(left),
+            Act::Frees => {
+                self.hoard.clear();
+                true
+            }
             Act::Says(who, _)
             | Act::Hears(who, _)
             | Act::HearsTimes(who, _, _)
             | Act::Ends(who)
+            | Act::IsGone(who)
             | Act::HearsEnd(who) => {
                 return match who {
                     Who::Bot(number) => play_one(&mut self.bots, number, act),
@@ -520,6 +581,28 @@ impl<'s, 'w, R: Clock + Net + AllocGlobal> Stage<'s, 'w, R> {
     }
 }
 
+/// All descriptors that the process can have; none where these are more than `MOST_HOARDED`.
+pub fn all_descriptors<R: Net + AllocGlobal>(rt: &R) -> Option<Vec<UdpSocket>> {
+    let Ok(first) = rt.bind_udp(any_port()) else {
+        return None;
+    };
+    let mut hoard = Vec::new(rt.alloc());
+    for _ in 0..MOST_HOARDED {
+        match first.try_clone() {
+            Ok(one) => {
+                if hoard.push(one).is_err() {
+                    return None;
+                }
+            }
+            Err(_) => {
+                let _ = hoard.push(first);
+                return Some(hoard);
+            }
+        }
+    }
+    None
+}
+
 /// A port of this machine that is free.
 pub fn any_port() -> SocketAddr {
     SocketAddr::from(([127, 0, 0, 1], 0))
@@ -556,8 +639,7 @@ pub struct Report {
 /// Plays beside a run at this listener, which ends before this does.
 fn play_beside<'w, R: Clock + Net + AllocGlobal>(
     stage: &mut Stage<'_, 'w, R>,
-    listener: TcpListener,
-    servers: &'w [SocketAddr],
+    (listener, server): (TcpListener, &'w Met),
     settings: &Settings,
     told: &mut Vec<u8>,
 ) -> Result<u64, Fail> {
@@ -566,9 +648,9 @@ fn play_beside<'w, R: Clock + Net + AllocGlobal>(
         rt.alloc(),
         rt,
         stage.watch,
-        (listener, servers),
+        (listener, server.addresses.as_slice()),
         settings,
-        Duration::from_millis(CONNECT_TIME),
+        Duration::from_millis(server.millis),
         told,
     );
     let Some(mut system) = system else {
@@ -582,26 +664,45 @@ fn play_beside<'w, R: Clock + Net + AllocGlobal>(
     Ok(rounds)
 }
 
+/// How a run finds the server: its addresses, and for how many milliseconds they are tried for a bot.
+#[derive(Drop)]
+struct Met {
+    addresses: [SocketAddr; 1],
+    millis: u64,
+}
+
 /// Plays with the rows of a table.
 fn play_at<R: Clock + Net + AllocGlobal>(
     rt: &R,
     watch: &Watch<&R>,
     settings: &Settings,
     acts: &[Act],
-    server: Option<SocketAddr>,
+    (own, met): (TcpListener, &Met),
 ) -> Result<Report, Fail> {
     let listener = TcpListener::bind(rt, any_port())?;
     let gate = listener.local_addr()?;
-    let own = TcpListener::bind(rt, any_port())?;
-    let servers = [server.unwrap_or(own.local_addr()?)];
     let mut stage = Stage::new(rt, watch, own, gate, acts)?;
     let mut told = Vec::new(rt.alloc());
-    let rounds = play_beside(&mut stage, listener, &servers, settings, &mut told)?;
+    let rounds = play_beside(&mut stage, (listener, met), settings, &mut told)?;
     Ok(Report {
         wrong: if stage.is_wrong { Some(stage.at) } else { None },
         rounds,
         told: String::from_utf8(told)?,
     })
+}
+
+/// Plays beside a run with these settings towards a server.
+fn play<R: Clock + Net + AllocGlobal>(
+    rt: &R,
+    settings: &str,
+    acts: &[Act],
+    (own, met): (TcpListener, &Met),
+) -> Result<Report, Fail> {
+    let text = format!(in rt.alloc(); "listen = 'a'\nserver = 'b'\n{settings}")?;
+    let settings = read_settings(rt.alloc(), text.as_str())?;
+    let rows = most_sockets(settings.max_sessions).saturating_add(MOST_PEERS);
+    let watch = Watch::new(rt.alloc(), rt, rt, rows)?;
+    play_at(rt, &watch, &settings, acts, (own, met))
 }
 
 /// Runs a gateway with these settings, beside its addresses, while all is acted; towards this server in place of the
@@ -612,9 +713,24 @@ pub fn run_beside<R: Clock + Net + AllocGlobal>(
     acts: &[Act],
     server: Option<SocketAddr>,
 ) -> Result<Report, Fail> {
-    let text = format!(in rt.alloc(); "listen = 'a'\nserver = 'b'\n{settings}")?;
-    let settings = read_settings(rt.alloc(), text.as_str())?;
-    let rows = most_sockets(settings.max_sessions).saturating_add(MOST_PEERS);
-    let watch = Watch::new(rt.alloc(), rt, rt, rows)?;
-    play_at(rt, &watch, &settings, acts, server)
+    let own = TcpListener::bind(rt, any_port())?;
+    let met = Met {
+        addresses: [server.unwrap_or(own.local_addr()?)],
+        millis: CONNECT_TIME,
+    };
+    play(rt, settings, acts, (own, &met))
+}
+
+/// The same towards a server whose listener this is, and which is tried for so many milliseconds for a bot.
+pub fn run_towards<R: Clock + Net + AllocGlobal>(
+    rt: &R,
+    settings: &str,
+    acts: &[Act],
+    (own, millis): (TcpListener, u64),
+) -> Result<Report, Fail> {
+    let met = Met {
+        addresses: [own.local_addr()?],
+        millis,
+    };
+    play(rt, settings, acts, (own, &met))
 }

@@ -1,0 +1,147 @@
+//! What the program tells of its faults and gives as its status, and what a person who types is told.
+
+use crate::runs::check_run;
+use daide_gate::ServeFault;
+use daide_gate::settings::SettingsError;
+use daide_program::answer;
+use daide_program::running::RunFault;
+use daide_program::terminal::Asking;
+use daide_sockets::gateway::GatewayFault;
+use daide_tests::fakes::FailsAtWrite;
+use daide_tests::rows::same;
+use std::cell::Cell;
+use std::fmt::Display;
+use std::io::{Eprint, IsTerminal, Read};
+use std::test::Fail;
+use std::{fs, io};
+
+/// The faults of a run, and the text of each.
+const FAULTS: &[(RunFault, &str)] = &[
+    (RunFault::Unreadable, "settings could not be read"),
+    (RunFault::Memory, "out of memory"),
+    (RunFault::Settings(SettingsError::Memory), "out of memory"),
+    (RunFault::Gateway(GatewayFault::Listen), "cannot listen"),
+    (RunFault::Gateway(GatewayFault::Memory), "out of memory"),
+    (
+        RunFault::Gateway(GatewayFault::Serve(ServeFault::Memory)),
+        "out of memory",
+    ),
+];
+
+#[test]
+fn faults_of_a_run_have_their_texts(rt: HostRuntime) -> Result<(), Fail> {
+    for (fault, text) in FAULTS {
+        let told = fault.to_string(rt.alloc())?;
+        same(&told.as_str(), text, text)?;
+    }
+    Ok(())
+}
+
+/// Runs of the gateway that begin none, as the program's table has them.
+const RUNS: &str = "\
+run settings-without-port | | | cannot listen | 1
+run settings-with-a-typo | | | unknown key | 1
+run no-such-file | | | settings could not be read | 1
+";
+
+#[test]
+fn run_that_cannot_begin_has_status_1(rt: HostRuntime) -> Result<(), Fail> {
+    let text = "listen = '127.0.0.1'\nserver = '127.0.0.1:1'\n";
+    fs::write(&rt, "settings-without-port", text)?;
+    fs::write(&rt, "settings-with-a-typo", "sesions = 1")?;
+    for row in RUNS.lines() {
+        check_run(&rt, row)?;
+    }
+    fs::remove_file(&rt, "settings-without-port")?;
+    fs::remove_file(&rt, "settings-with-a-typo")?;
+    Ok(())
+}
+
+/// Words with a fault each: of a run, of the input, of a word that the program knows, and of one that it doesn't.
+const FAULTY: &[&[&str]] = &[
+    &["daide-gate", "run", "no-such-file"],
+    &["daide-gate"],
+    &["daide-gate", "check"],
+    &["daide-gate", "show", "--side", "both"],
+    &["daide-gate", "tell"],
+];
+
+/// Whether a run with these words ends with no status of its own, where nothing can be told.
+fn is_untold(rt: &HostRuntime, words: &[&str]) -> bool {
+    let mut output = Vec::new(rt.alloc());
+    let mut errors = FailsAtWrite {
+        taken: Vec::new(rt.alloc()),
+        writes: 0,
+    };
+    let ended = answer(rt, words, &mut b"".as_slice(), &mut output, &mut errors);
+    ended.is_err()
+}
+
+/// A fault that can't be told is the program's to answer for, by status 1, and is never a run that went well.
+#[test]
+fn fault_that_cannot_be_told_is_an_error(rt: HostRuntime) -> Result<(), Fail> {
+    for words in FAULTY {
+        same(&is_untold(&rt, words), &true, words)?;
+    }
+    Ok(())
+}
+
+/// An input that is a terminal, or is none.
+#[derive(Drop)]
+struct Typed {
+    bytes: &'static [u8],
+    is_terminal: bool,
+}
+
+impl Read for Typed {
+    fn read(&mut self, buffer: &mut [u8]) -> io::Result<usize> {
+        let count = self.bytes.len().min(buffer.len()).min(1);
+        buffer[..count].copy_from_slice(&self.bytes[..count]);
+        self.bytes = &self.bytes[count..];
+        Ok(count)
+    }
+}
+
+impl IsTerminal for Typed {
+    fn is_terminal(&self) -> bool {
+        self.is_terminal
+    }
+}
+
+/// A standard error that counts its lines.
+#[derive(Drop)]
+struct Lines(Cell<u32>);
+
+impl Eprint for Lines {
+    fn eprint<D: Display + Drop>(&self, _value: D) -> io::Result<()> {
+        Ok(())
+    }
+
+    fn eprintln<D: Display + Drop>(&self, _value: D) -> io::Result<()> {
+        self.0.set(self.0.get().saturating_add(1));
+        Ok(())
+    }
+}
+
+/// How many lines are told before an input is read, and once it was read to its end.
+fn told_of(is_terminal: bool) -> io::Result<(u32, u32)> {
+    let lines = Lines(Cell::new(0));
+    let typed = Typed {
+        bytes: b"0g\n",
+        is_terminal,
+    };
+    let mut input = Asking::new(&lines, typed);
+    let before = lines.0.get();
+    let mut byte = [0];
+    for _ in 0..4 {
+        input.read(&mut byte)?;
+    }
+    Ok((before, lines.0.get()))
+}
+
+/// Where a person types, one line says what is waited for, and only once something is.
+#[test]
+fn hint_stands_at_a_terminal_only(_rt: HostRuntime) -> Result<(), Fail> {
+    same(&told_of(true)?, &(0, 1), &"a terminal")?;
+    same(&told_of(false)?, &(0, 0), &"no terminal")
+}
