@@ -511,7 +511,7 @@ def main():
     words.add_argument("program", metavar="PROGRAM")
     words.add_argument("--before", metavar="PROGRAM")
     words.add_argument("measures", nargs="*", metavar="MEASURE", help=", ".join(MEASURES))
-    given = words.parse_args()
+    given = words.parse_intermixed_args()
     if any(measure not in MEASURES for measure in given.measures):
         words.error(f"a measure is one of {', '.join(MEASURES)}")
     programs = {"gateway": os.path.abspath(given.program)}

@@ -54,8 +54,6 @@ pub enum Act {
     Ends(Who),
     /// Hears the end of the other's stream.
     HearsEnd(Who),
-    /// Sends a message again and again, until that fails.
-    IsGone(Who),
     /// A bot begins to send messages without end whose bracket never closes, and drops what it hears.
     Floods(usize),
     /// It has done so for a second.
@@ -87,12 +85,6 @@ const CONNECT_TIME: u64 = 1_000;
 /// How many descriptors are taken at most.
 const MOST_HOARDED: usize = 30_000;
 
-/// How often an end sends a message until that fails.
-const MOST_SENT: usize = 1_000;
-
-/// A message `OBS`.
-const ANY_MESSAGE: &[u8] = b"\x02\x00\x00\x02\x48\x0f";
-
 /// What an act came to.
 #[derive(Clone, Copy, PartialEq, Eq)]
 enum Played {
@@ -108,7 +100,7 @@ struct Peer<'w> {
     /// What is read at once.
     piece: Vec<u8>,
     heard: Vec<u8>,
-    /// How often it heard what `HearsTimes` waits for, or sent what `IsGone` sends.
+    /// How often it heard what `HearsTimes` waits for.
     times: usize,
     has_ended: bool,
 }
@@ -224,20 +216,6 @@ impl Peer<'_> {
         }
     }
 
-    /// Sends a message, and hears nothing; done where that fails, and wrong where it was sent too often.
-    fn is_gone(&mut self) -> Played {
-        let put = self.socket.put(ANY_MESSAGE);
-        self.socket.flush();
-        self.times = self.times.saturating_add(1);
-        if put == Put::Failed {
-            Played::Done
-        } else if self.times < MOST_SENT {
-            Played::NotYet
-        } else {
-            Played::Wrong
-        }
-    }
-
     /// Ends its stream.
     fn ends(&mut self) -> Played {
         match self.socket.connection().0.shutdown(Shutdown::Write) {
@@ -332,7 +310,6 @@ fn play_one(peers: &mut Vec<Peer<'_>>, number: usize, act: Act) -> Played {
         Act::Hears(_, bytes) => peer.hears(bytes),
         Act::HearsTimes(_, bytes, times) => peer.hears_times(bytes, times),
         Act::Ends(_) => peer.ends(),
-        Act::IsGone(_) => peer.is_gone(),
         _ => peer.hears_end(),
     }
 }
@@ -488,7 +465,6 @@ impl<'s, 'w, R: Clock + Net + AllocGlobal> Stage<'s, 'w, R> {
             | Act::Hears(who, _)
             | Act::HearsTimes(who, _, _)
             | Act::Ends(who)
-            | Act::IsGone(who)
             | Act::HearsEnd(who) => {
                 return match who {
                     Who::Bot(number) => play_one(&mut self.bots, number, act),
