@@ -16,13 +16,6 @@ use Rattle.daide_settings.specs.WordSettings.{word_of, words_of_entries, one_bef
 abbrev pub further : List Word → Items → Result (List Word) SettingsError
 further before entries = accepted_words (option_map (λ words. before ++ words) (words_of_entries entries))
 
-pub further_first : (entries : Items) → accepted_words (words_of_entries entries) ≡ further [] entries
-further_first entries = go (words_of_entries entries)
-  where
-    go : (o : Option (List Word)) → accepted_words o ≡ accepted_words (option_map (λ words. [] ++ words) o)
-    go None = refl
-    go (Some words) = refl
-
 pub further_next : (before : List Word) (word : Word) (entry : Data) (others : Items) → word_of entry ≡ Some word →
     further before (item entry others) ≡ further (before ++ word ∷ []) others
 further_next before word entry others e = rw e (go (words_of_entries others))
@@ -36,11 +29,6 @@ pub further_last : (before : List Word) → are_accepted before ≡ true → fur
 further_last before accepted =
     ap (λ ws. accepted_words (Some ws)) (append-nil before)
     ∙ ap (λ b. if b then Ok before else Err (Range Words)) accepted
-
--- an entry without a word is out of range
-pub further_none : (before : List Word) (entry : Data) (others : Items) → word_of entry ≡ None →
-    further before (item entry others) ≡ Err (Range Words)
-further_none before entry others e = rw e refl
 
 and_false : (a b : Bool) → b ≡ false → (a && b) ≡ false
 and_false true b e = e
