@@ -28,7 +28,7 @@ taken-append side (x ∷ xs) ys =
     ap (λ (t : List ℕ). took side x ++ t) (taken-append side xs ys)
     ∙ sym (append_assoc (took side x) (taken side xs) (taken side ys))
 
-or_assoc : (a b c : Bool) → (a || (b || c)) ≡ ((a || b) || c)
+pub or_assoc : (a b c : Bool) → (a || (b || c)) ≡ ((a || b) || c)
 or_assoc true b c = refl
 or_assoc false b c = refl
 
@@ -127,14 +127,6 @@ module _ {A : Type 0} where
       told_at (Some mid) h k =
           let same : mid ≡ k.0 = unwrapped mid k.0 k.1 in
           (h.0, h.1, k.2 ∙ ap (λ (x : List A). x ++ ys) (sym same ∙ h.2) ∙ append_assoc h.0 xs ys)
-
--- what tells each answer tells all of them
-pub answers_tell : {P : Type 0} (told : P → Option (List PortAnswer)) (xs : List PortAnswer) (p q : P) →
-    BecomesBy (λ old answer new. Tells (told old) (answer ∷ []) (told new)) p xs q → Tells (told p) xs (told q)
-answers_tell {P} told [] p q h =
-    subst (λ (r : P). Tells (told p) [] (told r)) (sym h) (tells_nil (told p))
-answers_tell told (x ∷ xs) p q h =
-    tells_then (told p) (told h.0) (told q) (x ∷ []) xs h.1 (answers_tell told xs h.0 q h.2)
 
 -- ---- calls in a row
 

@@ -29,7 +29,8 @@ pub enum Put {
 /// The wires toward a bot and a server, and the clock of the initial message.
 ///
 /// Each call answers, and contracts of what drives ports speak of the answers of its calls. What an answer says of the
-/// ports is theirs to say: those that keep a record say that the answer came to it, and those over sockets say nothing.
+/// ports is theirs to say: those that keep a record say that the answer came to it, and those over two streams which of
+/// them gave or took its bytes.
 pub trait Ports: Drop {
     /// What a call with this answer does to the ports.
     ghost becomes: { Self → PortAnswer → Self → Type 0 };
