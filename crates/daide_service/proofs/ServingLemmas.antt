@@ -7,7 +7,7 @@ use Rattle.std.proofs.lemmas.List.{length-set}
 use Rattle.std.proofs.Math.Dec.{eqb-suc-zero}
 use Rattle.daide_machine.specs.Wires.{Gateway}
 use Rattle.daide_session.specs.Record.{PortAnswer, Tells}
-use Rattle.daide_session.proofs.Stretches.{tells_nil, tells_then}
+use Rattle.daide_session.proofs.Stretches.{or_assoc, tells_nil, tells_then}
 use Rattle.daide_session.specs.Hub.{Hosting, Changes, IsTurned}
 use Rattle.daide_session.specs.HubRuns.{HubCall, Turned, HubStep, HubRuns}
 use Rattle.daide_service.specs.Metered.{Meter, Meters}
@@ -45,10 +45,6 @@ another_turn {P} becomes n old mid new h count max turned = (
 or_false : (b : Bool) → (b || false) ≡ b
 or_false true = refl
 or_false false = refl
-
-or_assoc : (a b c : Bool) → (a || (b || c)) ≡ ((a || b) || c)
-or_assoc true b c = refl
-or_assoc false b c = refl
 
 -- one more place was looked at
 pub any_more : {P : Type 0} (xs : List (Gateway × Meter P)) (i : ℕ) (m : Meter P) → i < length xs →
