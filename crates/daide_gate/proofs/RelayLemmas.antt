@@ -1,5 +1,5 @@
 -- Turns in a row.
-use Rattle.std.proofs.Common.{◌≡◌, ℕ, zero, suc, ◌+◌, ◌≤◌, false, List, [], refl}
+use Rattle.std.proofs.Common.{◌≡◌, ℕ, zero, suc, ◌+◌, false, List, [], refl}
 use Rattle.std.proofs.Common.{sym, subst, add-one}
 use Rattle.daide_machine.specs.Wires.{Gateway, is_closed}
 use Rattle.daide_session.specs.Record.{PortAnswer, Relays, Carries}
@@ -48,8 +48,3 @@ module _ {P : Type 0} (becomes : P → PortAnswer → P → Type 0) where
       carries_weaker becomes (Then (StaysOpen n) WholeTurn) (Turns (n + 1)) a c (λ xs. one_more n a.0 xs c.0)
       (carries_then becomes (StaysOpen n) WholeTurn a b c
       (carries_weaker becomes (Turns n) (StaysOpen n) a b (λ xs r. (r, e)) h) k)
-
-  pub closed_early : (n turns : ℕ) (a b : Gateway × P) → n ≤ turns → Carries becomes (Turns n) a b →
-      Carries becomes (MakesTurns Closed turns) a b
-  closed_early n turns a b few h =
-      carries_weaker becomes (Turns n) (MakesTurns Closed turns) a b (λ xs r. (n, few, r)) h
