@@ -23,7 +23,7 @@ use Rattle.daide_machine.specs.Machine.{im_answered, whole, item_outcome, items_
 use Rattle.daide_machine.specs.Wires.{same_side}
 use Rattle.daide_machine.specs.Heard.{bytes_from, heard_at, items_heard}
 use Rattle.daide_machine.proofs.OneRun.{one_run}
-use Rattle.daide_machine.proofs.PieceRuns.{over_outcome, over_stays}
+use Rattle.daide_machine.proofs.PieceRuns.{over_outcome, over_stays, phase_is, limits_are}
 
 -- ---- sides and items
 
@@ -218,14 +218,6 @@ items_limits s side (item ∷ items) v =
     go true e later = rw e refl
     go false e later = rw e (later ∙ item_limits s side item v)
 
-pub with_limits : (s : SessionState) (side : Side) (bytes : List ℕ) → (with_pending s side bytes).limits ≡ s.limits
-with_limits s Bot bytes = refl
-with_limits s Server bytes = refl
-
-with_phase : (s : SessionState) (side : Side) (bytes : List ℕ) → (with_pending s side bytes).phase ≡ s.phase
-with_phase s Bot bytes = refl
-with_phase s Server bytes = refl
-
 with_own : (s : SessionState) (side : Side) (bytes : List ℕ) → (coming (with_pending s side bytes) side).pending ≡ bytes
 with_own s Bot bytes = refl
 with_own s Server bytes = refl
@@ -265,7 +257,7 @@ byte_leaves s side x effects m t o p =
     let bytes = with_byte s side x in
     let items = items_at s side x in
     let came = byte_came s side x effects m t o in
-    let live = ap is_over (with_phase s side bytes) ∙ o in
+    let live = ap is_over (phase_is s side bytes) ∙ o in
     let left = items_leave (with_pending s side bytes) side items t.verdict live
     (ap (λ (q : SessionState). is_over q.phase) (sym came) ∙ p) in (
       left.0,
@@ -287,7 +279,7 @@ byte_limits : (s : SessionState) (side : Side) (x : ℕ) (effects : List Effect)
 byte_limits s side x effects m t o =
     ap (λ (q : SessionState). q.limits) (byte_came s side x effects m t o)
     ∙ items_limits (with_pending s side (with_byte s side x)) side (items_at s side x) t.verdict
-    ∙ with_limits s side (with_byte s side x)
+    ∙ limits_are s side (with_byte s side x)
 
 -- ---- after the end
 

@@ -7,7 +7,8 @@ use Rattle.daide_machine.specs.declared.phase.Phase.TheVariants.{WaitIm, WaitRm,
 use Rattle.daide_machine.specs.Events.{Event, Comes, Ends, Loses, Pops}
 use Rattle.daide_machine.specs.Machine.{SessionState, Effect, Outcome, Runs, event_outcome, with_pending, coming}
 use Rattle.daide_machine.specs.Machine.{is_over, popped}
-use Rattle.daide_machine.proofs.FramesHeard.{items_limits, with_limits}
+use Rattle.daide_machine.proofs.FramesHeard.{items_limits}
+use Rattle.daide_machine.proofs.PieceRuns.{limits_are}
 
 popped_limits : (phase : Phase) (s : SessionState) → (popped phase s).state.limits ≡ s.limits
 popped_limits WaitIm s = refl
@@ -15,7 +16,7 @@ popped_limits WaitRm s = refl
 popped_limits Open s = refl
 popped_limits Over s = refl
 
-event_limits : (s : SessionState) (event : Event) (v : Verdict) → (event_outcome s event v).state.limits ≡ s.limits
+pub event_limits : (s : SessionState) (event : Event) (v : Verdict) → (event_outcome s event v).state.limits ≡ s.limits
 event_limits s (Comes side x) v = go (is_over s.phase) refl
   where
     bytes : List ℕ
@@ -25,7 +26,7 @@ event_limits s (Comes side x) v = go (is_over s.phase) refl
     go true e = rw e refl
     go false e =
         rw e (items_limits (with_pending s side bytes) side (last_items s.limits.cap bytes) v
-        ∙ with_limits s side bytes)
+        ∙ limits_are s side bytes)
 event_limits s (Ends side) v = go (is_over s.phase) refl
   where
     go : (b : Bool) → is_over s.phase ≡ b → (event_outcome s (Ends side) v).state.limits ≡ s.limits

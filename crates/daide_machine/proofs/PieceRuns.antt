@@ -45,11 +45,11 @@ over_stays s (e ∷ es) h =
 
 -- ---- the bytes of a side, changed again
 
-phase_is : (s : SessionState) (side : Side) (a : List ℕ) → (with_pending s side a).phase ≡ s.phase
+pub phase_is : (s : SessionState) (side : Side) (a : List ℕ) → (with_pending s side a).phase ≡ s.phase
 phase_is s Bot a = refl
 phase_is s Server a = refl
 
-limits_are : (s : SessionState) (side : Side) (a : List ℕ) → (with_pending s side a).limits ≡ s.limits
+pub limits_are : (s : SessionState) (side : Side) (a : List ℕ) → (with_pending s side a).limits ≡ s.limits
 limits_are s Bot a = refl
 limits_are s Server a = refl
 

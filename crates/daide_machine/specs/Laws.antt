@@ -9,7 +9,7 @@ use Rattle.daide_machine.specs.Calls.{Call, AreCalls, Delivers, events_of, taken
 use Rattle.daide_machine.specs.Heard.{bytes_from, items_heard}
 
 -- Whatever happens in whatever state, the machine goes on: each message has a verdict, and each row of the
--- table an outcome. An operator's words have no table yet that reads them (own).
+-- table an outcome. This is of limits without an operator's words, since the table that reads such words stands above. (own)
 abbrev pub EachEventHasAStep : Type 0
 EachEventHasAStep = (old : SessionState) (event : Event) → old.limits.words ≡ [] →
     (effects : List Effect) × (new : SessionState) × Step old event effects new
