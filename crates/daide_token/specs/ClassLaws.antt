@@ -113,9 +113,6 @@ class_bra t e = only_token_of Bra t refl e
 pub class_ket : (t : ℕ) → class_of t ≡ Ket → t ≡ ket
 class_ket t e = only_token_of Ket t refl e
 
-pub class_prn : (t : ℕ) → class_of t ≡ Prn → t ≡ prn
-class_prn t e = only_token_of Prn t refl e
-
 pub class_of-bra : class_of bra ≡ Bra
 unfolding class_of
 class_of-bra = refl
