@@ -6,6 +6,8 @@ pub mod FramesHeard
 pub mod CallLemmas
 pub mod HloLemmas
 pub mod LimitsKept
+pub mod FrameShapes
+pub mod FateLemmas
 pub mod StandardFacts
 pub mod GatewayFacts
 pub mod SessionFacts

@@ -7,4 +7,5 @@ pub mod Wires
 pub mod Weight
 pub mod Calls
 pub mod Heard
+pub mod Fates
 pub mod Laws

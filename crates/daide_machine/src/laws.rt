@@ -7,6 +7,7 @@ ghost use Rattle.daide_machine.specs.Machine.{fm_bytes};
 ghost use Rattle.daide_machine.specs.Laws.{EachEventHasAStep, EventsHaveARun};
 ghost use Rattle.daide_machine.specs.Laws.{AnswersAreUnique, RunsJoin, AnswersJoin, PiecesDoNotMatter};
 ghost use Rattle.daide_machine.specs.Laws.{CallsDeliverTheAnswers, EachWireGetsTheAnswers, OnlyEventsMatter};
+ghost use Rattle.daide_machine.specs.Fates.{EachMessageHasOneFate};
 ghost use Rattle.daide_machine.specs.Laws.{NothingAfterTheEnd, FramesAreThoseOfTheCut, EachSideIsWaitedFor};
 
 use crate::answers::{CLOSE_WORD, ERR_WORD, FM, HUH_OPEN, PRN_OPEN};
@@ -95,4 +96,10 @@ pub fn frames_are_those_of_the_cut()
 /// only where an answer to its last frame waits, or after the end.
 pub fn each_side_is_waited_for()
     ensures { EachSideIsWaitedFor }
+{}
+
+/// Each whole message that came is passed on, or answered with PRN, or with HUH, once, in the order in which they
+/// came, or the session ended before. Nothing else is sent but IM, RM, FM and EM for their causes.
+pub fn each_message_has_one_fate()
+    ensures { EachMessageHasOneFate }
 {}
