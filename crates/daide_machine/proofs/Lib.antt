@@ -8,6 +8,8 @@ pub mod HloLemmas
 pub mod LimitsKept
 pub mod FrameShapes
 pub mod FateLemmas
+pub mod AnswerBytes
+pub mod PassingLemmas
 pub mod StandardFacts
 pub mod GatewayFacts
 pub mod SessionFacts

@@ -8,4 +8,5 @@ pub mod Weight
 pub mod Calls
 pub mod Heard
 pub mod Fates
+pub mod Passing
 pub mod Laws

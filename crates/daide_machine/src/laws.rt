@@ -8,6 +8,7 @@ ghost use Rattle.daide_machine.specs.Laws.{EachEventHasAStep, EventsHaveARun};
 ghost use Rattle.daide_machine.specs.Laws.{AnswersAreUnique, RunsJoin, AnswersJoin, PiecesDoNotMatter};
 ghost use Rattle.daide_machine.specs.Laws.{CallsDeliverTheAnswers, EachWireGetsTheAnswers, OnlyEventsMatter};
 ghost use Rattle.daide_machine.specs.Fates.{EachMessageHasOneFate};
+ghost use Rattle.daide_machine.specs.Passing.{OnlyMessagesPass};
 ghost use Rattle.daide_machine.specs.Laws.{NothingAfterTheEnd, FramesAreThoseOfTheCut, EachSideIsWaitedFor};
 
 use crate::answers::{CLOSE_WORD, ERR_WORD, FM, HUH_OPEN, PRN_OPEN};
@@ -102,4 +103,11 @@ pub fn each_side_is_waited_for()
 /// came, or the session ended before. Nothing else is sent but IM, RM, FM and EM for their causes.
 pub fn each_message_has_one_fate()
     ensures { EachMessageHasOneFate }
+{}
+
+/// What a side is sent is whole frames. A message among them is one of the other side at the level noted for it and not
+/// too deep, or one of its own within PRN, whose brackets are not paired, or within HUH, which is not passed on. But for
+/// PRN's its brackets balance, and an answer has one open bracket more than the message at most.
+pub fn only_messages_pass()
+    ensures { OnlyMessagesPass }
 {}
