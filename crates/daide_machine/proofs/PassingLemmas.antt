@@ -172,21 +172,21 @@ unfolding HasVerdict
 huh_says message max_depth m place v = v
 
 -- a report PRN is passed on everywhere, so what is answered with HUH balances
-not_report : (message : List ℕ → Type 0) (max_depth : ℕ) (m : List ℕ) → (IsPrnReport m → message m) → IsPaired m →
+pub not_report : (message : List ℕ → Type 0) (max_depth : ℕ) (m : List ℕ) → (IsPrnReport m → message m) → IsPaired m →
     ¬ IsRelayed message max_depth m → (begins_with_prn m ≡ false) × IsBalanced m
 not_report message max_depth m reports (inl r) refused =
     let flat : depth_of m ≡ 0 = ap depth_of r.1 in
     absurd (refused (record { is_message = reports r; shallow = omega (arith, flat) }))
 not_report message max_depth m reports (inr p) refused = p
 
-huh_balances : (a : List ℕ) → IsBalanced a → IsBalanced (huh ∷ bra ∷ (a ++ ket ∷ []))
+pub huh_balances : (a : List ℕ) → IsBalanced a → IsBalanced (huh ∷ bra ∷ (a ++ ket ∷ []))
 huh_balances a h =
     Balance.joined (huh ∷ []) (bra ∷ (a ++ ket ∷ []))
     (Balance.plain huh (λ e. absurd (omega arith)) (λ e. absurd (omega arith))) (Balance.bracketed a h)
 
 -- ---- frames that are no message
 
-other_other : (side : Side) → other (other side) ≡ side
+pub other_other : (side : Side) → other (other side) ≡ side
 other_other Bot = refl
 other_other Server = refl
 

@@ -102,16 +102,20 @@ abbrev pub given_back : Side → Head → List ℕ → Verdict → Sent
 given_back side head body verdict =
     record { to = side; answers = Some side; bytes = answer_bytes head body verdict }
 
+-- the verdict of a side's message at a level
+abbrev pub IsJudged : Limits → Side → Level → List ℕ → Verdict → Type 0
+IsJudged limits side noted body verdict =
+    HasVerdict (IsMessageOver limits.words (side2_of side) noted) limits.max_depth (tokens_of body) verdict
+
 -- The one fate of a message: it is passed on, where the grammar has it; or it goes back to its sender within PRN, where
 -- its brackets are not paired, or within HUH, where they are and the grammar doesn't have it.
 pub data IsMessageFate (limits : Limits) (side : Side) (noted : Level) (head : Head) (body : List ℕ)
     (sent : List Sent) : Type 0 where
-  is_passed_on : HasVerdict (IsMessageOver limits.words (side2_of side) noted) limits.max_depth (tokens_of body) Relay →
-      sent ≡ passed_on side head body ∷ [] → IsMessageFate limits side noted head body sent
-  is_answered_prn : HasVerdict (IsMessageOver limits.words (side2_of side) noted) limits.max_depth (tokens_of body) Prn →
-      sent ≡ given_back side head body Prn ∷ [] → IsMessageFate limits side noted head body sent
-  is_answered_huh : (place : ℕ) →
-      HasVerdict (IsMessageOver limits.words (side2_of side) noted) limits.max_depth (tokens_of body) (Huh place) →
+  is_passed_on : IsJudged limits side noted body Relay → sent ≡ passed_on side head body ∷ [] →
+      IsMessageFate limits side noted head body sent
+  is_answered_prn : IsJudged limits side noted body Prn → sent ≡ given_back side head body Prn ∷ [] →
+      IsMessageFate limits side noted head body sent
+  is_answered_huh : (place : ℕ) → IsJudged limits side noted body (Huh place) →
       sent ≡ given_back side head body (Huh place) ∷ [] → IsMessageFate limits side noted head body sent
 
 -- every other frame is passed on, but for an FM or EM of the bot before the IM

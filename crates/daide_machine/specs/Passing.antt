@@ -65,8 +65,8 @@ pub data MayBeSent (limits : Limits) (came : List Came) (to : Side) (bytes : Lis
   within_huh : (noted : Level) (place : ℕ) (own body : List ℕ) → IsFrame Dm body bytes → HasCome came to noted own →
       IsWithinHuh limits to noted place (tokens_of own) (tokens_of body) → MayBeSent limits came to bytes
 
--- Over any run from a session's opening, with limits that a session takes, whatever a side is sent is a whole frame, and
--- where it is a message, it is one of the other side at the level noted for it, or one of its own within PRN or HUH.
+-- Over any run from a session's opening, with limits that a session takes, whatever a side is sent is a whole frame.
+-- Where it is a message, it is one of the other side at the level noted for it, or one of its own within PRN or HUH.
 abbrev pub OnlyMessagesPass : Type 0
 OnlyMessagesPass = (limits : Limits) (events : List Event) (effects : List Effect) (new : SessionState)
     (run : Runs (opening limits) events effects new) → limits.cap ≤ longest_body → (to : Side) →

@@ -105,9 +105,9 @@ pub fn each_message_has_one_fate()
     ensures { EachMessageHasOneFate }
 {}
 
-/// What a side is sent is whole frames. A message among them is one of the other side at the level noted for it and not
-/// too deep, or one of its own within PRN, whose brackets are not paired, or within HUH, which is not passed on. But for
-/// PRN's its brackets balance, and an answer has one open bracket more than the message at most.
+/// What a side is sent is whole frames. A message among them is one of the other side at the level noted for it and
+/// not too deep, or one of its own within PRN, whose brackets are not paired, or within HUH, which is not passed on.
+/// But for PRN's its brackets balance, and an answer has one open bracket more than the message at most.
 pub fn only_messages_pass()
     ensures { OnlyMessagesPass }
 {}
