@@ -9,4 +9,5 @@ pub mod Headline
 pub mod MemoryPorts
 pub mod Hub
 pub mod HubRuns
+pub mod InARow
 pub mod Laws

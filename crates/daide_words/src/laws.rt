@@ -65,10 +65,11 @@ pub fn huh_answer_is_a_message()
         IsBalanced a → IsMessageOver (grammar_words words) side level (huh ∷ bra ∷ (a ++ ket ∷ [])) }
 {}
 
-/// So is `HUH ( m )` with ERR put in before any token of m, or after the last. So an answer passes the next gateway with
-/// words of its own too, where it is not too deep for it.
+/// So is `HUH ( m )` with ERR put in before any token of m, or after the last. So an answer passes the next gateway
+/// with words of its own too, where it is not too deep for it.
 pub fn huh_answer_with_err_is_a_message()
-    ensures { (words : List Word) (side : Side2) (level : Level) (m : List ℕ) (place : ℕ) → are_accepted words ≡ true →
-        IsBalanced m →
-        IsMessageOver (grammar_words words) side level (huh ∷ bra ∷ ((take place m ++ err ∷ drop place m) ++ ket ∷ [])) }
+    ensures { (words : List Word) (side : Side2) (level : Level) (m : List ℕ) (place : ℕ) →
+        are_accepted words ≡ true → IsBalanced m →
+        IsMessageOver (grammar_words words) side level
+        (huh ∷ bra ∷ ((take place m ++ err ∷ drop place m) ++ ket ∷ [])) }
 {}
