@@ -84,7 +84,8 @@ unfolding answer_bytes
 prn_whole cap head body small w even =
     let long = prn_length body in
     record {
-      whole = ap (λ (n : ℕ). head_bytes (record { kind = Dm; len = n }) ++ answer_body body Prn) (omega (arith, long, w.long));
+      whole = ap (λ (n : ℕ). head_bytes (record { kind = Dm; len = n }) ++ answer_body body Prn) (omega
+          (arith, long, w.long));
       right = right_even (length (answer_body body Prn)) (omega (arith, long, even));
       short = omega (arith, long, w.long, w.within);
     }

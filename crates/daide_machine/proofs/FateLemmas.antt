@@ -106,7 +106,8 @@ items_fates t side items v (at_once head w) o r =
     go None e = at_once_fates t side head v o (let h = rw e at r in h)
     go (Some code) e = (refl, refl)
 items_fates t side items v (Shapes.whole head body w) o r = rw o
-    (one_more t.limits (came t.phase (frame_cause side (coming t side).noted head body)) (whole t side head body v).effects
+    (one_more t.limits (came t.phase (frame_cause side (coming t side).noted head body))
+    (whole t side head body v).effects
     (frame_fates t side (coming t side).noted head.kind head.len body v r))
 items_fates t side items v (Shapes.wrong code) o r = rw o (refl, refl)
 
@@ -137,7 +138,8 @@ event_fates : (s : SessionState) (event : Event) (v : Verdict) →
 event_fates s (Comes side byte) v r = go (is_over s.phase) refl
   where
     go : (b : Bool) → is_over s.phase ≡ b →
-        HaveFates s.limits (came_in_phase s.phase (cause_at s (Comes side byte))) (event_outcome s (Comes side byte) v).effects
+        HaveFates s.limits (came_in_phase s.phase (cause_at s (Comes side byte))) (event_outcome s
+        (Comes side byte) v).effects
     go true o = rw o refl
     go false o = rw o (byte_fates s side ((coming s side).pending ++ byte ∷ []) v o (let h = rw o at r in h))
 event_fates s (Ends side) v r = go (is_over s.phase) refl
@@ -183,13 +185,14 @@ run_fates s (event ∷ events) effects new run =
 
 -- ---- the frames that come
 
-frames_among-append : (a b : List Item) → frames_among (a ++ b) ≡ frames_among a ++ frames_among b
+pub frames_among-append : (a b : List Item) → frames_among (a ++ b) ≡ frames_among a ++ frames_among b
 frames_among-append [] b = refl
 frames_among-append (Begun head ∷ a) b = frames_among-append a b
 frames_among-append (Whole head body ∷ a) b = ap (λ (t : List Item). Whole head body ∷ t) (frames_among-append a b)
 frames_among-append (Wrong code ∷ a) b = frames_among-append a b
 
-frames_from-append : (side : Side) (a b : List Came) → frames_from side (a ++ b) ≡ frames_from side a ++ frames_from side b
+frames_from-append : (side : Side) (a b : List Came) → frames_from side (a ++ b)
+    ≡ frames_from side a ++ frames_from side b
 frames_from-append side [] b = refl
 frames_from-append side (c ∷ a) b =
     ap (λ (t : List Item). frame_of side c.cause ++ t) (frames_from-append side a b)
@@ -229,7 +232,8 @@ own_frame Server noted head body = refl
 
 frame_comes : (t : SessionState) (side : Side) (noted : Level) (kind : Kind) (len : ℕ) (body : List ℕ) (v : Verdict) →
     let head : Head = record { kind = kind; len = len } in
-    ComeHere side (Whole head body ∷ []) (came t.phase (frame_cause side noted head body)) (whole t side head body v).state
+    ComeHere side (Whole head body ∷ []) (came t.phase (frame_cause side noted head body))
+    (whole t side head body v).state
 frame_comes t side noted Im len body v = checked (im_of body)
   where
     head : Head
@@ -249,7 +253,8 @@ at_once_comes : (t : SessionState) (side : Side) (head : Head) (v : Verdict) →
     ComeHere side (Begun head ∷ Whole head [] ∷ []) (came t.phase (frame_cause side t.level head []))
     (items_outcome (with_noted t side t.level) side (Whole head [] ∷ []) v).state
 at_once_comes t Bot head v o = rw o (frame_comes (with_noted t Bot t.level) Bot t.level head.kind head.len [] v)
-at_once_comes t Server head v o = rw o (frame_comes (with_noted t Server t.level) Server t.level head.kind head.len [] v)
+at_once_comes t Server head v o = rw o (frame_comes
+    (with_noted t Server t.level) Server t.level head.kind head.len [] v)
 
 items_come : (t : SessionState) (side : Side) (items : List Item) (v : Verdict) → Shape t.limits.cap items →
     is_over t.phase ≡ false →
@@ -332,13 +337,15 @@ event_comes side s (Comes from x) v = go (is_over s.phase) refl
 event_comes side s (Ends from) v = go (is_over s.phase)
   where
     go : (b : Bool) →
-        ComeHere side [] (came_in_phase s.phase (if b then None else Some (End from))) (event_outcome s (Ends from) v).state
+        ComeHere side [] (came_in_phase s.phase (if b then None else Some (End from))) (event_outcome s
+        (Ends from) v).state
     go true = inl refl
     go false = inl refl
 event_comes side s (Loses from) v = go (is_over s.phase)
   where
     go : (b : Bool) →
-        ComeHere side [] (came_in_phase s.phase (if b then None else Some (End from))) (event_outcome s (Loses from) v).state
+        ComeHere side [] (came_in_phase s.phase (if b then None else Some (End from))) (event_outcome s
+        (Loses from) v).state
     go true = inl refl
     go false = inl refl
 event_comes side s Pops v = go s.phase

@@ -10,6 +10,8 @@ pub mod FrameShapes
 pub mod FateLemmas
 pub mod AnswerBytes
 pub mod PassingLemmas
+pub mod BesideLemmas
+pub mod HarmLemmas
 pub mod StandardFacts
 pub mod GatewayFacts
 pub mod SessionFacts

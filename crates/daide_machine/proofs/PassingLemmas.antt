@@ -38,7 +38,8 @@ use Rattle.daide_machine.specs.Machine.{may_reach, fm_bytes, em_bytes, fm_to, em
 use Rattle.daide_machine.specs.Wires.{same_side, frames_to, sent_to}
 use Rattle.daide_machine.specs.Fates.{Cause, Frame, Fault, End, Timeout, Came, checked_frame, frame_cause, fault_or}
 use Rattle.daide_machine.specs.Fates.{items_cause, cause_at, timeout_in, came_in_phase, came_in, passed_on, given_back}
-use Rattle.daide_machine.specs.Fates.{IsMessageFate, is_passed_on, is_answered_prn, is_answered_huh, IsFrameFate, IsFate}
+use Rattle.daide_machine.specs.Fates.{IsMessageFate, is_passed_on, is_answered_prn, is_answered_huh, IsFrameFate}
+use Rattle.daide_machine.specs.Fates.{IsFate}
 use Rattle.daide_machine.specs.Fates.{HaveFates}
 use Rattle.daide_machine.specs.Passing.{IsFrame, HasCome, IsPassed, IsWithinHuh, MayBeSent, no_message}
 use Rattle.daide_machine.specs.Passing.{passed, within_prn, within_huh}
@@ -311,7 +312,8 @@ module _ (limits : Limits) (small : limits.cap ≤ longest_body) (all : List Cam
             within_huh noted place body (answer_body body (Verdicts.Huh place))
             (huh_whole limits.cap head body place small w even within)
             (subst (λ (s : Side). HasCome all s noted body) e come)
-            (subst (λ (s : Side). IsWithinHuh limits s noted place m (tokens_of (answer_body body (Verdicts.Huh place))))
+            (subst (λ (s : Side). IsWithinHuh limits s noted place m (tokens_of (answer_body body
+            (Verdicts.Huh place))))
             e is_within)
 
     message_may : (sent : List Sent) → IsMessageFate limits side noted head body sent → EachTo May to sent

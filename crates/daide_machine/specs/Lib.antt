@@ -9,4 +9,5 @@ pub mod Calls
 pub mod Heard
 pub mod Fates
 pub mod Passing
+pub mod Harm
 pub mod Laws

@@ -9,6 +9,7 @@ ghost use Rattle.daide_machine.specs.Laws.{AnswersAreUnique, RunsJoin, AnswersJo
 ghost use Rattle.daide_machine.specs.Laws.{CallsDeliverTheAnswers, EachWireGetsTheAnswers, OnlyEventsMatter};
 ghost use Rattle.daide_machine.specs.Fates.{EachMessageHasOneFate};
 ghost use Rattle.daide_machine.specs.Passing.{OnlyMessagesPass};
+ghost use Rattle.daide_machine.specs.Harm.{ASideHarmsItselfAlone};
 ghost use Rattle.daide_machine.specs.Laws.{NothingAfterTheEnd, FramesAreThoseOfTheCut, EachSideIsWaitedFor};
 
 use crate::answers::{CLOSE_WORD, ERR_WORD, FM, HUH_OPEN, PRN_OPEN};
@@ -110,4 +111,10 @@ pub fn each_message_has_one_fate()
 /// But for PRN's its brackets balance, and an answer has one open bracket more than the message at most.
 pub fn only_messages_pass()
     ensures { OnlyMessagesPass }
+{}
+
+/// What a side is sent does not depend on a message of the other side that was refused: without this message, wherever
+/// its bytes stood among the other side's, the run makes the same moves but for the refusal, which goes to its sender.
+pub fn a_side_harms_itself_alone()
+    ensures { ASideHarmsItselfAlone }
 {}
