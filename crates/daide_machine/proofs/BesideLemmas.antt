@@ -166,7 +166,8 @@ question_commutes side s c (Ends from) e = refl
 question_commutes side s c (Loses from) e = refl
 question_commutes side s c Pops e = refl
 
-pub step_beside : (side : Side) (s : SessionState) (c : Coming) (event : Event) (effects : List Effect) (m : SessionState) →
+pub step_beside : (side : Side) (s : SessionState) (c : Coming) (event : Event) (effects : List Effect)
+    (m : SessionState) →
     is_own side event ≡ false → Step s event effects m →
     Step (with_coming s side c) event effects (with_coming m side c)
 step_beside side s c event effects m e t = record {

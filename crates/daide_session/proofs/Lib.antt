@@ -17,3 +17,4 @@ pub mod StoredLemmas
 pub mod LimitFacts
 pub mod ApartLemmas
 pub mod InARowLemmas
+pub mod DueLemmas

@@ -10,4 +10,5 @@ pub mod MemoryPorts
 pub mod Hub
 pub mod HubRuns
 pub mod InARow
+pub mod Due
 pub mod Laws

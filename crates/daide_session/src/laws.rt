@@ -3,6 +3,7 @@
 ghost use Rattle.daide_session.specs.Laws.{RelaysJoin, NewSessionsStand, HeadlinesJoin};
 ghost use Rattle.daide_session.specs.HubRuns.{SessionsAreApart, PortsComeBackApart, EachHasItsHeadline};
 ghost use Rattle.daide_session.specs.HubRuns.{OpenedSessionsStand};
+ghost use Rattle.daide_session.specs.Due.{DueBytesGo};
 ghost use Rattle.daide_session.specs.InARow.{TwoGatewaysInARow};
 
 use crate::ports::Ports;
@@ -41,4 +42,10 @@ pub fn sessions_are_apart<P: Ports>()
 /// with PRN, so that PRN grows no further.
 pub fn two_gateways_in_a_row()
     ensures { TwoGatewaysInARow }
+{}
+
+/// While a wire takes one byte a put at least, as many bytes are gone after n turns as there were turns, or all that
+/// waited before them, whatever else the turns bring: so n waiting bytes are gone after n turns.
+pub fn due_bytes_go()
+    ensures { DueBytesGo }
 {}
