@@ -1,6 +1,6 @@
 mod StandardFacts
 pub mod ListLemmas
-mod HeadLemmas
+pub mod HeadLemmas
 pub mod AlienLemmas
 pub mod FramesLemmas
 mod CutterLemmas

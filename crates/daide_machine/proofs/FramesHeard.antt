@@ -283,7 +283,7 @@ byte_limits s side x effects m t o =
 
 -- ---- after the end
 
-stays_over : (s : SessionState) (e : Event) (effects : List Effect) (m : SessionState) → Step s e effects m →
+pub stays_over : (s : SessionState) (e : Event) (effects : List Effect) (m : SessionState) → Step s e effects m →
     is_over s.phase ≡ true → m ≡ s
 stays_over s e effects m t o = ap (λ (q : Outcome). q.state) (sym t.outcome ∙ over_outcome s e t.verdict o)
 
@@ -293,7 +293,7 @@ hears_nothing side s (Ends from) o = refl
 hears_nothing side s (Loses from) o = refl
 hears_nothing side s Pops o = refl
 
-over_hears : (side : Side) (s : SessionState) (events : List Event) (effects : List Effect) (new : SessionState)
+pub over_hears : (side : Side) (s : SessionState) (events : List Event) (effects : List Effect) (new : SessionState)
     (run : Runs s events effects new) →
     is_over s.phase ≡ true → items_heard side s events effects new run ≡ []
 over_hears side s [] effects new run o = refl

@@ -6,6 +6,12 @@ pub mod FramesHeard
 pub mod CallLemmas
 pub mod HloLemmas
 pub mod LimitsKept
+pub mod FrameShapes
+pub mod FateLemmas
+pub mod AnswerBytes
+pub mod PassingLemmas
+pub mod BesideLemmas
+pub mod HarmLemmas
 pub mod StandardFacts
 pub mod GatewayFacts
 pub mod SessionFacts

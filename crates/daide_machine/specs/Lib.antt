@@ -7,4 +7,7 @@ pub mod Wires
 pub mod Weight
 pub mod Calls
 pub mod Heard
+pub mod Fates
+pub mod Passing
+pub mod Harm
 pub mod Laws

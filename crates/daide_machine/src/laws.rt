@@ -7,6 +7,9 @@ ghost use Rattle.daide_machine.specs.Machine.{fm_bytes};
 ghost use Rattle.daide_machine.specs.Laws.{EachEventHasAStep, EventsHaveARun};
 ghost use Rattle.daide_machine.specs.Laws.{AnswersAreUnique, RunsJoin, AnswersJoin, PiecesDoNotMatter};
 ghost use Rattle.daide_machine.specs.Laws.{CallsDeliverTheAnswers, EachWireGetsTheAnswers, OnlyEventsMatter};
+ghost use Rattle.daide_machine.specs.Fates.{EachMessageHasOneFate};
+ghost use Rattle.daide_machine.specs.Passing.{OnlyMessagesPass};
+ghost use Rattle.daide_machine.specs.Harm.{ASideHarmsItselfAlone};
 ghost use Rattle.daide_machine.specs.Laws.{NothingAfterTheEnd, FramesAreThoseOfTheCut, EachSideIsWaitedFor};
 
 use crate::answers::{CLOSE_WORD, ERR_WORD, FM, HUH_OPEN, PRN_OPEN};
@@ -95,4 +98,23 @@ pub fn frames_are_those_of_the_cut()
 /// only where an answer to its last frame waits, or after the end.
 pub fn each_side_is_waited_for()
     ensures { EachSideIsWaitedFor }
+{}
+
+/// Each whole message that came is passed on, or answered with PRN, or with HUH, once, in the order in which they
+/// came, or the session ended before. Nothing else is sent but IM, RM, FM and EM for their causes.
+pub fn each_message_has_one_fate()
+    ensures { EachMessageHasOneFate }
+{}
+
+/// What a side is sent is whole frames. A message among them is one of the other side at the level noted for it and
+/// not too deep, or one of its own within PRN, whose brackets are not paired, or within HUH, which is not passed on.
+/// But for PRN's its brackets balance, and an answer has one open bracket more than the message at most.
+pub fn only_messages_pass()
+    ensures { OnlyMessagesPass }
+{}
+
+/// What a side is sent does not depend on a message of the other side that was refused: without this message, wherever
+/// its bytes stood among the other side's, the run makes the same moves but for the refusal, which goes to its sender.
+pub fn a_side_harms_itself_alone()
+    ensures { ASideHarmsItselfAlone }
 {}

@@ -2,9 +2,9 @@
 //! tables in code.
 //!
 //! `specs/` has the definitions, in the order Bounds, Events, Answers, HloLevel, Machine, Wires, Weight, Calls,
-//! Heard, Laws. The code decides, and holds nothing but what is found of an HLO so far: `rules` and `hlo` answer what
-//! the machine's tables say, and `answers` has the words round an answer; so a session, and all that drives one, is
-//! proved over the same words.
+//! Heard, Fates, Passing, Harm, Laws. The code decides, and holds nothing but what is found of an HLO so far: `rules` and
+//! `hlo` answer what the machine's tables say, and `answers` has the words round an answer; so a session, and all that
+//! drives one, is proved over the same words.
 #![tactic(auto)]
 
 pub mod answers;

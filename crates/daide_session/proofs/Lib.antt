@@ -16,3 +16,5 @@ pub mod HubLemmas
 pub mod StoredLemmas
 pub mod LimitFacts
 pub mod ApartLemmas
+pub mod InARowLemmas
+pub mod DueLemmas

@@ -9,4 +9,6 @@ pub mod Headline
 pub mod MemoryPorts
 pub mod Hub
 pub mod HubRuns
+pub mod InARow
+pub mod Due
 pub mod Laws

@@ -3,6 +3,8 @@
 ghost use Rattle.daide_session.specs.Laws.{RelaysJoin, NewSessionsStand, HeadlinesJoin};
 ghost use Rattle.daide_session.specs.HubRuns.{SessionsAreApart, PortsComeBackApart, EachHasItsHeadline};
 ghost use Rattle.daide_session.specs.HubRuns.{OpenedSessionsStand};
+ghost use Rattle.daide_session.specs.Due.{DueBytesGo};
+ghost use Rattle.daide_session.specs.InARow.{TwoGatewaysInARow};
 
 use crate::ports::Ports;
 
@@ -32,4 +34,18 @@ pub fn sessions_are_apart<P: Ports>()
     ensures taken_out { PortsComeBackApart P.becomes }
     ensures headline { EachHasItsHeadline P.becomes }
     ensures stands { OpenedSessionsStand P.becomes }
+{}
+
+/// Of two gateways in a row with the same limits and words, the next passes on each message that the one sends toward
+/// it, and the one's own answers PRN and HUH too. It answers one itself only where its level for it is lower than the
+/// one by which it was passed on, or where it is a HUH that is too deep by the bracket that an answer adds; and never
+/// with PRN, so that PRN grows no further.
+pub fn two_gateways_in_a_row()
+    ensures { TwoGatewaysInARow }
+{}
+
+/// While a wire takes one byte a put at least, as many bytes are gone after n turns as there were turns, or all that
+/// waited before them, whatever else the turns bring: so n waiting bytes are gone after n turns.
+pub fn due_bytes_go()
+    ensures { DueBytesGo }
 {}

@@ -5,6 +5,7 @@ mod NamesByLetter
 mod NumberText
 mod TokenLemmas
 mod WholeText
+mod TextBack
 pub mod ClassNumbers
 mod StandardFacts
 mod SecondListing

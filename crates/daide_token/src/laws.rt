@@ -1,10 +1,12 @@
 //! Laws of the definitions: the calls that turn tokens into bytes, numbers and names undo each other.
 
-ghost use Rattle.std.specs.Prelude.{[], true, ℕ, ℤ, List, ◌<◌, ◌∷◌, ◌≡◌, ◌↔◌};
+ghost use Rattle.std.specs.Prelude.{[], true, ℕ, ℤ, List, ◌^◌, ◌<◌, ◌∷◌, ◌≡◌, ◌↔◌};
+ghost use Rattle.std.specs.List.{All};
 ghost use Rattle.daide_token.specs.Class.{class_of, has_one_token, is_standard, token_of};
 ghost use Rattle.daide_token.specs.ClassNumbers.{same_class};
 ghost use Rattle.daide_token.specs.declared.class.Class.{Class};
 ghost use Rattle.daide_token.specs.Names.{name_of, token_named};
+ghost use Rattle.daide_token.specs.Text.{text_of};
 ghost use Rattle.daide_token.specs.Token.{bytes_of, bytes_of_tokens, number_of};
 ghost use Rattle.daide_token.specs.Token.{token_of_bytes, token_of_number, tokens_of};
 
@@ -40,4 +42,11 @@ pub fn single_tokens_stand_alone()
 /// their numbers, so a place of a form takes the tokens of its own class and no others.
 pub fn numbers_tell_classes_apart()
     ensures { (c d : Class) → (same_class c d ≡ true) ↔ (c ≡ d) }
+{}
+
+/// Two lists of tokens with the same printed text are the same list: the text gives its tokens back, and there are no
+/// two that it can't tell apart.
+pub fn text_comes_back()
+    ensures { (ts us : List ℕ) → All (λ t. t < 2 ^ 16) ts → All (λ t. t < 2 ^ 16) us →
+        text_of ts ≡ text_of us → ts ≡ us }
 {}

@@ -4,4 +4,5 @@ pub mod WhereStopped
 pub mod AcceptedCodes
 mod WordFacts
 pub mod OverMessages
+pub mod PairedOverWords
 pub mod WordsGrow

@@ -21,7 +21,7 @@ use Rattle.daide_words.specs.Proved.WordDialect.{free-codes, keeps}
 use Rattle.daide_words.specs.Proved.WordLaws.{laws_over}
 
 -- an opening symbol's form is that of its side's messages
-opening-form : (side : Side2) (l : Level) → form_of (opening_of side l) ≡ message_form side l
+pub opening-form : (side : Side2) (l : Level) → form_of (opening_of side l) ≡ message_form side l
 unfolding form_of
 opening-form Client l = refl
 opening-form ServerEnd l = refl
@@ -50,7 +50,7 @@ module _ (words : Words) (free : are_free words ≡ true) where
       ∙ class_of-prn
 
   -- so no list of an opening symbol begins with PRN
-  form-not-prn : (side : Side2) (l : Level) (m : List ℕ) → SymbolMatchesIn (dialect_of words) (opening_of side l) m →
+  pub form-not-prn : (side : Side2) (l : Level) (m : List ℕ) → SymbolMatchesIn (dialect_of words) (opening_of side l) m →
       begins_with_prn m ≡ false
   form-not-prn side l [] h = refl
   form-not-prn side l (t ∷ m) h =

@@ -1,11 +1,13 @@
 //! What holds of all words that an operator may add. Each law is a function whose contract says it; none has anything
 //! to do.
 
-ghost use Rattle.std.specs.Prelude.{◌≡◌, ◌↔◌, ℕ, ◌≤◌, true, false, List};
+ghost use Rattle.std.specs.Prelude.{◌≡◌, ◌↔◌, ℕ, ◌≤◌, true, false, List, [], ◌∷◌, ◌++◌, take, drop};
+ghost use Rattle.daide_token.specs.Token.{bra, ket, prn, huh, err};
 ghost use Rattle.daide_grammar.specs.declared.level.Level.{Level};
 ghost use Rattle.daide_grammar.specs.declared.side.Side2.{Side2};
 ghost use Rattle.daide_grammar.specs.Level.{level_number};
-ghost use Rattle.daide_grammar.specs.Paired.{begins_with_prn};
+ghost use Rattle.daide_grammar.specs.Balanced.{IsBalanced};
+ghost use Rattle.daide_grammar.specs.Paired.{begins_with_prn, IsPaired};
 ghost use Rattle.daide_grammar.specs.Laws.{PredictLaws};
 ghost use Rattle.daide_grammar.specs.LawfulStack.{IsLawful};
 ghost use Rattle.daide_grammar.specs.SideMessages.{IsMessageOver, SymbolMatchesIn, dialect_of};
@@ -42,4 +44,32 @@ pub fn levels_only_add()
     ensures { (words : List Word) (side : Side2) (low high : Level) (m : List ℕ) →
         level_number low ≤ level_number high →
         IsMessageOver (grammar_words words) side low m → IsMessageOver (grammar_words words) side high m }
+{}
+
+/// With an operator's words too every message is paired: a report PRN, or a list that doesn't begin with PRN and whose
+/// brackets balance. So a message is never answered with PRN.
+pub fn messages_are_paired()
+    ensures { (words : List Word) (side : Side2) (level : Level) (m : List ℕ) → are_accepted words ≡ true →
+        IsMessageOver (grammar_words words) side level m → IsPaired m }
+{}
+
+/// `PRN ( m )` is a message of either side at every level, whatever the words and whatever m.
+pub fn prn_answer_is_a_message()
+    ensures { (words : List Word) (side : Side2) (level : Level) (m : List ℕ) →
+        IsMessageOver (grammar_words words) side level (prn ∷ bra ∷ (m ++ ket ∷ [])) }
+{}
+
+/// `HUH ( a )` is a message of either side at every level where a's brackets balance, with words as without.
+pub fn huh_answer_is_a_message()
+    ensures { (words : List Word) (side : Side2) (level : Level) (a : List ℕ) → are_accepted words ≡ true →
+        IsBalanced a → IsMessageOver (grammar_words words) side level (huh ∷ bra ∷ (a ++ ket ∷ [])) }
+{}
+
+/// So is `HUH ( m )` with ERR put in before any token of m, or after the last. So an answer passes the next gateway
+/// with words of its own too, where it is not too deep for it.
+pub fn huh_answer_with_err_is_a_message()
+    ensures { (words : List Word) (side : Side2) (level : Level) (m : List ℕ) (place : ℕ) →
+        are_accepted words ≡ true → IsBalanced m →
+        IsMessageOver (grammar_words words) side level
+        (huh ∷ bra ∷ ((take place m ++ err ∷ drop place m) ++ ket ∷ [])) }
 {}

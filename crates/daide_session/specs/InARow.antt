@@ -1,0 +1,45 @@
+-- Two gateways in a row: what one sends, and what the next makes of it.
+use Rattle.std.specs.Prelude.{◌≡◌, ℕ, ◌+◌, ◌≤◌, ◌<◌, true, List}
+use Rattle.std.specs.List.{All}
+use Rattle.daide_token.specs.Token.{tokens_of}
+use Rattle.daide_frame.specs.declared.side.Side.{Side}
+use Rattle.daide_frame.specs.declared.head.Kind.TheVariants.{Dm}
+use Rattle.daide_grammar.specs.declared.level.Level.{Level}
+use Rattle.daide_grammar.specs.Level.{level_number}
+use Rattle.daide_grammar.specs.Depth.{depth_of}
+use Rattle.daide_reader.specs.declared.verdict.Verdict.{Verdict}
+use Rattle.daide_reader.specs.declared.verdict.Verdict.TheVariants.{Relay, Huh}
+use Rattle.daide_words.specs.declared.word.Word.{Word}
+use Rattle.daide_words.specs.Accepted.{are_accepted}
+use Rattle.daide_words.specs.Word.{grammar_words}
+use Rattle.daide_machine.specs.Bounds.{longest_body}
+use Rattle.daide_machine.specs.Events.{Event, other}
+use Rattle.daide_machine.specs.Machine.{Limits, SessionState, Sent, Effect, Runs, opening}
+use Rattle.daide_machine.specs.Wires.{sent_to}
+use Rattle.daide_machine.specs.Fates.{Came, came_in, IsJudged}
+use Rattle.daide_machine.specs.Passing.{IsFrame, HasCome, IsWithinHuh}
+
+-- What the next gateway makes of a message that one sends it, by this level: it is passed on; unless the one passed it
+-- on by a higher level, or it is the one's own answer HUH, too deep by the bracket that the answer adds. It is never
+-- answered with PRN.
+pub data IsVerdictOfNext (limits : Limits) (came : List Came) (to : Side) (level : Level) (body : List ℕ)
+    (verdict : Verdict) : Type 0 where
+  passes : verdict ≡ Relay → IsVerdictOfNext limits came to level body verdict
+  lower : (noted : Level) (place : ℕ) → HasCome came (other to) noted body →
+      level_number level < level_number noted → verdict ≡ Huh place →
+      IsVerdictOfNext limits came to level body verdict
+  too_deep : (noted : Level) (place at : ℕ) (own : List ℕ) → HasCome came to noted own →
+      IsWithinHuh limits to noted place (tokens_of own) (tokens_of body) →
+      limits.max_depth < depth_of (tokens_of own) + 1 → verdict ≡ Huh at →
+      IsVerdictOfNext limits came to level body verdict
+
+-- Of two gateways with the same limits and words, over any run of the one: each message that it sends toward the next,
+-- its own answers too, has at the next such a verdict, by whatever level is noted for it there.
+abbrev pub TwoGatewaysInARow : Type 0
+TwoGatewaysInARow = (words : List Word) (limits : Limits) (events : List Event) (effects : List Effect)
+    (new : SessionState) (run : Runs (opening limits) events effects new) →
+    are_accepted words ≡ true → limits.words ≡ grammar_words words → limits.cap ≤ longest_body → (to : Side) →
+    All (λ (sent : Sent). (body : List ℕ) (level : Level) (verdict : Verdict) → IsFrame Dm body sent.bytes →
+    IsJudged limits (other to) level body verdict →
+    IsVerdictOfNext limits (came_in (opening limits) events effects new run) to level body verdict)
+    (sent_to to effects)
