@@ -18,16 +18,16 @@ use daide_session::Session;
 use std::alloc::Allocator;
 use std::io::Write;
 
-/// Takes all that waits for a wire.
+/// Takes all that waits for a wire, by whole frames.
 fn take_waiting<A: Allocator>(session: &mut Session<A>, side: Side)
     ensures state { session.new.state ≡ session.old.state }
     ensures gone { waiting session.new side ≡ [] }
     ensures other_wire { waiting session.new (opposite side) ≡ waiting session.old (opposite side) }
 {
-    let mut taken = session.front(side).len();
+    let mut taken = session.first_len(side);
     while taken > 0 {
         session.wrote(side, taken);
-        taken = session.front(side).len();
+        taken = session.first_len(side);
     }
 }
 
