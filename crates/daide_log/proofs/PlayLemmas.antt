@@ -12,7 +12,7 @@ use Rattle.daide_machine.specs.declared.note.Note.TheVariants as Notes
 use Rattle.daide_machine.specs.Events.{Event, Ends, Pops, bytes_come, other}
 use Rattle.daide_machine.specs.Machine.{SessionState, Effect, Outcome, Sent, Runs, coming, is_over, event_outcome}
 use Rattle.daide_machine.specs.Wires.{Gateway, Goes, sent_to, waiting, bytes_of}
-use Rattle.daide_machine.specs.Wires.{IsFrontOf, first_len, room_of, is_awaited}
+use Rattle.daide_machine.specs.Wires.{first_len, room_of, is_awaited}
 use Rattle.daide_machine.proofs.OneRun.{runs_join}
 use Rattle.daide_machine.proofs.PieceRuns.{over_stays}
 use Rattle.daide_machine.proofs.WireLemmas.{bytes_come-append}
