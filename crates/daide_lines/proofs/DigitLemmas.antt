@@ -1,17 +1,18 @@
 -- Digits are read to the bytes that they stand for.
 use Rattle.std.proofs.Common.{◌≡◌, ℕ, zero, suc, ◌+◌, ◌*◌, ◌%◌, ◌<◌, ◌≤◌, ◌-◌, ◌==◌, ◌&&◌, ◌⊎◌, inl, inr, Bool, true, false, if◌then◌else◌, List, [], ◌∷◌, ◌++◌, length, take, drop, get_or, set, drop-cons, Option, Some, None, Result, Ok, Err, refl, sym, ap, ◌∙◌, subst, arith, add-one, append_assoc}
-use Rattle.std.proofs.Common.{append-nil}
-use Rattle.std.specs.Prelude.{unwrap_or, is_some, slice_range}
+use Rattle.std.proofs.Common.{append-nil, map, nat_lt}
+use Rattle.std.specs.Prelude.{unwrap_or, is_some, slice_range, bit_and, min, max}
 use Rattle.std.proofs.Math.Seq.{take-add}
 use Rattle.std.proofs.lemmas.Bool.{and_parts, cases_eq}
 use Rattle.std.proofs.lemmas.Bool.Decides.{nat_tests}
 use Rattle.std.proofs.lemmas.List.{take_more_set, get_or-set_same, get_or-set_other, take-take, take-append-drop, length-take, length-take-le, length-drop}
 use Rattle.std.proofs.lemmas.List.{take_all, drop_all}
 use Rattle.std.proofs.lemmas.List.Folds.{list_all-append, list_all_more}
-use Rattle.std.specs.List.{list_all}
+use Rattle.std.specs.List.{list_all, range_with_len}
 use Rattle.hex.specs.Hex.{◌>>=◌, decode_of, decode_pairs, digit_or_error, hex_digit_value, is_hex_digit}
 use Rattle.hex.specs.declared.error.FromHexError.{FromHexError}
 use Rattle.hex.specs.declared.error.FromHexError.TheVariants.{OddLength}
+use Rattle.daide_grammar.proofs.Alike.{alike}
 use Rattle.daide_lines.specs.Digits.{bytes_in, value_of, IsRead}
 
 -- two digits and what follows them, decoded
@@ -89,10 +90,38 @@ is_read digits bytes n false twice e read = digits_refused digits bytes n twice 
 value_few : (digit : ℕ) → value_of digit < 16
 value_few digit = grind (arith, nat_tests)
 
--- no bit of a digit is lost
-pub byte_of : (high low h l : ℕ) → h ≡ value_of high → l ≡ value_of low →
-    (h * 16 % 256 + l) % 256 ≡ value_of high * 16 + value_of low
-byte_of high low h l e f = omega (arith, value_few high, value_few low)
+-- what a byte is read to, below 16 at digits alone
+abbrev pub reading : ℕ → ℕ
+reading byte = min (min ((bit_and byte 223 + 191) % 256) 245 + 10) ((max ((byte + 198) % 256) 6 + 10) % 256)
+
+pub reading_is : (byte decimal letter value : ℕ) → decimal ≡ max ((byte + 198) % 256) 6 →
+    letter ≡ min ((bit_and byte 223 + 191) % 256) 245 → value ≡ min (letter + 10) ((decimal + 10) % 256) →
+    value ≡ reading byte
+reading_is byte decimal letter value d l v =
+    v ∙ ap (λ (n : ℕ). min (n + 10) ((decimal + 10) % 256)) l
+    ∙ ap (λ (n : ℕ). min (min ((bit_and byte 223 + 191) % 256) 245 + 10) ((n + 10) % 256)) d
+
+readings : map (λ byte. nat_lt (reading byte) 16) (range_with_len 0 256) ≡ map is_hex_digit (range_with_len 0 256)
+readings = refl
+
+pub read_exactly : (byte : ℕ) → byte < 256 → nat_lt (reading byte) 16 ≡ is_hex_digit byte
+read_exactly byte less = alike (λ byte. nat_lt (reading byte) 16) is_hex_digit 256 readings byte less
+
+values : map (λ byte. if is_hex_digit byte then reading byte else 0) (range_with_len 0 256) ≡
+    map value_of (range_with_len 0 256)
+values = refl
+
+pub read_to_its_value : (byte : ℕ) → byte < 256 → is_hex_digit byte ≡ true → reading byte ≡ value_of byte
+read_to_its_value byte less digit =
+    ap (λ (b : Bool). if b then reading byte else 0) (sym digit)
+    ∙ alike (λ byte. if is_hex_digit byte then reading byte else 0) value_of 256 values byte less
+
+-- the byte of the values of two digits
+pub byte_read : (high low h l byte : ℕ) → h ≡ value_of high → l ≡ value_of low →
+    (h < 16 → l < 16 → byte ≡ h * 16 + l) → byte ≡ value_of high * 16 + value_of low
+byte_read high low h l byte e f read =
+    read (omega (arith, value_few high)) (omega (arith, value_few low))
+    ∙ ap (λ (n : ℕ). n * 16 + l) e ∙ ap (λ (n : ℕ). value_of high * 16 + n) f
 
 -- a byte more is read
 pub read_more : (bytes digits : List ℕ) (i v : ℕ) → i < length bytes → length digits ≡ 2 * length bytes →

@@ -3,7 +3,7 @@
 //! Sixteen bytes are read together, whatever their digits are, in two plain loops of a length that the compiler knows:
 //! it reads all thirty-two digits in a few wide instructions.
 
-ghost use Rattle.std.specs.Prelude.{◌≡◌, ◌*◌, ◌≤◌, length, true};
+ghost use Rattle.std.specs.Prelude.{◌≡◌, ◌+◌, ◌*◌, ◌<◌, ◌≤◌, length, min, max, true};
 ghost use Rattle.std.specs.List.{list_all};
 ghost use Rattle.hex.specs.Hex.{decode_of, is_hex_digit};
 ghost use Rattle.daide_lines.specs.Digits.{IsRead, bytes_in, value_of};
@@ -11,16 +11,41 @@ ghost use Rattle.daide_lines.specs.Digits.{IsRead, bytes_in, value_of};
 /// How many bytes are read together.
 const TOGETHER: usize = 16;
 
+/// The lesser of two bytes. Apart, since the compiler takes a choice for one instruction of the processor where it meets
+/// the choice by itself.
+fn lesser(one: u8, other: u8) -> u8
+    ensures { result ≡ min one other }
+{
+    if one < other { one } else { other }
+}
+
+/// The greater of two bytes.
+fn greater(one: u8, other: u8) -> u8
+    ensures { result ≡ max one other }
+{
+    if one < other { other } else { one }
+}
+
 /// Whether a byte is a digit, of either case, and its value. The value of what is none means nothing.
-#[inline(always)]
 fn read_digit(byte: u8) -> (bool, u8)
     ensures digit { result.0 ≡ is_hex_digit byte }
     ensures value { is_hex_digit byte ≡ true → result.1 ≡ value_of byte }
 {
-    let is_decimal = matches!(byte, b'0'..=b'9');
-    let is_letter = matches!(byte, b'A'..=b'F') | matches!(byte, b'a'..=b'f');
-    let value = if is_letter { byte % 16 + 9 } else { byte % 16 };
-    (is_decimal | is_letter, value)
+    // `0` to `9` are the ten greatest, which become 0 to 9, and all others 16 or more
+    let decimal = greater(byte.wrapping_add(0xC6), 6).wrapping_add(10);
+    // `A` to `F` and `a` to `f` become 10 to 15, and all others 16 or more
+    let letter = lesser((byte & 0xDF).wrapping_add(0xBF), 0xF5) + 10;
+    let value = lesser(letter, decimal);
+    (value < 16, value)
+}
+
+/// The byte of two digits' values, the high one first: the digits lie side by side in a number of sixteen bits, whose
+/// product has the byte above its low eight bits.
+fn byte_of(high: u8, low: u8) -> u8
+    ensures { (high < 16) → (low < 16) → result ≡ high * 16 + low }
+{
+    let pair = high as u16 + low as u16 * 256;
+    (pair.wrapping_mul(0x1001) / 256) as u8
 }
 
 /// Reads two digits for each byte, of no more bytes than are read together, and answers whether all are digits.
@@ -40,9 +65,7 @@ fn read_together(digits: &[u8], bytes: &mut [u8]) -> bool
         values[j] = value;
     }
     for i in 0..bytes.len() {
-        let high = values[2 * i];
-        let low = values[2 * i + 1];
-        bytes[i] = high.wrapping_mul(16).wrapping_add(low);
+        bytes[i] = byte_of(values[2 * i], values[2 * i + 1]);
     }
     all
 }

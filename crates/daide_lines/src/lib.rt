@@ -12,6 +12,7 @@ pub mod lines;
 pub mod match_line;
 pub mod page;
 pub mod parts;
+pub mod text;
 pub mod word_line;
 
 pub use fault::LogFault;

@@ -8,20 +8,14 @@ ghost use Rattle.daide_lines.specs.Lines.{IsFound, IsLineEnd, Scans, HasMore, Re
 use crate::block::Block;
 use crate::fault::LogFault;
 use crate::page::{Page, hand_over};
-use arrayvec::ArrayVec;
+use crate::text::{TOO_LONG, Text};
 use std::io::{Read, Write};
 
 /// The most lines of a log.
 const MOST_LINES: u32 = 1_000_000;
 
-/// One byte more than the most bytes of a line.
-const TOO_LONG: usize = 2101;
-
 /// How many bytes are looked at together.
-const TOGETHER: usize = 16;
-
-/// The bytes of a line.
-pub type Text = ArrayVec<u8, TOO_LONG>;
+const TOGETHER: usize = 32;
 
 /// What stands next in a log.
 #[derive(Clone, Copy)]
@@ -34,33 +28,63 @@ pub enum Found {
     End,
 }
 
-/// Whether none of the bytes from one on that are looked at together is a line feed. All are looked at, whatever the
-/// others are.
-fn are_unbroken(bytes: &[u8], first: usize) -> bool
-    requires { first + 16 ≤ length bytes.now }
-    ensures { result ≡ true → IsUnbroken (take 16 (drop first bytes.now)) }
+/// Whether none of so many bytes from one on is a line feed. All are looked at, whatever the others are.
+#[inline(always)]
+fn are_unbroken(bytes: &[u8], first: usize, count: usize) -> bool
+    requires { first + count ≤ length bytes.now }
+    ensures { result ≡ true → IsUnbroken (take count (drop first bytes.now)) }
 {
     let mut unbroken = true;
-    for k in 0..TOGETHER {
+    for k in 0..count {
         unbroken &= bytes[first + k] != b'\n';
     }
     unbroken
 }
 
+/// Past so many bytes from one on, if there are as many and none is a line feed, else there.
+#[inline(always)]
+fn past_unbroken(bytes: &[u8], first: usize, count: usize) -> usize
+    requires within { first ≤ length bytes.now }
+    requires so_far { IsUnbroken (take first bytes.now) }
+    ensures within { result ≤ length bytes.now }
+    ensures unbroken { IsUnbroken (take result bytes.now) }
+{
+    if bytes.len() - first < count {
+        return first;
+    }
+    if are_unbroken(bytes, first, count) {
+        return first + count;
+    }
+    first
+}
+
 /// How many bytes stand before the first line feed, at least: as many as were looked at together with no line feed
 /// among them.
-fn unbroken_front(bytes: &[u8]) -> usize
+#[inline(always)]
+fn unbroken_blocks(bytes: &[u8]) -> usize
     ensures within { result ≤ length bytes.now }
     ensures unbroken { IsUnbroken (take result bytes.now) }
 {
     let mut i = 0;
     while bytes.len() - i >= TOGETHER {
-        if !are_unbroken(bytes, i) {
+        if !are_unbroken(bytes, i, TOGETHER) {
             return i;
         }
         i += TOGETHER;
     }
     i
+}
+
+/// How many bytes stand before the first line feed, but for three at most: those behind the last block are looked at by
+/// fewer and fewer together.
+fn unbroken_front(bytes: &[u8]) -> usize
+    ensures within { result ≤ length bytes.now }
+    ensures unbroken { IsUnbroken (take result bytes.now) }
+{
+    let blocks = unbroken_blocks(bytes);
+    let sixteen = past_unbroken(bytes, blocks, 16);
+    let eight = past_unbroken(bytes, sixteen, 8);
+    past_unbroken(bytes, eight, 4)
 }
 
 /// Where the first line feed of some bytes stands.
@@ -85,13 +109,13 @@ fn scan(block: &mut Block, text: &mut Text) -> bool
     let front = &held[..held.len().min(room)];
     match line_end(front) {
         Some(n) => {
-            text.try_extend_from_slice(&front[..n]).unwrap();
+            text.put(&front[..n]);
             block.skip(n + 1);
             true
         }
         None => {
             let count = front.len();
-            text.try_extend_from_slice(front).unwrap();
+            text.put(front);
             block.skip(count);
             false
         }

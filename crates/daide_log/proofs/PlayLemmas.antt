@@ -12,7 +12,7 @@ use Rattle.daide_machine.specs.declared.note.Note.TheVariants as Notes
 use Rattle.daide_machine.specs.Events.{Event, Ends, Pops, bytes_come, other}
 use Rattle.daide_machine.specs.Machine.{SessionState, Effect, Outcome, Sent, Runs, coming, is_over, event_outcome}
 use Rattle.daide_machine.specs.Wires.{Gateway, Goes, sent_to, waiting, bytes_of}
-use Rattle.daide_machine.specs.Wires.{IsFrontOf, first_len, room_of, is_awaited}
+use Rattle.daide_machine.specs.Wires.{first_len, room_of, is_awaited}
 use Rattle.daide_machine.proofs.OneRun.{runs_join}
 use Rattle.daide_machine.proofs.PieceRuns.{over_stays}
 use Rattle.daide_machine.proofs.WireLemmas.{bytes_come-append}
@@ -24,17 +24,12 @@ use Rattle.daide_log.proofs.OneMove.{one_move_a_piece, one_move_a_timer}
 
 -- ---- the answers
 
--- what waits for a wire is being taken: its front has so many bytes, and nothing else changed
+-- what waits for a wire is being taken: its first frame has so many bytes, and nothing else changed
 pub record IsTaking (old : Gateway) (side : Side) (new : Gateway) (count : ℕ) : Type 0 where
   pub state : new.state ≡ old.state
   pub other_wire : waiting new (other side) ≡ waiting old (other side)
-  pub front : List ℕ
-  pub is_front : IsFrontOf front (waiting new side)
-  pub counted : length front ≡ count
-
-front_len : (front : List ℕ) (frames : List Sent) → IsFrontOf front frames → length front ≤ first_len frames
-front_len front [] h = omega (arith, ap length h)
-front_len front (frame ∷ frames) h = omega (arith, ap length h.1.1, length-append front h.1.0)
+  pub counted : count ≡ first_len (waiting new side)
+  pub none : count ≡ 0 → waiting new side ≡ []
 
 first_fits : (frames : List Sent) → first_len frames ≤ length (bytes_of frames)
 first_fits [] = omega arith
@@ -42,23 +37,15 @@ first_fits (frame ∷ frames) = omega (arith, length-append frame.bytes (bytes_o
 
 pub taking_fits : (old new : Gateway) (side : Side) (count : ℕ) → IsTaking old side new count →
     count ≤ first_len (waiting new side)
-taking_fits old new side count t =
-    subst (λ (n : ℕ). n ≤ first_len (waiting new side)) t.counted (front_len t.front (waiting new side) t.is_front)
+taking_fits old new side count t = omega (arith, t.counted)
 
 pub taking_fits_all : (old new : Gateway) (side : Side) (count : ℕ) → IsTaking old side new count →
     count ≤ length (bytes_of (waiting new side))
-taking_fits_all old new side count t =
-    let a = taking_fits old new side count t in
-    let b = first_fits (waiting new side) in
-    omega arith
-
-none_waits : (front : List ℕ) (frames : List Sent) → IsFrontOf front frames → length front ≡ 0 → frames ≡ []
-none_waits front [] h e = refl
-none_waits front (frame ∷ frames) h e = absurd (omega (arith, h.0, e))
+taking_fits_all old new side count t = omega (arith, t.counted, first_fits (waiting new side))
 
 pub all_taken : (old new : Gateway) (side : Side) (count : ℕ) → IsTaking old side new count → count ≡ 0 →
     waiting new side ≡ []
-all_taken old new side count t e = none_waits t.front (waiting new side) t.is_front (t.counted ∙ e)
+all_taken old new side count t e = t.none e
 
 -- ---- one piece
 

@@ -10,6 +10,7 @@ ghost use Rattle.daide_lines.specs.MatchTold.{IsMatchWithin, match_event_told};
 ghost use Rattle.daide_log.specs.Progress.{Judges, states_of};
 
 use crate::heading::Version;
+use crate::page::Unwritten;
 use crate::play::{end, feed_all, time_out};
 use crate::report::{Source, Summary};
 use daide_lines::event_line::{MOST, Told, read_event};
@@ -18,11 +19,10 @@ use daide_lines::match_line::{MatchTold, read_match_event};
 use daide_lines::page::Page;
 use daide_session::Session;
 use std::alloc::Allocator;
-use std::io;
 use std::io::Write;
 
 /// A fault of the writer is `Write`.
-fn or_write(told: io::Result<()>) -> Result<(), LogFault>
+fn or_write(told: Result<(), Unwritten>) -> Result<(), LogFault>
     ensures { MatchResult told (λ _. result ≡ Ok tt) (λ _. result ≡ Err LogFault.Write) }
 {
     match told {

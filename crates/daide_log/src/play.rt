@@ -9,26 +9,25 @@ ghost use Rattle.daide_machine.specs.Wires.{waiting, room_of};
 ghost use Rattle.daide_log.specs.Report.{counted};
 ghost use Rattle.daide_log.specs.Told.{HasRoom, IsMoreBy, IsIdle, Moves, Tells, told_lines};
 
-use crate::page::put_move;
+use crate::page::{Unwritten, put_move};
 use crate::report::{Source, Summary};
 use daide_frame::Side;
 use daide_lines::page::Page;
 use daide_machine::Note;
 use daide_session::Session;
 use std::alloc::Allocator;
-use std::io;
 use std::io::Write;
 
-/// Takes all that waits for a wire.
+/// Takes all that waits for a wire, by whole frames.
 fn take_waiting<A: Allocator>(session: &mut Session<A>, side: Side)
     ensures state { session.new.state ≡ session.old.state }
     ensures gone { waiting session.new side ≡ [] }
     ensures other_wire { waiting session.new (opposite side) ≡ waiting session.old (opposite side) }
 {
-    let mut taken = session.front(side).len();
+    let mut taken = session.first_len(side);
     while taken > 0 {
         session.wrote(side, taken);
-        taken = session.front(side).len();
+        taken = session.first_len(side);
     }
 }
 
@@ -65,7 +64,7 @@ fn tell<W: Write>(
     summary: &mut Summary,
     page: &mut Page,
     writer: &mut W,
-) -> io::Result<()>
+) -> Result<(), Unwritten>
     requires { HasRoom 1 summary.old }
     ensures counted { summary.new ≡ counted told summary.old }
     ensures few { IsMoreBy 1 summary.old summary.new }
@@ -88,7 +87,7 @@ pub fn feed_all<A: Allocator, W: Write>(
     summary: &mut Summary,
     page: &mut Page,
     writer: &mut W,
-) -> io::Result<()>
+) -> Result<(), Unwritten>
     requires idle { IsIdle session.old }
     requires room { HasRoom (length bytes.now) summary.old }
     ensures idle { IsIdle session.new }
@@ -115,7 +114,7 @@ pub fn end<A: Allocator, W: Write>(
     summary: &mut Summary,
     page: &mut Page,
     writer: &mut W,
-) -> io::Result<()>
+) -> Result<(), Unwritten>
     requires room { HasRoom 1 summary.old }
     ensures idle { IsIdle session.new }
     ensures few { IsMoreBy 1 summary.old summary.new }
@@ -139,7 +138,7 @@ pub fn time_out<A: Allocator, W: Write>(
     summary: &mut Summary,
     page: &mut Page,
     writer: &mut W,
-) -> io::Result<()>
+) -> Result<(), Unwritten>
     requires room { HasRoom 1 summary.old }
     ensures idle { IsIdle session.new }
     ensures few { IsMoreBy 1 summary.old summary.new }

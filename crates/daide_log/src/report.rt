@@ -1,8 +1,7 @@
-//! The lines of a report. Each is put together by itself, and given to its writer at once.
+//! The lines of a report. Each is put straight behind those that are held back, where there is room for any line.
 
-ghost use Rattle.std.specs.Prelude.{◌≡◌, ◌≤◌, ◌+◌, [], ◌∷◌, ◌++◌, length, OnOk};
+ghost use Rattle.std.specs.Prelude.{◌≡◌, ◌<◌, ◌≤◌, ◌+◌, ◌%◌, [], ◌∷◌, ◌++◌, length};
 ghost use Rattle.std.specs.Fmt.{decimal};
-ghost use Rattle.std.specs.Io.KnownBytes.{Appends};
 ghost use Rattle.hex.specs.Hex.{encode_upper};
 ghost use Rattle.daide_frame.specs.Code.{code_number};
 ghost use Rattle.daide_log.specs.Report.{name_of_side, move_text, source_text, told_text, move_line};
@@ -10,17 +9,12 @@ ghost use Rattle.daide_log.specs.Report.{counted, nothing_counted};
 ghost use Rattle.daide_log.specs.Report.{summary_line as last_line};
 ghost use Rattle.daide_log.specs.Told.{HasRoom, IsMoreBy};
 
-use arrayvec::ArrayVec;
 use daide_frame::{Code, Head, Side};
+use daide_lines::page::Page;
 use daide_machine::{Deed, Note};
-use std::io;
-use std::io::Write;
 
 /// More bytes than any line of a report has.
 pub const LINE: usize = 128;
-
-/// A line that is put together.
-type Line = ArrayVec<u8, LINE>;
 
 /// What made a move.
 #[derive(Clone, Copy)]
@@ -46,8 +40,8 @@ pub struct Summary {
 
 /// Puts text behind a line.
 #[inline(always)]
-fn put(text: &[u8], line: &mut Line)
-    requires { length line.old.items + length text.now ≤ 128 }
+fn put(text: &[u8], line: &mut Page)
+    requires { length line.old.items + length text.now ≤ 8192 }
     ensures text { line.new.items ≡ line.old.items ++ text.now }
     ensures length { length line.new.items ≡ length line.old.items + length text.now }
 {
@@ -55,8 +49,8 @@ fn put(text: &[u8], line: &mut Line)
 }
 
 /// Puts the decimal digits of a number behind a line.
-fn put_digits(number: u64, line: &mut Line)
-    requires { length line.old.items + length (decimal number) ≤ 128 }
+fn put_digits(number: u64, line: &mut Page)
+    requires { length line.old.items + length (decimal number) ≤ 8192 }
     ensures { line.new.items ≡ line.old.items ++ decimal number }
 {
     if number >= 10 {
@@ -65,22 +59,87 @@ fn put_digits(number: u64, line: &mut Line)
     line.push(b'0' + (number % 10) as u8);
 }
 
-/// Puts a number behind a line, which has twenty digits at most.
-#[tactic(auto, using(crate::proofs::ReportLemmas::decimal_few))]
-fn put_number(number: u64, line: &mut Line)
-    requires { length line.old.items ≤ 108 }
+/// Puts the digit of a number below ten.
+#[inline(always)]
+fn put_one(number: u16, line: &mut Page)
+    requires few { number < 10 }
+    requires room { length line.old.items ≤ 8172 }
+    ensures text { line.new.items ≡ line.old.items ++ decimal number }
+    ensures length { length line.new.items ≡ length line.old.items + 1 }
+{
+    line.push(b'0' + number as u8);
+}
+
+/// Puts the last digit of a number behind those before it.
+#[inline(always)]
+fn put_last(number: u16, line: &mut Page)
+    requires { length line.old.items ≤ 8191 }
+    ensures text { line.new.items ≡ line.old.items ++ (48 + number % 10) ∷ [] }
+    ensures length { length line.new.items ≡ length line.old.items + 1 }
+{
+    line.push((number % 10) as u8 + b'0');
+}
+
+/// Puts the digits of a number that has two.
+#[inline(always)]
+fn put_two(number: u16, line: &mut Page)
+    requires least { 10 ≤ number }
+    requires few { number < 100 }
+    requires room { length line.old.items ≤ 8172 }
+    ensures text { line.new.items ≡ line.old.items ++ decimal number }
+    ensures length { length line.new.items ≡ length line.old.items + 2 }
+{
+    put_one(number / 10, line);
+    put_last(number, line);
+}
+
+/// Puts the digits of a number that has three.
+#[inline(always)]
+fn put_three(number: u16, line: &mut Page)
+    requires least { 100 ≤ number }
+    requires few { number < 1000 }
+    requires room { length line.old.items ≤ 8172 }
+    ensures text { line.new.items ≡ line.old.items ++ decimal number }
+    ensures length { length line.new.items ≡ length line.old.items + 3 }
+{
+    put_two(number / 10, line);
+    put_last(number, line);
+}
+
+/// Puts the digits of a number that has four.
+#[inline(always)]
+fn put_four(number: u16, line: &mut Page)
+    requires least { 1000 ≤ number }
+    requires few { number < 10000 }
+    requires room { length line.old.items ≤ 8172 }
+    ensures text { line.new.items ≡ line.old.items ++ decimal number }
+    ensures length { length line.new.items ≡ length line.old.items + 4 }
+{
+    put_three(number / 10, line);
+    put_last(number, line);
+}
+
+/// Puts a number behind a line, which has twenty digits at most, and mostly four or fewer: those need no calls.
+fn put_number(number: u64, line: &mut Page)
+    requires { length line.old.items ≤ 8172 }
     ensures text { line.new.items ≡ line.old.items ++ decimal number }
     ensures few { length line.new.items ≤ length line.old.items + 20 }
 {
-    put_digits(number, line);
+    match number {
+        0..=9 => put_one(number as u16, line),
+        10..=99 => put_two(number as u16, line),
+        100..=999 => put_three(number as u16, line),
+        1000..=9999 => put_four(number as u16, line),
+        _ => put_digits(number, line),
+    }
 }
 
 /// Puts the number of the line that made a move, and that of the session.
 #[tactic(auto, unfolding(crate::specs::Report::source_text))]
-fn put_source(source: Source, line: &mut Line)
-    requires { line.old.items ≡ [] }
-    ensures text { line.new.items ≡ source_text source }
-    ensures few { length line.new.items ≤ 42 }
+fn put_source(source: Source, line: &mut Page)
+    requires { length line.old.items ≤ 8064 }
+    ensures text { line.new.items ≡ line.old.items ++ source_text source }
+    ensures few { length line.new.items ≤ length line.old.items + 42 }
 {
     put_number(source.line as u64, line);
     line.push(b' ');
@@ -91,10 +150,11 @@ fn put_source(source: Source, line: &mut Line)
 }
 
 /// Puts a side, and a space behind it.
-fn put_side(side: Side, line: &mut Line)
-    requires { length line.old.items ≤ 42 }
+#[inline(always)]
+fn put_side(side: Side, line: &mut Page)
+    requires { length line.old.items ≤ 8106 }
     ensures text { line.new.items ≡ line.old.items ++ name_of_side side ++ 32 ∷ [] }
-    ensures few { length line.new.items ≤ 49 }
+    ensures few { length line.new.items ≤ length line.old.items + 7 }
 {
     match side {
         Side::Bot => put(b"bot ", line),
@@ -103,8 +163,8 @@ fn put_side(side: Side, line: &mut Line)
 }
 
 /// Puts what became of a frame, and the end of the line.
-fn put_frame(head: Head, deed: Deed, line: &mut Line)
-    requires { length line.old.items ≤ 49 }
+fn put_frame(head: Head, deed: Deed, line: &mut Page)
+    requires { length line.old.items ≤ 8113 }
     ensures { line.new.items ≡ line.old.items ++ move_text (Note.Frame head deed) ++ 10 ∷ [] }
 {
     put(head.kind.name().as_bytes(), line);
@@ -148,8 +208,8 @@ fn code_digits(code: Code) -> &'static str
 
 /// Puts what a side's move was, and the end of the line.
 #[tactic(auto, unfolding(crate::specs::Report::told_text))]
-fn put_told(side: Side, told: Note, line: &mut Line)
-    requires { length line.old.items ≤ 42 }
+fn put_told(side: Side, told: Note, line: &mut Page)
+    requires { length line.old.items ≤ 8106 }
     ensures { line.new.items ≡ line.old.items ++ told_text side told }
 {
     put_side(side, line);
@@ -164,20 +224,14 @@ fn put_told(side: Side, told: Note, line: &mut Line)
     }
 }
 
-/// Writes the line of a side's move, behind the numbers of what made it.
+/// Puts the line of a side's move, behind the numbers of what made it.
 #[tactic(auto, unfolding(crate::specs::Report::move_line))]
-pub fn write_move<W: Write>(
-    source: Source,
-    side: Side,
-    told: Note,
-    writer: &mut W,
-) -> io::Result<()>
-    ensures { OnOk result (Appends (W.contents writer.old) (W.contents writer.new) (move_line source side told)) }
+pub fn write_move(source: Source, side: Side, told: Note, line: &mut Page)
+    requires { length line.old.items ≤ 8064 }
+    ensures { line.new.items ≡ line.old.items ++ move_line source side told }
 {
-    let mut line = Line::new();
-    put_source(source, &mut line);
-    put_told(side, told, &mut line);
-    writer.write_all(line.as_slice())
+    put_source(source, line);
+    put_told(side, told, line);
 }
 
 impl Summary {
@@ -209,20 +263,19 @@ impl Summary {
     }
 }
 
-/// Writes the last line of a report.
+/// Puts the last line of a report.
 #[tactic(auto, unfolding(crate::specs::Report::summary_line))]
-pub fn write_summary<W: Write>(summary: Summary, writer: &mut W) -> io::Result<()>
-    ensures { OnOk result (Appends (W.contents writer.old) (W.contents writer.new) (last_line summary)) }
+pub fn write_summary(summary: Summary, line: &mut Page)
+    requires { length line.old.items ≤ 8064 }
+    ensures { line.new.items ≡ line.old.items ++ last_line summary }
 {
-    let mut line = Line::new();
-    put(b"relayed ", &mut line);
-    put_number(summary.relayed, &mut line);
-    put(b" prn ", &mut line);
-    put_number(summary.prn, &mut line);
-    put(b" huh ", &mut line);
-    put_number(summary.huh, &mut line);
-    put(b" faults ", &mut line);
-    put_number(summary.faults, &mut line);
+    put(b"relayed ", line);
+    put_number(summary.relayed, line);
+    put(b" prn ", line);
+    put_number(summary.prn, line);
+    put(b" huh ", line);
+    put_number(summary.huh, line);
+    put(b" faults ", line);
+    put_number(summary.faults, line);
     line.push(b'\n');
-    writer.write_all(line.as_slice())
 }

@@ -42,6 +42,16 @@ pub first_len_is : (f : Fields) (to : Side) →
     size_of_first (answer_at f.sides) (at f.wires to).items - (at f.wires to).written ≡ first_len (frames_to f to)
 first_len_is f to = left_of to (answer_at f.sides) (at f.wires to).written (at f.wires to).items
 
+none_in : (to : Side) (a : Side → List ℕ) (gone : ℕ) (items : List Waiting) → IsBegun a gone items →
+    size_of_first a items - gone ≡ 0 → frames_of to a (record { written = gone; items = items }) ≡ []
+none_in to a gone [] h e = refl
+none_in to a gone (item ∷ items) h e = absurd (omega (arith, h, e))
+
+-- a frame that waits has a byte left
+pub none_left : (f : Fields) (to : Side) → IsSound f →
+    size_of_first (answer_at f.sides) (at f.wires to).items - (at f.wires to).written ≡ 0 → frames_to f to ≡ []
+none_left f to i e = none_in to (answer_at f.sides) (at f.wires to).written (at f.wires to).items (i.begun to) e
+
 -- ---- fronts
 
 -- what is left of the first frame, or of the part of an answer that is sent now

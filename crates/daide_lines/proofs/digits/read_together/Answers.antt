@@ -3,7 +3,7 @@ use Rattle.std.proofs.lemmas.List.{take_all}
 use Rattle.std.proofs.lemmas.List.Folds.{list_all_more}
 use Rattle.std.specs.List.{list_all}
 use Rattle.hex.specs.Hex.{is_hex_digit}
-use Rattle.daide_lines.proofs.DigitLemmas.{all_read, byte_of, read_more, values_more}
+use Rattle.daide_lines.proofs.DigitLemmas.{all_read, byte_read, read_more, values_more}
 use Rattle.daide_lines.proofs.digits.read_together.Goals as goal
 
 pub loop-j-init : goal.loop-j-init
@@ -35,8 +35,9 @@ loop-i-preserved c =
       bytes = λ all.
           let known = c.loop-j.invariant.values (sym c.loop-j.invariant.all ∙ all) in
           read_more c.loop-i.bytes digits i _ (omega arith) (omega arith) (c.loop-i.invariant.bytes all)
-          (byte_of (get_or digits (2 * i) 0) (get_or digits (2 * i + 1) 0) (get_or values (2 * i) 0)
-          (get_or values (2 * i + 1) 0) (known (2 * i) (omega arith)) (known (2 * i + 1) (omega arith)));
+          (byte_read (get_or digits (2 * i) 0) (get_or digits (2 * i + 1) 0) (get_or values (2 * i) 0)
+          (get_or values (2 * i + 1) 0) _ (known (2 * i) (omega arith)) (known (2 * i + 1) (omega arith))
+          c.byte_of.ensures);
     }
 
 pub returns-clause-all : goal.returns-clause-all

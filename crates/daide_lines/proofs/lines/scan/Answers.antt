@@ -5,23 +5,23 @@ use Rattle.daide_lines.proofs.lines.scan.Goals as goal
 
 pub returns-in-Some : goal.returns-in-Some
 returns-in-Some c =
-    let grown = rw c.unwrap.ensures at c.try_extend_from_slice.ensures.ok in
+    let grown = c.put.ensures in
     let full = c.len-room.ensures.fits in
-    subst (λ (l : List ℕ). Scans l c.args.text.now.items true c.skip.new.self c.try_extend_from_slice.new.self.items)
+    subst (λ (l : List ℕ). Scans l c.args.text.now.items true c.skip.new.self c.put.new.self.items)
     c.as_slice-held.ensures.value
     (line_scanned c.as_slice-held.result.now c.args.text.now.items c.min.result c.in-Some.n c.skip.new.self
-    c.try_extend_from_slice.new.self.items (omega (arith, c.min.ensures))
+    c.put.new.self.items (omega (arith, c.min.ensures))
     (omega (arith, c.min.ensures, c.len-room.ensures.value, full)) c.in-Some.ensures.0 c.in-Some.ensures.1 c.in-Some.ensures.2
     (c.skip.ensures ∙ ap (drop (c.in-Some.n + 1)) (sym c.as_slice-held.ensures.value)) grown)
 
 pub returns-in-None : goal.returns-in-None
 returns-in-None c =
-    let grown = rw c.unwrap-in-None.ensures at c.try_extend_from_slice-in-None.ensures.ok in
+    let grown = c.put-in-None.ensures in
     let full = c.len-room.ensures.fits in
     subst (λ (l : List ℕ).
-    Scans l c.args.text.now.items false c.skip-in-None.new.self c.try_extend_from_slice-in-None.new.self.items)
+    Scans l c.args.text.now.items false c.skip-in-None.new.self c.put-in-None.new.self.items)
     c.as_slice-held.ensures.value
     (part_scanned c.as_slice-held.result.now c.args.text.now.items c.min.result c.skip-in-None.new.self
-    c.try_extend_from_slice-in-None.new.self.items (omega (arith, c.min.ensures))
+    c.put-in-None.new.self.items (omega (arith, c.min.ensures))
     (λ less. omega (arith, c.min.ensures, c.len-room.ensures.value, full)) c.in-None.ensures
     (c.skip-in-None.ensures ∙ ap (drop _) (sym c.as_slice-held.ensures.value)) grown c.as_slice-held.ensures.fits)

@@ -1,4 +1,4 @@
-use Rattle.std.proofs.Common.{◌≡◌, subst, sym, [], List, length, arith}
+use Rattle.std.proofs.Common.{subst, sym, [], List, arith}
 use Rattle.std.specs.Io.KnownBytes.{append_known}
 use Rattle.daide_machine.specs.Machine.{SessionState, opening}
 use Rattle.daide_session.specs.Session.{limits_with}

@@ -16,11 +16,11 @@ push-requires t c =
       | then-number-ge10 w ↦
           let e : c.if-number-ge10.line.items ≡ c.args.line.now.items ++ decimal (c.args.number / 10) = cc in (
             omega arith,
-            room_behind c.args.line.now.items c.if-number-ge10.line.items c.args.number 128 w.if-number-ge10.true
+            room_behind c.args.line.now.items c.if-number-ge10.line.items c.args.number 8192 w.if-number-ge10.true
                 c.ranges.number.fits c.requires e,
           )
       | else-number-ge10 w ↦
-          let room = room_for_one c.args.line.now.items c.args.number 128 c.ranges.number.fits c.requires in
+          let room = room_for_one c.args.line.now.items c.args.number 8192 c.ranges.number.fits c.requires in
           let e : c.if-number-ge10.line.items ≡ c.args.line.now.items = cc in (
             omega arith,
             omega (arith, room, ap length e),

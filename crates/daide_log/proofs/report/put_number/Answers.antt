@@ -3,8 +3,11 @@ use Rattle.std.specs.Fmt.{decimal}
 use Rattle.daide_log.proofs.ReportLemmas.{decimal_few}
 use Rattle.daide_log.proofs.report.put_number.Goals as goal
 
-pub returns-clause-few : goal.returns-clause-few
-returns-clause-few c =
+pub put_digits-requires : goal.put_digits-requires
+put_digits-requires c = omega (arith, decimal_few c.args.number c.ranges.number.fits, c.requires)
+
+pub returns-in_default-clause-few : goal.returns-in_default-clause-few
+returns-in_default-clause-few c =
     omega (
       arith,
       decimal_few c.args.number c.ranges.number.fits,

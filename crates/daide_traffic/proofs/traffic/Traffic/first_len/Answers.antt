@@ -3,7 +3,7 @@ use Rattle.daide_machine.specs.Wires.{first_len}
 use Rattle.daide_traffic.specs.Both.{at}
 use Rattle.daide_traffic.specs.Traffic.{fields, Traffic, answer_at, size_of_first}
 use Rattle.daide_traffic.specs.Wire.{Queue}
-use Rattle.daide_traffic.proofs.FrontLemmas.{begun_within, first_len_is, waits_at}
+use Rattle.daide_traffic.proofs.FrontLemmas.{begun_within, first_len_is, none_left, waits_at}
 use Rattle.daide_traffic.proofs.traffic.Traffic.first_len.Goals as goal
 
 pub overflow_sub-result : goal.overflow_sub-result
@@ -17,8 +17,8 @@ overflow_sub-result g c =
     c.written.ensures ∙ ap (λ (q : Queue). q.written) c.toward-wire.ensures in
     omega arith
 
-pub returns : goal.returns
-returns g c =
+pub returns-clause-value : goal.returns-clause-value
+returns-clause-value g c =
     let d = c.self.inside in
     let f = fields d.bot d.server d.to_bot d.to_server in
     let size : c.first_frame_len.result ≡ size_of_first (answer_at f.sides) (at f.wires c.args.to).items =
@@ -29,3 +29,14 @@ returns g c =
     ∙ ap (λ (n : ℕ). size_of_first (answer_at f.sides) (at f.wires c.args.to).items - n) written
     ∙ first_len_is f c.args.to
     ∙ ap first_len (sym (waits_at f c.args.to) ∙ ap (λ (v : Traffic). at v.waiting c.args.to) c.self.view_is)
+
+pub returns-clause-none : goal.returns-clause-none
+returns-clause-none g c e =
+    let d = c.self.inside in
+    let f = fields d.bot d.server d.to_bot d.to_server in
+    let size : c.first_frame_len.result ≡ size_of_first (answer_at f.sides) (at f.wires c.args.to).items =
+    c.first_frame_len.ensures ∙ ap (λ (q : Queue). size_of_first (answer_at f.sides) q.items) c.toward-wire.ensures in
+    let written : c.written.result ≡ (at f.wires c.args.to).written =
+    c.written.ensures ∙ ap (λ (q : Queue). q.written) c.toward-wire.ensures in
+    ap (λ (v : Traffic). at v.waiting c.args.to) (sym c.self.view_is) ∙ waits_at f c.args.to
+    ∙ none_left f c.args.to c.self.invariant (omega (arith, size, written, e))

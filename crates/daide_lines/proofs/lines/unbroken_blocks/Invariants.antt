@@ -1,6 +1,6 @@
 use Rattle.std.proofs.Common.{◌-◌, ◌≤◌, length, take}
 use Rattle.daide_lines.specs.LogLine.{IsUnbroken}
-use Rattle.daide_lines.proofs.lines.unbroken_front.Given as goal
+use Rattle.daide_lines.proofs.lines.unbroken_blocks.Given as goal
 
 -- no line feed stands before here
 abbrev pub invariant-loop-i : goal.invariant-loop-i
