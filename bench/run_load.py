@@ -39,6 +39,11 @@ def name_message(size):
     return bytes.fromhex("480c4000") + b"\x4b\x61" * letters + bytes.fromhex("400140004b614001")
 
 
+def yes_message(size):
+    """YES ( NME ( 'aaa..' ) ( 'a' ) ), which a server may send: so many bytes."""
+    return bytes.fromhex("481c4000") + name_message(size - 6) + bytes.fromhex("4001")
+
+
 def listening():
     listener = socket.create_server(("127.0.0.1", 0), backlog=512)
     return listener, listener.getsockname()[1]
@@ -300,12 +305,12 @@ def measure_memory(programs):
             before = gateway.resident()
             held = [gateway.session() for _ in range(256)]
             idle = gateway.resident()
-            message = frame(name_message(4096)) * 16
+            message, answer = frame(name_message(4096)) * 16, frame(yes_message(4096)) * 16
             for bot, server in held:
                 bot.sendall(message)
                 heard(server, len(message))
-                server.sendall(message)
-                heard(bot, len(message))
+                server.sendall(answer)
+                heard(bot, len(answer))
             used = gateway.resident()
             began = gateway.processor_seconds()
             time.sleep(10)

@@ -124,22 +124,27 @@ impl<'w, S: Duplex + Drop> Closing<'w, S> {
 
 /// The sockets that close.
 #[derive(Drop)]
-pub struct Closings<'w> {
-    sockets: Vec<Closing<'w>>,
+pub struct Closings<'w, S: Duplex + Drop = Connection> {
+    /// In the order in which they began.
+    sockets: Vec<Closing<'w, S>>,
+    /// Which of them is looked at next.
+    next: usize,
 }
 
-impl<'w> Closings<'w> {
+impl<'w, S: Duplex + Drop> Closings<'w, S> {
     /// None yet, and room for all.
-    pub fn new(alloc: Global) -> Result<Closings<'w>, AllocError> {
+    pub fn new(alloc: Global) -> Result<Closings<'w, S>, AllocError> {
         Ok(Closings {
             sockets: Vec::with_capacity(alloc, MOST_CLOSING)?,
+            next: 0,
         })
     }
 
-    /// Begins to close a socket.
-    pub fn begin<R: Clock>(&mut self, watch: &Watch<R>, socket: Socket<'w>) {
+    /// Begins to close a socket. Where there are `MOST_CLOSING` already, the one that began first is closed.
+    pub fn begin<R: Clock>(&mut self, watch: &Watch<R>, socket: Socket<'w, S>) {
         if self.sockets.len() >= MOST_CLOSING {
             self.sockets.remove(0);
+            self.next = self.next.saturating_sub(1);
         }
         let mut closing = Closing::new(socket);
         closing.end_writing(watch);
@@ -148,23 +153,31 @@ impl<'w> Closings<'w> {
     }
 
     /// Begins to close both sockets of a session.
-    pub fn begin_both<R: Clock>(&mut self, watch: &Watch<R>, ports: SocketPorts<'w, R>) {
+    pub fn begin_both<R: Clock>(&mut self, watch: &Watch<R>, ports: SocketPorts<'w, R, S>) {
         let (bot, server) = ports.into_sockets();
         self.begin(watch, bot);
         self.begin(watch, server);
     }
 
-    /// Goes on with the next few, and closes those that are to be.
+    /// Goes on with the next, behind the last with the first, and closes it where it is to be.
+    fn advance_next<R: Clock>(&mut self, watch: &Watch<R>) {
+        if self.next >= self.sockets.len() {
+            self.next = 0;
+        }
+        let Some(closing) = self.sockets.get_mut(self.next) else {
+            return;
+        };
+        if closing.advances(watch) {
+            self.sockets.remove(self.next);
+        } else {
+            self.next = self.next.saturating_add(1);
+        }
+    }
+
+    /// Goes on with the next few.
     pub fn advance<R: Clock>(&mut self, watch: &Watch<R>) {
         for _ in 0..self.sockets.len().min(MOST_LOOKS) {
-            if self.sockets.is_empty() {
-                return;
-            }
-            let mut closing = self.sockets.remove(0);
-            if !closing.advances(watch) {
-                // There is room for as many as there were.
-                let _ = self.sockets.push(closing);
-            }
+            self.advance_next(watch);
         }
     }
 

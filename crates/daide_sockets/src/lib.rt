@@ -9,7 +9,7 @@
 #![tactic(auto)]
 
 pub mod admission;
-mod closing;
+pub mod closing;
 pub mod connection;
 pub mod gateway;
 pub mod laws;

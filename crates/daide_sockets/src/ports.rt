@@ -73,6 +73,7 @@ impl<'w, S: Drop> Socket<'w, S> {
 impl<S: Duplex + Drop> Socket<'_, S> {
     /// Hands out what was read ahead, or reads what is there: what is told as `Got` is, in order, what the connection
     /// gave.
+    #[tactic(auto, using(daide_streams::proofs::BufferLemmas::same_passes))]
     pub fn pull(&mut self, buffer: &mut [u8]) -> Pull
         ensures within { IsPullWithin result (length buffer.old) }
         ensures len { length buffer.new ≡ length buffer.old }
@@ -81,6 +82,10 @@ impl<S: Duplex + Drop> Socket<'_, S> {
     {
         let flags = self.place.flags;
         let mut readiness = flags.readiness.get();
+        // Most turns of an idle session end here.
+        if !readiness.may_read && !self.stream.is_ahead() {
+            return Pull::Idle;
+        }
         let pull = self.stream.pull(self.pool, &mut readiness, buffer);
         flags.readiness.set(readiness);
         pull
@@ -100,10 +105,14 @@ impl<S: Duplex + Drop> Socket<'_, S> {
     }
 
     /// Writes what is held, as much as the connection takes.
+    #[tactic(auto, using(daide_streams::proofs::BufferLemmas::same_passes))]
     pub fn flush(&mut self)
         ensures passes { Passes S.to_give S.taken self.old.stream [] [] self.new.stream }
         ensures unread { IsUnread S.to_give self.old.stream self.new.stream }
     {
+        if !self.stream.is_behind() {
+            return;
+        }
         let flags = self.place.flags;
         let mut readiness = flags.readiness.get();
         self.stream.flush(self.pool, &mut readiness);
