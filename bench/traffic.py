@@ -12,9 +12,11 @@ import random
 import re
 import sys
 
-TABLE = pathlib.Path(__file__).resolve().parent / "../crates/daide_token/src/names.rt"
-NAMED = re.findall(r'\("([A-Z]{3})", 0x([0-9A-F]{4})\)', TABLE.read_text())
-NAMES = {"(": 0x4000, ")": 0x4001} | {name: int(code, 16) for name, code in sorted(NAMED, key=lambda row: row[1])}
+TABLE = pathlib.Path(__file__).resolve().parent / "../crates/daide_token/specs/Names.antt"
+# the table has the names of codes that count upwards by one in one text
+ROWS = re.findall(r'from 0x([0-9A-F]{4}) \(codes "([A-Z ]+)"\)', TABLE.read_text())
+NAMES = {"(": 0x4000, ")": 0x4001}
+NAMES |= {name: int(first, 16) + place for first, row in ROWS for place, name in enumerate(row.split())}
 
 
 def of_category(low, high):
