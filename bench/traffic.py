@@ -13,6 +13,7 @@ import re
 import sys
 
 TABLE = pathlib.Path(__file__).resolve().parent / "../crates/daide_token/specs/Names.antt"
+# the table has the names of codes that count upwards by one in one text
 ROWS = re.findall(r'from 0x([0-9A-F]{4}) \(codes "([A-Z ]+)"\)', TABLE.read_text())
 NAMED = {name: int(first, 16) + place for first, names in ROWS for place, name in enumerate(names.split())}
 NAMES = {"(": 0x4000, ")": 0x4001} | NAMED

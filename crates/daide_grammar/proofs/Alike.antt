@@ -30,3 +30,10 @@ pub passes_at : {X : Type 0} (p : X → Bool) (xs : List X) (k : ℕ) (d : X) �
 passes_at p [] k d all past = past
 passes_at p (x ∷ xs) zero d all past = (and_parts (p x) (list_all p xs) all).0
 passes_at p (x ∷ xs) (suc k) d all past = passes_at p xs k d (and_parts (p x) (list_all p xs) all).1 past
+
+-- an item of a list, as it is seen in another list of as many
+pub row_seen : {R X : Type 0} (seen : R → X) (rows : List R) (told : List X) (k : ℕ) (d : R) (e : X) →
+    map seen rows ≡ told → k < length told → seen (get_or rows k d) ≡ get_or told k e
+row_seen {R} {X} seen rows told k d e same less =
+    sym (get_or-map seen rows k d) ∙ ap (λ (xs : List X). get_or xs k (seen d)) same
+    ∙ any_default k told (seen d) e less

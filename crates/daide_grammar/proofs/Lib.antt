@@ -23,3 +23,4 @@ pub mod PlainRules
 pub mod OtherClasses
 pub mod OneEntry
 pub mod Starts
+pub mod BracketSteps

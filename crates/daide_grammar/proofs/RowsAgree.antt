@@ -1,11 +1,12 @@
 -- The constant table says what the entries of each symbol say.
-use Rattle.std.proofs.Common.{◌≡◌, ℕ, zero, suc, ◌<◌, Bool, true, false, ◌&&◌, nat_eq, nat_lt, ltb-true, List, [], ◌∷◌}
-use Rattle.std.proofs.Common.{Option, Some, None, length, get_or, refl, sym, ap, subst, ◌∙◌, arith}
+use Rattle.std.proofs.Common.{◌≡◌, ℕ, zero, suc, ◌+◌, ◌<◌, Bool, true, false, ◌&&◌, nat_eq, nat_lt, ltb-true, List, []}
+use Rattle.std.proofs.Common.{◌∷◌}
+use Rattle.std.proofs.Common.{Option, Some, None, length, map, get_or, refl, sym, ap, subst, ◌∙◌, arith}
 use Rattle.std.proofs.lemmas.Bool.{and_parts, eqb-true}
-use Rattle.std.specs.List.{list_all}
+use Rattle.std.specs.List.{list_all, range_with_len}
 use Rattle.std.specs.Prelude.{slice_index_or}
 use Rattle.daide_token.specs.declared.class.Class.{Class}
-use Rattle.daide_token.specs.declared.class.Class.TheVariants.{Num}
+use Rattle.daide_token.specs.declared.class.Class.TheVariants.{Num, Other, Word}
 use Rattle.daide_grammar.specs.declared.symbol.Sym.{Sym}
 use Rattle.daide_grammar.specs.declared.symbol.Sym.TheVariants.{Closing}
 use Rattle.daide_grammar.specs.declared.table.rows.TheConstants.{TABLE}
@@ -15,9 +16,9 @@ use Rattle.daide_grammar.specs.Classes.{class_number}
 use Rattle.daide_grammar.specs.Numbers.{classes, class_at, symbol_at, symbol_number, symbols}
 use Rattle.daide_grammar.specs.Rules.{deed, rest_at, HasRule}
 use Rattle.daide_grammar.specs.Symbols.{Entry, answer_by, entries, entry_at, may_end_of, table_answer}
-use Rattle.daide_grammar.proofs.Alike.{passes_at}
+use Rattle.daide_grammar.proofs.Alike.{alike, passes_at}
 use Rattle.daide_grammar.proofs.NumberLemmas.{symbol_back, symbol_small}
-use Rattle.daide_grammar.proofs.WordColumns.{class_told}
+use Rattle.daide_grammar.proofs.WordColumns.{class_told, word_at}
 
 -- whether two rests are the same, symbol by symbol
 abbrev same_symbols : List Sym → List Sym → Bool
@@ -192,3 +193,18 @@ ends_told s =
     let ends = same_truth (nat_eq (get_or there.0 1 0) 1) (may_end_of s) in
     ap (λ (rule : ℕ). nat_eq rule 1) (sym (there.2 1))
     ∙ truths_same (nat_eq (get_or there.0 1 0) 1) (may_end_of s) (and_parts told ends there.1).1
+
+-- the rules of an operator's word are those of a token without a meaning
+repeated : map (λ k. slice_index_or TABLE.rows (79 + k) []) (range_with_len 0 16)
+    ≡ map (λ k. slice_index_or TABLE.rows 77 []) (range_with_len 0 16)
+repeated = refl
+
+-- so the table doesn't know it
+pub word_unknown : (s : Sym) (k : ℕ) → k < 16 → table_answer s (Word k) ≡ table_answer s Other
+unfolding rule_at
+word_unknown s k less =
+    let n = symbol_number s in
+    let row = alike (λ k. slice_index_or TABLE.rows (79 + k) []) (λ k. slice_index_or TABLE.rows 77 []) 16 repeated k
+    less in
+    ap (table_answer s) (sym (word_at k less)) ∙ sym (looked_up s (79 + k) (omega (arith, less)))
+    ∙ ap (λ (row : List ℕ). deed (get_or row n 0)) row ∙ looked_up s 77 (omega arith)

@@ -1,12 +1,13 @@
 -- Each rule's row of the table holds its rest, the last symbol first.
-use Rattle.std.proofs.Common.{◌≡◌, ℕ, zero, suc, ◌<◌, ◌≤◌, Bool, true, false, nat_eq, nat_le, nat_lt, leb-true}
+use Rattle.std.proofs.Common.{◌≡◌, ℕ, zero, suc, ◌<◌, ◌≤◌, ◌+◌, ◌-◌, ◌%◌, ◌^◌, Bool, true, false, nat_eq, nat_le}
+use Rattle.std.proofs.Common.{nat_lt, leb-true}
 use Rattle.std.proofs.Common.{ltb-true, List, [], ◌∷◌, length, map, take, reverse, refl, arith}
 use Rattle.std.proofs.lemmas.Bool.Decides.{nat_tests}
 use Rattle.std.specs.Prelude.{slice_index_or}
 use Rattle.std.specs.List.{list_all, range_with_len}
 use Rattle.daide_grammar.specs.declared.symbol.Sym.{Sym}
 use Rattle.daide_grammar.specs.declared.table.rows.TheConstants.{TABLE}
-use Rattle.daide_grammar.specs.Cells.{cell_at, length_at}
+use Rattle.daide_grammar.specs.Cells.{cell_at, growth_at, length_at}
 use Rattle.daide_grammar.specs.Numbers.{symbol_at}
 use Rattle.daide_grammar.specs.Rules.{deed, rest_at, rest_of, is_take, is_stop}
 use Rattle.daide_grammar.proofs.Alike.{alike, passes_at}
@@ -83,3 +84,20 @@ stop_told (suc (suc n)) =
     let not_none : nat_eq (suc (suc n)) 0 ≡ false = grind (arith, nat_tests) in
     let not_one : nat_eq (suc (suc n)) 1 ≡ false = grind (arith, nat_tests) in
     rw not_none (rw not_one refl)
+
+-- a rule's growth is the length of its rest less one, wrapping
+growths : map growth_at (range_with_len 0 256) ≡ map (λ n. (length_at n + (2 ^ 64 - 1)) % 2 ^ 64) (range_with_len 0 256)
+unfolding growth_at length_at
+growths = refl
+
+growth_fits : (n : ℕ) → n < 256 → growth_at n ≡ (length_at n + (2 ^ 64 - 1)) % 2 ^ 64
+growth_fits n less = alike growth_at (λ n. (length_at n + (2 ^ 64 - 1)) % 2 ^ 64) 256 growths n less
+
+-- the height that a growth makes of a top's place
+pub grown : (n top : ℕ) → n < 256 → top ≤ 65535
+    → ((top + growth_at n) % 2 ^ 64 + 1) % 2 ^ 64 ≡ top + length (rest_of (deed n))
+grown n top less few =
+    let growth = growth_fits n less in
+    let small = length_small n less in
+    let fits = length_fits n less in
+    omega (arith, growth, small, fits)

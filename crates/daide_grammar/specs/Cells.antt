@@ -21,3 +21,11 @@ cell_at rule place = slice_index (slice_index_or TABLE.rests rule []) place
 -- how many symbols a rule leaves
 unfoldable pub length_at : ℕ → ℕ
 length_at rule = slice_index TABLE.lengths rule
+
+-- what a rule adds to the place of a stack's top, wrapping
+unfoldable pub growth_at : ℕ → ℕ
+growth_at rule = slice_index TABLE.growths rule
+
+-- what a token of a class adds to the open brackets, wrapping
+unfoldable pub bracket_cell : ℕ → ℕ
+bracket_cell class = slice_index TABLE.brackets class

@@ -180,6 +180,12 @@ classes =
     Thk ∷ Try ∷ Vss ∷ Xdo ∷ Lvl ∷ Mrt ∷ Uno ∷ Param ∷ Other ∷ Alien ∷ Word 0 ∷ Word 1 ∷ Word 2 ∷ Word 3 ∷ Word 4 ∷
     Word 5 ∷ Word 6 ∷ Word 7 ∷ Word 8 ∷ Word 9 ∷ Word 10 ∷ Word 11 ∷ Word 12 ∷ Word 13 ∷ Word 14 ∷ Word 15 ∷ []
 
+-- what a token of the class adds to a count of open brackets of sixteen bits, which wraps
+abbrev pub bracket_step : Class → ℕ
+bracket_step Bra = 1
+bracket_step Ket = 65535
+bracket_step _ = 0
+
 -- the class of a number
 abbrev pub class_at : ℕ → Class
 class_at n = slice_index_or classes n Num

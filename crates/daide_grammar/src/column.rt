@@ -3,10 +3,15 @@
 ghost use Rattle.std.specs.Prelude.{◌≡◌, ◌<◌};
 ghost use Rattle.daide_token.specs.declared.class.Class.TheVariants.{Word};
 ghost use Rattle.daide_grammar.specs.Classes.{class_number};
-ghost use Rattle.daide_grammar.specs.Numbers.{class_at, is_bracket, word_number};
+ghost use Rattle.daide_token.specs.Class.{class_of};
+ghost use Rattle.daide_grammar.specs.Cells.{bracket_cell};
+ghost use Rattle.daide_grammar.specs.Numbers.{bracket_step, class_at, is_bracket, word_number};
 
+use crate::dense::class_of;
 use crate::table::names::CLASSES;
+use crate::table::whole;
 use daide_token::class::Class;
+use daide_token::token::Token;
 use std::marker::Model;
 
 /// A class, by its number, which is its column of the constant table. A contract sees the class. The brackets come
@@ -89,6 +94,22 @@ impl Column {
         self.number
     }
 
+    /// The class of a token by the protocol's own table, in which an operator's word is a token without a meaning.
+    #[inline(always)]
+    pub fn known(token: Token) -> Column
+        ensures { result ≡ class_of token }
+    {
+        class_of(token)
+    }
+
+    /// What a token of the class adds to a count of open brackets, which wraps.
+    #[inline(always)]
+    pub fn bracket_step(self) -> u16
+        ensures { result ≡ bracket_step self }
+    {
+        bracket_cell(self.number)
+    }
+
     /// Whether it is that of a bracket.
     #[inline(always)]
     pub fn is_bracket(self) -> bool
@@ -107,6 +128,16 @@ impl Column {
         }
         None
     }
+}
+
+/// What a token of a class adds.
+#[inline(always)]
+#[tactic(auto, unfolding(crate::specs::Cells::bracket_cell))]
+fn bracket_cell(number: usize) -> u16
+    requires { number < 95 }
+    ensures { result ≡ bracket_cell number }
+{
+    whole().brackets[number]
 }
 
 /// The class at a place of the list of classes.

@@ -3,11 +3,12 @@
 //! The table stands in `table`, laid out to be read; the check shows of each of its cells that it says what the
 //! entries of the symbol say, so the laws of prediction hold of it as they hold of `Plain`.
 
-ghost use Rattle.std.specs.Prelude.{◌≡◌, ◌<◌, ◌+◌, ◌%◌, ◌/◌, ◌^◌, []};
+ghost use Rattle.std.specs.Prelude.{◌≡◌, ◌<◌, ◌+◌, ◌%◌, ◌/◌, ◌^◌, [], slice_index_or};
 ghost use Rattle.daide_token.specs.Class.{class_of};
 ghost use Rattle.daide_grammar.specs.Symbols.{may_end_of, opening_of, table_answer};
 ghost use Rattle.daide_grammar.specs.AnswersGiven.{look_ups};
 ghost use Rattle.daide_grammar.specs.Cells.{class_cell, rule_at};
+ghost use Rattle.daide_grammar.specs.declared.table.rows.TheConstants.{TABLE};
 
 use crate::column::Column;
 use crate::level::Level;
@@ -48,12 +49,21 @@ fn rule_at(class: usize, symbol: u8) -> u8
     requires symbol { symbol < 202 }
     ensures { result ≡ rule_at class symbol }
 {
-    whole().rows[class][symbol as usize]
+    rules_of(class)[symbol as usize]
+}
+
+/// The rules of a class, symbol by symbol.
+#[inline(always)]
+fn rules_of(class: usize) -> &'static [u8; 202]
+    requires { class < 95 }
+    ensures { result.now ≡ slice_index_or TABLE.rows class [] }
+{
+    whole().rows[class]
 }
 
 /// The class of a token.
 #[inline(always)]
-fn class_of(token: Token) -> Column
+pub(crate) fn class_of(token: Token) -> Column
     ensures { result ≡ class_of token }
 {
     let bits = token.code();
@@ -117,6 +127,16 @@ impl Predict for Dense {
     fn predict(&mut self, sym: Symbol, class: Column) -> Move {
         self.asked = self.asked.wrapping_add(1);
         move_of(sym, class)
+    }
+
+    #[inline(always)]
+    fn predict_token(&mut self, sym: Symbol, _token: Token, known: Column) -> Move {
+        self.asked = self.asked.wrapping_add(1);
+        move_of(sym, known)
+    }
+
+    fn predict_word(&self, sym: Symbol, _token: Token, known: Column) -> Move {
+        move_of(sym, known)
     }
 
     fn may_end(&mut self, sym: Symbol) -> bool {

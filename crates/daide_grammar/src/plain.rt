@@ -48,6 +48,13 @@ impl Plain {
     }
 }
 
+/// What a token of the class means to the symbol.
+fn move_of(sym: Symbol, class: Column) -> Move
+    ensures { result ≡ table_answer sym class }
+{
+    rule_of(meaning_of(sym.sym(), class.class()))
+}
+
 impl Predict for Plain {
     ghost use Rattle.daide_token.specs.Class.{class_of};
     ghost use Rattle.daide_grammar.specs.AnswersGiven.{answers_given};
@@ -74,7 +81,15 @@ impl Predict for Plain {
 
     fn predict(&mut self, sym: Symbol, class: Column) -> Move {
         self.asked = self.asked.wrapping_add(1);
-        rule_of(meaning_of(sym.sym(), class.class()))
+        move_of(sym, class)
+    }
+
+    fn predict_token(&mut self, sym: Symbol, _token: Token, known: Column) -> Move {
+        self.predict(sym, known)
+    }
+
+    fn predict_word(&self, sym: Symbol, _token: Token, known: Column) -> Move {
+        move_of(sym, known)
     }
 
     fn may_end(&mut self, sym: Symbol) -> bool {

@@ -5,8 +5,9 @@
 //! nothing else of it. What an operator added to the grammar is the table's `words`, which no
 //! answer changes; everything else that is said of a table is said of its words.
 
-ghost use Rattle.std.specs.Prelude.{◌≡◌, ℕ, ◌+◌, ◌%◌, ◌^◌, ◌≤◌, ◌<◌, List, [], ◌∷◌, Bool, length, reverse, take};
+ghost use Rattle.std.specs.Prelude.{◌≡◌, ℕ, ◌+◌, ◌%◌, ◌^◌, ◌≤◌, ◌<◌, List, [], ◌∷◌, Bool, false, length, reverse, take};
 ghost use Rattle.daide_token.specs.declared.class.Class.{Class};
+ghost use Rattle.daide_token.specs.Class.{class_of as known_class};
 ghost use Rattle.daide_grammar.specs.declared.level.Level.{Level};
 ghost use Rattle.daide_grammar.specs.declared.side.Side2.{Side2};
 ghost use Rattle.daide_grammar.specs.declared.symbol.Sym.{Sym};
@@ -14,7 +15,7 @@ ghost use Rattle.daide_grammar.specs.Answers.{Answer};
 ghost use Rattle.daide_grammar.specs.Words.{Words};
 ghost use Rattle.daide_grammar.specs.Laws.{PredictLaws};
 ghost use Rattle.daide_grammar.specs.Rules.{deed, is_stop, is_take, rest_of};
-ghost use Rattle.daide_grammar.specs.Cells.{cell_at, length_at};
+ghost use Rattle.daide_grammar.specs.Cells.{cell_at, growth_at, length_at};
 ghost use Rattle.daide_grammar.specs.Numbers.{symbol_at};
 
 use crate::column::Column;
@@ -80,6 +81,15 @@ impl Move {
         length_at(self.rule) as usize
     }
 
+    /// How many symbols a stack has, where the one at this place was its top and took the token.
+    #[inline(always)]
+    pub fn height_after(&self, top: usize) -> usize
+        requires { top ≤ 65535 }
+        ensures { result ≡ top + length (rest_of self.now) }
+    {
+        top.wrapping_add(growth_at(self.rule)).wrapping_add(1)
+    }
+
     /// The symbols that must follow, the last first; what lies behind them has no meaning.
     #[inline(always)]
     pub fn cells(&self) -> [Symbol; 8]
@@ -129,6 +139,16 @@ fn length_at(rule: usize) -> u8
     whole().lengths[rule]
 }
 
+/// What a rule adds to the place of a stack's top, wrapping.
+#[inline(always)]
+#[tactic(auto, unfolding(crate::specs::Cells::growth_at))]
+fn growth_at(rule: usize) -> usize
+    requires { rule < 256 }
+    ensures { result ≡ growth_at rule }
+{
+    whole().growths[rule]
+}
+
 /// A table that answers one question at a time, and counts its answers.
 pub trait Predict {
     /// The words that an operator added.
@@ -160,6 +180,21 @@ pub trait Predict {
         ensures answer { result ≡ moves (words self.old) sym class }
         ensures words_stay { words self.new ≡ words self.old }
         ensures counts_each_answer { asked self.new ≡ (asked self.old + 1) % 2 ^ 64 };
+
+    /// What a token means to the symbol, as far as the protocol's own table says, which knows it by this class: where
+    /// this doesn't stop, it is the answer, and where it does, `predict_word` has the answer.
+    fn predict_token(&mut self, sym: Symbol, token: Token, known: Column) -> Move
+        requires { known ≡ known_class token }
+        ensures answer { is_stop result ≡ false →
+            result ≡ moves (words self.old) sym (class_of (words self.old) token) }
+        ensures words_stay { words self.new ≡ words self.old }
+        ensures counts_each_answer { asked self.new ≡ (asked self.old + 1) % 2 ^ 64 };
+
+    /// The answer where `predict_token` stopped: what the token means to the symbol as an operator's word too. It is
+    /// the second half of the same answer, so it isn't counted.
+    fn predict_word(&self, sym: Symbol, token: Token, known: Column) -> Move
+        requires { known ≡ known_class token }
+        ensures { result ≡ moves (words self.now) sym (class_of (words self.now) token) };
 
     /// Whether the symbol may be empty.
     fn may_end(&mut self, sym: Symbol) -> bool

@@ -55,6 +55,38 @@ put_on_top new old rest cells top n k put here there is =
     ∙ reverse-append (take top old) (take n cells)
     ∙ ap (λ (xs : List Sym). xs ++ reverse (take top old)) (ap reverse turned ∙ reverse-reverse rest)
 
+-- a rest in eight cells has eight symbols at most
+take_short : {X : Type 0} (n : ℕ) (xs : List X) → length (take n xs) ≤ length xs
+take_short zero xs = omega arith
+take_short (suc n) [] = omega arith
+take_short (suc n) (x ∷ xs) = let less = take_short n xs in omega (arith, less)
+
+pub few_in_cells : (rest cells : List Sym) → length cells ≡ 8 → take (length rest) cells ≡ reverse rest
+    → length rest ≤ 8
+few_in_cells rest cells eight is =
+    let same : length (take (length rest) cells) ≡ length rest = ap length is ∙ length-reverse rest in
+    let short = take_short (length rest) cells in
+    omega (arith, eight, same, short)
+
+-- all eight cells were put, and a rest stands on the stack
+pub rest_on_top : (top : ℕ) (new old rest cells : List Sym) (k : ℕ) → length cells ≡ 8 → top ≤ length old
+    → take (top + 8) new ≡ take top old ++ cells → take (length rest) cells ≡ reverse rest → k ≡ top + length rest
+    → reverse (take k new) ≡ rest ++ reverse (take top old)
+rest_on_top top new old rest cells k eight inside put is height =
+    ap (λ (i : ℕ). reverse (take i new)) height
+    ∙ put_on_top new old rest cells top (length rest) (length rest)
+    (rest_put top (length rest) new old cells (take (length rest) cells) (few_in_cells rest cells eight is) inside put
+    refl)
+    refl refl is
+
+-- the first cells by the top's place
+pub on_place : (cells : List Sym) (top : ℕ) (blank : Sym) → top < length cells
+    → reverse (take (top + 1) cells) ≡ get_or cells top blank ∷ reverse (take top cells)
+on_place cells top blank inside =
+    let less : top + 1 - 1 ≡ top = omega arith in
+    subst (λ (k : ℕ). reverse (take (top + 1) cells) ≡ get_or cells k blank ∷ reverse (take k cells)) less
+    (on_top cells (top + 1) blank (omega arith) (omega arith))
+
 -- what a symbol's answer makes of the stack, and how many questions there are
 module _ (moves : Sym → Class → Answer) (class : Class) (s : Sym) (below : List Sym) where
   pub after_taken : (a : Answer) → moves s class ≡ a → is_take a ≡ true

@@ -9,3 +9,4 @@ pub mod SomeVerdict
 pub mod SliceLemmas
 pub mod CellLemmas
 pub mod Sizes
+pub mod StretchLemmas

@@ -1,12 +1,15 @@
 //! The stack as an array and a count, on which a rest is put by one copy of a fixed length.
 
 ghost use Rattle.std.specs.Prelude.{◌≡◌, ◌≤◌, ◌<◌, ◌+◌, ◌%◌, ◌^◌, ◌++◌, List, None, Some, IfSome, IfNone, take, length, reverse};
+ghost use Rattle.daide_token.specs.Class.{class_of as known_class};
+ghost use Rattle.daide_grammar.specs.Rules.{rest_of};
 ghost use Rattle.daide_grammar.specs.Stacks.{stack_after};
 ghost use Rattle.daide_reader.specs.Stack.{steps_at};
 
 use daide_grammar::column::Column;
-use daide_grammar::predict::Predict;
+use daide_grammar::predict::{Move, Predict};
 use daide_grammar::symbol::Symbol;
+use daide_token::token::Token;
 
 /// Writes all eight cells from `at` on.
 #[inline(always)]
@@ -22,48 +25,22 @@ fn put_rest<const N: usize>(cells: &mut [Symbol; N], at: usize, rest: [Symbol; 8
     }
 }
 
-/// Takes a token of this class off the stack of the first `count` cells, whose last is the top, and answers how many
-/// cells the stack has then, where a symbol took it.
+/// Puts what a move leaves in the place of the top, and answers how many cells the stack has then.
 #[inline(always)]
-pub(crate) fn follow<T: Predict, const N: usize>(
-    table: &mut T,
-    cells: &mut [Symbol; N],
-    count: usize,
-    class: Column,
-) -> Option<usize>
+pub(crate) fn put<const N: usize>(cells: &mut [Symbol; N], top: usize, answer: &Move) -> usize
     requires size { N ≤ 4096 }
-    requires count { count ≤ N }
-    requires room { IfSome (stack_after (T.moves (T.words table.old)) class (reverse (take count cells.old)))
-        (λ after. length after ≤ N) }
-    ensures taken { IfSome result (λ left.
-        stack_after (T.moves (T.words table.old)) class (reverse (take count cells.old))
-        ≡ Some (reverse (take left cells.new))) }
-    ensures inside { IfSome result (λ left. left ≤ N) }
-    ensures refused { IfNone result
-        (stack_after (T.moves (T.words table.old)) class (reverse (take count cells.old)) ≡ None) }
-    ensures words { T.words table.new ≡ T.words table.old }
-    ensures steps { T.asked table.new % 2 ^ 64
-        ≡ (T.asked table.old + steps_at (T.moves (T.words table.old)) class (reverse (take count cells.old))) % 2 ^ 64 }
+    requires room { top + 8 ≤ N }
+    ensures stack { reverse (take result cells.new) ≡ rest_of answer.now ++ reverse (take top cells.old) }
+    ensures inside { result ≤ N }
 {
-    let mut left = count;
-    while 8 <= N && left.wrapping_sub(1) <= N - 8 {
-        let top = left - 1;
-        let answer = table.predict(cells[top], class);
-        if answer.is_take() {
-            put_rest(cells, top, answer.cells());
-            return Some(top + answer.len());
-        }
-        if answer.is_stop() {
-            return None;
-        }
-        left = top;
-    }
-    follow_slowly(table, cells, left, class)
+    put_rest(cells, top, answer.cells());
+    answer.height_after(top)
 }
 
-/// The same, near the end of the cells, symbol by symbol.
+/// Takes a token of this class off the stack of the first `count` cells, whose last is the top, and answers how many
+/// cells the stack has then, where a symbol took it. It writes no cell past those.
 #[inline(never)]
-fn follow_slowly<T: Predict, const N: usize>(
+pub(crate) fn follow<T: Predict, const N: usize>(
     table: &mut T,
     cells: &mut [Symbol; N],
     count: usize,
@@ -96,6 +73,45 @@ fn follow_slowly<T: Predict, const N: usize>(
         }
     }
     None
+}
+
+/// The same where the protocol's own table stopped the token at the top, whose answer is counted.
+#[cold]
+#[inline(never)]
+pub(crate) fn follow_word<T: Predict, const N: usize>(
+    table: &mut T,
+    cells: &mut [Symbol; N],
+    top: usize,
+    token: Token,
+    known: Column,
+) -> Option<usize>
+    requires size { N ≤ 4096 }
+    requires top { top < N }
+    requires known { known ≡ known_class token }
+    requires room { IfSome (stack_after (T.moves (T.words table.old)) (T.class_of (T.words table.old) token)
+        (reverse (take (top + 1) cells.old))) (λ after. length after ≤ N) }
+    ensures taken { IfSome result (λ left.
+        stack_after (T.moves (T.words table.old)) (T.class_of (T.words table.old) token)
+        (reverse (take (top + 1) cells.old)) ≡ Some (reverse (take left cells.new))) }
+    ensures inside { IfSome result (λ left. left ≤ N) }
+    ensures refused { IfNone result
+        (stack_after (T.moves (T.words table.old)) (T.class_of (T.words table.old) token)
+        (reverse (take (top + 1) cells.old)) ≡ None) }
+    ensures words { T.words table.new ≡ T.words table.old }
+    ensures steps { (T.asked table.new + 1) % 2 ^ 64
+        ≡ (T.asked table.old + steps_at (T.moves (T.words table.old)) (T.class_of (T.words table.old) token)
+        (reverse (take (top + 1) cells.old))) % 2 ^ 64 }
+{
+    let answer = table.predict_word(cells[top], token, known);
+    if answer.is_take() {
+        put_slowly(cells, top, answer.cells(), answer.len());
+        return Some(top + answer.len());
+    }
+    if answer.is_stop() {
+        return None;
+    }
+    let class = table.class_of(token);
+    follow(table, cells, top, class)
 }
 
 /// Writes the first of the symbols from `at` on.

@@ -12,11 +12,13 @@ ghost use Rattle.daide_grammar.specs.Stacks.{stack_after};
 ghost use Rattle.daide_grammar.specs.Words.{Words};
 ghost use Rattle.daide_reader.specs.Outline.{count_all, outline_of};
 ghost use Rattle.daide_reader.specs.Reading.{IsRaised, StandsAfter, reading};
+ghost use Rattle.daide_reader.specs.Slice.{ReadsTo};
 ghost use Rattle.daide_reader.specs.Stack.{open_count, steps_at};
 
 use crate::body::token_at;
 use crate::brackets::{is_bra, is_ket, recount};
-use crate::cells::follow;
+use crate::cells::{follow, follow_word, put};
+use daide_grammar::column::Column;
 use daide_grammar::predict::Predict;
 use daide_grammar::symbol::Symbol;
 use daide_token::token::Token;
@@ -33,7 +35,7 @@ pub struct Reached {
 
 /// One token against the stack of the first `count` cells, with the open brackets before it: how many
 /// cells the stack has then, and the open brackets, where the token is taken.
-#[inline(always)]
+#[inline(never)]
 fn step<T: Predict, const N: usize>(
     table: &mut T,
     cells: &mut [Symbol; N],
@@ -72,7 +74,7 @@ fn step<T: Predict, const N: usize>(
 }
 
 /// Where reading ends at a token that is not taken, which is counted.
-#[inline(never)]
+#[inline(always)]
 fn refused(opened: u16, place: usize) -> Reached
     requires { place < 32767 }
     ensures tokens { result.tokens ≡ place + 1 }
@@ -85,6 +87,70 @@ fn refused(opened: u16, place: usize) -> Reached
         unclosed: if opened == 65535 { None } else { Some(opened) },
         place: Some(place as u16),
         count: 0,
+    }
+}
+
+/// Reads the tokens of a body from one on, so many that they can't open a bracket too many, whatever they are. So
+/// neither the depth nor the room for a rest is looked at, token by token.
+#[inline(always)]
+fn stretch<T: Predict, const N: usize>(
+    table: &mut T,
+    cells: &mut [Symbol; N],
+    count: usize,
+    body: &[u8],
+    read: usize,
+    unclosed: u16,
+    max_depth: u16,
+) -> Reached
+    requires size { N ≤ 4096 }
+    requires count { count ≤ N }
+    requires deepest { 8 * max_depth + 16 ≤ N }
+    requires room { length body.now ≤ 65534 }
+    requires read { read < length body.now / 2 }
+    requires few { unclosed ≤ read }
+    requires deep { unclosed < max_depth }
+    requires lawful { T.lawful (T.words table.old) (reverse (take count cells.old)) unclosed }
+    ensures inside { result.count ≤ N }
+    ensures moves { read < result.tokens }
+    ensures tokens { result.tokens ≤ length body.now / 2 }
+    ensures reads { ReadsTo T.Predict max_depth body.now read unclosed
+        (record { table = table.old; stack = reverse (take count cells.old) })
+        result.tokens result.unclosed result.place
+        (record { table = table.new; stack = reverse (take result.count cells.new) }) }
+    ensures none_left { IsSome result.place → result.count ≡ 0 }
+{
+    let end = (body.len() / 2).min(read + (max_depth - unclosed) as usize);
+    let mut opened = unclosed;
+    let mut left = count;
+    let mut next = read;
+    while next < end {
+        let token = token_at(body, next);
+        let known = Column::known(token);
+        if left == 0 {
+            return refused(opened.wrapping_add(known.bracket_step()), next);
+        }
+        let top = left - 1;
+        let answer = table.predict_token(cells[top], token, known);
+        if answer.is_take() {
+            left = put(cells, top, &answer);
+            opened = opened.wrapping_add(known.bracket_step());
+            next += 1;
+        } else if answer.is_stop() {
+            opened = opened.wrapping_add(known.bracket_step());
+            let Some(now) = follow_word(table, cells, top, token, known) else {
+                return refused(opened, next);
+            };
+            left = now;
+            next += 1;
+        } else {
+            left = top;
+        }
+    }
+    Reached {
+        tokens: end,
+        unclosed: Some(opened),
+        place: None,
+        count: left,
     }
 }
 
@@ -130,12 +196,24 @@ pub fn run<T: Predict, const N: usize>(
 {
     let mut opened = unclosed;
     let mut left = count;
-    for i in read..body.len() / 2 {
-        let token = token_at(body, i);
-        let Some(now) = step(table, cells, left, &mut opened, token, max_depth) else {
-            return refused(opened, i);
-        };
-        left = now;
+    let mut next = read;
+    while next < body.len() / 2 {
+        if opened < max_depth {
+            let reached = stretch(table, cells, left, body, next, opened, max_depth);
+            if reached.place.is_some() {
+                return reached;
+            }
+            opened = reached.unclosed.unwrap_or(0);
+            left = reached.count;
+            next = reached.tokens;
+        } else {
+            let token = token_at(body, next);
+            let Some(now) = step(table, cells, left, &mut opened, token, max_depth) else {
+                return refused(opened, next);
+            };
+            left = now;
+            next += 1;
+        }
     }
     Reached {
         tokens: body.len() / 2,

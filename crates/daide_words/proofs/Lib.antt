@@ -2,6 +2,7 @@ pub mod WordLists
 pub mod OperandRules
 pub mod WhereStopped
 pub mod AcceptedCodes
+pub mod TableFirst
 mod WordFacts
 pub mod OverMessages
 pub mod PairedOverWords

@@ -172,3 +172,15 @@ pub names-few : (names : List Named) (meanings : List Meaning) (n : ℕ) → n �
     length (names_of (first_words names meanings n)) ≡ n
 names-few names meanings n few enough =
     ap length (first_names names meanings n few enough) ∙ length-take-le n names few
+
+-- words that are put together of the first names and meanings are no more than these
+within : (names : List Named) (meanings : List Meaning) (count : ℕ)
+    → length (names_of (words_with (take count names) (take count meanings))) ≤ count
+within names meanings zero = omega arith
+within [] meanings (suc count) = omega arith
+within (name ∷ names) [] (suc count) = omega arith
+within (name ∷ names) (meaning ∷ meanings) (suc count) = let few = within names meanings count in omega (arith, few)
+
+pub few_names : (names : List Named) (meanings : List Meaning) (count : ℕ) → count ≤ 16
+    → length (names_of (words_with (take count names) (take count meanings))) ≤ 16
+few_names names meanings count few = let less = within names meanings count in omega (arith, less, few)

@@ -131,6 +131,20 @@ impl Predict for Extended {
         answer
     }
 
+    #[inline(always)]
+    fn predict_token(&mut self, sym: Symbol, token: Token, known: Column) -> Move {
+        self.table.predict_token(sym, token, known)
+    }
+
+    fn predict_word(&self, sym: Symbol, token: Token, known: Column) -> Move {
+        let answer = self.table.predict_word(sym, token, known);
+        if answer.is_stop() {
+            let class = class_with(&self.words, token, known);
+            return where_stopped(&self.words, sym, class);
+        }
+        answer
+    }
+
     fn may_end(&mut self, sym: Symbol) -> bool {
         self.table.may_end(sym)
     }

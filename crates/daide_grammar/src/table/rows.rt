@@ -9,7 +9,7 @@ use crate::table::classes::{
     bracket_class, by_code, class, classes, command_class, order_class, parameter_class,
     press_class, unit_class,
 };
-use crate::table::rules::{LENGTHS, RESTS};
+use crate::table::rules::{GROWTHS, LENGTHS, RESTS};
 
 macro_rules! closing {
     (KET) => { 2 };
@@ -739,7 +739,48 @@ macro_rules! column {
     };
 }
 
-/// The constant table in one piece, so that one address reaches all of it.
+/// The columns of all classes, by value or each behind a reference.
+macro_rules! columns {
+    ($($link:tt)?) => {
+        [
+            $($link)? column!(BRA), $($link)? column!(KET), $($link)? column!(NUM), $($link)? column!(POWER),
+            $($link)? column!(NOTE), $($link)? column!(OUTCOME), $($link)? column!(COAST), $($link)? column!(SEASON),
+            $($link)? column!(TEXT), $($link)? column!(PROVINCE), $($link)? column!(AMY), $($link)? column!(FLT),
+            $($link)? column!(CTO), $($link)? column!(CVY), $($link)? column!(HLD), $($link)? column!(MTO),
+            $($link)? column!(SUP), $($link)? column!(VIA), $($link)? column!(DSB), $($link)? column!(RTO),
+            $($link)? column!(BLD), $($link)? column!(REM), $($link)? column!(WVE), $($link)? column!(CCD),
+            $($link)? column!(DRW), $($link)? column!(FRM), $($link)? column!(GOF), $($link)? column!(HLO),
+            $($link)? column!(HST), $($link)? column!(HUH), $($link)? column!(IAM), $($link)? column!(LOD),
+            $($link)? column!(MAP), $($link)? column!(MDF), $($link)? column!(MIS), $($link)? column!(NME),
+            $($link)? column!(NOT), $($link)? column!(NOW), $($link)? column!(OBS), $($link)? column!(OFF),
+            $($link)? column!(ORD), $($link)? column!(OUT), $($link)? column!(PRN), $($link)? column!(REJ),
+            $($link)? column!(SCO), $($link)? column!(SLO), $($link)? column!(SND), $($link)? column!(SUB),
+            $($link)? column!(SVE), $($link)? column!(THX), $($link)? column!(TME), $($link)? column!(YES),
+            $($link)? column!(ADM), $($link)? column!(SMR), $($link)? column!(ALY), $($link)? column!(AND),
+            $($link)? column!(BWX), $($link)? column!(DMZ), $($link)? column!(FCT), $($link)? column!(IDK),
+            $($link)? column!(INS), $($link)? column!(OCC), $($link)? column!(ORR), $($link)? column!(PCE),
+            $($link)? column!(PRP), $($link)? column!(QRY), $($link)? column!(SCD), $($link)? column!(SRY),
+            $($link)? column!(SUG), $($link)? column!(THK), $($link)? column!(TRY), $($link)? column!(VSS),
+            $($link)? column!(XDO), $($link)? column!(LVL), $($link)? column!(MRT), $($link)? column!(UNO),
+            $($link)? column!(PARAM), $($link)? column!(OTHER), $($link)? column!(ALIEN),
+            // sixteen words
+            $($link)? column!(OTHER), $($link)? column!(OTHER), $($link)? column!(OTHER), $($link)? column!(OTHER),
+            $($link)? column!(OTHER), $($link)? column!(OTHER), $($link)? column!(OTHER), $($link)? column!(OTHER),
+            $($link)? column!(OTHER), $($link)? column!(OTHER), $($link)? column!(OTHER), $($link)? column!(OTHER),
+            $($link)? column!(OTHER), $($link)? column!(OTHER), $($link)? column!(OTHER), $($link)? column!(OTHER),
+        ]
+    };
+}
+
+/// What a token of each class adds to the open brackets, wrapping.
+#[rattlefmt::skip]
+const BRACKETS: [u16; 95] = [
+    1, 65535, 0, 0, 0, 0, 0, 0, 0, 0, 0, 0, 0, 0, 0, 0, 0, 0, 0, 0, 0, 0, 0, 0, 0, 0, 0, 0, 0, 0, 0, 0, 0, 0, 0, 0, 0,
+    0, 0, 0, 0, 0, 0, 0, 0, 0, 0, 0, 0, 0, 0, 0, 0, 0, 0, 0, 0, 0, 0, 0, 0, 0, 0, 0, 0, 0, 0, 0, 0, 0, 0, 0, 0, 0, 0,
+    0, 0, 0, 0, 0, 0, 0, 0, 0, 0, 0, 0, 0, 0, 0, 0, 0, 0, 0, 0,
+];
+
+/// The constant table as it is read aloud, which no code looks into.
 pub(crate) struct Table {
     /// The rule of each symbol at each class. An operator's word means what a token without a meaning does.
     pub(crate) rows: [[u8; 202]; 95],
@@ -747,31 +788,39 @@ pub(crate) struct Table {
     pub(crate) rests: [[u8; 8]; 256],
     /// How many symbols each rule leaves.
     pub(crate) lengths: [u8; 256],
+    /// What each rule adds to the place of a stack's top, wrapping.
+    pub(crate) growths: [usize; 256],
+    /// What a token of each class adds to the open brackets, wrapping.
+    pub(crate) brackets: [u16; 95],
     /// The number of the class of each token, code by code.
     pub(crate) classes: [u8; 65536],
 }
 
-#[rattlefmt::skip]
 pub(crate) static TABLE: Table = Table {
     rests: RESTS,
     lengths: LENGTHS,
+    growths: GROWTHS,
     classes: classes!(),
-    rows: [
-        column!(BRA), column!(KET), column!(NUM), column!(POWER), column!(NOTE), column!(OUTCOME), column!(COAST),
-        column!(SEASON), column!(TEXT), column!(PROVINCE), column!(AMY), column!(FLT), column!(CTO), column!(CVY),
-        column!(HLD), column!(MTO), column!(SUP), column!(VIA), column!(DSB), column!(RTO), column!(BLD),
-        column!(REM), column!(WVE), column!(CCD), column!(DRW), column!(FRM), column!(GOF), column!(HLO),
-        column!(HST), column!(HUH), column!(IAM), column!(LOD), column!(MAP), column!(MDF), column!(MIS),
-        column!(NME), column!(NOT), column!(NOW), column!(OBS), column!(OFF), column!(ORD), column!(OUT),
-        column!(PRN), column!(REJ), column!(SCO), column!(SLO), column!(SND), column!(SUB), column!(SVE),
-        column!(THX), column!(TME), column!(YES), column!(ADM), column!(SMR), column!(ALY), column!(AND),
-        column!(BWX), column!(DMZ), column!(FCT), column!(IDK), column!(INS), column!(OCC), column!(ORR),
-        column!(PCE), column!(PRP), column!(QRY), column!(SCD), column!(SRY), column!(SUG), column!(THK),
-        column!(TRY), column!(VSS), column!(XDO), column!(LVL), column!(MRT), column!(UNO), column!(PARAM),
-        column!(OTHER), column!(ALIEN),
-        // sixteen words
-        column!(OTHER), column!(OTHER), column!(OTHER), column!(OTHER), column!(OTHER), column!(OTHER),
-        column!(OTHER), column!(OTHER), column!(OTHER), column!(OTHER), column!(OTHER), column!(OTHER),
-        column!(OTHER), column!(OTHER), column!(OTHER), column!(OTHER),
-    ],
+    brackets: BRACKETS,
+    rows: columns!(),
+};
+
+/// The same in one piece, so that one address reaches all of it, with each row behind a reference, so that a class has
+/// its row by one load.
+pub(crate) struct Linked {
+    pub(crate) rows: [&'static [u8; 202]; 95],
+    pub(crate) rests: [[u8; 8]; 256],
+    pub(crate) lengths: [u8; 256],
+    pub(crate) growths: [usize; 256],
+    pub(crate) brackets: [u16; 95],
+    pub(crate) classes: [u8; 65536],
+}
+
+pub(crate) static LINKED: Linked = Linked {
+    rests: RESTS,
+    lengths: LENGTHS,
+    growths: GROWTHS,
+    classes: classes!(),
+    brackets: BRACKETS,
+    rows: columns!(&),
 };

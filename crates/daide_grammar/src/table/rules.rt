@@ -193,7 +193,8 @@ const REQUEST: u8 = 188;
 
 const SERVER: u8 = 195;
 
-/// Of a rest by its symbols: their numbers as they are put on a stack, the next one last, or how many they are.
+/// Of a rest by its symbols: their numbers as they are put on a stack, the next one last, how many they are, or how
+/// many less one, which wraps where there are none.
 macro_rules! rest {
     (cells) => { [0; 8] };
     (cells $a:expr) => { [$a, 0, 0, 0, 0, 0, 0, 0] };
@@ -207,6 +208,12 @@ macro_rules! rest {
     (length $a:expr, $b:expr, $c:expr) => { 3 };
     (length $a:expr, $b:expr, $c:expr, $d:expr) => { 4 };
     (length $a:expr, $b:expr, $c:expr, $d:expr, $e:expr) => { 5 };
+    (growth) => { usize::MAX };
+    (growth $a:expr) => { 0 };
+    (growth $a:expr, $b:expr) => { 1 };
+    (growth $a:expr, $b:expr, $c:expr) => { 2 };
+    (growth $a:expr, $b:expr, $c:expr, $d:expr) => { 3 };
+    (growth $a:expr, $b:expr, $c:expr, $d:expr, $e:expr) => { 4 };
 }
 
 /// The rests with a level, by their rules at level 0.
@@ -232,7 +239,7 @@ macro_rules! by_level {
     (223 $of:ident $place:literal) => { rest!($of POWER_GROUP, POWERS_GROUP, PRESS_GROUP + $place) };
 }
 
-/// The cells or lengths of all rules.
+/// The cells, lengths or growths of all rules.
 macro_rules! rules {
     ($of:ident) => {
         [
@@ -386,3 +393,6 @@ pub(crate) const RESTS: [[u8; 8]; 256] = rules!(cells);
 
 /// How many symbols each rule leaves.
 pub(crate) const LENGTHS: [u8; 256] = rules!(length);
+
+/// What each rule adds to the place of a stack's top, wrapping: the symbols that it leaves, less the one that it takes.
+pub(crate) const GROWTHS: [usize; 256] = rules!(growth);

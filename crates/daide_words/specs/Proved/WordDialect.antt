@@ -26,7 +26,7 @@ class-Word (Word k) j e = ap Word (omega arith)
 class-Word _ j e = absurd (omega arith)
 
 -- and that of the number of tokens without a meaning
-class-Other : (c : Class) → class_number c ≡ 77 → c ≡ Other
+pub class-Other : (c : Class) → class_number c ≡ 77 → c ≡ Other
 class-Other Other e = refl
 class-Other (Word k) e = absurd (omega arith)
 class-Other _ e = absurd (omega arith)

@@ -3,8 +3,8 @@ use Rattle.daide_grammar.specs.Stacks.{stack_after}
 use Rattle.daide_reader.specs.Stack.{steps_at}
 use Rattle.daide_reader.proofs.cells.follow.Given as goal
 
-abbrev pub invariant-loop-top : goal.invariant-loop-top
-invariant-loop-top g l =
+abbrev pub invariant-loop-left : goal.invariant-loop-left
+invariant-loop-left g l =
     let words = g.T.Predict.words in
     let asked = g.T.Predict.asked in
     let moves = g.T.Predict.moves (words l.fn.table) in
@@ -18,5 +18,5 @@ invariant-loop-top g l =
           ≡ (asked l.fn.table + steps_at moves l.class (reverse (take l.fn.count l.fn.cells))) % 2 ^ 64;
     }
 
-abbrev pub decreases-loop-top : goal.decreases-loop-top
-decreases-loop-top g l = l.left
+abbrev pub decreases-loop-left : goal.decreases-loop-left
+decreases-loop-left g l = l.left

@@ -1,7 +1,7 @@
 use Rattle.std.proofs.Common.{sym, subst}
 use Rattle.daide_grammar.specs.Rules.{HasRule}
 use Rattle.daide_grammar.proofs.RowsAgree.{has_rule}
-use Rattle.daide_grammar.proofs.plain.PlainPredict.predict.Goals as goal
+use Rattle.daide_grammar.proofs.plain.move_of.Goals as goal
 
 pub rule_of-requires : goal.rule_of-requires
 rule_of-requires c =

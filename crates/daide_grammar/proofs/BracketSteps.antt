@@ -1,0 +1,38 @@
+-- The table's column of brackets counts them.
+use Rattle.std.proofs.Common.{◌≡◌, ℕ, ◌<◌, Bool, true, false, map, refl, sym, ap, ◌∙◌}
+use Rattle.std.specs.List.{range_with_len}
+use Rattle.std.specs.Prelude.{if◌then◌else◌}
+use Rattle.std.proofs.lemmas.Bool.{eqb-true}
+use Rattle.daide_token.specs.Token.{bra, ket}
+use Rattle.daide_token.specs.Class.{class_of}
+use Rattle.daide_token.specs.declared.class.Class.{Class}
+use Rattle.daide_token.specs.declared.class.Class.TheVariants.{Bra, Ket}
+use Rattle.daide_grammar.specs.Brackets.{is_bra, is_ket}
+use Rattle.daide_grammar.specs.Cells.{bracket_cell}
+use Rattle.daide_grammar.specs.Numbers.{bracket_step, class_at}
+use Rattle.daide_grammar.specs.Proved.PlainLaws.{only_bra, only_ket}
+use Rattle.daide_grammar.proofs.Alike.{alike}
+
+steps : map bracket_cell (range_with_len 0 95) ≡ map (λ n. bracket_step (class_at n)) (range_with_len 0 95)
+unfolding bracket_cell
+steps = refl
+
+pub step_told : (n : ℕ) → n < 95 → bracket_cell n ≡ bracket_step (class_at n)
+step_told n less = alike bracket_cell (λ n. bracket_step (class_at n)) 95 steps n less
+
+neither : (c : Class) → (c ≡ Bra → ⊥) → (c ≡ Ket → ⊥) → bracket_step c ≡ 0
+neither Bra opens closes = absurd (opens refl)
+neither Ket opens closes = absurd (closes refl)
+neither _ opens closes = refl
+
+pub step_by_class : (t : ℕ) → bracket_step (class_of t) ≡ (if is_bra t then 1 else if is_ket t then 65535 else 0)
+step_by_class t = go (is_bra t) (is_ket t) refl refl
+  where
+    go : (b k : Bool) → is_bra t ≡ b → is_ket t ≡ k
+        → bracket_step (class_of t) ≡ (if b then 1 else if k then 65535 else 0)
+    go true k x y = ap bracket_step ((only_bra t).1 (eqb-true t bra x))
+    go false true x y = ap bracket_step ((only_ket t).1 (eqb-true t ket y))
+    go false false x y =
+        neither (class_of t)
+        (λ e. let yes : is_bra t ≡ true = ap is_bra ((only_bra t).0 e) in let f : true ≡ false = sym yes ∙ x in cc)
+        (λ e. let yes : is_ket t ≡ true = ap is_ket ((only_ket t).0 e) in let f : true ≡ false = sym yes ∙ y in cc)

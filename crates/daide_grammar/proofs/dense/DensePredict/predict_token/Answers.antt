@@ -1,0 +1,6 @@
+use Rattle.std.proofs.Common.{ap, ◌∙◌}
+use Rattle.daide_grammar.specs.Symbols.{table_answer}
+use Rattle.daide_grammar.proofs.dense.DensePredict.predict_token.Goals as goal
+
+pub returns-clause-answer : goal.returns-clause-answer
+returns-clause-answer c = λ _. c.move_of.ensures ∙ ap (table_answer c.args.sym) c.requires

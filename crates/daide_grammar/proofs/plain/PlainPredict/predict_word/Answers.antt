@@ -1,0 +1,6 @@
+use Rattle.std.proofs.Common.{ap, ◌∙◌}
+use Rattle.daide_grammar.specs.Symbols.{table_answer}
+use Rattle.daide_grammar.proofs.plain.PlainPredict.predict_word.Goals as goal
+
+pub returns : goal.returns
+returns c = c.move_of.ensures ∙ ap (table_answer c.args.sym) c.requires

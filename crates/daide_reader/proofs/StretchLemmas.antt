@@ -1,0 +1,457 @@
+-- A reader that is in locals, in the midst of a token of a body.
+use Rattle.std.proofs.Common.{◌≡◌, ◌≢◌, ℕ, zero, suc, ◌+◌, ◌-◌, ◌*◌, ◌%◌, ◌^◌, ◌≤◌, ◌<◌, Bool, true, false, ◌⊎◌, inr}
+use Rattle.std.proofs.Common.{List, [], ◌∷◌, ◌++◌, length, take, drop, Option, Some, None, IfSome, nat_eq}
+use Rattle.std.proofs.Common.{if◌then◌else◌, refl, sym, ap, ◌∙◌, subst, arith}
+use Rattle.std.proofs.lemmas.Bool.Decides.{nat_tests}
+use Rattle.std.specs.Option.{unwrap_or}
+use Rattle.daide_token.specs.Class.{class_of}
+use Rattle.daide_token.specs.Token.{tokens_of}
+use Rattle.daide_token.specs.declared.class.Class.{Class}
+use Rattle.daide_grammar.specs.Answers.{Answer, Take, Skip, Stop}
+use Rattle.daide_grammar.specs.Brackets.{is_bra, is_ket, count_one}
+use Rattle.daide_grammar.specs.Laws.{PredictLaws}
+use Rattle.daide_grammar.specs.Numbers.{bracket_step}
+use Rattle.daide_grammar.specs.Paired.{begins_with_prn}
+use Rattle.daide_grammar.specs.Rules.{is_take, is_stop, rest_of}
+use Rattle.daide_grammar.specs.Stacks.{stack_after}
+use Rattle.daide_grammar.specs.Words.{Words}
+use Rattle.daide_grammar.specs.declared.predict.Predict.{Ghosts}
+use Rattle.daide_grammar.specs.declared.symbol.Sym.{Sym}
+use Rattle.daide_reader.specs.Outline.{outline_of}
+use Rattle.daide_reader.specs.Reading.{IsRaised, StandsAfter, reading}
+use Rattle.daide_reader.specs.Slice.{ReadsTo, Standing}
+use Rattle.daide_reader.specs.Stack.{open_count, steps_at}
+use Rattle.daide_grammar.proofs.BracketSteps.{step_by_class}
+use Rattle.daide_reader.proofs.CellLemmas.{after_skipped, after_taken, steps_skipped, steps_taken}
+use Rattle.daide_reader.proofs.ReadingLemmas.{counts_more, few_steps, raised_by, raised_more, raised_none, room_more}
+use Rattle.daide_reader.proofs.SliceLemmas.{count_is, front_not_prn, length_front, open_told, run_refused, run_taken}
+use Rattle.daide_reader.proofs.StackLemmas.{lawful_more}
+
+-- a count that goes up by the step of a token's class counts it
+pub counted_by_step : (n t : ℕ) (known : Class) → known ≡ class_of t → n < 65534
+    → count_one (is_bra t) (is_ket t) (Some n) ≡ open_count ((n + bracket_step known) % 65536)
+counted_by_step n t known is low =
+    go (is_bra t) (is_ket t) n low
+    ∙ ap (λ (k : ℕ). open_count ((n + k) % 65536)) (sym (ap bracket_step is ∙ step_by_class t))
+  where
+    other : (k : ℕ) → k < 65535 → open_count k ≡ Some k
+    other k less = let no : nat_eq k 65535 ≡ false = grind (arith, nat_tests) in
+        ap (λ (b : Bool). if b then None else Some k) no
+
+    go : (b k : Bool) (n : ℕ) → n < 65534
+        → count_one b k (Some n) ≡ open_count ((n + (if b then 1 else if k then 65535 else 0)) % 65536)
+    go true k n low =
+        let same : (n + 1) % 65536 ≡ n + 1 = omega arith in
+        sym (ap open_count same ∙ other (n + 1) (omega arith))
+    go false true zero low = refl
+    go false true (suc n) low =
+        let same : (suc n + 65535) % 65536 ≡ n = omega arith in
+        sym (ap open_count same ∙ other n (omega arith))
+    go false false n low =
+        let same : (n + 0) % 65536 ≡ n = omega arith in
+        sym (ap open_count same ∙ other n (omega arith))
+
+-- a token opens one bracket at most
+pub one_more : (b k : Bool) (n j : ℕ) → count_one b k (Some n) ≡ Some j → j ≤ n + 1
+one_more true k n j e = let same : n + 1 ≡ j = cc in omega (arith, same)
+one_more false true zero j e = absurd cc
+one_more false true (suc n) j e = let same : n ≡ j = cc in omega (arith, same)
+one_more false false n j e = let same : n ≡ j = cc in omega (arith, same)
+
+module _ {T : Type 0} (table : Ghosts T)
+    (laws : (w : Words) →
+    PredictLaws (table.class_of w) (table.language w) (table.moves w) (table.ends w) (table.lawful w))
+    (max_depth : ℕ) (body : List ℕ) (read unclosed : ℕ) (old : Standing T) where
+  -- the locals are a reader that stands after the tokens so far
+  pub record AtToken (i opened : ℕ) (now : Standing T) : Type 0 where
+    pub words : table.words now.table ≡ table.words old.table
+    pub from : read ≤ i
+    pub few : opened ≤ i
+    pub deep : opened ≤ max_depth
+    pub lawful : table.lawful (table.words now.table) now.stack opened
+    pub raised : IsRaised (4 * (i - read)) (table.asked old.table) (table.asked now.table)
+    pub stands_after : (words : Words) (first : Sym) (depth base : ℕ) → begins_with_prn (tokens_of body) ≡ false →
+        StandsAfter table words first depth
+        (reading old.table max_depth old.stack (outline_of (take read (tokens_of body))) (Some unclosed) None base)
+        (take read (tokens_of body)) →
+        StandsAfter table words first depth
+        (reading now.table max_depth now.stack (outline_of (take i (tokens_of body))) (Some opened) None base)
+        (take i (tokens_of body))
+
+  pub at_start : unclosed ≤ read → unclosed ≤ max_depth → table.lawful (table.words old.table) old.stack unclosed
+      → AtToken read unclosed old
+  at_start few deep lawful = record {
+    words = refl;
+    from = omega arith;
+    few = few;
+    deep = deep;
+    lawful = lawful;
+    raised = raised_none (table.asked old.table) (table.asked old.table) refl;
+    stands_after = λ words first depth base plain h. h;
+  }
+
+  -- the stack and the answers that are due at a token, by what a table says
+  abbrev after_at : Standing T → ℕ → List Sym → Option (List Sym)
+  after_at now t stack = stack_after (table.moves (table.words now.table)) (table.class_of (table.words now.table) t)
+      stack
+
+  abbrev due_at : Standing T → ℕ → List Sym → ℕ
+  due_at now t stack = steps_at (table.moves (table.words now.table)) (table.class_of (table.words now.table) t) stack
+
+  -- what a token that is taken makes of a reader
+  pub record TakesToken (t opened after : ℕ) (now new : Standing T) : Type 0 where
+    pub words : table.words new.table ≡ table.words now.table
+    pub fits : is_bra t ≡ true → opened ≢ max_depth
+    pub taken : after_at now t now.stack ≡ Some new.stack
+    pub counted : count_one (is_bra t) (is_ket t) (Some opened) ≡ open_count after
+    pub steps : (n : ℕ) × (n ≤ due_at now t now.stack)
+        × (table.asked new.table % 2 ^ 64 ≡ (table.asked now.table + n) % 2 ^ 64)
+
+  pub at_next : (i t opened after : ℕ) (now new : Standing T) → AtToken i opened now
+      → take (i + 1) (tokens_of body) ≡ take i (tokens_of body) ++ t ∷ [] → TakesToken t opened after now new
+      → AtToken (i + 1) after new
+  at_next i t opened after now new at front takes =
+      let w = table.words now.table in
+      let m = tokens_of body in
+      let p = take i m in
+      let next = lawful_more _ _ _ _ _ (laws w) t opened max_depth now.stack new.stack at.lawful at.deep takes.fits
+      takes.taken in
+      let is : next.0 ≡ after = sym (open_told after next.0 (sym takes.counted ∙ next.1)) in
+      let counts : count_one (is_bra t) (is_ket t) (Some opened) ≡ Some after =
+      next.1 ∙ ap (λ (k : ℕ). Some k) is in
+      let few_here = few_steps table laws w (table.class_of w t) now.stack opened takes.steps.0 at.lawful takes.steps.1
+      in
+      let few = counts_more (Some opened) i (is_bra t) (is_ket t) at.few in
+      record {
+        words = takes.words ∙ at.words;
+        from = (let from = at.from in omega (arith, from));
+        few = subst (λ (o : Option ℕ). IfSome o (λ n. n ≤ i + 1)) counts few;
+        deep = subst (λ (n : ℕ). n ≤ max_depth) is next.2;
+        lawful = subst (λ (n : ℕ). table.lawful (table.words new.table) new.stack n) is
+            (subst (λ (w : Words). table.lawful w new.stack next.0) (sym takes.words) next.3);
+        raised = raised_more (4 * (i - read)) 4 _ _ _ _ (let from = at.from in omega (arith, from)) at.raised
+            (raised_by takes.steps.0 _ _ _ few_here refl takes.steps.2);
+        stands_after = λ words first depth base plain h.
+            let not_prn : begins_with_prn (p ++ t ∷ []) ≡ false =
+            subst (λ (q : List ℕ). begins_with_prn q ≡ false) front (front_not_prn (i + 1) m plain) in
+            subst (λ (q : List ℕ). StandsAfter table words first depth
+            (reading new.table max_depth new.stack (outline_of q) (Some after) None base) q)
+            (sym front)
+            (run_taken table laws words first depth base _ _ max_depth _ _ p t opened after
+            not_prn takes.words at.lawful at.deep takes.fits takes.taken counts
+            (takes.steps.0, few_here, takes.steps.2)
+            (at.stands_after words first depth base plain h));
+      }
+
+  -- all tokens up to one were read
+  pub reads_all : (i opened : ℕ) (now : Standing T) → AtToken i opened now
+      → ReadsTo table max_depth body read unclosed old i (Some opened) None now
+  reads_all i opened now at = record {
+    words = at.words;
+    goes_on = at.from;
+    counts = at.few;
+    lawful = λ _. (opened, refl, at.deep, at.lawful);
+    none_left = λ some. absurd cc;
+    raised = at.raised;
+    stands_after = at.stands_after;
+  }
+
+  -- a token that isn't taken, and is counted
+  pub record RefusesToken (t opened : ℕ) (after : Option ℕ) (now new : Standing T) : Type 0 where
+    pub words : table.words new.table ≡ table.words now.table
+    pub why : ((is_bra t ≡ true) × (opened ≡ max_depth)) ⊎ (after_at now t now.stack ≡ None)
+    pub counted : after ≡ count_one (is_bra t) (is_ket t) (Some opened)
+    pub steps : (n : ℕ) × (n ≤ due_at now t now.stack)
+        × (table.asked new.table % 2 ^ 64 ≡ (table.asked now.table + n) % 2 ^ 64)
+
+  pub reads_refused : (i t opened : ℕ) (after : Option ℕ) (now new : Standing T) → AtToken i opened now
+      → i ≤ length (tokens_of body) → take (i + 1) (tokens_of body) ≡ take i (tokens_of body) ++ t ∷ []
+      → new.stack ≡ [] → RefusesToken t opened after now new
+      → ReadsTo table max_depth body read unclosed old (i + 1) after (Some i) new
+  reads_refused i t opened after now new at inside front empty refuses =
+      let w = table.words now.table in
+      let m = tokens_of body in
+      let p = take i m in
+      let few_here = few_steps table laws w (table.class_of w t) now.stack opened refuses.steps.0 at.lawful
+      refuses.steps.1 in
+      let few = counts_more (Some opened) i (is_bra t) (is_ket t) at.few in
+      record {
+        words = refuses.words ∙ at.words;
+        goes_on = (let from = at.from in omega (arith, from));
+        counts = subst (λ (o : Option ℕ). IfSome o (λ n. n ≤ i + 1)) (sym refuses.counted) few;
+        lawful = λ none. absurd cc;
+        none_left = λ _. empty;
+        raised = raised_more (4 * (i - read)) 4 _ _ _ _ (let from = at.from in omega (arith, from)) at.raised
+            (raised_by refuses.steps.0 _ _ _ few_here refl refuses.steps.2);
+        stands_after = λ words first depth base plain h.
+            let not_prn : begins_with_prn (p ++ t ∷ []) ≡ false =
+            subst (λ (q : List ℕ). begins_with_prn q ≡ false) front (front_not_prn (i + 1) m plain) in
+            subst (λ (q : List ℕ). StandsAfter table words first depth
+            (reading new.table max_depth new.stack (outline_of q) after (Some i) base) q) (sym front)
+            (run_refused table laws words first depth base _ _ max_depth _ _ p t opened i after
+            not_prn refuses.words at.lawful at.deep refuses.why refuses.counted (length_front i m inside)
+            (refuses.steps.0, few_here, refuses.steps.2)
+            (at.stands_after words first depth base plain h));
+      }
+
+  -- a stretch more: from where all tokens up to one were read
+  pub reads_joined : (i opened tokens : ℕ) (unclosed' place : Option ℕ) (now new : Standing T) → AtToken i opened now
+      → ReadsTo table max_depth body i opened now tokens unclosed' place new
+      → ReadsTo table max_depth body read unclosed old tokens unclosed' place new
+  reads_joined i opened tokens unclosed' place now new at more = record {
+    words = more.words ∙ at.words;
+    goes_on = (let from = at.from in let on = more.goes_on in omega (arith, from, on));
+    counts = more.counts;
+    lawful = more.lawful;
+    none_left = more.none_left;
+    raised = raised_more (4 * (i - read)) (4 * (tokens - i)) _ _ _ _
+        (let from = at.from in let on = more.goes_on in omega (arith, from, on)) at.raised more.raised;
+    stands_after = λ words first depth base plain h.
+        more.stands_after words first depth base plain (at.stands_after words first depth base plain h);
+  }
+
+  -- all of it taken
+  pub at_joined : (i opened tokens now_open : ℕ) (unclosed' place : Option ℕ) (now new : Standing T)
+      → AtToken i opened now
+      → ReadsTo table max_depth body i opened now tokens unclosed' place new
+      → now_open ≡ unwrap_or unclosed' 0 → place ≡ None → AtToken tokens now_open new
+  at_joined i opened tokens now_open unclosed' place now new at more open_now none =
+      let whole = reads_joined i opened tokens unclosed' place now new at more in
+      let ok = whole.lawful none in
+      let same : ok.0 ≡ now_open = sym (count_is unclosed' ok.0 now_open ok.1 open_now) in
+      let is : unclosed' ≡ Some now_open = ok.1 ∙ ap (λ (n : ℕ). Some n) same in
+      record {
+        words = whole.words;
+        from = whole.goes_on;
+        few = subst (λ (o : Option ℕ). IfSome o (λ n. n ≤ tokens)) is whole.counts;
+        deep = subst (λ (n : ℕ). n ≤ max_depth) same ok.2;
+        lawful = subst (λ (n : ℕ). table.lawful (table.words new.table) new.stack n) same ok.3;
+        raised = whole.raised;
+        stands_after = λ words first depth base plain h.
+            subst (λ (o : Option ℕ). StandsAfter table words first depth
+            (reading new.table max_depth new.stack (outline_of (take tokens (tokens_of body))) (Some now_open) o base)
+            (take tokens (tokens_of body))) none
+            (subst (λ (u : Option ℕ). StandsAfter table words first depth
+            (reading new.table max_depth new.stack (outline_of (take tokens (tokens_of body))) u place base)
+            (take tokens (tokens_of body))) is (whole.stands_after words first depth base plain h));
+      }
+
+  -- in the midst of a token some symbols of the stack at its start were skipped, and asked
+  pub record MidToken (i opened end : ℕ) (now : Standing T) : Type 0 where
+    pub start : Standing T
+    pub at : AtToken i opened start
+    pub words : table.words now.table ≡ table.words start.table
+    pub lower : length now.stack ≤ length start.stack
+    pub on : (t : ℕ) → drop i (tokens_of body) ≡ t ∷ drop (i + 1) (tokens_of body) →
+        (after_at start t start.stack ≡ after_at start t now.stack)
+        × ((table.asked now.table + due_at start t now.stack) % 2 ^ 64
+        ≡ (table.asked start.table + due_at start t start.stack) % 2 ^ 64)
+    pub whole : i ≡ end → start ≡ now
+
+  pub begun : (i opened end : ℕ) (now : Standing T) → AtToken i opened now → MidToken i opened end now
+  begun i opened end now at = record {
+    start = now;
+    at = at;
+    words = refl;
+    lower = omega arith;
+    on = λ t here. (refl, refl);
+    whole = λ _. refl;
+  }
+
+  -- at the end no token is half read
+  pub ended : (i opened end : ℕ) (now : Standing T) → i ≡ end → MidToken i opened end now → AtToken i opened now
+  ended i opened end now last mid = subst (AtToken i opened) (mid.whole last) mid.at
+
+  -- what a table says of a token, by the words that it had at the token's start
+  told_at : (now start : Standing T) (s : Sym) (t : ℕ) (a : Answer) → table.words now.table ≡ table.words start.table
+      → a ≡ table.moves (table.words now.table) s (table.class_of (table.words now.table) t)
+      → table.moves (table.words start.table) s (table.class_of (table.words start.table) t) ≡ a
+  told_at now start s t a same is =
+      ap (λ (w : Words). table.moves w s (table.class_of w t)) (sym same) ∙ sym is
+
+  pub skipped : (i opened end t : ℕ) (now new : Standing T) (s : Sym) (a : Answer) → MidToken i opened end now
+      → i < end → drop i (tokens_of body) ≡ t ∷ drop (i + 1) (tokens_of body)
+      → now.stack ≡ s ∷ new.stack
+      → a ≡ table.moves (table.words now.table) s (table.class_of (table.words now.table) t)
+      → is_take a ≡ false → is_stop a ≡ false
+      → table.words new.table ≡ table.words now.table
+      → table.asked new.table ≡ (table.asked now.table + 1) % 2 ^ 64
+      → MidToken i opened end new
+  skipped i opened end t now new s a mid less here top says takes stops same counts =
+      let start = mid.start in
+      let moves = table.moves (table.words start.table) in
+      let class = table.class_of (table.words start.table) t in
+      let is = told_at now start s t a mid.words says in
+      let size : length now.stack ≡ suc (length new.stack) = ap length top in
+      let before = mid.on t here in
+      let after : after_at start t now.stack ≡ after_at start t new.stack =
+      ap (stack_after moves class) top ∙ after_skipped moves class s new.stack a is takes stops in
+      let due : due_at start t now.stack ≡ 1 + due_at start t new.stack =
+      ap (steps_at moves class) top ∙ steps_skipped moves class s new.stack a is takes stops in
+      let sum = before.1 in
+      let sums : (table.asked new.table + due_at start t new.stack) % 2 ^ 64
+      ≡ (table.asked start.table + due_at start t start.stack) % 2 ^ 64 = omega (arith, counts, due, sum) in
+      record {
+        start = start;
+        at = mid.at;
+        words = same ∙ mid.words;
+        lower = (let lower = mid.lower in omega (arith, size, lower));
+        on = λ u there.
+            let same_token : t ≡ u = cc (here, there) in
+            subst (λ (u : ℕ). (after_at start u start.stack ≡ after_at start u new.stack)
+            × ((table.asked new.table + due_at start u new.stack) % 2 ^ 64
+            ≡ (table.asked start.table + due_at start u start.stack) % 2 ^ 64)) same_token
+            (before.0 ∙ after, sums);
+        whole = λ last. absurd (omega (arith, less, last));
+      }
+
+  -- the token's last answer takes it
+  pub takes_token : (i opened end t after : ℕ) (now new : Standing T) → (mid : MidToken i opened end now)
+      → drop i (tokens_of body) ≡ t ∷ drop (i + 1) (tokens_of body)
+      → after_at now t now.stack ≡ Some new.stack
+      → table.words new.table ≡ table.words now.table
+      → table.asked new.table % 2 ^ 64 ≡ (table.asked now.table + due_at now t now.stack) % 2 ^ 64
+      → (is_bra t ≡ true → opened ≢ max_depth)
+      → count_one (is_bra t) (is_ket t) (Some opened) ≡ open_count after
+      → TakesToken t opened after mid.start new
+  takes_token i opened end t after now new mid here taken same counts fits counted =
+      let start = mid.start in
+      let before = mid.on t here in
+      let by_words = ap (λ (w : Words). stack_after (table.moves w) (table.class_of w t) now.stack) (sym mid.words) in
+      let due : due_at now t now.stack ≡ due_at start t now.stack =
+      ap (λ (w : Words). steps_at (table.moves w) (table.class_of w t) now.stack) mid.words in
+      let sum = before.1 in
+      record {
+        words = same ∙ mid.words;
+        fits = fits;
+        taken = before.0 ∙ by_words ∙ taken;
+        counted = counted;
+        steps = (due_at start t start.stack, omega arith, omega (arith, counts, due, sum));
+      }
+
+  pub refuses_token : (i opened end t : ℕ) (after : Option ℕ) (now new : Standing T) → (mid : MidToken i opened end now)
+      → drop i (tokens_of body) ≡ t ∷ drop (i + 1) (tokens_of body)
+      → after_at now t now.stack ≡ None
+      → table.words new.table ≡ table.words now.table
+      → table.asked new.table % 2 ^ 64 ≡ (table.asked now.table + due_at now t now.stack) % 2 ^ 64
+      → after ≡ count_one (is_bra t) (is_ket t) (Some opened)
+      → RefusesToken t opened after mid.start new
+  refuses_token i opened end t after now new mid here refused same counts counted =
+      let start = mid.start in
+      let before = mid.on t here in
+      let by_words = ap (λ (w : Words). stack_after (table.moves w) (table.class_of w t) now.stack) (sym mid.words) in
+      let due : due_at now t now.stack ≡ due_at start t now.stack =
+      ap (λ (w : Words). steps_at (table.moves w) (table.class_of w t) now.stack) mid.words in
+      let sum = before.1 in
+      record {
+        words = same ∙ mid.words;
+        why = inr (before.0 ∙ by_words ∙ refused);
+        counted = counted;
+        steps = (due_at start t start.stack, omega arith, omega (arith, counts, due, sum));
+      }
+
+  -- in the midst of a token there is room, as there was at its start
+  pub low_enough : (i opened end size : ℕ) (now : Standing T) → MidToken i opened end now → opened < max_depth
+      → 8 * max_depth + 16 ≤ size → length now.stack + 8 ≤ size
+  low_enough i opened end size now mid less deepest =
+      let few = (laws (table.words mid.start.table)).few_entries mid.start.stack opened mid.at.lawful in
+      let lower = mid.lower in
+      omega (arith, few, lower, less, deepest)
+
+  pub room_for : (i opened end size t : ℕ) (now : Standing T) → MidToken i opened end now → opened < max_depth
+      → 8 * max_depth + 16 ≤ size
+      → drop i (tokens_of body) ≡ t ∷ drop (i + 1) (tokens_of body)
+      → IfSome (after_at now t now.stack) (λ after. length after ≤ size)
+  room_for i opened end size t now mid less deepest here =
+      let start = mid.start in
+      let fits : is_bra t ≡ true → opened ≢ max_depth = λ _ same. omega (arith, less, same) in
+      let room = room_more table laws (table.words start.table) size t opened max_depth start.stack mid.at.lawful
+      mid.at.deep deepest fits in
+      subst (λ (o : Option (List Sym)). IfSome o (λ after. length after ≤ size))
+      ((mid.on t here).0 ∙ ap (λ (w : Words). stack_after (table.moves w) (table.class_of w t) now.stack) (sym
+      mid.words))
+      room
+
+  -- a token refused in the midst of it
+  pub stops_here : (i opened end t tokens : ℕ) (after place : Option ℕ) (now new : Standing T)
+      → MidToken i opened end now
+      → i ≤ length (tokens_of body) → take (i + 1) (tokens_of body) ≡ take i (tokens_of body) ++ t ∷ []
+      → drop i (tokens_of body) ≡ t ∷ drop (i + 1) (tokens_of body)
+      → after_at now t now.stack ≡ None
+      → table.words new.table ≡ table.words now.table
+      → table.asked new.table % 2 ^ 64 ≡ (table.asked now.table + due_at now t now.stack) % 2 ^ 64
+      → after ≡ count_one (is_bra t) (is_ket t) (Some opened) → new.stack ≡ []
+      → tokens ≡ i + 1 → place ≡ Some i
+      → ReadsTo table max_depth body read unclosed old tokens after place new
+  stops_here i opened end t tokens after place now new mid inside front here refused same counts counted empty size is =
+      let refuses = refuses_token i opened end t after now new mid here refused same counts counted in
+      let whole = reads_refused i t opened after mid.start new mid.at inside front empty refuses in
+      subst (λ (k : ℕ). ReadsTo table max_depth body read unclosed old k after place new) (sym size)
+      (subst (λ (o : Option ℕ). ReadsTo table max_depth body read unclosed old (i + 1) after o new) (sym is) whole)
+
+  -- a token taken, at last
+  pub goes_on : (i opened end t after : ℕ) (now new : Standing T) → MidToken i opened end now
+      → take (i + 1) (tokens_of body) ≡ take i (tokens_of body) ++ t ∷ []
+      → drop i (tokens_of body) ≡ t ∷ drop (i + 1) (tokens_of body)
+      → after_at now t now.stack ≡ Some new.stack
+      → table.words new.table ≡ table.words now.table
+      → table.asked new.table % 2 ^ 64 ≡ (table.asked now.table + due_at now t now.stack) % 2 ^ 64
+      → opened < max_depth
+      → count_one (is_bra t) (is_ket t) (Some opened) ≡ open_count after
+      → MidToken (i + 1) after end new × (after ≤ opened + 1)
+  goes_on i opened end t after now new mid front here taken same counts less counted =
+      let fits : is_bra t ≡ true → opened ≢ max_depth = λ _ is. omega (arith, less, is) in
+      let takes = takes_token i opened end t after now new mid here taken same counts fits counted in
+      let w = table.words mid.start.table in
+      let next = lawful_more _ _ _ _ _ (laws w) t opened max_depth mid.start.stack new.stack mid.at.lawful mid.at.deep
+      takes.fits takes.taken in
+      let is : next.0 ≡ after = sym (open_told after next.0 (sym counted ∙ next.1)) in
+      let more = one_more (is_bra t) (is_ket t) opened next.0 next.1 in (
+        begun (i + 1) after end new (at_next i t opened after mid.start new mid.at front takes),
+        omega (arith, is, more),
+      )
+
+  takes_on : (a : Answer) → is_take a ≡ true → is_stop a ≡ false
+  takes_on (Take rest) h = refl
+  takes_on Skip h = refl
+  takes_on Stop h = cc
+
+  -- by the protocol's own table
+  pub took : (i opened end t after : ℕ) (now new : Standing T) (s : Sym) (below : List Sym) (a : Answer)
+      → MidToken i opened end now
+      → take (i + 1) (tokens_of body) ≡ take i (tokens_of body) ++ t ∷ []
+      → drop i (tokens_of body) ≡ t ∷ drop (i + 1) (tokens_of body)
+      → now.stack ≡ s ∷ below
+      → (is_stop a ≡ false → a ≡ table.moves (table.words now.table) s (table.class_of (table.words now.table) t))
+      → is_take a ≡ true → new.stack ≡ rest_of a ++ below
+      → table.words new.table ≡ table.words now.table
+      → table.asked new.table ≡ (table.asked now.table + 1) % 2 ^ 64
+      → opened < max_depth
+      → count_one (is_bra t) (is_ket t) (Some opened) ≡ open_count after
+      → MidToken (i + 1) after end new × (after ≤ opened + 1)
+  took i opened end t after now new s below a mid front here top says takes put same counts less counted =
+      let moves = table.moves (table.words now.table) in
+      let class = table.class_of (table.words now.table) t in
+      let is : moves s class ≡ a = sym (says (takes_on a takes)) in
+      let taken : after_at now t now.stack ≡ Some new.stack =
+      ap (stack_after moves class) top ∙ after_taken moves class s below a is takes
+      ∙ ap (λ (x : List Sym). Some x) (sym put) in
+      let due : due_at now t now.stack ≡ 1 =
+      ap (steps_at moves class) top ∙ steps_taken moves class s below a is takes in
+      goes_on i opened end t after now new mid front here taken same (omega (arith, counts, due)) less counted
+
+  -- what is said of the same stack by a table that was asked once more
+  pub said_same : (t : ℕ) (now : Standing T) (asked : T) (stack : List Sym) → table.words asked ≡ table.words now.table
+      → stack ≡ now.stack
+      → after_at now t now.stack
+      ≡ stack_after (table.moves (table.words asked)) (table.class_of (table.words asked) t) stack
+  said_same t now asked stack same is =
+      ap (after_at now t) (sym is)
+      ∙ ap (λ (w : Words). stack_after (table.moves w) (table.class_of w t) stack) (sym same)
+
+  pub due_same : (t : ℕ) (now : Standing T) (asked : T) (stack : List Sym) → table.words asked ≡ table.words now.table
+      → stack ≡ now.stack
+      → steps_at (table.moves (table.words asked)) (table.class_of (table.words asked) t) stack
+      ≡ due_at now t now.stack
+  due_same t now asked stack same is =
+      ap (λ (w : Words). steps_at (table.moves w) (table.class_of w t) stack) same ∙ ap (due_at now t) is

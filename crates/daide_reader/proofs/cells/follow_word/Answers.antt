@@ -1,0 +1,163 @@
+use Rattle.std.proofs.Common.{◌≡◌, ◌≤◌, ◌+◌, ◌%◌, ◌^◌, ◌∷◌, ℕ, IfSome, IfNone, List, Some, None, Option, length, get_or}
+use Rattle.std.proofs.Common.{take, reverse}
+use Rattle.std.proofs.Common.{sym, ap, ◌∙◌, subst, rules, arith}
+use Rattle.daide_token.specs.declared.class.Class.{Class}
+use Rattle.daide_grammar.specs.declared.symbol.Sym.{Sym}
+use Rattle.daide_grammar.specs.Rules.{rest_of}
+use Rattle.daide_grammar.specs.Stacks.{stack_after}
+use Rattle.daide_reader.specs.Stack.{steps_at}
+use Rattle.daide_reader.proofs.CellLemmas.{on_place, put_on_top, room_after}
+use Rattle.daide_reader.proofs.CellLemmas.{after_taken, after_stopped, after_skipped}
+use Rattle.daide_reader.proofs.CellLemmas.{steps_taken, steps_stopped, steps_skipped}
+use Rattle.daide_reader.proofs.cells.follow_word.Goals as goal
+
+pub put_slowly-requires : goal.put_slowly-requires
+put_slowly-requires g c =
+    let moves = g.T.Predict.moves (g.T.Predict.words c.args.table.now) in
+    let class = g.T.Predict.class_of (g.T.Predict.words c.args.table.now) c.args.token in
+    let cells = c.args.cells.now in
+    let s = get_or cells c.args.top c.index-cells-top.result in
+    let below = reverse (take c.args.top cells) in
+    let a = c.predict_word-answer.result in
+    let is : moves s class ≡ a = sym c.predict_word-answer.ensures in
+    let top : reverse (take (c.args.top + 1) cells) ≡ s ∷ below =
+    on_place cells c.args.top c.index-cells-top.result (omega arith) in
+    let after = ap (stack_after moves class) top
+    ∙ after_taken moves class s below a is (sym c.is_take.ensures ∙ c.if-is_take.true) in
+    let room = room_after _ (rest_of a) cells c.args.top g.row.N (omega arith) after c.requires.room in
+    (search rules, (c.requires.size, (c.len.ensures.few, (let len = c.len.ensures.len in omega (arith, room, len)))))
+
+pub returns-then-is_take-clause-taken : goal.returns-then-is_take-clause-taken
+returns-then-is_take-clause-taken g c =
+    let moves = g.T.Predict.moves (g.T.Predict.words c.args.table.now) in
+    let class = g.T.Predict.class_of (g.T.Predict.words c.args.table.now) c.args.token in
+    let cells = c.args.cells.now in
+    let s = get_or cells c.args.top c.index-cells-top.result in
+    let below = reverse (take c.args.top cells) in
+    let a = c.predict_word-answer.result in
+    let is : moves s class ≡ a = sym c.predict_word-answer.ensures in
+    let top : reverse (take (c.args.top + 1) cells) ≡ s ∷ below =
+    on_place cells c.args.top c.index-cells-top.result (omega arith) in
+    let after = ap (stack_after moves class) top
+    ∙ after_taken moves class s below a is (sym c.is_take.ensures ∙ c.if-is_take.true) in
+    let turned = put_on_top c.put_slowly.new.cells cells (rest_of a) c.cells.result c.args.top c.len.result
+    c.len-then-is_take.result c.put_slowly.ensures c.len.ensures.len c.len-then-is_take.ensures.len c.cells.ensures in
+    after ∙ ap (λ (x : List Sym). Some x) (sym turned)
+
+pub returns-then-is_take-clause-inside : goal.returns-then-is_take-clause-inside
+returns-then-is_take-clause-inside g c =
+    let moves = g.T.Predict.moves (g.T.Predict.words c.args.table.now) in
+    let class = g.T.Predict.class_of (g.T.Predict.words c.args.table.now) c.args.token in
+    let cells = c.args.cells.now in
+    let s = get_or cells c.args.top c.index-cells-top.result in
+    let below = reverse (take c.args.top cells) in
+    let a = c.predict_word-answer.result in
+    let is : moves s class ≡ a = sym c.predict_word-answer.ensures in
+    let top : reverse (take (c.args.top + 1) cells) ≡ s ∷ below =
+    on_place cells c.args.top c.index-cells-top.result (omega arith) in
+    let after = ap (stack_after moves class) top
+    ∙ after_taken moves class s below a is (sym c.is_take.ensures ∙ c.if-is_take.true) in
+    let room = room_after _ (rest_of a) cells c.args.top g.row.N (omega arith) after c.requires.room in
+    (let len = c.len-then-is_take.ensures.len in omega (arith, room, len))
+
+pub returns-then-is_take-clause-steps : goal.returns-then-is_take-clause-steps
+returns-then-is_take-clause-steps g c =
+    let moves = g.T.Predict.moves (g.T.Predict.words c.args.table.now) in
+    let class = g.T.Predict.class_of (g.T.Predict.words c.args.table.now) c.args.token in
+    let cells = c.args.cells.now in
+    let s = get_or cells c.args.top c.index-cells-top.result in
+    let below = reverse (take c.args.top cells) in
+    let a = c.predict_word-answer.result in
+    let is : moves s class ≡ a = sym c.predict_word-answer.ensures in
+    let top : reverse (take (c.args.top + 1) cells) ≡ s ∷ below =
+    on_place cells c.args.top c.index-cells-top.result (omega arith) in
+    let due = ap (steps_at moves class) top
+    ∙ steps_taken moves class s below a is (sym c.is_take.ensures ∙ c.if-is_take.true) in
+    ap (λ (k : ℕ). (g.T.Predict.asked c.args.table.now + k) % 2 ^ 64) (sym due)
+
+pub returns-then-is_stop-clause-refused : goal.returns-then-is_stop-clause-refused
+returns-then-is_stop-clause-refused g c =
+    let moves = g.T.Predict.moves (g.T.Predict.words c.args.table.now) in
+    let class = g.T.Predict.class_of (g.T.Predict.words c.args.table.now) c.args.token in
+    let cells = c.args.cells.now in
+    let s = get_or cells c.args.top c.index-cells-top.result in
+    let below = reverse (take c.args.top cells) in
+    let a = c.predict_word-answer.result in
+    let is : moves s class ≡ a = sym c.predict_word-answer.ensures in
+    let top : reverse (take (c.args.top + 1) cells) ≡ s ∷ below =
+    on_place cells c.args.top c.index-cells-top.result (omega arith) in
+    ap (stack_after moves class) top ∙ after_stopped moves class s below a is (sym c.is_stop.ensures ∙
+    c.if-is_stop.true)
+
+pub returns-then-is_stop-clause-steps : goal.returns-then-is_stop-clause-steps
+returns-then-is_stop-clause-steps g c =
+    let moves = g.T.Predict.moves (g.T.Predict.words c.args.table.now) in
+    let class = g.T.Predict.class_of (g.T.Predict.words c.args.table.now) c.args.token in
+    let cells = c.args.cells.now in
+    let s = get_or cells c.args.top c.index-cells-top.result in
+    let below = reverse (take c.args.top cells) in
+    let a = c.predict_word-answer.result in
+    let is : moves s class ≡ a = sym c.predict_word-answer.ensures in
+    let top : reverse (take (c.args.top + 1) cells) ≡ s ∷ below =
+    on_place cells c.args.top c.index-cells-top.result (omega arith) in
+    let due = ap (steps_at moves class) top
+    ∙ steps_stopped moves class s below a is (sym c.is_stop.ensures ∙ c.if-is_stop.true) in
+    ap (λ (k : ℕ). (g.T.Predict.asked c.args.table.now + k) % 2 ^ 64) (sym due)
+
+-- the word's symbol is skipped, and those below it follow
+pub follow-requires : goal.follow-requires
+follow-requires g c =
+    let moves = g.T.Predict.moves (g.T.Predict.words c.args.table.now) in
+    let class = g.T.Predict.class_of (g.T.Predict.words c.args.table.now) c.args.token in
+    let cells = c.args.cells.now in
+    let s = get_or cells c.args.top c.index-cells-top.result in
+    let below = reverse (take c.args.top cells) in
+    let a = c.predict_word-answer.result in
+    let is : moves s class ≡ a = sym c.predict_word-answer.ensures in
+    let top : reverse (take (c.args.top + 1) cells) ≡ s ∷ below =
+    on_place cells c.args.top c.index-cells-top.result (omega arith) in
+    let takes = sym c.is_take.ensures ∙ c.if-is_take.false in
+    let stops = sym c.is_stop.ensures ∙ c.if-is_stop.false in
+    let after = ap (stack_after moves class) top ∙ after_skipped moves class s below a is takes stops
+    ∙ ap (λ (k : Class). stack_after moves k below) (sym c.class_of-class.ensures) in (
+      search rules,
+      (
+        c.requires.size,
+        (
+          omega arith,
+          subst (λ (o : Option (List Sym)). IfSome o (λ (after : List Sym). length after ≤ g.row.N)) after
+              c.requires.room,
+        ),
+      ),
+    )
+
+pub returns : goal.returns
+returns g c =
+    let moves = g.T.Predict.moves (g.T.Predict.words c.args.table.now) in
+    let class = g.T.Predict.class_of (g.T.Predict.words c.args.table.now) c.args.token in
+    let cells = c.args.cells.now in
+    let s = get_or cells c.args.top c.index-cells-top.result in
+    let below = reverse (take c.args.top cells) in
+    let a = c.predict_word-answer.result in
+    let is : moves s class ≡ a = sym c.predict_word-answer.ensures in
+    let top : reverse (take (c.args.top + 1) cells) ≡ s ∷ below =
+    on_place cells c.args.top c.index-cells-top.result (omega arith) in
+    let takes = sym c.is_take.ensures ∙ c.if-is_take.false in
+    let stops = sym c.is_stop.ensures ∙ c.if-is_stop.false in
+    let after = ap (stack_after moves class) top ∙ after_skipped moves class s below a is takes stops
+    ∙ ap (λ (k : Class). stack_after moves k below) (sym c.class_of-class.ensures) in
+    let due : steps_at moves class (reverse (take (c.args.top + 1) cells)) ≡ 1 + steps_at moves class below =
+    ap (steps_at moves class) top ∙ steps_skipped moves class s below a is takes stops in
+    let here : steps_at moves c.class_of-class.result below ≡ steps_at moves class below =
+    ap (λ (k : Class). steps_at moves k below) c.class_of-class.ensures in
+    let steps = c.follow.ensures.steps in
+    record {
+      taken = subst (λ (o : Option (List Sym)). IfSome c.follow.result (λ (left : ℕ). o ≡ Some (reverse (take left
+          c.follow.new.cells)))) (sym after)
+          c.follow.ensures.taken;
+      inside = c.follow.ensures.inside;
+      refused = subst (λ (o : Option (List Sym)). IfNone c.follow.result (o ≡ None)) (sym after)
+          c.follow.ensures.refused;
+      words = c.follow.ensures.words;
+      steps = omega (arith, steps, due, here);
+    }

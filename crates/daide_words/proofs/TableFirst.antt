@@ -1,0 +1,64 @@
+-- What the protocol's table says of a token by the class that it has without words is what it says of it as an
+-- operator's word.
+use Rattle.std.proofs.Common.{◌≡◌, ℕ, suc, ◌+◌, ◌<◌, ◌≤◌, Bool, true, false, ◌==◌, nat_eq, List, [], ◌∷◌, length}
+use Rattle.std.proofs.Common.{Option, Some, None, if◌then◌else◌, refl, sym, ap, ◌∙◌, arith}
+use Rattle.std.proofs.lemmas.Bool.{eqb-true}
+use Rattle.std.proofs.lemmas.Bool.Decides.{nat_tests}
+use Rattle.daide_token.specs.declared.class.Class.TheVariants.{Other}
+use Rattle.daide_token.specs.Class.{class_of}
+use Rattle.daide_token.specs.Names.{Named}
+use Rattle.daide_grammar.specs.declared.symbol.Sym.{Sym}
+use Rattle.daide_grammar.specs.Classes.{class_number}
+use Rattle.daide_grammar.specs.Rules.{is_stop}
+use Rattle.daide_grammar.specs.SideMessages.{dialect_of}
+use Rattle.daide_grammar.specs.Symbols.{table_answer}
+use Rattle.daide_grammar.proofs.RowsAgree.{word_unknown}
+use Rattle.daide_words.specs.declared.word.Word as code
+use Rattle.daide_words.specs.Accepted.{are_accepted_after}
+use Rattle.daide_words.specs.Word.{grammar_words, names_of}
+use Rattle.daide_words.specs.OverWords.{answer_over}
+use Rattle.daide_words.specs.Places.{place_from}
+use Rattle.daide_words.specs.Proved.WordDialect.{class-Other}
+use Rattle.daide_words.proofs.AcceptedCodes.{class_told, class_kept}
+use Rattle.daide_words.proofs.WhereStopped.{not_stopped}
+
+-- a place lies within the names
+pub place_inside : (j : ℕ) (names : List Named) (t k : ℕ) → place_from j names t ≡ Some k → k < j + length names
+place_inside j [] t k e = cc
+place_inside j (named ∷ names) t k e = by_test (t == named.0) e (place_inside (suc j) names t k)
+  where
+    by_test : (b : Bool) → (if b then Some j else place_from (suc j) names t) ≡ Some k
+        → (place_from (suc j) names t ≡ Some k → k < suc j + length names) → k < j + suc (length names)
+    by_test true e later = let same : j ≡ k = cc in omega (arith, same)
+    by_test false e later = let less = later e in omega (arith, less)
+
+module _ (words : List code.Word) (s : Sym) (t : ℕ) where
+  -- the table says the same of a token by its class with and without words
+  pub told_before : are_accepted_after [] words ≡ true → length (names_of words) ≤ 16
+      → table_answer s ((dialect_of (grammar_words words)).class_of t) ≡ table_answer s (class_of t)
+  told_before accepted few = by_number (nat_eq (class_number (class_of t)) 77) refl
+    where
+      by_place : (o : Option ℕ) → place_from 0 (names_of words) t ≡ o → class_of t ≡ Other
+          → table_answer s ((dialect_of (grammar_words words)).class_of t) ≡ table_answer s (class_of t)
+      by_place None e other = ap (table_answer s) (class_told words t None (sym e))
+      by_place (Some k) e other =
+          let inside = place_inside 0 (names_of words) t k e in
+          ap (table_answer s) (class_told words t (Some k) (sym e))
+          ∙ word_unknown s k (omega (arith, inside, few))
+          ∙ ap (table_answer s) (sym other)
+
+      by_number : (b : Bool) → nat_eq (class_number (class_of t)) 77 ≡ b
+          → table_answer s ((dialect_of (grammar_words words)).class_of t) ≡ table_answer s (class_of t)
+      by_number true e =
+          by_place (place_from 0 (names_of words) t) refl
+          (class-Other (class_of t) (eqb-true (class_number (class_of t)) 77 e))
+      by_number false e = ap (table_answer s) (class_kept words t accepted (λ is. grind (arith, nat_tests)))
+
+  -- so where it doesn't stop, that is the answer
+  pub answered_before : are_accepted_after [] words ≡ true → length (names_of words) ≤ 16
+      → is_stop (table_answer s (class_of t)) ≡ false
+      → answer_over (grammar_words words) s ((dialect_of (grammar_words words)).class_of t)
+      ≡ table_answer s (class_of t)
+  answered_before accepted few on =
+      let same = told_before accepted few in
+      not_stopped (grammar_words words) s ((dialect_of (grammar_words words)).class_of t) (ap is_stop same ∙ on) ∙ same

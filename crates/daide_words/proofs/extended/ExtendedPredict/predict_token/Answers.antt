@@ -1,0 +1,29 @@
+use Rattle.std.proofs.Common.{refl, sym, ap, ◌∙◌}
+use Rattle.daide_grammar.specs.Rules.{is_stop}
+use Rattle.daide_grammar.specs.SideMessages.{dialect_of}
+use Rattle.daide_words.specs.Extended.{spoken_words}
+use Rattle.daide_words.specs.OverWords.{answer_over}
+use Rattle.daide_words.specs.Words.{words_of}
+use Rattle.daide_words.specs.Proved.WordLaws.{all-spoken}
+use Rattle.daide_words.proofs.AcceptedCodes.{accepted_free}
+use Rattle.daide_words.proofs.TableFirst.{answered_before}
+use Rattle.daide_words.proofs.WordLists.{few_names}
+use Rattle.daide_words.proofs.extended.ExtendedPredict.predict_token.Goals as goal
+
+pub returns-clause-answer : goal.returns-clause-answer
+unfolding spoken_words words_of
+returns-clause-answer c = λ on.
+    let words = c.args.self.now.words in
+    let s = c.args.sym in
+    let t = c.args.token in
+    let told = c.predict_token.ensures.answer on in
+    told
+    ∙ sym (answered_before (words_of words) s t words.accepted
+    (few_names words.names words.meanings words.count words.few)
+    (ap is_stop (sym told) ∙ on))
+    ∙ ap (λ ws. answer_over ws s ((dialect_of ws).class_of t))
+    (sym (all-spoken (spoken_words c.args.self.now) (accepted_free (words_of words) words.accepted)))
+
+pub returns-clause-words_stay : goal.returns-clause-words_stay
+unfolding spoken_words
+returns-clause-words_stay c = refl
