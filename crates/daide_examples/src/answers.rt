@@ -1,7 +1,7 @@
 //! The worked examples of what a frame of the bot gets, by their names in docs/EXAMPLES.md: the verdict on the
 //! message, and the bytes on both wires.
 
-use crate::messages::assert_verdicts;
+use crate::judging::assert_verdicts;
 use crate::script::Act::Says;
 use crate::script::{Scene, assert_scenes};
 use daide_frame::side::Side::{Bot, Server};

@@ -23,6 +23,8 @@ mod growths;
 #[cfg(test)]
 mod hubs;
 #[cfg(test)]
+mod judging;
+#[cfg(test)]
 mod log;
 #[cfg(test)]
 mod messages;

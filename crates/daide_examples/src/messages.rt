@@ -1,20 +1,15 @@
-//! Messages written as text, and the verdicts on them.
+//! Messages written as text, and rows of such messages with their verdicts.
 
 use crate::script::counted;
-use daide_grammar::dense::Dense;
 use daide_grammar::level::Level;
-use daide_grammar::plain::Plain;
-use daide_grammar::predict::Predict;
 use daide_grammar::side::Side2;
-use daide_reader::reader::Reader;
 use daide_reader::verdict::Verdict;
-use daide_tests::rows::{holds, same};
 use daide_token::token::Token;
-use std::alloc::{AllocError, Global};
+use std::alloc::Global;
 use std::test::Fail;
 
 /// Whose message it is, the level, the message as text, and the verdict on it.
-type Example<'a> = (Side2, Level, &'a str, Verdict);
+pub type Example<'a> = (Side2, Level, &'a str, Verdict);
 
 /// A side by its word.
 fn side_of(word: &str) -> Option<Side2> {
@@ -46,7 +41,7 @@ fn verdict_of(text: &str) -> Option<Verdict> {
 }
 
 /// A row of a table: a side and a level | a message | the verdict, as `client 60 | GOF GOF | huh 1`.
-fn example_of(row: &str) -> Option<Example<'_>> {
+pub fn example_of(row: &str) -> Option<Example<'_>> {
     let (sender, rest) = row.split_once(" | ")?;
     let (text, verdict) = rest.split_once(" | ")?;
     let (side, level) = sender.split_once(' ')?;
@@ -122,103 +117,4 @@ pub fn tokens_of_text(alloc: Global, text: &str) -> Result<Vec<Token>, Fail> {
         read_word(&mut tokens, word)?;
     }
     Ok(tokens)
-}
-
-/// The verdict on a message, and how often the table was asked after each of its tokens and at its end.
-#[derive(Drop)]
-struct Course {
-    verdict: Verdict,
-    steps: Vec<u64>,
-}
-
-/// The course of a message, token by token.
-fn course_of<T: Predict, const N: usize>(
-    alloc: Global,
-    reader: &mut Reader<T, N>,
-    side: Side2,
-    level: Level,
-    message: &[Token],
-) -> Result<Course, AllocError> {
-    let mut steps = Vec::new(alloc);
-    reader.start(side, level);
-    for token in message {
-        if reader.is_full() {
-            break;
-        }
-        reader.push(*token);
-        steps.push(reader.steps())?;
-    }
-    let verdict = reader.finish();
-    steps.push(reader.steps())?;
-    Ok(Course { verdict, steps })
-}
-
-/// The readers of all examples, over both tables and with either room.
-#[derive(Drop)]
-struct Readers {
-    plain: Reader<Plain, 512>,
-    roomy: Reader<Plain, 2048>,
-    dense: Reader<Dense, 512>,
-    both: Reader<Dense, 2048>,
-}
-
-/// A reader has the same course of a message.
-fn assert_alike<T: Predict, const N: usize>(
-    alloc: Global,
-    reader: &mut Reader<T, N>,
-    row: &Example<'_>,
-    message: &[Token],
-    want: &Course,
-) -> Result<(), Fail> {
-    let (side, level, text, _) = row;
-    let course = course_of(alloc, reader, *side, *level, message)?;
-    holds(course.verdict == want.verdict, text)?;
-    holds(course.steps.as_slice() == want.steps.as_slice(), text)
-}
-
-impl Readers {
-    /// Each reader has the course of the plain one.
-    fn assert_all_alike(
-        &mut self,
-        alloc: Global,
-        row: &Example<'_>,
-        message: &[Token],
-        want: &Course,
-    ) -> Result<(), Fail> {
-        assert_alike(alloc, &mut self.roomy, row, message, want)?;
-        assert_alike(alloc, &mut self.dense, row, message, want)?;
-        assert_alike(alloc, &mut self.both, row, message, want)
-    }
-
-    /// An example has its verdict, and the same course in each reader.
-    fn assert_verdict(&mut self, alloc: Global, row: &Example<'_>) -> Result<(), Fail> {
-        let (side, level, text, want) = row;
-        let message = tokens_of_text(alloc, text)?;
-        let course = course_of(alloc, &mut self.plain, *side, *level, message.as_slice())?;
-        same(&course.verdict, want, text)?;
-        self.assert_all_alike(alloc, row, message.as_slice(), &course)
-    }
-
-    /// The same of a row of a table.
-    fn assert_row(&mut self, alloc: Global, row: &str) -> Result<(), Fail> {
-        match example_of(row) {
-            Some(example) => self.assert_verdict(alloc, &example),
-            None => Err(Fail::new(row)),
-        }
-    }
-}
-
-/// Each example has its verdict, and the same course over both tables and with either room. A row of the table is a
-/// side and a level | a message | the verdict on it.
-pub fn assert_verdicts(alloc: Global, rows: &str) -> Result<(), Fail> {
-    let mut readers = Readers {
-        plain: Reader::new(Plain::new(), 62),
-        roomy: Reader::new(Plain::new(), 62),
-        dense: Reader::new(Dense::new(), 62),
-        both: Reader::new(Dense::new(), 62),
-    };
-    for row in rows.lines() {
-        readers.assert_row(alloc, row)?;
-    }
-    Ok(())
 }

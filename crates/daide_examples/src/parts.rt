@@ -3,7 +3,7 @@
 //! A rule that were wider than the protocol's in one part, or narrower, would pass one of these messages
 //! or refuse it. The expected verdicts were worked out by hand from docs/PROTOCOL.md.
 
-use crate::messages::assert_verdicts;
+use crate::judging::assert_verdicts;
 use std::test::Fail;
 
 const REQUESTS: &str = "\

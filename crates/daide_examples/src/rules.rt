@@ -2,7 +2,7 @@
 //!
 //! The expected verdicts were worked out by hand from docs/PROTOCOL.md.
 
-use crate::messages::assert_verdicts;
+use crate::judging::assert_verdicts;
 use std::test::Fail;
 
 const REQUESTS: &str = "\

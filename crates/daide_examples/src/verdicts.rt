@@ -1,6 +1,6 @@
 //! The worked examples of verdicts, by their names in docs/EXAMPLES.md.
 
-use crate::messages::assert_verdicts;
+use crate::judging::{assert_courses, assert_verdicts};
 use std::test::Fail;
 
 const ORDERS: &str = "\
@@ -109,7 +109,26 @@ fn one_bracket_too_deep_gets_huh(rt: HostRuntime) -> Result<(), Fail> {
     assert_verdicts(rt.alloc(), DEPTHS)
 }
 
+const LONGEST: &str = "client 0 | 32763*GOF | huh 1";
+
 #[test]
 fn longest_body_gets_huh(rt: HostRuntime) -> Result<(), Fail> {
-    assert_verdicts(rt.alloc(), "client 0 | 32763*GOF | huh 1")
+    assert_verdicts(rt.alloc(), LONGEST)
+}
+
+#[test]
+fn each_table_has_the_same_course(rt: HostRuntime) -> Result<(), Fail> {
+    for rows in [
+        ORDERS,
+        BRACKETS_AND_BUILDS,
+        SERVER,
+        PRESS,
+        NESTED,
+        FACTS,
+        DEPTHS,
+        LONGEST,
+    ] {
+        assert_courses(rt.alloc(), rows)?;
+    }
+    Ok(())
 }

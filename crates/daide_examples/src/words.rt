@@ -2,8 +2,9 @@
 //!
 //! XYZ is a press of a power from level 20 on, QQQ an arrangement of an arrangement from level 30 on.
 
-ghost use Rattle.std.specs.Prelude.{◌≤◌};
+ghost use Rattle.std.specs.Prelude.{◌≤◌, length};
 
+use crate::judging::{LONGEST, body_of, judged};
 use crate::messages::tokens_of_text;
 use daide_frame::side::Side;
 use daide_gate::frame_view::{ShowFault, show, show_with};
@@ -40,37 +41,24 @@ pub fn two_words() -> Words {
     words
 }
 
-/// The verdict of a reader of `N` entries on a bot's message.
-fn read<const N: usize>(
-    reader: &mut Reader<Extended, N>,
-    level: Level,
-    message: &[Token],
-) -> Verdict {
-    reader.start(Side2::Client, level);
-    for token in message {
-        if reader.is_full() {
-            break;
-        }
-        reader.push(*token);
-    }
-    reader.finish()
-}
-
-/// The verdict at a depth of 62 brackets, on as many entries as that takes.
-fn verdict_on_512(words: Words, level: Level, message: &[Token]) -> Verdict {
+/// The verdict on a bot's message at a depth of 62 brackets, on as many entries as that takes.
+fn verdict_on_512(words: Words, level: Level, body: &[u8]) -> Verdict
+    requires { length body.now ≤ LONGEST }
+{
     let _names = words.names();
     let mut reader: Reader<Extended, 512> = Reader::new(Extended::new(words), 62);
-    read(&mut reader, level, message)
+    judged(&mut reader, (Side2::Client, level), body, 512).0
 }
 
-/// The verdict at a depth, on as many entries as the deepest takes.
-fn verdict_on_2048(words: Words, depth: u16, level: Level, message: &[Token]) -> Verdict
+/// The verdict at a depth, on as many entries as the deepest takes, which a session has.
+fn verdict_on_2048(words: Words, depth: u16, level: Level, body: &[u8]) -> Verdict
     requires low { 4 ≤ depth }
     requires high { depth ≤ 254 }
+    requires room { length body.now ≤ LONGEST }
 {
     let _names = words.names();
     let mut reader: Reader<Extended, 2048> = Reader::new(Extended::new(words), depth);
-    read(&mut reader, level, message)
+    judged(&mut reader, (Side2::Client, level), body, 512).0
 }
 
 /// A bot's message, #4a40 being XYZ and #4a41 QQQ; its level; its verdict with the words, and without.
@@ -95,16 +83,13 @@ const MESSAGES: &[Message] = &[
 fn assert_message(alloc: Global, row: &Message) -> Result<(), Fail> {
     let (text, level, with, without) = row;
     let tokens = tokens_of_text(alloc, text)?;
-    let message = tokens.as_slice();
-    same(&verdict_on_512(two_words(), *level, message), with, row)?;
-    same(&verdict_on_512(Words::new(), *level, message), without, row)?;
+    let body = body_of(alloc, tokens.as_slice())?;
+    let body = body.as_slice();
+    same(&verdict_on_512(two_words(), *level, body), with, row)?;
+    same(&verdict_on_512(Words::new(), *level, body), without, row)?;
+    same(&verdict_on_2048(two_words(), 254, *level, body), with, row)?;
     same(
-        &verdict_on_2048(two_words(), 254, *level, message),
-        with,
-        row,
-    )?;
-    same(
-        &verdict_on_2048(Words::new(), 254, *level, message),
+        &verdict_on_2048(Words::new(), 254, *level, body),
         without,
         row,
     )
@@ -132,14 +117,11 @@ const DEPTHS: &[Depth] = &[
 fn assert_depth(alloc: Global, row: &Depth) -> Result<(), Fail> {
     let (text, shallow, deep) = row;
     let tokens = tokens_of_text(alloc, text)?;
-    let message = tokens.as_slice();
-    same(&verdict_on_512(Words::new(), L10, message), shallow, row)?;
-    same(
-        &verdict_on_2048(Words::new(), 62, L10, message),
-        shallow,
-        row,
-    )?;
-    same(&verdict_on_2048(Words::new(), 254, L10, message), deep, row)
+    let body = body_of(alloc, tokens.as_slice())?;
+    let body = body.as_slice();
+    same(&verdict_on_512(Words::new(), L10, body), shallow, row)?;
+    same(&verdict_on_2048(Words::new(), 62, L10, body), shallow, row)?;
+    same(&verdict_on_2048(Words::new(), 254, L10, body), deep, row)
 }
 
 #[test]

@@ -8,6 +8,7 @@ use Rattle.daide_grammar.specs.SideMessages.{dialect_of, message_form, IsMessage
 use Rattle.daide_grammar.specs.Symbols.{form_of, opening_of}
 use Rattle.daide_grammar.specs.Words.{Words}
 use Rattle.daide_words.specs.OverWords.{are_free, spoken, spoken_dialect}
+use Rattle.daide_words.specs.Proved.WordLaws.{all-spoken}
 use Rattle.daide_words.proofs.OverMessages.{opening-language}
 use Rattle.daide_reader.specs.ViablePrefix.{IsMessageOf}
 use Rattle.daide_reader.specs.Verdict.{HasVerdict}
@@ -44,6 +45,15 @@ worded_verdicts words free side l max_depth m v =
     verdict_along (IsMessageOf (SymbolMatchesIn (dialect_of words) (opening_of side l))) (IsMessageOver words side l)
     (worded_messages words free side l) max_depth m v
 
+-- and the other way round
+worded_back : (words : Words) → are_free words ≡ true → (side : Side2) (l : Level) (max_depth : ℕ) (m : List ℕ)
+    (v : Verdict) → HasVerdict (IsMessageOver words side l) max_depth m v →
+    HasVerdict (IsMessageOf (SymbolMatchesIn (dialect_of words) (opening_of side l))) max_depth m v
+worded_back words free side l max_depth m v =
+    let same = worded_messages words free side l in
+    verdict_along (IsMessageOver words side l) (IsMessageOf (SymbolMatchesIn (dialect_of words) (opening_of side l)))
+    (λ n. ((same n).1, (same n).0)) max_depth m v
+
 -- the words that a table speaks have free codes
 spoken_free : (words : Words) → are_free (spoken words) ≡ true
 unfolding spoken
@@ -59,3 +69,13 @@ pub spoken_verdicts : (words : Words) (side : Side2) (l : Level) (max_depth : �
     HasVerdict (IsMessageOver (spoken words) side l) max_depth m v
 spoken_verdicts words side l max_depth m v =
     worded_verdicts (spoken words) (spoken_free words) side l max_depth m v
+
+-- and by these it judges exactly where words are free, which are then spoken
+pub free_verdicts : (words : Words) → are_free words ≡ true → (side : Side2) (l : Level) (max_depth : ℕ) (m : List ℕ)
+    (v : Verdict) → HasVerdict (IsMessageOf (SymbolMatchesIn (spoken_dialect words) (opening_of side l))) max_depth m v ↔
+    HasVerdict (IsMessageOver words side l) max_depth m v
+free_verdicts words free side l max_depth m v =
+    let both : HasVerdict (IsMessageOf (SymbolMatchesIn (dialect_of words) (opening_of side l))) max_depth m v ↔
+    HasVerdict (IsMessageOver words side l) max_depth m v =
+    (worded_verdicts words free side l max_depth m v, worded_back words free side l max_depth m v) in
+    rw (all-spoken words free) both

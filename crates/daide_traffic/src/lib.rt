@@ -7,6 +7,7 @@
 #![tactic(auto)]
 
 mod inbound;
+pub mod laws;
 pub mod traffic;
 mod wire;
 

@@ -1,5 +1,5 @@
 use Rattle.std.proofs.Common.{rules, arith, ◌≡◌, ◌≤◌, true, false, sym, ◌∙◌}
-use Rattle.daide_examples.proofs.messages.course_of.Goals as goal
+use Rattle.daide_examples.proofs.judging.course_of.Goals as goal
 
 never : false ≡ true → ⊥
 never h = cc
