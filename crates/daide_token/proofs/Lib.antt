@@ -7,4 +7,5 @@ mod TokenLemmas
 mod WholeText
 pub mod ClassNumbers
 mod StandardFacts
+mod WholeRangeFacts
 mod SecondListing
