@@ -9,3 +9,4 @@ pub mod LimitsKept
 pub mod StandardFacts
 pub mod GatewayFacts
 pub mod SessionFacts
+mod LevelRangeFacts

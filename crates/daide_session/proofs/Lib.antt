@@ -15,4 +15,5 @@ pub mod Standing
 pub mod HubLemmas
 pub mod StoredLemmas
 pub mod LimitFacts
+mod BoundFacts
 pub mod ApartLemmas
