@@ -1,5 +1,5 @@
--- Headers and initial messages over the whole range of their bytes. Written from the protocol's table of frames, so that
--- a rule that is right in one row and wrong in its neighbour does not check.
+-- Headers and initial messages over the whole range of their bytes. Written from the protocol's table of frames, so
+-- that a rule that is right in one row and wrong in its neighbour does not check.
 use Rattle.std.proofs.Common.{◌≡◌, ℕ, zero, suc, ◌+◌, List, [], ◌∷◌, ◌++◌, map, replicate, refl}
 use Rattle.std.specs.Prelude.{Result, Ok, Err}
 use Rattle.std.specs.List.{range_with_len}

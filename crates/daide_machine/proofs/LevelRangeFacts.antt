@@ -1,6 +1,6 @@
 -- The level of press that a server's HLO sets, over the whole range of its number, its option and the operator's top
--- level; and the bounds of what is kept, from no open bracket to the most. Written from the protocol's session rules, so
--- that a number that is right where its neighbour is wrong does not check.
+-- level; and the bounds of what is kept, from no open bracket to the most. Written from the protocol's session rules,
+-- so that a number that is right where its neighbour is wrong does not check.
 use Rattle.std.proofs.Common.{◌≡◌, ℕ, zero, suc, ◌+◌, ◌*◌, ◌≤◌, List, [], ◌∷◌, ◌++◌, map, replicate, drop, refl}
 use Rattle.std.specs.List.{range_with_len}
 use Rattle.daide_frame.specs.Head.{head_of}

@@ -1,7 +1,8 @@
 -- The numbers in the promises of a session and a hub: each bound is computed at the least, the usual and the greatest
--- limits, and each limit over the whole range round its ends. Worked out by hand, so that another number in a definition
--- does not check.
-use Rattle.std.proofs.Common.{◌≡◌, ℕ, zero, suc, ◌+◌, ◌*◌, ◌≤◌, ◌<◌, ◌⊎◌, inl, inr, min, List, [], ◌∷◌, ◌++◌, map, replicate, length, refl, ap, ◌∙◌, arith}
+-- limits, and each limit over the whole range round its ends. Worked out by hand, so that another number in a
+-- definition does not check.
+use Rattle.std.proofs.Common.{◌≡◌, ℕ, zero, suc, ◌+◌, ◌≤◌, ◌<◌, ◌⊎◌, inl, inr, min, List, [], ◌∷◌, ◌++◌, map}
+use Rattle.std.proofs.Common.{replicate, length, refl, ap, ◌∙◌, arith}
 use Rattle.std.specs.Prelude.{Result, Ok, Err}
 use Rattle.std.specs.List.{range_with_len}
 use Rattle.daide_frame.specs.declared.side.Side.{Side}

@@ -1,5 +1,5 @@
--- Printed text, categories and numbers over whole ranges of codes. Written from the protocol's token table and the rules
--- of printed text, so that a code that is right where its neighbour is wrong does not check.
+-- Printed text, categories and numbers over whole ranges of codes. Written from the protocol's token table and the
+-- rules of printed text, so that a code that is right where its neighbour is wrong does not check.
 use Rattle.std.proofs.Common.{◌≡◌, ℕ, zero, suc, ◌+◌, ◌*◌, true, false, codes, List, [], ◌∷◌, ◌++◌, map, refl}
 use Rattle.std.proofs.Common.{replicate, Some, None, pos, negsuc}
 use Rattle.std.specs.Prelude.{slice_index}

@@ -1,12 +1,12 @@
 -- What an operator's words mean over the whole range of their slots, operands and levels, and which words are refused
 -- over the whole range of codes, letters and counts. Written from the protocol's press and its table of codes, so that
 -- a rule that is right in one row and wrong in its neighbour does not check.
-use Rattle.std.proofs.Common.{◌≡◌, ℕ, ◌*◌, ◌+◌, List, [], ◌∷◌, ◌++◌, map, replicate, codes, true, refl}
+use Rattle.std.proofs.Common.{◌≡◌, ℕ, ◌*◌, ◌+◌, List, [], ◌∷◌, ◌++◌, map, replicate, codes, refl}
 use Rattle.std.proofs.Common.{drop}
 use Rattle.std.specs.Prelude.{Result, Ok, Err}
 use Rattle.std.specs.List.{range_with_len}
 use Rattle.daide_token.specs.declared.class.Class.TheVariants.{Word}
-use Rattle.daide_token.specs.Names.{Named, names, name_of, token_named}
+use Rattle.daide_token.specs.Names.{names, name_of, token_named}
 use Rattle.daide_grammar.specs.declared.level.Level.{Level}
 use Rattle.daide_grammar.specs.declared.level.Level.TheVariants.{L0, L10, L20, L30, L40, L50, L60}
 use Rattle.daide_grammar.specs.declared.symbol.Sym.{Sym}
