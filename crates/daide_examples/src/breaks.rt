@@ -1,8 +1,8 @@
 //! A session whose wires break: at every place of a conversation a side's stream ends, or the wire toward it fails.
 //!
-//! The conversation has a relayed message, a PRN and a HUH, in single bytes and with one byte a put. What each side may
-//! have been sent was worked out by hand: the frames of the whole conversation up to some place, and then a final
-//! message.
+//! The conversation has a relayed message, an HLO, a PRN and a HUH, in single bytes and with one byte a put. What
+//! each side may have been sent was worked out by hand: the frames of the whole conversation up to some place, and
+//! then a final message.
 
 use crate::relays::{NEVER, sent};
 use crate::script::WIDEST;
@@ -26,15 +26,22 @@ const FROM_THE_BOT: Script<'static> = Script {
     puts: &[],
 };
 
-/// The RM.
+/// HLO ( ENG ) ( 1234 ) ( ( LVL 10 ) )
+const HLO: &[u8] = &[
+    2, 0, 0, 0x1A, 0x48, 0x04, 0x40, 0, 0x41, 0x01, 0x40, 0x01, 0x40, 0, 0x04, 0xD2, 0x40, 0x01,
+    0x40, 0, 0x40, 0, 0x49, 0x03, 0, 0x0A, 0x40, 0x01, 0x40, 0x01,
+];
+
+/// The RM, and an HLO, all of which came before the bot's next message.
 const FROM_THE_SERVER: Script<'static> = Script {
-    pulls: &[Arrival::Bytes(&[1, 0, 0, 0])],
+    pulls: &[Arrival::Bytes(&[1, 0, 0, 0]), Arrival::Bytes(HLO)],
     puts: &[],
 };
 
-/// What the bot is sent: the RM, PRN and HUH.
+/// What the bot is sent: the RM, the HLO, PRN and HUH.
 const TO_THE_BOT: &[&[u8]] = &[
     &[1, 0, 0, 0],
+    HLO,
     &[
         2, 0, 0, 0x0A, 0x48, 0x13, 0x40, 0, 0x48, 0x03, 0x40, 0, 0x40, 0x01,
     ],
@@ -166,7 +173,7 @@ fn are_sent(bytes: &[u8], frames: &[&[u8]], failed: bool) -> bool {
 /// What a side was sent, and how many bytes that is where nothing broke.
 fn expected_to(side: Side) -> (&'static [&'static [u8]], usize) {
     match side {
-        Bot => (TO_THE_BOT, 30),
+        Bot => (TO_THE_BOT, 60),
         Server => (TO_THE_SERVER, 14),
     }
 }
@@ -217,9 +224,13 @@ fn closed_at(alloc: Global, number: usize) -> Result<usize, Fail> {
 #[test]
 fn ends_and_failures_at_every_place(rt: HostRuntime) -> Result<(), Fail> {
     let mut closed = 0_usize;
-    for number in 1..70 {
+    for number in 1..110 {
         closed = closed.saturating_add(closed_at(rt.alloc(), number)?);
     }
-    // 30 puts to the bot, 14 to the server, each of their pulls that is among the first 69
-    holds(closed >= 30 + 14 + 58, "how many were closed")
+    // 60 puts to the bot, 14 to the server, and their pulls up to the last that gives a byte, of which the bot waits
+    // for 32 and the server for 20
+    holds(
+        closed >= 60 + 14 + (26 + 32) + (34 + 20),
+        "how many were closed",
+    )
 }

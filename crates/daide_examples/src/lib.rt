@@ -31,6 +31,8 @@ mod messages;
 #[cfg(test)]
 mod parts;
 #[cfg(test)]
+mod ranges;
+#[cfg(test)]
 mod relays;
 #[cfg(test)]
 mod rules;

@@ -223,6 +223,60 @@ fn each_put_is_of_the_whole_front(rt: HostRuntime) -> Result<(), Fail> {
     assert_relay(rt.alloc(), &WHOLE_FRONTS)
 }
 
+/// A bot that sends a body of 600 bytes at once.
+const SENDS_600: Script<'static> = Script {
+    pulls: &[
+        Arrival::Bytes(&[0, 0, 0, 4, 0, 1, 0xDA, 0x10]),
+        Arrival::Idle,
+        Arrival::Idle,
+        Arrival::Bytes(&[2, 0, 0x02, 0x58]),
+        Arrival::Bytes(&[0x4B; 600]),
+    ],
+    puts: &[],
+};
+
+/// What is there at once is pulled into 512 bytes, and the rest of the body into as many as it has.
+const LONG_PULLS: Relay = Relay {
+    bot: SENDS_600,
+    server: OPENS,
+    quiet: NEVER,
+    turns: 8,
+    end: RelayEnd::TurnsSpent,
+    asks: &[
+        Asks::Clock(false),
+        Asks::Pull(Bot, 4, Pull::Got(4)),
+        Asks::Pull(Server, 4, Pull::Idle),
+        Asks::Clock(false),
+        Asks::Pull(Bot, 4, Pull::Got(4)),
+        Asks::Pull(Server, 4, Pull::Idle),
+        Asks::Clock(false),
+        Asks::Put(Server, &[0, 0, 0, 4], Put::Took(4)),
+        Asks::Pull(Server, 4, Pull::Idle),
+        Asks::Clock(false),
+        Asks::Put(Server, &[0, 1, 0xDA, 0x10], Put::Took(4)),
+        Asks::Pull(Bot, 4, Pull::Idle),
+        Asks::Pull(Server, 4, Pull::Idle),
+        Asks::Clock(false),
+        Asks::Pull(Bot, 4, Pull::Idle),
+        Asks::Pull(Server, 4, Pull::Got(4)),
+        Asks::Clock(false),
+        Asks::Put(Bot, &[1, 0, 0, 0], Put::Took(4)),
+        Asks::Pull(Bot, 4, Pull::Got(4)),
+        Asks::Pull(Server, 4, Pull::Idle),
+        Asks::Clock(false),
+        Asks::Pull(Bot, 512, Pull::Got(512)),
+        Asks::Pull(Server, 4, Pull::Idle),
+        Asks::Clock(false),
+        Asks::Pull(Bot, 88, Pull::Got(88)),
+        Asks::Pull(Server, 4, Pull::Idle),
+    ],
+};
+
+#[test]
+fn long_body_is_pulled_512_bytes_at_once(rt: HostRuntime) -> Result<(), Fail> {
+    assert_relay(rt.alloc(), &LONG_PULLS)
+}
+
 /// A bot whose wire takes none of the first put of a HUH, then three bytes a put.
 const SLOW_BOT: Script<'static> = Script {
     pulls: &[

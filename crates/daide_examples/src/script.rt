@@ -114,16 +114,19 @@ fn take_front<A: Allocator>(
     Ok(count)
 }
 
-/// Takes what waits for the wire toward a side, at most so many fronts.
+/// Takes what waits for the wire toward a side, at most so many bytes at once.
 fn take_all<A: Allocator>(
     session: &mut Session<A>,
     side: Side,
     taken: &mut Vec<u8>,
+    most: usize,
 ) -> Result<(), Fail> {
-    for _front in 0..32 {
-        take_front(session, side, taken, usize::MAX)?;
+    for _front in 0..1_000_000 {
+        if take_front(session, side, taken, most)? == 0 {
+            return Ok(());
+        }
     }
-    Ok(())
+    Err(Fail::new("it still waits"))
 }
 
 /// Takes bytes that wait for the wire toward a side, at most three at once, until so many were taken.
@@ -150,14 +153,17 @@ fn feed<A: Allocator>(session: &mut Session<A>, side: Side, bytes: &[u8], most: 
 pub struct Sent {
     pub to_bot: Vec<u8>,
     pub to_server: Vec<u8>,
+    /// How many bytes a wire takes at once, at most.
+    pub most: usize,
 }
 
 impl Sent {
-    /// Nothing yet.
+    /// Nothing yet, and a wire takes all that it is handed.
     pub fn none(alloc: Global) -> Sent {
         Sent {
             to_bot: Vec::new(alloc),
             to_server: Vec::new(alloc),
+            most: usize::MAX,
         }
     }
 
@@ -171,8 +177,8 @@ impl Sent {
 
     /// Takes what waits for both wires.
     pub fn deliver<A: Allocator>(&mut self, session: &mut Session<A>) -> Result<(), Fail> {
-        take_all(session, Bot, &mut self.to_bot)?;
-        take_all(session, Server, &mut self.to_server)
+        take_all(session, Bot, &mut self.to_bot, self.most)?;
+        take_all(session, Server, &mut self.to_server, self.most)
     }
 
     /// A side's bytes come, in pieces of at most `piece` bytes, with all that waits taken after each. What comes
@@ -220,9 +226,10 @@ pub fn script_over(alloc: Global, session: Session) -> Script {
 impl Script {
     /// Takes what waits for the wire toward a side.
     pub fn take_all(&mut self, side: Side) -> Result<(), Fail> {
+        let most = self.sent.most;
         match side {
-            Bot => take_all(&mut self.session, Bot, &mut self.sent.to_bot),
-            Server => take_all(&mut self.session, Server, &mut self.sent.to_server),
+            Bot => take_all(&mut self.session, Bot, &mut self.sent.to_bot, most),
+            Server => take_all(&mut self.session, Server, &mut self.sent.to_server, most),
         }
     }
 
@@ -411,12 +418,13 @@ pub const OPENING: &[Act] = &[Act::Says(Bot, IM), Act::Says(Server, RM)];
 /// Acts, and the bytes that they send to the bot and to the server, but for those that were looked at.
 pub type Scene = (&'static [Act], &'static str, &'static str);
 
-/// A whole frame or more at once, and byte by byte.
+/// A whole frame or more at once, and byte by byte; as much is taken at once of what is sent.
 pub const PIECES: &[usize] = &[65_530, 1];
 
 /// The acts of a conversation, with what is seen among them, in a fresh session of these limits.
 fn play_acts(alloc: Global, config: Config, acts: &[Act], piece: usize) -> Result<(), Fail> {
     let mut script = script_of(alloc, config)?;
+    script.sent.most = piece;
     script.play_all(alloc, acts, piece)
 }
 
@@ -437,6 +445,7 @@ fn play_scene(
     piece: usize,
 ) -> Result<(), Fail> {
     let mut script = script_of(alloc, config)?;
+    script.sent.most = piece;
     script.assert_scene(alloc, is_open, scene, piece)
 }
 

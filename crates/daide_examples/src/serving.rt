@@ -346,6 +346,19 @@ fn hundred_bots_sixteen_at_once(rt: HostRuntime) -> Result<(), Fail> {
     same(&counts, &(0, 16, 98), &"held, at most, retired")
 }
 
+#[test]
+fn each_of_many_bots_is_served(rt: HostRuntime) -> Result<(), Fail> {
+    let stage = stage_after(rt.alloc(), ENDING, (16, 1_200, 30))?;
+    same(&stage.retired.len(), &1_200, &"retired")?;
+    holds(
+        !stage
+            .events
+            .iter()
+            .any(|event| matches!(event, Event::Told(_))),
+        "nothing is told",
+    )
+}
+
 /// What becomes of a run whose memory lies in a heap of so many bytes.
 fn try_within(
     alloc: Global,

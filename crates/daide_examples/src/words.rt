@@ -161,8 +161,8 @@ fn show_words<A: Allocator + Copy>(
 }
 
 /// Shows the frame at a level with the words or without; whether it is relayed.
-fn show_frame(
-    alloc: Global,
+fn show_frame<A: Allocator + Copy>(
+    alloc: A,
     level: Level,
     has_words: bool,
     output: &mut Vec<u8>,
@@ -190,15 +190,15 @@ fn words_are_shown_by_their_names(rt: HostRuntime) -> Result<(), Fail> {
     Ok(())
 }
 
-/// Shows the frame with the words on a heap of a size; whether memory sufficed.
-fn shows_on_heap(alloc: Global, size: usize) -> Result<bool, Fail> {
+/// Shows the frame with the words or without on a heap of a size; whether memory sufficed.
+fn shows_on_heap(alloc: Global, size: usize, has_words: bool) -> Result<bool, Fail> {
     let heap = LocalHeap::new(alloc, size)?;
     let mut output = Vec::new(alloc);
-    let shown = show_words(&heap, L20, &mut output);
+    let shown = show_frame(&heap, L20, has_words, &mut output);
     holds(heap.used() == 0, "the heap")?;
     match shown {
         Ok(is_relay) => {
-            holds(is_relay, "the frame")?;
+            holds(is_relay == has_words, "the frame")?;
             Ok(true)
         }
         Err(fault) => {
@@ -208,8 +208,8 @@ fn shows_on_heap(alloc: Global, size: usize) -> Result<bool, Fail> {
     }
 }
 
-#[test]
-fn growth_of_show_with_refused_in_turn(rt: HostRuntime) -> Result<(), Fail> {
+/// Over heaps from empty to ample: want of memory and nothing else, and nothing is written.
+fn assert_growths(alloc: Global, has_words: bool) -> Result<(), Fail> {
     let mut refused = 0u32;
     for unit in 0..96usize {
         // a multiple of 16 bytes more each time; the cutter takes its 65,526 at once
@@ -218,9 +218,15 @@ fn growth_of_show_with_refused_in_turn(rt: HostRuntime) -> Result<(), Fail> {
         } else {
             64_896 + 16 * unit
         };
-        if !shows_on_heap(rt.alloc(), size)? {
+        if !shows_on_heap(alloc, size, has_words)? {
             refused = refused.wrapping_add(1);
         }
     }
     holds(refused > 32 && refused < 96, "how many were refused")
+}
+
+#[test]
+fn growths_of_show_refused_in_turn(rt: HostRuntime) -> Result<(), Fail> {
+    assert_growths(rt.alloc(), true)?;
+    assert_growths(rt.alloc(), false)
 }

@@ -1,4 +1,5 @@
 mod StandardFacts
+mod WholeRangeFacts
 pub mod ListLemmas
 pub mod HeadLemmas
 pub mod AlienLemmas

@@ -1,12 +1,13 @@
 -- Lines of a log, computed from the definitions, so that a wrong one does not check.
-use Rattle.std.proofs.Common.{◌≡◌, true, false, [], ◌∷◌, ◌++◌, Some, None, refl, codes}
+use Rattle.std.proofs.Common.{◌≡◌, ℕ, true, false, [], ◌∷◌, ◌++◌, map, replicate, Option, Some, None, refl, codes}
+use Rattle.std.specs.List.{range_with_len}
 use Rattle.hex.specs.Hex.{decode_pairs}
 use Rattle.daide_frame.specs.declared.side.Side.TheVariants.{Bot, Server}
 use Rattle.daide_grammar.specs.declared.level.Level.TheVariants.{L20}
 use Rattle.daide_words.specs.declared.slot.Slot.TheVariants.{Press}
 use Rattle.daide_words.specs.declared.operand.Operand.TheVariants.{Power}
 use Rattle.daide_words.specs.declared.word.Word.{Word}
-use Rattle.daide_lines.specs.LogLine.{Traffic, EndOf, TimeOver, Silence, without_cr, is_name, plain_number}
+use Rattle.daide_lines.specs.LogLine.{LogEvent, Traffic, EndOf, TimeOver, Silence, without_cr, is_name, plain_number}
 use Rattle.daide_lines.specs.LogLine.{parted_at_space, event_of_line}
 use Rattle.daide_lines.specs.MatchLine.{Of, Quiet, match_event_of_line}
 use Rattle.daide_lines.specs.WordLine.{word_of_line}
@@ -31,6 +32,23 @@ traffic : (event_of_line (codes "server 01000000") ≡ Some (Traffic Server (1 �
     × (event_of_line (codes "bot 0g") ≡ None) × (event_of_line (codes "bot 00 ") ≡ None)
 unfolding event_of_line decode_pairs
 traffic = (refl, refl, refl, refl, refl, refl)
+
+-- from 2 digits to 2,048, two for a byte
+abbrev zeros : ℕ → Option LogEvent
+zeros n = Some (Traffic Bot (replicate n 0))
+
+digits_of_lines : (map (λ n. event_of_line (codes "bot " ++ replicate n 48)) (range_with_len 0 9)
+    ≡ None ∷ None ∷ zeros 1 ∷ None ∷ zeros 2 ∷ None ∷ zeros 3 ∷ None ∷ zeros 4 ∷ [])
+    × (map (λ n. event_of_line (codes "bot " ++ replicate n 48)) (range_with_len 2044 9)
+    ≡ zeros 1022 ∷ None ∷ zeros 1023 ∷ None ∷ zeros 1024 ∷ None ∷ None ∷ None ∷ None ∷ [])
+unfolding event_of_line decode_pairs
+digits_of_lines = (refl, refl)
+
+-- a line that begins with # tells nothing, whatever follows, and so does an empty one; no other byte begins such a line
+first_bytes : map (λ b. event_of_line (b ∷ [])) (range_with_len 0 256)
+    ≡ replicate 35 None ++ Some Silence ∷ replicate 220 None
+unfolding event_of_line
+first_bytes = refl
 
 other_lines : (event_of_line (codes "end bot") ≡ Some (EndOf Bot))
     × (event_of_line (codes "end server") ≡ Some (EndOf Server))

@@ -15,3 +15,4 @@ pub mod HarmLemmas
 pub mod StandardFacts
 pub mod GatewayFacts
 pub mod SessionFacts
+mod LevelRangeFacts

@@ -15,6 +15,7 @@ pub mod Standing
 pub mod HubLemmas
 pub mod StoredLemmas
 pub mod LimitFacts
+mod BoundFacts
 pub mod ApartLemmas
 pub mod InARowLemmas
 pub mod DueLemmas

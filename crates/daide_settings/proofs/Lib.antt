@@ -1,3 +1,4 @@
 pub mod Members
 pub mod WordEntries
 pub mod SettingsFacts
+mod PairFacts

@@ -4,3 +4,4 @@ pub mod Tokens
 pub mod AnswerTokens
 pub mod OneFrame
 pub mod OneWay
+mod InputFacts

@@ -8,4 +8,5 @@ mod WholeText
 mod TextBack
 pub mod ClassNumbers
 mod StandardFacts
+mod WholeRangeFacts
 mod SecondListing

@@ -291,6 +291,44 @@ fn report_goes_out_in_blocks(rt: HostRuntime) -> Result<(), Fail> {
     )
 }
 
+/// A line of so many empty messages of the last server of a match, or one that says nothing.
+fn push_messages(log: &mut Vec<u8>, count: usize) -> Result<(), Fail> {
+    if count == 0 {
+        return Ok(log.extend_from_slice(b"#\n")?);
+    }
+    log.extend_from_slice(b"256 server ")?;
+    for _message in 0..count {
+        log.extend_from_slice(b"02000000")?;
+    }
+    Ok(log.push(b'\n')?)
+}
+
+/// A match whose last session is open at line 4, with so many messages at line 5, and 256 each at the lines 10 and 11.
+fn match_log(alloc: Global, count: usize) -> Result<Vec<u8>, Fail> {
+    let opening =
+        b"daide-log 2\nconfig 60 512 16 256 0\n256 bot 000000040001DA10\n256 server 01000000\n";
+    let mut log = Vec::from_slice(alloc, opening)?;
+    push_messages(&mut log, count)?;
+    log.extend_from_slice(b"#\n#\n#\n#\n")?;
+    push_messages(&mut log, 256)?;
+    push_messages(&mut log, 256)?;
+    Ok(log)
+}
+
+/// The lines of a report are of 24 bytes below line 10 and of 25 from there on, so with 0 to 24 of the former every room
+/// that may be left before a line of the latter is there once.
+#[test]
+fn line_finds_room_whatever_is_left(rt: HostRuntime) -> Result<(), Fail> {
+    for count in 0..25usize {
+        let log = match_log(rt.alloc(), count)?;
+        // the IM and the RM, the messages, and the last line
+        let bytes = 21 + 24 + 24 * count + 512 * 25 + 33;
+        let (_, written) = writes_for(rt.alloc(), log.as_slice());
+        same(&written, &bytes, &count)?;
+    }
+    Ok(())
+}
+
 /// A log that wants room for a session and two bodies of 512 bytes, and has a bad line behind that.
 const SMALL: &[u8] = b"daide-log 1\nconfig 60 512 16\ntimer\nbad\n";
 
@@ -365,6 +403,13 @@ const WITHOUT_MEMORY: &[(&[u8], LogFault)] = &[
     (SMALL_MATCH, LogFault::Memory),
     (b"", LogFault::BadLine(1)),
     (b"daide-log 1\n", LogFault::BadLine(2)),
+    // only later lines may say nothing
+    (b"\ndaide-log 1\n", LogFault::BadLine(1)),
+    (b"# 1\ndaide-log 1\n", LogFault::BadLine(1)),
+    (b"daide-log 1\n\nconfig 60 512 16\n", LogFault::BadLine(2)),
+    (b"daide-log 1\n#\nconfig 60 512 16\n", LogFault::BadLine(2)),
+    (b"daide-log 2\n# 2\nconfig 60 512 16 2 0\n", LogFault::BadLine(2)),
+    (b"daide-log 2\nconfig 60 512 16 2 1\n\n", LogFault::BadLine(3)),
     (b"daide-log 1\nconfig 61 512 16\n", LogFault::BadLine(2)),
     (b"daide-log 1\nconfig 60 512 16", LogFault::Memory),
     (SMALL, LogFault::Memory),

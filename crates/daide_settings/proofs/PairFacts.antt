@@ -1,0 +1,130 @@
+-- Two faults in one document, for each pair of keys and each pair of kinds: the first key's is told, whatever the
+-- later one's. The order is that of the table of settings in docs/FORMATS.md, so that two keys that stand in each
+-- other's place do not check. And how an address is counted.
+use Rattle.std.proofs.Common.{◌≡◌, codes, true, false, List, ℕ, ◌+◌, ◌-◌, [], ◌∷◌, ◌++◌, map}
+use Rattle.std.proofs.Common.{replicate, Some, refl}
+use Rattle.std.proofs.Common.{Result, Ok, Err}
+use Rattle.std.specs.Prelude.{◌==◌, if◌then◌else◌, pos, slice_index_or}
+use Rattle.std.specs.List.{range_with_len, concat}
+use Rattle.toml.specs.Data.{Data, string, integer, boolean, array, no_items, item, Members, no_members, member, table}
+use Rattle.daide_settings.specs.declared.settings.key.Key.{Key}
+use Rattle.daide_settings.specs.declared.settings.key.Key.TheVariants.{Listen, Server, TopLevel, MaxBody, MaxDepth}
+use Rattle.daide_settings.specs.declared.settings.key.Key.TheVariants.{ImSeconds, MaxSessions, Sessions, Turns, Words}
+use Rattle.daide_settings.specs.declared.settings.SettingsError.{SettingsError}
+use Rattle.daide_settings.specs.declared.settings.SettingsError.TheVariants.{Unknown, WrongType, Range}
+use Rattle.daide_settings.specs.Settings.{Given, is_in_range, text_judged, judged_members}
+
+-- ---- documents of all ten keys
+
+-- the value of each key, in the order of the table; members stand in the order of their keys' bytes
+abbrev document : (ℕ → Data) → Members
+document value =
+    member (codes "im_seconds") (value 5) (member (codes "listen") (value 0) (member (codes "max_body") (value 3)
+    (member (codes "max_depth") (value 4) (member (codes "max_sessions") (value 6) (member (codes "server") (value 1)
+    (member (codes "sessions") (value 7) (member (codes "top_level") (value 2) (member (codes "turns") (value 8)
+    (member (codes "words") (value 9) no_members)))))))))
+
+abbrev at : List Data → ℕ → Data
+at values n = slice_index_or values n (boolean false)
+
+-- values in range, each of its own
+abbrev right : List Data
+right =
+    string (codes "l") ∷ string (codes "s") ∷ integer (pos 20) ∷ integer (pos 1024) ∷ integer (pos 13)
+    ∷ integer (pos 4) ∷ integer (pos 5) ∷ integer (pos 6) ∷ integer (pos 7) ∷ array no_items ∷ []
+
+each_key_has_its_field : judged_members (document (at right)) ≡ Ok (record {
+  listen = codes "l";
+  server = codes "s";
+  top_level = 20;
+  max_body = 1024;
+  max_depth = 13;
+  im_seconds = 4;
+  max_sessions = 5;
+  sessions = 6;
+  turns = 7;
+  words = [];
+})
+unfolding judged_members
+each_key_has_its_field = refl
+
+-- a word of a slot that there is not
+abbrev no_slot : Data
+no_slot =
+    table (member (codes "code") (integer (pos 0x4A40)) (member (codes "level") (integer (pos 20))
+    (member (codes "name") (string (codes "XYZ")) (member (codes "operand") (string (codes "power"))
+    (member (codes "slot") (string (codes "pres")) no_members)))))
+
+-- values out of range
+abbrev ranged : List Data
+ranged =
+    string [] ∷ string [] ∷ integer (pos 25) ∷ integer (pos 513) ∷ integer (pos 3) ∷ integer (pos 3601)
+    ∷ integer (pos 257) ∷ integer (pos 1000001) ∷ integer (pos 0) ∷ array (item no_slot no_items) ∷ []
+
+-- a value of a type that no key has
+abbrev typed : List Data
+typed = replicate 10 (boolean true)
+
+-- ---- two faults
+
+-- the document with a fault of one kind at the key i, and of another at the key j
+abbrev faulty : List Data → List Data → ℕ → ℕ → Result Given SettingsError
+faulty first second i j =
+    judged_members (document (λ n. if n == i then at first n else if n == j then at second n else at right n))
+
+-- for each key but the last, with each key behind it
+abbrev pairs : List Data → List Data → List (List (Result Given SettingsError))
+pairs first second =
+    map (λ i. map (faulty first second i) (range_with_len (i + 1) (9 - i))) (range_with_len 0 9)
+
+-- what is told of each key with nine, eight, .. keys behind it
+abbrev told : (Key → SettingsError) → List (List (Result Given SettingsError))
+told fault =
+    replicate 9 (Err (fault Listen)) ∷ replicate 8 (Err (fault Server)) ∷ replicate 7 (Err (fault TopLevel))
+    ∷ replicate 6 (Err (fault MaxBody)) ∷ replicate 5 (Err (fault MaxDepth)) ∷ replicate 4 (Err (fault ImSeconds))
+    ∷ replicate 3 (Err (fault MaxSessions)) ∷ replicate 2 (Err (fault Sessions)) ∷ replicate 1 (Err (fault Turns)) ∷ []
+
+first_key_told : (pairs ranged ranged ≡ told Range) × (pairs typed typed ≡ told WrongType)
+    × (pairs ranged typed ≡ told Range) × (pairs typed ranged ≡ told WrongType)
+unfolding judged_members
+first_key_told = (refl, refl, refl, refl)
+
+-- of each key alone
+abbrev alone : List Data → List (Result Given SettingsError)
+alone faults = map (λ i. faulty faults faults i i) (range_with_len 0 10)
+
+abbrev keys : List Key
+keys = Listen ∷ Server ∷ TopLevel ∷ MaxBody ∷ MaxDepth ∷ ImSeconds ∷ MaxSessions ∷ Sessions ∷ Turns ∷ Words ∷ []
+
+each_key_told : (alone ranged ≡ map (λ key. Err (Range key)) keys) × (alone typed ≡ map (λ key. Err (WrongType key)) keys)
+unfolding judged_members
+each_key_told = (refl, refl)
+
+-- a key that no settings have is told before each of them
+abbrev with_unknown : List Data → ℕ → Result Given SettingsError
+with_unknown faults i =
+    judged_members (member (codes "depth") (integer (pos 5)) (document (λ n. if n == i then at faults n else at right n)))
+
+unknown_key_told : (map (with_unknown ranged) (range_with_len 0 11) ≡ replicate 11 (Err Unknown))
+    × (map (with_unknown typed) (range_with_len 0 11) ≡ replicate 11 (Err Unknown))
+unfolding judged_members
+unknown_key_told = (refl, refl)
+
+-- ---- ranges
+
+-- an address has 1 to 255 bytes, and a hub 1 to 256 sessions
+ranges : (map (is_in_range Listen) (range_with_len 0 300) ≡ false ∷ replicate 255 true ++ replicate 44 false)
+    × (map (is_in_range Server) (range_with_len 0 300) ≡ false ∷ replicate 255 true ++ replicate 44 false)
+    × (map (is_in_range MaxSessions) (range_with_len 0 300) ≡ false ∷ replicate 256 true ++ replicate 43 false)
+    × (map (is_in_range MaxDepth) (range_with_len 0 300) ≡ replicate 4 false ++ replicate 251 true ++ replicate 45 false)
+    × (map (is_in_range Words) (range_with_len 0 300) ≡ replicate 17 true ++ replicate 283 false)
+ranges = (refl, refl, refl, refl, refl)
+
+-- bytes are counted, and no letters: a letter of two bytes for 127 times and one of one byte are 255, for 128 times 256
+abbrev letters : ℕ → List ℕ
+letters n = concat (replicate n (0xC3 ∷ 0xA4 ∷ []))
+
+bytes_counted : (text_judged Listen (Some (letters 127 ++ 97 ∷ [])) ≡ Ok (letters 127 ++ 97 ∷ []))
+    × (text_judged Listen (Some (letters 128)) ≡ Err (Range Listen))
+    × (text_judged Server (Some (letters 128)) ≡ Err (Range Server))
+bytes_counted = (refl, refl, refl)

@@ -1,0 +1,37 @@
+-- What is a blank of an input, and what a digit, of all bytes. Written from docs/FORMATS.md, so that a byte that is
+-- taken for its neighbour does not check.
+use Rattle.std.proofs.Common.{◌≡◌, true, false, Bool, List, [], ◌∷◌, ◌++◌, map, replicate, refl}
+use Rattle.std.specs.Prelude.{is_ok}
+use Rattle.std.specs.List.{range_with_len}
+use Rattle.hex.specs.Hex.{decode_pairs}
+use Rattle.daide_show.specs.Input.{limit, is_blank, bytes_of}
+
+-- tab and line feed, carriage return and space; neither a vertical tab nor a form feed nor any other byte
+blanks : map is_blank (range_with_len 0 256)
+    ≡ replicate 9 false ++ true ∷ true ∷ replicate 2 false ++ true ∷ replicate 18 false ++ true ∷ replicate 223 false
+blanks = refl
+
+-- two digits with a byte before, between or behind them: a blank is left out
+abbrev blank_left_out : List Bool
+blank_left_out =
+    replicate 9 false ++ true ∷ true ∷ replicate 2 false ++ true ∷ replicate 18 false ++ true ∷ replicate 223 false
+
+blanks_left_out : (map (λ b. is_ok (bytes_of (b ∷ 48 ∷ 57 ∷ []))) (range_with_len 0 256) ≡ blank_left_out)
+    × (map (λ b. is_ok (bytes_of (48 ∷ b ∷ 57 ∷ []))) (range_with_len 0 256) ≡ blank_left_out)
+    × (map (λ b. is_ok (bytes_of (48 ∷ 57 ∷ b ∷ []))) (range_with_len 0 256) ≡ blank_left_out)
+unfolding decode_pairs
+blanks_left_out = (refl, refl, refl)
+
+-- digits of either case, at each of a byte's two places
+abbrev digits : List Bool
+digits =
+    replicate 48 false ++ replicate 10 true ++ replicate 7 false ++ replicate 6 true ++ replicate 26 false
+    ++ replicate 6 true ++ replicate 153 false
+
+digits_taken : (map (λ b. is_ok (bytes_of (b ∷ 57 ∷ []))) (range_with_len 0 256) ≡ digits)
+    × (map (λ b. is_ok (bytes_of (57 ∷ b ∷ []))) (range_with_len 0 256) ≡ digits)
+unfolding decode_pairs
+digits_taken = (refl, refl)
+
+longest_input : limit ≡ 200000
+longest_input = refl
