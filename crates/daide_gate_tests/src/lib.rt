@@ -28,6 +28,4 @@ mod stage;
 #[cfg(test)]
 mod streams;
 #[cfg(test)]
-mod wires;
-#[cfg(test)]
 mod words;
