@@ -1,0 +1,58 @@
+#!/usr/bin/env python3
+"""Stands in for a DAIDE server: it answers a bot's first frame with RM and OBS with YES ( OBS ), and prints each message.
+
+    python3 examples/stub_server.py [--port PORT] [--sessions N]
+
+It listens at 127.0.0.1, and ends once so many sessions have ended, each of them a connection.
+"""
+
+import argparse
+import socket
+import threading
+
+from stub_frames import DM, FM, IM, RM, frame, heard, message, text_of
+
+
+def serve(number, stream, ends):
+    """Plays one session to its end, and adds its last frame's kind to the ends."""
+    kind, body = heard(stream)
+    while kind in (IM, DM):
+        if kind == IM:
+            stream.sendall(frame(RM))
+        else:
+            print(f"session {number} said {text_of(body)}", flush=True)
+            if text_of(body) == "OBS":
+                stream.sendall(message("YES ( OBS )"))
+        kind, body = heard(stream)
+    ends.append(kind)
+    stream.close()
+
+
+def play(number, stream, ends):
+    """Plays one session; a connection that breaks has no last frame."""
+    try:
+        serve(number, stream, ends)
+    except OSError:
+        ends.append(None)
+
+
+def main():
+    """Listens, gives each connection a thread, and counts how the sessions ended."""
+    words = argparse.ArgumentParser(description="A stub of a DAIDE server.")
+    words.add_argument("--port", type=int, default=16714)
+    words.add_argument("--sessions", type=int, default=7)
+    given = words.parse_args()
+    listener = socket.create_server(("127.0.0.1", given.port), backlog=512)
+    print(f"waiting at 127.0.0.1:{given.port}", flush=True)
+    sessions, ends = [], []
+    for number in range(1, given.sessions + 1):
+        stream, _ = listener.accept()
+        sessions.append(threading.Thread(target=play, args=(number, stream, ends), daemon=True))
+        sessions[-1].start()
+    for session in sessions:
+        session.join()
+    print(f"{len(ends)} sessions ended, {ends.count(FM)} of them with FM", flush=True)
+
+
+if __name__ == "__main__":
+    main()
