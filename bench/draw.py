@@ -1,0 +1,227 @@
+#!/usr/bin/env python3
+"""Draws the pictures of docs/img from the data in bench/figures:
+
+    bench/draw.py
+
+Each file there gives the picture of its name. `layers`, `session-machine` and `message` are diagrams; any other file is a
+table of figures, of which bars are drawn, so a new one needs no code. Lines that begin with `#` are the picture's title and
+where its figures come from. The same data give the same bytes. The pictures go by the reader's choice of light or dark.
+"""
+
+import csv
+import pathlib
+import sys
+from xml.sax.saxutils import escape
+
+HERE = pathlib.Path(__file__).resolve().parent
+WIDTH = 800
+
+# Every shape and text has one of these classes; the second column is for dark pages.
+COLOURS = [
+    (".page{fill:%s}", "#ffffff", "#0d1117"),
+    (".ink{fill:%s}", "#1f2328", "#e6edf3"),
+    (".faint{fill:%s}", "#59636e", "#9198a1"),
+    (".axis{stroke:%s;fill:none}", "#8c959f", "#6e7681"),
+    (".tip{fill:%s}", "#8c959f", "#6e7681"),
+    (".proved{fill:%s;stroke:#1a7f37}", "#dafbe1", "#12361f"),
+    (".tested{fill:%s;stroke:#9a6700}", "#fff8c5", "#3d2e00"),
+    (".trusted{fill:%s;stroke:#8c959f}", "#f0f2f5", "#21262d"),
+    (".first{fill:%s}", "#0969da", "#58a6ff"),
+    (".second{fill:%s}", "#8c959f", "#8b949e"),
+    (".third{fill:%s}", "#bc6c25", "#d29922"),
+    (".fourth{fill:%s}", "#8250df", "#bc8cff"),
+]
+SERIES = ("first", "second", "third", "fourth")
+
+
+class Picture:
+    """The parts of one SVG file, from its title down."""
+
+    def __init__(self, notes):
+        self.parts, self.height = [], 0
+        self.title = notes["title"]
+        self.text(20, 32, self.title, size=18, weight="bold")
+        lines = [notes[key] for key in ("text", "measured", "how") if key in notes]
+        for place, line in enumerate(lines):
+            self.text(20, 54 + 17 * place, line, "faint", 12)
+        self.top = 54 + 17 * len(lines) + 8
+
+    def reach(self, y):
+        """Makes the picture high enough for this place."""
+        self.height = max(self.height, y)
+
+    def text(self, x, y, words, kind="ink", size=13, **more):
+        """A line of text; `anchor`, `weight` and `family` are as SVG's."""
+        names = {"anchor": "text-anchor", "weight": "font-weight", "family": "font-family"}
+        given = "".join(f' {names[key]}="{value}"' for key, value in more.items())
+        self.parts.append(f'<text class="{kind}" x="{x:g}" y="{y:g}" font-size="{size}"{given}>{escape(words)}</text>')
+        self.reach(y + 8)
+
+    def box(self, x, y, width, height, kind):
+        """A box with round corners."""
+        self.parts.append(
+            f'<rect class="{kind}" x="{x:g}" y="{y:g}" width="{width:g}" height="{height:g}" rx="5"/>')
+        self.reach(y + height + 8)
+
+    def bar(self, x, y, width, height, kind):
+        """A bar of a plot."""
+        self.parts.append(f'<rect class="{kind}" x="{x:g}" y="{y:g}" width="{width:.1f}" height="{height:g}"/>')
+        self.reach(y + height + 8)
+
+    def arrow(self, *points):
+        """A line through these points, with a tip at its end."""
+        told = " ".join(f"{x:g},{y:g}" for x, y in points)
+        self.parts.append(f'<polyline class="axis" points="{told}" stroke-width="1.5" marker-end="url(#tip)"/>')
+        self.reach(max(y for _, y in points) + 8)
+
+    def whole(self):
+        """The text of the file."""
+        light = "".join(rule % first for rule, first, _ in COLOURS)
+        dark = "".join(rule % second for rule, _, second in COLOURS)
+        height = round(self.height + 12)
+        return "\n".join([
+            f'<svg xmlns="http://www.w3.org/2000/svg" viewBox="0 0 {WIDTH} {height}" width="{WIDTH}" height="{height}"'
+            ' role="img" font-family="system-ui, -apple-system, \'Segoe UI\', sans-serif">',
+            f"<title>{escape(self.title)}</title>",
+            f"<style>{light}@media (prefers-color-scheme: dark){{{dark}}}</style>",
+            '<defs><marker id="tip" viewBox="0 0 10 10" refX="9" refY="5" markerWidth="7" markerHeight="7"'
+            ' orient="auto"><path class="tip" d="M0,0 L10,5 L0,10 z"/></marker></defs>',
+            f'<rect class="page" width="{WIDTH}" height="{height}" rx="6"/>',
+            *self.parts, "</svg>", ""])
+
+
+def read(path):
+    """The notes of a file by their names, its columns, and its rows."""
+    lines = path.read_text(encoding="utf-8").splitlines()
+    notes = dict(line[2:].split(": ", 1) for line in lines if line.startswith("#"))
+    columns, *rows = csv.reader(line for line in lines if not line.startswith("#"))
+    return notes, columns, rows
+
+
+def bars(notes, columns, rows):
+    """A group of bars for each row, a bar for each column behind the first."""
+    picture = Picture(notes)
+    names, y = columns[1:], picture.top + 8
+    longest = max(float(figure) for row in rows for figure in row[1:])
+    are_groups = len(names) > 1
+    left = 140 if are_groups else 260
+    for row in rows:
+        if are_groups:
+            picture.text(20, y + 12, row[0], weight="bold")
+            y += 20
+        for place, figure in enumerate(row[1:]):
+            label = names[place] if are_groups else row[0]
+            kind = SERIES[place] if are_groups else SERIES[0 if "gateway" in label else 1]
+            width = max(1.5, float(figure) / longest * (WIDTH - left - 110))
+            picture.text(left - 8, y + 13, label, anchor="end")
+            picture.bar(left, y, width, 18, kind)
+            picture.text(left + width + 6, y + 13, figure, "faint")
+            y += 22
+        y += 8 if are_groups else 0
+    picture.text(WIDTH - 20, y + 10, f"in {notes['unit']}", "faint", 12, anchor="end")
+    return picture
+
+
+def layers(notes, _columns, rows):
+    """The crates in rows, each above all that it uses, and below them what is trusted."""
+    uses = {}
+    for line in (HERE.parent / "crates.txt").read_text(encoding="utf-8").splitlines():
+        if line and not line.startswith("#"):
+            name, used = line.split(":")
+            uses[name] = used.split()
+
+    def row_of(name):
+        """How many rows stand below a crate."""
+        return 1 + max((row_of(used) for used in uses[name] if used in uses), default=-1)
+
+    told = [name for name, _, _ in rows] + notes["left out"].split()
+    if sorted(told) != sorted(uses):
+        sys.exit(f"layers.csv and crates.txt differ: {' '.join(sorted(set(told) ^ set(uses)))}")
+    outside = sorted({name for crate, _, _ in rows for name in uses[crate] if name not in uses})
+    picture = Picture(notes)
+    rows_up = {}
+    for name, kind, what in rows:
+        rows_up.setdefault(row_of(name), []).append((name, kind, what))
+    y = picture.top + 6
+    for row in sorted(rows_up, reverse=True):
+        left = (WIDTH - 190 * len(rows_up[row]) + 14) / 2
+        for place, (name, kind, what) in enumerate(rows_up[row]):
+            picture.box(left + 190 * place, y, 176, 40, kind)
+            picture.text(left + 190 * place + 88, y + 17, name, anchor="middle", weight="bold", family="monospace")
+            picture.text(left + 190 * place + 88, y + 33, what, "faint", 12, anchor="middle")
+        y += 50
+    picture.box(40, y, WIDTH - 80, 44, "trusted")
+    picture.text(WIDTH / 2, y + 18, "the toolchain, LLVM, the C library, the operating system", anchor="middle")
+    picture.text(WIDTH / 2, y + 35, f"contracts of {', '.join(outside)}", "faint", 12, anchor="middle")
+    legend(picture, y + 62)
+    return picture
+
+
+def legend(picture, y):
+    """What the shades of the layers stand for."""
+    told = [("proved", 40, "proved: what each call does"), ("tested", 270, "proved in part, the rest by tests"),
+            ("trusted", 530, "trusted")]
+    for kind, x, words in told:
+        picture.box(x, y, 16, 16, kind)
+        picture.text(x + 24, y + 13, words, "faint", 12)
+
+
+def session_machine(notes, _columns, rows):
+    """The phases from left to right, and the last one below them."""
+    picture = Picture(notes)
+    top, places = picture.top + 44, {"WaitIm": 110, "WaitRm": 400, "Open": 690}
+    below = top + 150
+    for phase, x in {**places, "Over": 400}.items():
+        y = below if phase == "Over" else top
+        picture.box(x - 60, y, 120, 40, "trusted" if phase == "Over" else "proved")
+        picture.text(x, y + 25, phase, size=15, anchor="middle", weight="bold", family="monospace")
+    ends = {}
+    for start, end, what in rows:
+        if end == "Over":
+            ends.setdefault(what, []).append(start)
+        elif start == end:
+            x = places[start]
+            picture.arrow((x - 30, top), (x - 30, top - 22), (x + 30, top - 22), (x + 30, top - 2))
+            picture.text(x + 90, top - 30, what, size=12, anchor="end")
+        else:
+            picture.arrow((places[start] + 60, top + 20), (places[end] - 62, top + 20))
+            picture.text((places[start] + places[end]) / 2, top + 12, what, size=12, anchor="middle")
+    arrive = {"WaitIm": (338, below + 14), "WaitRm": (400, below - 2), "Open": (462, below + 14)}
+    for phase, x in places.items():
+        picture.arrow((x, top + 40), arrive[phase])
+    for place, (what, starts) in enumerate(sorted(ends.items(), key=lambda item: -len(item[1]))):
+        whose = "from each phase" if len(starts) == len(places) else f"from {', '.join(starts)} alone"
+        picture.text(400, below + 66 + 18 * place, f"{whose}: {what}", size=12, anchor="middle")
+    return picture
+
+
+def message(notes, _columns, rows):
+    """The stages from top to bottom, each with its example."""
+    picture = Picture(notes)
+    y = picture.top + 6
+    for place, (crate, what, example) in enumerate(rows):
+        picture.box(20, y, 410, 40, "proved" if crate else "trusted")
+        picture.text(32, y + 17 if crate else y + 25, crate or what, weight="bold",
+                     family="monospace" if crate else "inherit")
+        if crate:
+            picture.text(32, y + 33, what, "faint", 12)
+        picture.text(446, y + 25, example, size=13, family="monospace")
+        if place + 1 < len(rows):
+            picture.arrow((225, y + 40), (225, y + 56))
+        y += 58
+    return picture
+
+
+def main():
+    """Draws every file of figures."""
+    diagrams = {"layers": layers, "session-machine": session_machine, "message": message}
+    for path in sorted((HERE / "figures").glob("*.csv")):
+        picture = diagrams.get(path.stem, bars)(*read(path))
+        target = HERE.parent / "docs/img" / f"{path.stem}.svg"
+        target.parent.mkdir(exist_ok=True)
+        target.write_text(picture.whole(), encoding="utf-8")
+        print(f"docs/img/{path.stem}.svg")
+
+
+if __name__ == "__main__":
+    main()
