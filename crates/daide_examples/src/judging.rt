@@ -7,7 +7,6 @@
 ghost use Rattle.std.specs.Prelude.{◌≤◌, IfOk, length};
 
 use crate::messages::{Example, example_of, tokens_of_text};
-use crate::words::two_words;
 use daide_grammar::dense::Dense;
 use daide_grammar::level::Level;
 use daide_grammar::plain::Plain;
@@ -16,6 +15,7 @@ use daide_grammar::side::Side2;
 use daide_reader::reader::Reader;
 use daide_reader::verdict::Verdict;
 use daide_tests::rows::{holds, same};
+use daide_tests::words::two_words;
 use daide_token::token::Token;
 use daide_words::extended::Extended;
 use daide_words::words::Words;

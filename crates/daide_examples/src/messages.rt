@@ -1,9 +1,9 @@
 //! Messages written as text, and rows of such messages with their verdicts.
 
-use crate::script::counted;
 use daide_grammar::level::Level;
 use daide_grammar::side::Side2;
 use daide_reader::verdict::Verdict;
+use daide_tests::words::counted;
 use daide_token::token::Token;
 use std::alloc::Global;
 use std::test::Fail;

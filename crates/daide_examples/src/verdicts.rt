@@ -132,3 +132,22 @@ fn each_table_has_the_same_course(rt: HostRuntime) -> Result<(), Fail> {
     }
     Ok(())
 }
+
+/// The messages of the worked examples whose bytes on both wires stand in `daide_session_tests`.
+const ANSWERED: &str = "\
+client 0 | NME ( 'a' ) ( 'b' ) | relay
+client 0 | GOF ( | prn
+client 0 | NME ( 'a' ) GOF | huh 4
+client 0 | NME ( 'a' ) GOF ( | prn
+client 0 | NME ( 'a' ) | huh 4
+client 0 |  | huh 0
+client 0 | PRN ( ( ) | relay
+client 0 | PRN ( ( | prn
+client 0 | GOF ) ( | prn
+client 0 | #4a12 | huh 0
+";
+
+#[test]
+fn frames_of_the_worked_answers(rt: HostRuntime) -> Result<(), Fail> {
+    assert_verdicts(rt.alloc(), ANSWERED)
+}

@@ -15,31 +15,12 @@ use daide_reader::reader::Reader;
 use daide_reader::verdict::Verdict;
 use daide_reader::verdict::Verdict::{Huh, Relay};
 use daide_tests::rows::{holds, same};
+use daide_tests::words::two_words;
 use daide_token::token::Token;
-use daide_words::{Extended, Operand, Slot, Word, Words};
+use daide_words::{Extended, Words};
 use linked_list_allocator::LocalHeap;
 use std::alloc::{Allocator, Global};
 use std::test::Fail;
-
-/// The two words.
-pub fn two_words() -> Words {
-    let mut words = Words::new();
-    let _ = words.add(Word {
-        name: *b"XYZ",
-        code: Token::from_code(0x4A40),
-        slot: Slot::Press,
-        level: Level::L20,
-        operand: Operand::Power,
-    });
-    let _ = words.add(Word {
-        name: *b"QQQ",
-        code: Token::from_code(0x4A41),
-        slot: Slot::Arrangement,
-        level: Level::L30,
-        operand: Operand::Arrangement,
-    });
-    words
-}
 
 /// The verdict on a bot's message at a depth of 62 brackets, on as many entries as that takes.
 fn verdict_on_512(words: Words, level: Level, body: &[u8]) -> Verdict

@@ -1,22 +1,12 @@
-//! The worked examples of what a frame of the bot gets, by their names in docs/EXAMPLES.md: the verdict on the
-//! message, and the bytes on both wires.
+//! The worked examples of what a frame of the bot gets, by their names in docs/EXAMPLES.md: the bytes on both wires, in
+//! an open session, whole and byte by byte. The verdicts on these messages stand in `daide_examples`.
 
-use crate::judging::assert_verdicts;
 use crate::script::Act::Says;
 use crate::script::{Scene, assert_scenes};
 use daide_frame::side::Side::{Bot, Server};
-use std::alloc::Global;
 use std::test::Fail;
 
-/// The messages have their verdicts, and the scenes in an open session send their bytes, whole and byte by byte.
-fn assert_answers(alloc: Global, messages: &str, scenes: &[Scene]) -> Result<(), Fail> {
-    assert_verdicts(alloc, messages)?;
-    assert_scenes(alloc, true, scenes)
-}
-
 const NAME: &str = "02 00 00 0E  48 0C 40 00 4B 61 40 01 40 00 4B 62 40 01";
-
-const A_NAME: &str = "client 0 | NME ( 'a' ) ( 'b' ) | relay";
 
 const NAMES: &[Scene] = &[
     (&[Says(Bot, NAME)], "", NAME),
@@ -25,10 +15,8 @@ const NAMES: &[Scene] = &[
 
 #[test]
 fn relays_a_name_in_any_pieces(rt: HostRuntime) -> Result<(), Fail> {
-    assert_answers(rt.alloc(), A_NAME, NAMES)
+    assert_scenes(rt.alloc(), true, NAMES)
 }
-
-const OPEN_BRACKET: &str = "client 0 | GOF ( | prn";
 
 const UNCLOSED: &[Scene] = &[(
     &[Says(Bot, "02 00 00 04  48 03 40 00")],
@@ -38,13 +26,8 @@ const UNCLOSED: &[Scene] = &[(
 
 #[test]
 fn unclosed_bracket_gets_prn(rt: HostRuntime) -> Result<(), Fail> {
-    assert_answers(rt.alloc(), OPEN_BRACKET, UNCLOSED)
+    assert_scenes(rt.alloc(), true, UNCLOSED)
 }
-
-const WORD_TOO_MANY: &str = "\
-client 0 | NME ( 'a' ) GOF | huh 4
-client 0 | NME ( 'a' ) GOF ( | prn
-";
 
 const ERR_BEFORE_IT: &[Scene] = &[(
     &[Says(Bot, "02 00 00 0A  48 0C 40 00 4B 61 40 01 48 03")],
@@ -54,10 +37,8 @@ const ERR_BEFORE_IT: &[Scene] = &[(
 
 #[test]
 fn word_after_a_whole_message_gets_err_before_it(rt: HostRuntime) -> Result<(), Fail> {
-    assert_answers(rt.alloc(), WORD_TOO_MANY, ERR_BEFORE_IT)
+    assert_scenes(rt.alloc(), true, ERR_BEFORE_IT)
 }
-
-const EARLY_END: &str = "client 0 | NME ( 'a' ) | huh 4";
 
 const ERR_LAST: &[Scene] = &[(
     &[Says(Bot, "02 00 00 08  48 0C 40 00 4B 61 40 01")],
@@ -67,10 +48,8 @@ const ERR_LAST: &[Scene] = &[(
 
 #[test]
 fn message_that_ends_early_gets_err_last(rt: HostRuntime) -> Result<(), Fail> {
-    assert_answers(rt.alloc(), EARLY_END, ERR_LAST)
+    assert_scenes(rt.alloc(), true, ERR_LAST)
 }
-
-const NO_WORDS: &str = "client 0 |  | huh 0";
 
 const EMPTY: &[Scene] = &[(
     &[Says(Bot, "02 00 00 00")],
@@ -80,17 +59,12 @@ const EMPTY: &[Scene] = &[(
 
 #[test]
 fn empty_message_gets_huh_err(rt: HostRuntime) -> Result<(), Fail> {
-    assert_answers(rt.alloc(), NO_WORDS, EMPTY)
+    assert_scenes(rt.alloc(), true, EMPTY)
 }
 
 const REPORT: &str = "02 00 00 08  48 13 40 00 40 00 40 01";
 
 const WRAPPED: &str = "02 00 00 0C  48 13 40 00 48 13 40 00 40 00 40 01";
-
-const REPORTS: &str = "\
-client 0 | PRN ( ( ) | relay
-client 0 | PRN ( ( | prn
-";
 
 const REPORTS_GO_ON: &[Scene] = &[
     (&[Says(Bot, REPORT)], "", REPORT),
@@ -101,10 +75,8 @@ const REPORTS_GO_ON: &[Scene] = &[
 
 #[test]
 fn prn_is_relayed_or_wrapped_once(rt: HostRuntime) -> Result<(), Fail> {
-    assert_answers(rt.alloc(), REPORTS, REPORTS_GO_ON)
+    assert_scenes(rt.alloc(), true, REPORTS_GO_ON)
 }
-
-const KET_BEFORE_BRA: &str = "client 0 | GOF ) ( | prn";
 
 const KET_FIRST: &[Scene] = &[(
     &[Says(Bot, "02 00 00 06  48 03 40 01 40 00")],
@@ -114,7 +86,7 @@ const KET_FIRST: &[Scene] = &[(
 
 #[test]
 fn ket_before_bra_gets_prn(rt: HostRuntime) -> Result<(), Fail> {
-    assert_answers(rt.alloc(), KET_BEFORE_BRA, KET_FIRST)
+    assert_scenes(rt.alloc(), true, KET_FIRST)
 }
 
 const LONGEST: &[Scene] = &[(
@@ -164,8 +136,6 @@ fn alien_token_faults_at_its_second_byte(rt: HostRuntime) -> Result<(), Fail> {
     assert_scenes(rt.alloc(), true, ALIEN_TOKENS)
 }
 
-const UNLISTED_WORD: &str = "client 0 | #4a12 | huh 0";
-
 const UNLISTED: &[Scene] = &[(
     &[Says(Bot, "02 00 00 02  4A 12")],
     "02 00 00 0A  48 06 40 00 49 02 4A 12 40 01",
@@ -174,5 +144,5 @@ const UNLISTED: &[Scene] = &[(
 
 #[test]
 fn unlisted_word_gets_huh(rt: HostRuntime) -> Result<(), Fail> {
-    assert_answers(rt.alloc(), UNLISTED_WORD, UNLISTED)
+    assert_scenes(rt.alloc(), true, UNLISTED)
 }

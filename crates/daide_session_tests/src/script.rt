@@ -9,6 +9,7 @@ use daide_grammar::level::Level;
 use daide_session::config::Config;
 use daide_session::session::{Note, Phase, Session};
 use daide_tests::rows::holds;
+use daide_tests::words::counted;
 use std::alloc::{Allocator, Global};
 use std::test::Fail;
 
@@ -66,14 +67,6 @@ pub const IM: &str = "00 00 00 04  00 01 DA 10";
 
 /// The server's answer for the standard map.
 pub const RM: &str = "01 00 00 00";
-
-/// How often a word stands, and the word: `62*4000` is 4000 for 62 times.
-pub fn counted(word: &str) -> (usize, &str) {
-    match word.split_once('*') {
-        Some((count, word)) => (count.parse().unwrap_or(0), word),
-        None => (1, word),
-    }
-}
 
 /// The bytes of a word of hexadecimal digits, as often as it stands.
 fn add_word(alloc: Global, bytes: &mut Vec<u8>, word: &str) -> Result<(), Fail> {

@@ -1,11 +1,11 @@
 //! How often a session takes memory, and how much: twice, in `new`, a body each.
 
 use crate::script::{IM, PIECES, RM, Sent, bytes_of};
-use crate::words::two_words;
 use daide_frame::side::Side::{self, Bot, Server};
 use daide_session::config::Config;
 use daide_session::session::{Phase, Session, SessionError};
 use daide_tests::rows::{holds, same};
+use daide_tests::words::two_words;
 use linked_list_allocator::LocalHeap;
 use std::alloc::Global;
 use std::test::Fail;

@@ -1,0 +1,125 @@
+//! Whole ranges of sizes: hubs of each number of sessions, and the longest bodies.
+
+use crate::relays::{NEVER, QUIET};
+use crate::script::{WIDEST, bytes_of, script_of};
+use daide_frame::side::Side::{self, Bot, Server};
+use daide_session::config::Config;
+use daide_session::hub::{AddFault, Hub};
+use daide_session::memory_ports::MemoryPorts;
+use daide_session::ports::Ports;
+use daide_tests::rows::{holds, same};
+use daide_tests::words::two_words;
+use std::alloc::Global;
+use std::test::Fail;
+
+/// The limits with the shortest body.
+const SMALL: Config = Config {
+    max_body: 512,
+    ..WIDEST
+};
+
+/// A hub of so many sessions is made, without words and with them.
+fn assert_hub(alloc: Global, max: usize) -> Result<(), Fail> {
+    let plain = Hub::<MemoryPorts<'_>>::new(alloc, SMALL, max);
+    same(&plain.err(), &None, &max)?;
+    let worded = Hub::<MemoryPorts<'_>>::with_words(alloc, SMALL, max, two_words());
+    same(&worded.err(), &None, &max)
+}
+
+#[test]
+fn hub_of_each_size(rt: HostRuntime) -> Result<(), Fail> {
+    for max in 1..=256usize {
+        assert_hub(rt.alloc(), max)?;
+    }
+    Ok(())
+}
+
+/// A session is added, and has this place.
+fn add(alloc: Global, hub: &mut Hub<MemoryPorts<'static>>, want: usize) -> Result<(), Fail> {
+    match hub.add(MemoryPorts::new(alloc, QUIET, QUIET, NEVER)) {
+        Ok(place) => same(&place, &want, &"its place"),
+        Err(_) => Err(Fail::new("refused")),
+    }
+}
+
+/// A full hub hands the very ports back, whose clock pops at once.
+fn assert_full(alloc: Global, hub: &mut Hub<MemoryPorts<'static>>) -> Result<(), Fail> {
+    match hub.add(MemoryPorts::new(alloc, QUIET, QUIET, 0)) {
+        Ok(_) => Err(Fail::new("a full hub")),
+        Err((fault, mut ports)) => {
+            let is_same = ports.clock_popped();
+            holds(fault == AddFault::Full && is_same, "the very ports")
+        }
+    }
+}
+
+/// A hub of so many sessions is filled, and one more is refused.
+fn assert_filled(alloc: Global, max: usize) -> Result<(), Fail> {
+    let mut hub = Hub::new(alloc, SMALL, max)?;
+    for place in 0..max {
+        add(alloc, &mut hub, place)?;
+    }
+    assert_full(alloc, &mut hub)?;
+    same(&hub.count(), &max, &"how many")
+}
+
+#[test]
+fn hub_is_full_at_its_size(rt: HostRuntime) -> Result<(), Fail> {
+    for max in &[1, 2, 16, 100, 101, 255, 256] {
+        assert_filled(rt.alloc(), *max)?;
+    }
+    Ok(())
+}
+
+/// A longest body, and what the bot and the server are sent for it where the bot sends it.
+#[rattlefmt::skip]
+const LONGEST: &[(&str, &str, &str)] = &[
+    // HUH ( GOF .. GOF ) goes on
+    ("02 00 FF F6 4806 4000 32760*4803 4001", "", "02 00 FF F6 4806 4000 32760*4803 4001"),
+    // GOF .. GOF ( gets PRN
+    ("02 00 FF F6 32762*4803 4000", "02 00 FF FC 4813 4000 32762*4803 4000 4001", ""),
+    // HUH .. HUH gets HUH, and so does HUH ( GOF .. GOF ) GOF
+    ("02 00 FF F6 32763*4806", "02 00 FF FE 4806 4000 4806 4902 32762*4806 4001", ""),
+    (
+        "02 00 FF F6 4806 4000 32759*4803 4001 4803",
+        "02 00 FF FE 4806 4000 4806 4000 32759*4803 4001 4902 4803 4001",
+        "",
+    ),
+    // one word longer is above the cap
+    ("02 00 FF F8", "04 00 00 02 00 08", "03 00 00 00"),
+];
+
+/// The frame of a side, in pieces, gets this back, and this goes on.
+fn assert_longest(
+    alloc: Global,
+    side: Side,
+    row: &(&str, &str, &str),
+    piece: usize,
+) -> Result<(), Fail> {
+    let (frame, back, on) = row;
+    let mut script = script_of(alloc, WIDEST)?;
+    script.open(alloc, piece)?;
+    let bytes = bytes_of(alloc, frame)?;
+    script.say(side, bytes.as_slice(), piece)?;
+    let other = if side == Bot { Server } else { Bot };
+    script.assert_sent(alloc, side, back)?;
+    script.assert_sent(alloc, other, on)
+}
+
+/// Each longest body of a side, whole or in pieces.
+fn assert_all_longest(alloc: Global, side: Side, piece: usize) -> Result<(), Fail> {
+    for row in LONGEST {
+        assert_longest(alloc, side, row, piece)?;
+    }
+    Ok(())
+}
+
+#[test]
+fn longest_bodies_of_each_verdict(rt: HostRuntime) -> Result<(), Fail> {
+    assert_all_longest(rt.alloc(), Bot, 512)
+}
+
+#[test]
+fn longest_bodies_of_the_server(rt: HostRuntime) -> Result<(), Fail> {
+    assert_all_longest(rt.alloc(), Server, 65_530)
+}
