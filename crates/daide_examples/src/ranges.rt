@@ -8,12 +8,12 @@ use daide_gate::frame_view::show;
 use daide_gate::settings::read_settings;
 use daide_grammar::level::Level;
 use daide_log::check::check_log;
-use daide_session::config::Config;
-use daide_session::hub::{AddFault, Hub};
-use daide_session::memory_ports::MemoryPorts;
-use daide_session::ports::Ports;
+use daide_machine::config::Config;
+use daide_tests::memory_ports::MemoryPorts;
 use daide_tests::rows::{holds, same};
 use daide_token::text::write_text;
+use daide_turns::hub::{AddFault, Hub};
+use daide_turns::ports::Ports;
 use std::alloc::Global;
 use std::test::Fail;
 
