@@ -4,7 +4,7 @@
 
 use daide_gate::settings::{Settings, SettingsError, read_settings};
 use daide_grammar::level::Level;
-use daide_session::config::Config;
+use daide_machine::config::Config;
 use daide_tests::rows::{holds, same};
 use daide_token::token::Token;
 use daide_words::{Operand, Slot, Word};

@@ -1,18 +1,36 @@
-//! What the gateway's program does with its input, and the loop over a session's turns.
+//! The gateway as one library: each public name that a caller needs, of whichever crate it is.
 //!
-//! Nothing here opens a file or a socket: readers, writers and the allocator are parameters, so that
-//! what is written can be stated as a function of what was read, and each refusal can be tried.
-//!
-//! `relaying` is its own. What it shows, reads, checks and serves stands in the crates below it, and has names here.
+//! Nothing stands here but names. A token, a frame, the grammar and the reader; a session, what turns it, and many in
+//! one loop; and what the program does with its input. Nothing here opens a file or a socket: readers, writers, ports
+//! and the allocator are parameters, so that what is written can be stated as a function of what was read, and each
+//! refusal can be tried. The gateway over sockets is `daide_sockets`.
 #![tactic(auto)]
 
-pub mod laws;
-pub mod relaying;
+// Tokens, and their text.
+pub use daide_token::{Class, Token, write_text, write_text_with};
 
+// Frames.
+pub use daide_frame::{Code, Cutter, Head, Kind, Side, Step, check_im, read_head, write_head};
+
+// The grammar, the tables that predict with it, and an operator's words.
+pub use daide_grammar::{Dense, Level, Move, Plain, Predict, Side2, Sym};
+pub use daide_words::{Extended, Operand, Slot, Word, WordError, Words};
+
+// What becomes of a message.
+pub use daide_reader::{Reader, Verdict};
+
+// A session, and what turns it.
+pub use daide_machine::{Config, ConfigError, Deed, Note, Phase};
+pub use daide_session::{Session, SessionError};
+pub use daide_turns::{
+    AddFault, Hub, HubError, Ports, Pull, Put, RelayEnd, exchange, hub, ports, relay, relaying,
+    turn,
+};
+
+// What the program does with its input.
 pub use daide_log::{LogFault, Summary, check_log};
 pub use daide_service::{
     Connect, Notice, ServeFault, Service, System, metered, serve, serving, system,
 };
 pub use daide_settings::{Address, Key, Settings, SettingsError, read_settings, settings};
 pub use daide_show::{ShowFault, frame_view, show, show_with};
-pub use relaying::{RelayEnd, relay};

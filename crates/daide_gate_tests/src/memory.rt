@@ -4,14 +4,14 @@
 
 use crate::gateway::{FM, IM, ITS_PRN, OBS, RM, UNCLOSED};
 use crate::stage::any_port;
-use daide_gate::relaying::{RelayEnd, relay};
-use daide_session::config::Config;
+use daide_machine::config::Config;
 use daide_session::session::Session;
 use daide_sockets::ports::{Socket, SocketPorts};
 use daide_sockets::watch::{Flags, Place, Watch};
 use daide_sockets::{Interest, TcpListener};
 use daide_streams::duplex::Duplex;
 use daide_tests::rows::{holds, same};
+use daide_turns::relaying::{RelayEnd, relay};
 use std::alloc::{Allocator, Global};
 use std::io;
 use std::io::ErrorKind;

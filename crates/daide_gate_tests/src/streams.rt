@@ -2,7 +2,6 @@
 //! whether a call may do something behind it.
 
 use crate::streams::Answer::{Fails, Gives, Takes};
-use daide_session::ports::{Pull, Put};
 use daide_streams::buffered::Buffered;
 use daide_streams::calls::{pull_from, put_to};
 use daide_streams::dropping::Dropping;
@@ -10,6 +9,7 @@ use daide_streams::duplex::Duplex;
 use daide_streams::pool::Pool;
 use daide_streams::readiness::Readiness;
 use daide_tests::rows::{holds, same};
+use daide_turns::ports::{Pull, Put};
 use std::alloc::Global;
 use std::io;
 use std::io::ErrorKind;

@@ -10,8 +10,8 @@ use Rattle.std.proofs.lemmas.Option.{same_Some}
 use Rattle.daide_frame.specs.declared.side.Side.{Side}
 use Rattle.daide_frame.proofs.ListLemmas.{eqb_same}
 use Rattle.daide_machine.specs.Machine.{SessionState, Effect, Runs, opening}
-use Rattle.daide_session.specs.declared.config.Config.{Config}
-use Rattle.daide_session.specs.Session.{limits_with}
+use Rattle.daide_machine.specs.declared.config.Config.{Config}
+use Rattle.daide_machine.specs.Config.{limits_with}
 use Rattle.daide_lines.specs.declared.fault.LogFault.{LogFault}
 use Rattle.daide_log.specs.declared.heading.Version.{Version}
 use Rattle.daide_log.specs.declared.heading.Version.TheVariants.{Single, Match}

@@ -5,7 +5,7 @@ use Rattle.daide_frame.specs.declared.side.Side.TheVariants.{Bot, Server}
 use Rattle.daide_frame.specs.declared.head.Kind.TheVariants.{Im}
 use Rattle.daide_machine.specs.declared.note.Deed.TheVariants.{Relayed}
 use Rattle.daide_machine.specs.declared.note.Note.TheVariants.{Nothing, Frame}
-use Rattle.daide_session.specs.declared.config.Config.{Config}
+use Rattle.daide_machine.specs.declared.config.Config.{Config}
 use Rattle.daide_token.specs.Names.{name_of, token_named, names}
 use Rattle.daide_log.specs.declared.heading.Version.TheVariants.{Single, Match}
 use Rattle.daide_lines.specs.LogLine.{parted_at_space, plain_number}

@@ -16,7 +16,7 @@ use Rattle.daide_machine.specs.declared.note.Note.TheVariants.{Frame, Fault}
 use Rattle.daide_machine.specs.declared.phase.Phase.{Phase}
 use Rattle.daide_machine.specs.declared.phase.Phase.TheVariants.{WaitIm, WaitRm, Over}
 use Rattle.daide_machine.specs.Machine.{SessionState}
-use Rattle.daide_session.specs.Session.{limits_with}
+use Rattle.daide_machine.specs.Config.{limits_with}
 use Rattle.daide_words.specs.declared.word.Word.{Word}
 use Rattle.daide_lines.specs.declared.fault.LogFault.TheVariants.{BadLine}
 use Rattle.daide_log.specs.declared.heading.Version.TheVariants.{Match}

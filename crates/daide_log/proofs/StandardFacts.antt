@@ -16,8 +16,8 @@ use Rattle.daide_machine.specs.declared.note.Note.TheVariants.{Nothing, Frame, F
 use Rattle.daide_machine.specs.declared.phase.Phase.{Phase}
 use Rattle.daide_machine.specs.declared.phase.Phase.TheVariants.{WaitIm, WaitRm, Over}
 use Rattle.daide_machine.specs.Machine.{SessionState}
-use Rattle.daide_session.specs.declared.config.Config.{Config}
-use Rattle.daide_session.specs.Session.{limits_of}
+use Rattle.daide_machine.specs.declared.config.Config.{Config}
+use Rattle.daide_machine.specs.Config.{limits_of}
 use Rattle.daide_lines.specs.declared.fault.LogFault.TheVariants.{BadLine}
 use Rattle.daide_lines.specs.LogLine.{LogEvent, Traffic, EndOf, TimeOver, without_cr, plain_number, parted_at_space}
 use Rattle.daide_lines.specs.LogLine.{event_of_line}

@@ -1,8 +1,8 @@
 -- What the second line of a log sets, by its bytes alone: docs/FORMATS.md, "The log" and "The log, version 2". (own)
 use Rattle.std.specs.Prelude.{ℕ, List, codes, Option, Some, None, Result, Ok, Err}
-use Rattle.daide_session.specs.declared.config.Config.{Config}
-use Rattle.daide_session.specs.declared.config.ConfigError.{ConfigError}
-use Rattle.daide_session.specs.Config.{config_fault}
+use Rattle.daide_machine.specs.declared.config.Config.{Config}
+use Rattle.daide_machine.specs.declared.config.ConfigError.{ConfigError}
+use Rattle.daide_machine.specs.Config.{config_fault}
 use Rattle.daide_lines.specs.LogLine.{Parted, behind, plain_number, parted_at_space}
 use Rattle.daide_lines.specs.MatchLine.{within}
 use Rattle.daide_log.specs.declared.config_line.MatchConfig.{MatchConfig}

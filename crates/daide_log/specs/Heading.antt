@@ -4,7 +4,7 @@ use Rattle.std.specs.Prelude.{option_map, is_ok}
 use Rattle.daide_words.specs.declared.word.Word.{Word}
 use Rattle.daide_words.specs.Word.{names_of}
 use Rattle.daide_words.specs.Accepted.{word_fault}
-use Rattle.daide_session.specs.declared.config.Config.{Config}
+use Rattle.daide_machine.specs.declared.config.Config.{Config}
 use Rattle.daide_log.specs.declared.heading.Version.{Version}
 use Rattle.daide_log.specs.declared.heading.Version.TheVariants.{Single, Match}
 use Rattle.daide_log.specs.declared.config_line.MatchConfig.{MatchConfig}

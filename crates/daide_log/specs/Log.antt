@@ -3,7 +3,7 @@
 use Rattle.std.specs.Prelude.{◌≡◌, ⊤, ℕ, ◌+◌, ◌-◌, ◌<◌, ◌≤◌, if◌then◌else◌, List, [], ◌∷◌, ◌++◌, length}
 use Rattle.std.specs.Prelude.{replicate, slice_get, slice_set, Option, Some, None, option_map, Result, Ok, Err}
 use Rattle.daide_machine.specs.Machine.{SessionState, Effect, Runs, opening}
-use Rattle.daide_session.specs.Session.{limits_with}
+use Rattle.daide_machine.specs.Config.{limits_with}
 use Rattle.daide_log.specs.declared.heading.Version.{Version}
 use Rattle.daide_log.specs.declared.heading.Version.TheVariants.{Single, Match}
 use Rattle.daide_log.specs.declared.report.Source.{Source}

@@ -3,7 +3,7 @@
 ghost use Rattle.std.specs.Prelude.{◌≡◌, ◌≢◌, ◌+◌, ◌≤◌, [], All, replicate, IfOk, IfErr, OnOk};
 ghost use Rattle.std.specs.Io.KnownBytes.{Keeps, append_known};
 ghost use Rattle.daide_machine.specs.Machine.{opening};
-ghost use Rattle.daide_session.specs.Session.{limits_with};
+ghost use Rattle.daide_machine.specs.Config.{limits_with};
 ghost use Rattle.daide_words.specs.Words.{words_of};
 ghost use Rattle.daide_log.specs.Heading.{HasSessions};
 ghost use Rattle.daide_lines.specs.LogLine.{most_lines};

@@ -16,3 +16,6 @@ pub mod StandardFacts
 pub mod GatewayFacts
 pub mod SessionFacts
 mod LevelRangeFacts
+pub mod WordedVerdicts
+pub mod WordedRuns
+mod LimitFacts

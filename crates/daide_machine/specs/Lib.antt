@@ -3,6 +3,7 @@ pub mod Events
 pub mod Answers
 pub mod HloLevel
 pub mod Machine
+pub mod Config
 pub mod Wires
 pub mod Weight
 pub mod Calls

@@ -1,9 +1,19 @@
 //! Laws of the machine: functions with no parameters and an empty body, whose contracts are the laws.
 
-ghost use Rattle.std.specs.Prelude.{◌≡◌, ◌+◌, ◌*◌};
+ghost use Rattle.std.specs.Prelude.{◌≡◌, ◌+◌, ◌*◌, ◌↔◌, true, ℕ, List, []};
+ghost use Rattle.daide_grammar.specs.declared.level.Level.{Level};
+ghost use Rattle.daide_grammar.specs.declared.side.Side2.{Side2};
+ghost use Rattle.daide_grammar.specs.SideMessages.{IsMessage, IsMessageOver};
+ghost use Rattle.daide_reader.specs.declared.verdict.Verdict.{Verdict};
+ghost use Rattle.daide_reader.specs.ViablePrefix.{IsMessageOf};
+ghost use Rattle.daide_reader.specs.Verdict.{HasVerdict};
+ghost use Rattle.daide_words.specs.declared.word.Word.{Word};
+ghost use Rattle.daide_words.specs.Word.{grammar_words};
+ghost use Rattle.daide_words.specs.Accepted.{are_accepted};
 ghost use Rattle.daide_machine.specs.Bounds.{longest_body, deepest};
 ghost use Rattle.daide_machine.specs.Answers.{prn_open, huh_open, err_word, close_word};
-ghost use Rattle.daide_machine.specs.Machine.{fm_bytes};
+ghost use Rattle.daide_machine.specs.Events.{Event};
+ghost use Rattle.daide_machine.specs.Machine.{Effect, Runs, SessionState, Step, fm_bytes};
 ghost use Rattle.daide_machine.specs.Laws.{EachEventHasAStep, EventsHaveARun};
 ghost use Rattle.daide_machine.specs.Laws.{AnswersAreUnique, RunsJoin, AnswersJoin, PiecesDoNotMatter};
 ghost use Rattle.daide_machine.specs.Laws.{CallsDeliverTheAnswers, EachWireGetsTheAnswers, OnlyEventsMatter};
@@ -14,6 +24,8 @@ ghost use Rattle.daide_machine.specs.Laws.{NothingAfterTheEnd, FramesAreThoseOfT
 
 use crate::answers::{CLOSE_WORD, ERR_WORD, FM, HUH_OPEN, PRN_OPEN};
 use crate::bounds::{MAX_BODY, MAX_DEPTH, STACK_ENTRIES};
+use daide_grammar::predict::Predict;
+use daide_words::extended::Extended;
 
 /// The words round an answer, and the final message, have the bytes that the definitions give them.
 pub fn words_are_those_of_the_definitions()
@@ -117,4 +129,35 @@ pub fn only_messages_pass()
 /// its bytes stood among the other side's, the run makes the same moves but for the refusal, which goes to its sender.
 pub fn a_side_harms_itself_alone()
     ensures { ASideHarmsItselfAlone }
+{}
+
+/// With words that are accepted too, each event has a step from each state: whatever happens, the machine goes on.
+pub fn each_event_has_a_step_with_words()
+    ensures { (words : List Word) (old : SessionState) (event : Event) → are_accepted words ≡ true →
+        old.limits.words ≡ grammar_words words →
+        (effects : List Effect) × (new : SessionState) × Step old event effects new }
+{}
+
+/// So each list of events has a run with these words, from each state.
+pub fn events_have_a_run_with_words()
+    ensures { (words : List Word) (old : SessionState) (events : List Event) → are_accepted words ≡ true →
+        old.limits.words ≡ grammar_words words →
+        (effects : List Effect) × (new : SessionState) × Runs old events effects new }
+{}
+
+/// The verdicts of the reader that a session has of each side, over a table without an operator's words, are those of
+/// the grammar.
+pub fn verdicts_are_the_grammars()
+    ensures { (side : Side2) (level : Level) (max_depth : ℕ) (m : List ℕ) (v : Verdict) →
+        HasVerdict (IsMessageOf (⟦<Extended as Predict>⟧.language [] (⟦<Extended as Predict>⟧.opening side level)))
+        max_depth m v ↔ HasVerdict (IsMessage side level) max_depth m v }
+{}
+
+/// With words that are accepted one after the other they are those of the grammar with these words.
+pub fn verdicts_with_words_are_the_grammars()
+    ensures { (words : List Word) (side : Side2) (level : Level) (max_depth : ℕ) (m : List ℕ) (v : Verdict) →
+        are_accepted words ≡ true →
+        HasVerdict (IsMessageOf (⟦<Extended as Predict>⟧.language (grammar_words words)
+        (⟦<Extended as Predict>⟧.opening side level))) max_depth m v
+        ↔ HasVerdict (IsMessageOver (grammar_words words) side level) max_depth m v }
 {}

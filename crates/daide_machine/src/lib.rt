@@ -9,6 +9,7 @@
 
 pub mod answers;
 pub mod bounds;
+pub mod config;
 pub mod hlo;
 pub mod laws;
 pub mod note;
@@ -16,5 +17,6 @@ pub mod phase;
 pub mod rules;
 
 pub use bounds::{MAX_BODY, MAX_DEPTH, STACK_ENTRIES};
+pub use config::{Config, ConfigError};
 pub use note::{Deed, Note};
 pub use phase::Phase;

@@ -3,7 +3,7 @@ use Rattle.std.proofs.Common.{◌≡◌, ℕ, zero, suc, ◌+◌, Bool, true, fa
 use Rattle.std.proofs.Common.{subst, arith}
 use Rattle.std.specs.Prelude.{◌==◌, is_none}
 use Rattle.daide_machine.specs.Wires.{Gateway, is_closed}
-use Rattle.daide_session.specs.Hub.{Hosting}
+use Rattle.daide_turns.specs.Hub.{Hosting}
 use Rattle.daide_service.specs.declared.system.Connect.{Connect}
 use Rattle.daide_service.specs.declared.system.Connect.TheVariants.{Ready, Failed, Pending}
 use Rattle.daide_service.specs.declared.system.Notice.TheVariants.{CannotReach}

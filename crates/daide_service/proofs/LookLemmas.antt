@@ -3,8 +3,8 @@ use Rattle.std.proofs.Common.{◌≡◌, ℕ, ◌+◌, List, [], ◌∷◌, ◌+
 use Rattle.daide_frame.specs.declared.side.Side.{Side}
 use Rattle.daide_frame.specs.declared.side.Side.TheVariants.{Bot, Server}
 use Rattle.daide_machine.specs.Wires.{Gateway}
-use Rattle.daide_session.specs.Record.{PortAnswer, Clock, Pulled, Offered}
-use Rattle.daide_session.specs.Turn.{Then, AsksClock, Puts, Pulls, Turn}
+use Rattle.daide_turns.specs.Record.{PortAnswer, Clock, Pulled, Offered}
+use Rattle.daide_turns.specs.Turn.{Then, AsksClock, Puts, Pulls, Turn}
 use Rattle.daide_service.specs.Served.{looks_in}
 
 looks_append : (xs ys : List PortAnswer) → looks_in (xs ++ ys) ≡ looks_in xs + looks_in ys

@@ -13,13 +13,13 @@ use Rattle.std.proofs.Math.Dec.{eqb-suc-zero}
 use Rattle.std.proofs.Math.Seq.{take-suc-set}
 use Rattle.daide_machine.specs.Machine.{Limits}
 use Rattle.daide_machine.specs.Wires.{Gateway, IsNew, is_closed}
-use Rattle.daide_session.specs.Record.{PortAnswer, Clock, Pulled, Offered, BecomesBy}
-use Rattle.daide_session.specs.Headline.{Stands, IsBoundedAndExact}
-use Rattle.daide_session.specs.Hub.{Hosting, IsTurned, Changes}
-use Rattle.daide_session.specs.HubRuns.{Turned, HubRuns}
-use Rattle.daide_session.proofs.Stretches.{becomes_then}
-use Rattle.daide_session.proofs.Standing.{new_stands}
-use Rattle.daide_session.proofs.ApartLemmas.{runs_split}
+use Rattle.daide_turns.specs.Record.{PortAnswer, Clock, Pulled, Offered, BecomesBy}
+use Rattle.daide_turns.specs.Headline.{Stands, IsBoundedAndExact}
+use Rattle.daide_turns.specs.Hub.{Hosting, IsTurned, Changes}
+use Rattle.daide_turns.specs.HubRuns.{Turned, HubRuns}
+use Rattle.daide_turns.proofs.Stretches.{becomes_then}
+use Rattle.daide_turns.proofs.Standing.{new_stands}
+use Rattle.daide_turns.proofs.ApartLemmas.{runs_split}
 use Rattle.daide_settings.specs.declared.settings.Settings.{Settings}
 use Rattle.daide_service.specs.declared.system.Connect.{Connect}
 use Rattle.daide_service.specs.declared.system.Connect.TheVariants.{Ready, Failed, Pending}

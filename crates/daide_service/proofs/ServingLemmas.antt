@@ -6,10 +6,10 @@ use Rattle.std.specs.Result.{IsErrAnd}
 use Rattle.std.proofs.lemmas.List.{length-set}
 use Rattle.std.proofs.Math.Dec.{eqb-suc-zero}
 use Rattle.daide_machine.specs.Wires.{Gateway}
-use Rattle.daide_session.specs.Record.{PortAnswer, Tells}
-use Rattle.daide_session.proofs.Stretches.{or_assoc, tells_nil, tells_then}
-use Rattle.daide_session.specs.Hub.{Hosting, Changes, IsTurned}
-use Rattle.daide_session.specs.HubRuns.{HubCall, Turned, HubStep, HubRuns}
+use Rattle.daide_turns.specs.Record.{PortAnswer, Tells}
+use Rattle.daide_turns.proofs.Stretches.{or_assoc, tells_nil, tells_then}
+use Rattle.daide_turns.specs.Hub.{Hosting, Changes, IsTurned}
+use Rattle.daide_turns.specs.HubRuns.{HubCall, Turned, HubStep, HubRuns}
 use Rattle.daide_service.specs.Metered.{Meter, Meters}
 use Rattle.daide_service.specs.System.{SystemAnswer}
 use Rattle.daide_settings.specs.declared.settings.Settings.{Settings}

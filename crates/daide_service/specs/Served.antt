@@ -3,10 +3,10 @@ use Rattle.std.specs.Prelude.{◌≡◌, ℕ, suc, ◌+◌, nat_lt, true, false,
 use Rattle.daide_machine.specs.Machine.{Limits}
 use Rattle.daide_machine.specs.Wires.{Gateway, is_closed}
 use Rattle.daide_words.specs.Words.{words_of}
-use Rattle.daide_session.specs.Session.{limits_with}
-use Rattle.daide_session.specs.Record.{PortAnswer, Clock, Pulled, Offered, BecomesBy}
-use Rattle.daide_session.specs.Headline.{IsBoundedAndExact}
-use Rattle.daide_session.specs.Hub.{IsTurned}
+use Rattle.daide_machine.specs.Config.{limits_with}
+use Rattle.daide_turns.specs.Record.{PortAnswer, Clock, Pulled, Offered, BecomesBy}
+use Rattle.daide_turns.specs.Headline.{IsBoundedAndExact}
+use Rattle.daide_turns.specs.Hub.{IsTurned}
 use Rattle.daide_settings.specs.declared.settings.Settings.{Settings}
 use Rattle.daide_service.specs.declared.system.Connect.TheVariants.{Ready, Failed, Pending}
 use Rattle.daide_service.specs.Metered.{Meter, Meters, moved_by}

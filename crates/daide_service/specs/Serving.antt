@@ -4,13 +4,13 @@ use Rattle.std.specs.Prelude.{◌≡◌, ℕ, zero, suc, ◌+◌, ◌-◌, ◌�
 use Rattle.std.specs.Prelude.{List, [], ◌∷◌, ◌++◌, length, filter, Some, is_none}
 use Rattle.std.specs.List.{list_any}
 use Rattle.daide_machine.specs.Wires.{Gateway, is_closed}
-use Rattle.daide_session.specs.declared.hub.HubError.{HubError}
-use Rattle.daide_session.specs.declared.hub.HubError.TheVariants as HubErrors
+use Rattle.daide_turns.specs.declared.hub.HubError.{HubError}
+use Rattle.daide_turns.specs.declared.hub.HubError.TheVariants as HubErrors
 use Rattle.daide_words.specs.Words.{words_of}
-use Rattle.daide_session.specs.Session.{limits_with}
-use Rattle.daide_session.specs.Record.{PortAnswer}
-use Rattle.daide_session.specs.Hub.{Hosting, with_places, Adds, IsHubCause}
-use Rattle.daide_session.specs.HubRuns.{HubCall, Turned, HubRuns}
+use Rattle.daide_machine.specs.Config.{limits_with}
+use Rattle.daide_turns.specs.Record.{PortAnswer}
+use Rattle.daide_turns.specs.Hub.{Hosting, with_places, Adds, IsHubCause}
+use Rattle.daide_turns.specs.HubRuns.{HubCall, Turned, HubRuns}
 use Rattle.daide_settings.specs.declared.settings.Settings.{Settings}
 use Rattle.daide_service.specs.declared.serving.ServeFault.{ServeFault}
 use Rattle.daide_service.specs.declared.serving.ServeFault.TheVariants as Faults

@@ -3,10 +3,10 @@
 //! It knows no socket. What the system gives is a parameter, so that whole runs can be driven in memory.
 
 ghost use Rattle.std.specs.Prelude.{◌≡◌, ◌+◌, ◌≤◌, ◌==◌, false, List, [], ◌∷◌, length, Ok, OnOk, OnErr, IfOk, IfErr};
-ghost use Rattle.daide_session.specs.Config.{config_fault};
-ghost use Rattle.daide_session.specs.Hub.{IsHubSize};
+ghost use Rattle.daide_machine.specs.Config.{config_fault};
+ghost use Rattle.daide_turns.specs.Hub.{IsHubSize};
 ghost use Rattle.daide_service.specs.System.{SystemAnswer, Connects};
-ghost use Rattle.daide_session.specs.Record.{Tells};
+ghost use Rattle.daide_turns.specs.Record.{Tells};
 ghost use Rattle.daide_service.specs.Serving.{IsWithin, Admits, Meets, TurnsAll, any_moved, RemovesClosed, parting};
 ghost use Rattle.daide_service.specs.Serving.{wait_where, any_stirs, Round, is_done, opening, fault_of};
 ghost use Rattle.daide_service.specs.Served.{IsWholeRun};
@@ -15,10 +15,10 @@ ghost use Rattle.daide_service.specs.Serving.{IsServeCause, IsOpeningCause, IsOf
 use crate::metered::Metered;
 use crate::system::{Connect, Notice, System};
 use crate::tally::Tally;
-use daide_session::config::ConfigError;
-use daide_session::hub::{AddFault, Hub, HubError};
-use daide_session::ports::Ports;
+use daide_machine::config::ConfigError;
 use daide_settings::settings::Settings;
+use daide_turns::hub::{AddFault, Hub, HubError};
+use daide_turns::ports::Ports;
 use std::alloc::{Allocator, Global};
 use std::marker::Model;
 use thiserror::Error;

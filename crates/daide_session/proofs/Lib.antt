@@ -8,14 +8,4 @@ pub mod SessionLemmas
 pub mod WeightLemmas
 pub mod WrittenLemmas
 pub mod WorkLemmas
-pub mod Stretches
-pub mod PortAnswers
-pub mod TurnLemmas
-pub mod Standing
-pub mod HubLemmas
-pub mod StoredLemmas
-pub mod LimitFacts
-mod BoundFacts
-pub mod ApartLemmas
 pub mod InARowLemmas
-pub mod DueLemmas

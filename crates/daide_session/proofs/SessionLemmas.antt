@@ -20,12 +20,13 @@ use Rattle.daide_machine.specs.Machine.{Sent, Outcome, SessionState, Question, R
 use Rattle.daide_machine.specs.Machine.{is_over, fault, popped, event_outcome, opening}
 use Rattle.daide_machine.specs.Wires.{Gateway, waiting, sent_to, note_of, without, IsNew, Goes, Wrote}
 use Rattle.daide_machine.proofs.FramesHeard.{not_both, over_for_good, run_waits}
-use Rattle.daide_session.specs.declared.config.Config.{Config}
+use Rattle.daide_machine.specs.declared.config.Config.{Config}
 use Rattle.daide_words.specs.declared.word.Word.{Word}
 use Rattle.daide_words.specs.Word.{grammar_words}
 use Rattle.daide_traffic.specs.Inbound.{Rules}
 use Rattle.daide_traffic.specs.Traffic.{Traffic, IsQuiet, is_end, has_end}
-use Rattle.daide_session.specs.Session.{IsStanding, state_of, gateway_of, limits_with}
+use Rattle.daide_machine.specs.Config.{limits_with}
+use Rattle.daide_session.specs.Session.{IsStanding, state_of, gateway_of}
 use Rattle.daide_session.specs.Reaction.{Moves, stopped}
 use Rattle.daide_session.proofs.MovesLemmas.{waiting_at}
 use Rattle.daide_session.proofs.OpenRuns.{run_sends, has_end-append}

@@ -1,14 +1,5 @@
-pub mod Config
 pub mod Session
 pub mod Reaction
 pub mod Work
-pub mod Record
-pub mod Turn
 pub mod Bounds
-pub mod Headline
-pub mod MemoryPorts
-pub mod Hub
-pub mod HubRuns
 pub mod InARow
-pub mod Due
-pub mod Laws

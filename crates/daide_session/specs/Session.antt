@@ -1,22 +1,18 @@
 -- How a session's parts stand for its value, and what holds of it between calls.
-use Rattle.std.specs.Prelude.{◌≡◌, ◌<◌, false, List, [], Ok, Err}
-use Rattle.std.specs.Option.{unwrap_or}
+use Rattle.std.specs.Prelude.{◌≡◌, ◌<◌, false, Ok, Err}
 use Rattle.daide_frame.specs.declared.side.Side.{Side}
 use Rattle.daide_frame.specs.Frames.{missing}
 use Rattle.daide_grammar.specs.declared.level.Level.{Level}
 use Rattle.daide_grammar.specs.declared.level.Level.TheVariants.{L0}
-use Rattle.daide_grammar.specs.Level.{level_of_number}
-use Rattle.daide_words.specs.declared.word.Word.{Word}
-use Rattle.daide_words.specs.Word.{grammar_words}
 use Rattle.daide_machine.specs.declared.phase.Phase.{Phase}
 use Rattle.daide_machine.specs.declared.phase.Phase.TheVariants.{WaitIm, WaitRm, Open, Over}
-use Rattle.daide_machine.specs.Machine.{Limits, SessionState, coming, is_over}
+use Rattle.daide_machine.specs.Machine.{SessionState, coming, is_over}
 use Rattle.daide_machine.specs.Wires.{Gateway, waiting}
-use Rattle.daide_session.specs.declared.config.Config.{Config}
+use Rattle.daide_machine.specs.declared.config.Config.{Config}
 use Rattle.daide_session.specs.declared.session.SessionError.{SessionError}
 use Rattle.daide_session.specs.declared.session.SessionError.TheVariants as Errors
 use Rattle.daide_session.specs.declared.stage.Stage.{Stage}
-use Rattle.daide_session.specs.Config.{config_fault}
+use Rattle.daide_machine.specs.Config.{config_fault}
 use Rattle.daide_traffic.specs.Traffic.{Traffic, has_end}
 
 -- ---- the value
@@ -64,20 +60,7 @@ pub record IsStanding (g : Gateway) : Type 0 where
       0 < missing g.state.limits.cap (coming g.state side).pending
   pub no_end : is_over g.state.phase ≡ false → (wire : Side) → has_end (waiting g wire) ≡ false
 
--- ---- a new session
-
--- what an operator sets, and the words that the operator adds
-abbrev pub limits_with : Config → List Word → Limits
-limits_with config words = record {
-  cap = config.max_body;
-  top_level = unwrap_or (level_of_number config.top_level) L0;
-  max_depth = config.max_depth;
-  words = grammar_words words;
-}
-
--- the same with no words
-abbrev pub limits_of : Config → Limits
-limits_of config = limits_with config []
+-- ---- refusals
 
 -- the limits are looked at first; memory is wanted only where they are right
 abbrev pub IsCause : Config → SessionError → Type 0

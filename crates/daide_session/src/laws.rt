@@ -1,40 +1,6 @@
-//! Laws of what ports answer: functions with no parameters and an empty body, whose contracts are the laws.
+//! Laws of what sessions send: functions with no parameters and an empty body, whose contracts are the laws.
 
-ghost use Rattle.daide_session.specs.Laws.{RelaysJoin, NewSessionsStand, HeadlinesJoin};
-ghost use Rattle.daide_session.specs.HubRuns.{SessionsAreApart, PortsComeBackApart, EachHasItsHeadline};
-ghost use Rattle.daide_session.specs.HubRuns.{OpenedSessionsStand};
-ghost use Rattle.daide_session.specs.Due.{DueBytesGo};
 ghost use Rattle.daide_session.specs.InARow.{TwoGatewaysInARow};
-
-use crate::ports::Ports;
-
-/// What ports answered in two calls, one after the other, moves a session as if it were answered in one.
-pub fn relays_join()
-    ensures { RelaysJoin }
-{}
-
-/// A new session stands where a run from its opening stands.
-pub fn new_sessions_stand()
-    ensures { NewSessionsStand }
-{}
-
-/// Relaying twice is relaying once, by the answers of both: the headline of the one call and that of the next are
-/// the headline of both.
-pub fn headlines_join<P: Ports>()
-    ensures { HeadlinesJoin P.becomes }
-{}
-
-/// Whatever calls are made of a hub, in whatever order: the session at each place, however it moved, went on by turns
-/// of its own alone, as many as calls of `turn` were made of it, from its opening or from where it stood before. So
-/// its answers, and what its ports were asked, are those that it would have had with no other session beside it; and
-/// so are those of one that is taken out, whose ports come back. Each that was turned has the headline,
-/// and each that was added stands where a run from its opening stands, by the answers of its ports since then.
-pub fn sessions_are_apart<P: Ports>()
-    ensures kept { SessionsAreApart P.becomes }
-    ensures taken_out { PortsComeBackApart P.becomes }
-    ensures headline { EachHasItsHeadline P.becomes }
-    ensures stands { OpenedSessionsStand P.becomes }
-{}
 
 /// Of two gateways in a row with the same limits and words, the next passes on each message that the one sends toward
 /// it, and the one's own answers PRN and HUH too. It answers one itself only where its level for it is lower than the
@@ -42,10 +8,4 @@ pub fn sessions_are_apart<P: Ports>()
 /// with PRN, so that PRN grows no further.
 pub fn two_gateways_in_a_row()
     ensures { TwoGatewaysInARow }
-{}
-
-/// While a wire takes one byte a put at least, as many bytes are gone after n turns as there were turns, or all that
-/// waited before them, whatever else the turns bring: so n waiting bytes are gone after n turns.
-pub fn due_bytes_go()
-    ensures { DueBytesGo }
 {}

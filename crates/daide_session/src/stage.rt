@@ -46,7 +46,7 @@ impl Stage {
 }
 
 /// A side's end: the other side gets an FM, where one may reach it, and the session is over.
-fn close<A: Allocator>(traffic: &mut Traffic<A>, stage: &mut Stage, side: Side)
+fn end_session<A: Allocator>(traffic: &mut Traffic<A>, stage: &mut Stage, side: Side)
     requires { has_end (at traffic.old.waiting (other_side side)) ≡ false }
     ensures stage { stage.new ≡ record { top_level = stage.old.top_level; phase = Over; level = L0 } }
     ensures keeps { KeepsSides traffic.old traffic.new }
@@ -72,7 +72,7 @@ pub fn stop<A: Allocator>(traffic: &mut Traffic<A>, stage: &mut Stage, side: Sid
     if stage.is_over() {
         return;
     }
-    close(traffic, stage, side);
+    end_session(traffic, stage, side);
 }
 
 /// A side's fault: an EM to it, and an FM to the other side.
@@ -90,6 +90,6 @@ pub fn fail<A: Allocator>(
     ensures fronts { KeepsFronts traffic.old traffic.new }
 {
     traffic.end(side, Some(code));
-    close(traffic, stage, side);
+    end_session(traffic, stage, side);
     Note::Fault(code)
 }

@@ -2,7 +2,7 @@
 
 use crate::script::{IM, PIECES, RM, Sent, bytes_of};
 use daide_frame::side::Side::{self, Bot, Server};
-use daide_session::config::Config;
+use daide_machine::config::Config;
 use daide_session::session::{Phase, Session, SessionError};
 use daide_tests::rows::{holds, same};
 use daide_tests::words::two_words;

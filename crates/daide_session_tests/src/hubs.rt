@@ -3,12 +3,12 @@
 use crate::relays::{NEVER, OPENS, QUIET, assert_sent};
 use crate::script::{WIDEST, bytes_of};
 use daide_frame::side::Side::{self, Bot, Server};
-use daide_session::config::{Config, ConfigError};
-use daide_session::hub::{AddFault, Hub, HubError};
-use daide_session::memory_ports::{Acceptance, Arrival, MemoryPorts, Script};
-use daide_session::ports::{Ports, Pull, Put};
+use daide_machine::config::{Config, ConfigError};
+use daide_tests::memory_ports::{Acceptance, Arrival, MemoryPorts, Script};
 use daide_tests::rows::{holds, same};
 use daide_tests::words::two_words;
+use daide_turns::hub::{AddFault, Hub, HubError};
+use daide_turns::ports::{Ports, Pull, Put};
 use linked_list_allocator::LocalHeap;
 use std::alloc::Global;
 use std::test::Fail;

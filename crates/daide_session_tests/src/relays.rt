@@ -2,10 +2,8 @@
 
 use crate::script::{WIDEST, assert_bytes};
 use daide_frame::side::Side::{self, Bot, Server};
-use daide_gate::relaying::{RelayEnd, relay};
-use daide_session::memory_ports::{Acceptance, Arrival, Call, MemoryPorts, Script};
-use daide_session::ports::{Ports, Pull, Put};
-use daide_session::session::{Phase, Session};
+use daide_gate::{Phase, Ports, Pull, Put, RelayEnd, Session, relay};
+use daide_tests::memory_ports::{Acceptance, Arrival, Call, MemoryPorts, Script};
 use daide_tests::rows::{holds, same};
 use linked_list_allocator::LocalHeap;
 use std::alloc::{Allocator, Global};

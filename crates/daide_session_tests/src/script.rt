@@ -6,7 +6,7 @@ ghost use Rattle.std.specs.Prelude.{◌≤◌, length};
 
 use daide_frame::side::Side::{self, Bot, Server};
 use daide_grammar::level::Level;
-use daide_session::config::Config;
+use daide_machine::config::Config;
 use daide_session::session::{Note, Phase, Session};
 use daide_tests::rows::holds;
 use daide_tests::words::counted;

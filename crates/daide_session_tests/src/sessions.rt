@@ -9,7 +9,7 @@ use daide_frame::code::Code;
 use daide_frame::head::{Head, Kind};
 use daide_frame::side::Side::{Bot, Server};
 use daide_grammar::level::Level;
-use daide_session::config::{Config, ConfigError};
+use daide_machine::config::{Config, ConfigError};
 use daide_session::session::{Deed, Note, Phase, Session, SessionError};
 use daide_tests::rows::{holds, same};
 use std::alloc::Global;

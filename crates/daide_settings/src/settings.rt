@@ -19,7 +19,7 @@ ghost use Rattle.daide_settings.specs.Settings.{address_of, number_of as judged_
 ghost use Rattle.daide_settings.specs.Settings.{judged_members, judged_settings};
 
 pub use address::Address;
-use daide_session::config::Config;
+use daide_machine::config::Config;
 use daide_words::Words;
 pub use key::Key;
 use key::is_known;

@@ -29,7 +29,7 @@ module _ (words : List Word) where
   frame_is_one end level Rm len body s t x y = x ∙ sym y
   frame_is_one end level Dm len body s t x y =
       x.2
-      ∙ ap (λ (v : Verdict). message_shown words len (tokens_of body) v)
+      ∙ ap (λ (v : Verdict). message_shown words len body v)
       (verdict_is_one (IsMessageOver (grammar_words words) end level) deepest (tokens_of body) x.0 y.0 x.1 y.1)
       ∙ sym y.2
   frame_is_one end level Fm len body s t x y = x ∙ sym y

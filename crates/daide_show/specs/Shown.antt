@@ -1,11 +1,11 @@
 -- What `show` says of an input: the text of docs/FORMATS.md (own), and whether its frame would be relayed.
 use Rattle.std.specs.Prelude.{◌≡◌, ⊤, ℕ, ◌+◌, ◌==◌, nat_lt, Bool, true, false, if◌then◌else◌}
-use Rattle.std.specs.Prelude.{List, [], ◌∷◌, ◌++◌, take, drop, length, codes, Option, Result, Ok, Err, MatchResult}
+use Rattle.std.specs.Prelude.{List, [], ◌∷◌, ◌++◌, length, codes, Option, Result, Ok, Err, MatchResult}
 use Rattle.std.specs.Bool.{MatchBool}
 use Rattle.std.specs.Fmt.{decimal}
 use Rattle.std.specs.Io.KnownBytes.{Appends}
 use Rattle.hex.specs.Hex.{encode_upper}
-use Rattle.daide_token.specs.Token.{bra, ket, prn, huh, err, tokens_of}
+use Rattle.daide_token.specs.Token.{tokens_of}
 use Rattle.daide_token.specs.Text.{text_with}
 use Rattle.daide_frame.specs.declared.side.Side.{Side}
 use Rattle.daide_frame.specs.declared.code.Code.{Code}
@@ -24,6 +24,7 @@ use Rattle.daide_words.specs.Word.{grammar_words, names_of}
 use Rattle.daide_reader.specs.Verdict.{HasVerdict}
 use Rattle.daide_reader.specs.declared.verdict.Verdict.{Verdict}
 use Rattle.daide_reader.specs.declared.verdict.Verdict.TheVariants.{Relay, Prn, Huh}
+use Rattle.daide_machine.specs.Answers.{answer_body}
 use Rattle.daide_machine.specs.Bounds.{longest_body, deepest}
 use Rattle.daide_machine.specs.Machine.{side2_of}
 use Rattle.daide_show.specs.Input.{limit, bytes_of}
@@ -40,14 +41,6 @@ pub record Shown : Type 0 where
 abbrev pub line : List ℕ → List ℕ
 line text = text ++ 10 ∷ []
 
--- the tokens of `PRN ( m )`
-abbrev pub prn_answer : List ℕ → List ℕ
-prn_answer m = prn ∷ bra ∷ (m ++ ket ∷ [])
-
--- the tokens of `HUH ( m )`, with ERR before the token at a place, or last where there is none
-abbrev pub huh_answer : ℕ → List ℕ → List ℕ
-huh_answer place m = huh ∷ bra ∷ (take place m ++ err ∷ drop place m ++ ket ∷ [])
-
 -- tokens as they are printed, the operator's words by their own names
 abbrev pub printed : List Word → List ℕ → List ℕ
 printed words m = text_with (names_of words) m
@@ -58,11 +51,15 @@ verdict_name Relay = codes "relay"
 verdict_name Prn = codes "PRN"
 verdict_name (Huh place) = codes "HUH at " ++ decimal place
 
+-- the text of the answer that a session sends back to a body by its verdict
+abbrev pub answer_text : List Word → List ℕ → Verdict → List ℕ
+answer_text words body verdict = printed words (tokens_of (answer_body body verdict))
+
 -- the lines of a verdict: its name, and the answer that the sender gets
 abbrev pub verdict_lines : List Word → Verdict → List ℕ → List ℕ
-verdict_lines words Relay m = line (verdict_name Relay)
-verdict_lines words Prn m = line (verdict_name Prn) ++ line (printed words (prn_answer m))
-verdict_lines words (Huh place) m = line (verdict_name (Huh place)) ++ line (printed words (huh_answer place m))
+verdict_lines words Relay body = line (verdict_name Relay)
+verdict_lines words Prn body = line (verdict_name Prn) ++ line (answer_text words body Prn)
+verdict_lines words (Huh place) body = line (verdict_name (Huh place)) ++ line (answer_text words body (Huh place))
 
 -- whether a verdict passes its message on
 abbrev pub is_relay : Verdict → Bool
@@ -89,8 +86,8 @@ im_shown len (Err code) = fault_shown code
 
 -- a message and its verdict
 abbrev pub message_shown : List Word → ℕ → List ℕ → Verdict → Shown
-message_shown words len m verdict = record {
-  text = kind_line Dm len ++ line (printed words m) ++ verdict_lines words verdict m;
+message_shown words len body verdict = record {
+  text = kind_line Dm len ++ line (printed words (tokens_of body)) ++ verdict_lines words verdict body;
   relayed = is_relay verdict;
 }
 
@@ -105,7 +102,7 @@ IsFrameShownAs words end level Rm len body shown = shown ≡ relayed_shown Rm le
 IsFrameShownAs words end level Dm len body shown =
     (verdict : Verdict)
     × HasVerdict (IsMessageOver (grammar_words words) end level) deepest (tokens_of body) verdict
-    × (shown ≡ message_shown words len (tokens_of body) verdict)
+    × (shown ≡ message_shown words len body verdict)
 IsFrameShownAs words end level Fm len body shown = shown ≡ relayed_shown Fm len
 IsFrameShownAs words end level Em len body shown = shown ≡ relayed_shown Em len
 

@@ -2,9 +2,9 @@
 use Rattle.std.proofs.Common.{◌≡◌, ℕ, List, [], ◌∷◌, Option, Some, None, refl, ap, subst, sym}
 use Rattle.std.specs.Prelude.{Contains}
 use Rattle.daide_machine.specs.Wires.{Gateway}
-use Rattle.daide_session.specs.Record.{PortAnswer, Clock, Pulled, Offered, BecomesBy}
-use Rattle.daide_session.specs.declared.ports.Pull.{Pull}
-use Rattle.daide_session.specs.declared.ports.Put.{Put}
+use Rattle.daide_turns.specs.Record.{PortAnswer, Clock, Pulled, Offered, BecomesBy}
+use Rattle.daide_turns.specs.declared.ports.Pull.{Pull}
+use Rattle.daide_turns.specs.declared.ports.Put.{Put}
 use Rattle.daide_settings.specs.declared.settings.Settings.{Settings}
 use Rattle.daide_service.specs.declared.system.Connect.TheVariants.{Ready}
 use Rattle.daide_service.specs.Metered.{Meter, Meters, BecomesWhile, IsSpentAnswer}

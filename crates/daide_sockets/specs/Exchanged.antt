@@ -1,7 +1,7 @@
 -- What each session of a run exchanges with the two streams behind its ports.
 use Rattle.std.specs.Prelude.{ℕ, List, Option, Contains}
 use Rattle.daide_machine.specs.Wires.{Gateway}
-use Rattle.daide_session.specs.Record.{PortAnswer}
+use Rattle.daide_turns.specs.Record.{PortAnswer}
 use Rattle.daide_settings.specs.declared.settings.Settings.{Settings}
 use Rattle.daide_service.specs.declared.system.Connect.TheVariants.{Ready}
 use Rattle.daide_service.specs.Metered.{Meter}

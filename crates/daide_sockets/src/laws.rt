@@ -3,8 +3,8 @@
 ghost use Rattle.daide_sockets.specs.Exchanged.{ServedSessionsExchange};
 
 use crate::ports::SocketPorts;
-use daide_session::ports::Ports;
 use daide_streams::duplex::Duplex;
+use daide_turns::ports::Ports;
 use std::rt::Clock;
 
 /// Each session that a run serves, over any streams that tell their bytes: what it heard of a side is what that side's

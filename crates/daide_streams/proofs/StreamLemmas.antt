@@ -8,13 +8,13 @@ use Rattle.daide_machine.specs.Events.{Event, Comes, Ends, Loses, Pops, bytes_co
 use Rattle.daide_machine.specs.Heard.{bytes_from}
 use Rattle.daide_machine.specs.Machine.{Limits}
 use Rattle.daide_machine.specs.Wires.{Gateway, same_side, bytes_of, waiting}
-use Rattle.daide_session.specs.Headline.{IsBoundedAndExact, untouched}
-use Rattle.daide_session.specs.Record.{PortAnswer, Clock, Pulled, Offered, BecomesBy, Moved, event_of, events_of, took}
-use Rattle.daide_session.specs.Record.{taken, pulled_len}
-use Rattle.daide_session.specs.declared.ports.Pull.{Pull}
-use Rattle.daide_session.specs.declared.ports.Pull.TheVariants.{Got, Idle, Ended}
-use Rattle.daide_session.specs.declared.ports.Put.{Put}
-use Rattle.daide_session.specs.declared.ports.Put.TheVariants.{Took, Failed}
+use Rattle.daide_turns.specs.Headline.{IsBoundedAndExact, untouched}
+use Rattle.daide_turns.specs.Record.{PortAnswer, Clock, Pulled, Offered, BecomesBy, Moved, event_of, events_of, took}
+use Rattle.daide_turns.specs.Record.{taken, pulled_len}
+use Rattle.daide_turns.specs.declared.ports.Pull.{Pull}
+use Rattle.daide_turns.specs.declared.ports.Pull.TheVariants.{Got, Idle, Ended}
+use Rattle.daide_turns.specs.declared.ports.Put.{Put}
+use Rattle.daide_turns.specs.declared.ports.Put.TheVariants.{Took, Failed}
 use Rattle.daide_streams.specs.Buffers.{Buffer, Passes, IsUnread}
 use Rattle.daide_streams.specs.Taking.{front_of}
 use Rattle.daide_streams.specs.Streams.{stream_of, gave, given, is_of, Moves, Exchanges}

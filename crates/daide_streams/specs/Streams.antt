@@ -6,10 +6,10 @@ use Rattle.daide_frame.specs.declared.side.Side.TheVariants.{Bot, Server}
 use Rattle.daide_machine.specs.Heard.{bytes_from}
 use Rattle.daide_machine.specs.Machine.{Effect, Limits, Runs, opening}
 use Rattle.daide_machine.specs.Wires.{Gateway, same_side, sent_to, bytes_of, is_closed}
-use Rattle.daide_session.specs.Headline.{IsBoundedAndExact}
-use Rattle.daide_session.specs.Record.{PortAnswer, Clock, Pulled, Offered, BecomesBy, events_of, took, taken}
-use Rattle.daide_session.specs.Record.{has_failed}
-use Rattle.daide_session.specs.declared.ports.Pull.TheVariants.{Got, Idle, Ended}
+use Rattle.daide_turns.specs.Headline.{IsBoundedAndExact}
+use Rattle.daide_turns.specs.Record.{PortAnswer, Clock, Pulled, Offered, BecomesBy, events_of, took, taken}
+use Rattle.daide_turns.specs.Record.{has_failed}
+use Rattle.daide_turns.specs.declared.ports.Pull.TheVariants.{Got, Idle, Ended}
 use Rattle.daide_streams.specs.Buffers.{Buffer, Passes, IsUnread}
 
 -- ---- what an answer says of the streams

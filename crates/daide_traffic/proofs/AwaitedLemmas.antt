@@ -9,6 +9,7 @@ use Rattle.daide_machine.specs.Events.{other}
 use Rattle.daide_machine.specs.Wires.{is_awaited}
 use Rattle.daide_traffic.specs.declared.wire.Waiting.{Waiting}
 use Rattle.daide_traffic.specs.Both.{at}
+use Rattle.daide_traffic.specs.Inbound.{Inbound}
 use Rattle.daide_traffic.specs.Traffic.{Arrival, Traffic, Fields, IsSound, answer_at, answer_mark, arrival_of, behind}
 use Rattle.daide_traffic.specs.Traffic.{count_of, frame_of, holding, pending, pending_by, presence, traffic_of}
 use Rattle.daide_traffic.proofs.FrontLemmas.{waits_at}
@@ -71,6 +72,24 @@ seen {f} {t} {side} {one} i is s = record {
     shown : (x : Side) → at (traffic_of f).sides x ≡ arrival_of (at f.sides x)
     shown Bot = refl
     shown Server = refl
+
+-- What a side that was picked by its name shows of it, and of the limits.
+pub record IsPicked (own : Inbound) (t : Traffic) (side : Side) : Type 0 where
+  pub cap : t.cap ≡ own.cap
+  pub rules : t.rules ≡ own.rules
+  pub arrival : at t.sides side ≡ arrival_of own
+  pub awaited : is_awaited (at t.waiting) side ≡ is_some own.verdict
+
+pub picked : {f : Fields} {t : Traffic} {side : Side} {own : Inbound} → IsSound f → traffic_of f ≡ t →
+    own ≡ at f.sides side → IsPicked own t side
+picked {f} {t} {side} {own} i is e =
+    let h : IsSeen f t side side = seen i is refl in
+    record {
+      cap = h.cap ∙ ap (λ (x : Inbound). x.cap) (sym e);
+      rules = h.rules ∙ ap (λ (x : Inbound). x.rules) (sym e);
+      arrival = h.arrival ∙ ap arrival_of (sym e);
+      awaited = h.awaited ∙ ap (λ (x : Inbound). is_some x.verdict) (sym e);
+    }
 
 -- as many frames wait as the wire holds
 pub waits_len : {f : Fields} {t : Traffic} {side one : Side} → IsSeen f t side one →

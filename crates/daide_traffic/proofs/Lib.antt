@@ -11,4 +11,3 @@ pub mod NewLemmas
 pub mod PartsLemmas
 pub mod SidesLemmas
 pub mod WaitingLemmas
-pub mod WordedVerdicts

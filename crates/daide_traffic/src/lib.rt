@@ -7,7 +7,6 @@
 #![tactic(auto)]
 
 mod inbound;
-pub mod laws;
 pub mod traffic;
 mod wire;
 

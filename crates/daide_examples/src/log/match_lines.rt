@@ -4,7 +4,7 @@ use daide_frame::Side;
 use daide_lines::event_line::{MOST, Told};
 use daide_lines::match_line::{MatchTold, is_match_name, read_match_event};
 use daide_log::config_line::{MatchConfig, read_match_config};
-use daide_session::Config;
+use daide_machine::config::Config;
 use daide_tests::rows::same;
 use std::test::Fail;
 

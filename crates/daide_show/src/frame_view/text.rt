@@ -6,9 +6,10 @@ ghost use Rattle.daide_frame.specs.Head.{has_right_length};
 ghost use Rattle.daide_words.specs.Words.{words_of};
 ghost use Rattle.daide_show.specs.Shown.{Shown, Adds, IsFrameShownAs};
 ghost use Rattle.daide_reader.specs.Verdict.{IsPlaceIn};
+ghost use Rattle.daide_machine.specs.Answers.{answer_body};
 ghost use Rattle.daide_machine.specs.Bounds.{longest_body};
 ghost use Rattle.daide_show.specs.Shown.{line, printed, kind_line, fault_shown, relayed_shown, im_shown};
-ghost use Rattle.daide_show.specs.Shown.{verdict_lines, prn_answer, huh_answer, is_relay};
+ghost use Rattle.daide_show.specs.Shown.{verdict_lines, is_relay};
 ghost use Rattle.daide_frame.specs.InitialMessage.{im_of};
 
 use super::verdict_of::verdict_of;
@@ -45,7 +46,7 @@ fn write_tokens<A: Allocator>(words: &Words, tokens: &[u8], text: &mut Vec<u8, A
 fn answer_prn<A: Allocator>(alloc: A, body: &[u8]) -> Result<Vec<u8, A>, AllocError>
     requires { length body.now % 2 ≡ 0 }
     ensures even { IfOk result (λ answer. length answer.items % 2 ≡ 0) }
-    ensures tokens { IfOk result (λ answer. tokens_of answer.items ≡ prn_answer (tokens_of body.now)) }
+    ensures body { IfOk result (λ answer. answer.items ≡ answer_body body.now Verdict.Prn) }
 {
     let mut answer = Vec::from_slice(alloc, &PRN_OPEN)?;
     answer.extend_from_slice(body)?;
@@ -58,7 +59,7 @@ fn answer_huh<A: Allocator>(alloc: A, place: u16, body: &[u8]) -> Result<Vec<u8,
     requires even { length body.now % 2 ≡ 0 }
     requires within { 2 * place ≤ length body.now }
     ensures even { IfOk result (λ answer. length answer.items % 2 ≡ 0) }
-    ensures tokens { IfOk result (λ answer. tokens_of answer.items ≡ huh_answer place (tokens_of body.now)) }
+    ensures body { IfOk result (λ answer. answer.items ≡ answer_body body.now (Verdict.Huh place)) }
 {
     let (before, after) = body.split_at(2 * place as usize);
     let mut answer = Vec::from_slice(alloc, &HUH_OPEN)?;
@@ -80,7 +81,7 @@ fn write_verdict<A: Allocator + Copy>(
     requires even { length body.now % 2 ≡ 0 }
     requires within { IsPlaceIn body.now verdict }
     ensures { IfOk result (λ relayed.
-        (text.new.items ≡ text.old.items ++ verdict_lines (words_of words.now) verdict (tokens_of body.now))
+        (text.new.items ≡ text.old.items ++ verdict_lines (words_of words.now) verdict body.now)
         × (relayed ≡ is_relay verdict)) }
 {
     match verdict {

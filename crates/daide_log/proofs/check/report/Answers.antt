@@ -1,7 +1,7 @@
 use Rattle.std.proofs.Common.{subst, sym, [], List, arith}
 use Rattle.std.specs.Io.KnownBytes.{append_known}
 use Rattle.daide_machine.specs.Machine.{SessionState, opening}
-use Rattle.daide_session.specs.Session.{limits_with}
+use Rattle.daide_machine.specs.Config.{limits_with}
 use Rattle.daide_words.specs.Words.{words_of}
 use Rattle.std.specs.Prelude.{replicate}
 use Rattle.daide_log.specs.Log.{Playing}

@@ -1,7 +1,7 @@
 use Rattle.std.proofs.Common.{◌≡◌, ◌≤◌, All, replicate, length}
 use Rattle.std.specs.Prelude.{vec_capacity}
 use Rattle.daide_machine.specs.Machine.{opening}
-use Rattle.daide_session.specs.Session.{limits_with}
+use Rattle.daide_machine.specs.Config.{limits_with}
 use Rattle.daide_words.specs.Words.{words_of}
 use Rattle.daide_log.specs.Progress.{states_of}
 use Rattle.daide_log.specs.Told.{IsIdle}

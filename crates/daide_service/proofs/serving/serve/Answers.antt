@@ -1,5 +1,5 @@
 use Rattle.std.proofs.Common.{◌≤◌, List, sym, ◌∙◌, subst, arith, rules}
-use Rattle.daide_session.specs.Record.{Tells}
+use Rattle.daide_turns.specs.Record.{Tells}
 use Rattle.daide_service.specs.declared.serving.ServeFault.{ServeFault}
 use Rattle.daide_service.specs.System.{SystemAnswer}
 use Rattle.daide_service.specs.Serving.{Serving, GivesUp, opening}

@@ -1,5 +1,5 @@
 use Rattle.std.proofs.Common.{◌≡◌, length}
-use Rattle.daide_session.specs.HubRuns.{HubRuns}
+use Rattle.daide_turns.specs.HubRuns.{HubRuns}
 use Rattle.daide_service.specs.Metered.{Meters}
 use Rattle.daide_service.specs.Serving.{turns_below}
 use Rattle.daide_service.proofs.serving.turn_all.Given as goal

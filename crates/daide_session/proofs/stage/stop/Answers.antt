@@ -5,8 +5,8 @@ use Rattle.daide_traffic.proofs.FrontsKept.{fronts_stay}
 use Rattle.daide_session.proofs.MovesLemmas.{waiting_at}
 use Rattle.daide_session.proofs.stage.stop.Goals as goal
 
-pub close-requires : goal.close-requires
-close-requires g c =
+pub end_session-requires : goal.end_session-requires
+end_session-requires g c =
     let t = c.args.traffic.now in
     let stage = c.args.stage.now in
     ap has_end (sym (waiting_at t stage (other c.args.side)))

@@ -2,10 +2,10 @@ use Rattle.std.proofs.Common.{ℕ, List, [], ◌∷◌, ◌++◌, Result, Ok, Er
 use Rattle.std.specs.Prelude.{◌||◌, OnErr}
 use Rattle.daide_service.specs.declared.system.Connect.TheVariants.{Ready}
 use Rattle.daide_service.specs.System.{SystemAnswer, Connects}
-use Rattle.daide_session.specs.Record.{Tells}
+use Rattle.daide_turns.specs.Record.{Tells}
 use Rattle.daide_service.specs.Serving.{Serving, Admits, BreaksOff, Round, wait_where, accepts}
 use Rattle.daide_service.proofs.ServingLemmas.{waits_alike}
-use Rattle.daide_session.proofs.Stretches.{tells_then}
+use Rattle.daide_turns.proofs.Stretches.{tells_then}
 use Rattle.daide_service.proofs.serving.Service.round.Goals as goal
 
 pub returns-clause-round : goal.returns-clause-round

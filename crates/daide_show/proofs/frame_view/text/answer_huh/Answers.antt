@@ -1,8 +1,8 @@
-use Rattle.daide_show.proofs.AnswerTokens.{tokens_of-huh}
+use Rattle.std.proofs.Common.{refl}
 use Rattle.daide_show.proofs.frame_view.text.answer_huh.Goals as goal
 
-pub returns-clause-tokens : goal.returns-clause-tokens
-returns-clause-tokens g c =
+pub returns-clause-body : goal.returns-clause-body
+returns-clause-body g c =
     rw (
       c.in_ok-extend_from_slice-4.ensures.items,
       c.in_ok-extend_from_slice-3.ensures.items,
@@ -12,4 +12,4 @@ returns-clause-tokens g c =
       c.split_at.ensures.front,
       c.split_at.ensures.back,
     )
-    (tokens_of-huh c.args.place c.args.body.now c.requires.even c.requires.within)
+    refl

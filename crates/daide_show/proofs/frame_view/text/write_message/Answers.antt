@@ -15,19 +15,19 @@ joined old a b c first second third x y z =
 
 pub returns : goal.returns
 returns g c =
-    let m = tokens_of c.args.body.now in
+    let body = c.args.body.now in
     let verdict = c.verdict_of-verdict.result in
     let old = c.args.text.now.items in
     let len = c.args.head.len in
     let words = words_of c.args.words.now in
-    let lines = verdict_lines words verdict m in
+    let lines = verdict_lines words verdict body in
     if_ok-more c.write_verdict.result _ _ c.write_verdict.ensures (λ relayed wrote. (
-      message_shown words len m verdict,
+      message_shown words len body verdict,
       (verdict, c.verdict_of-verdict.ensures.verdict, refl),
       (
         joined old (kind_line c.args.head.kind len)
-            (line (printed words m)) lines _ _ _ c.in_ok-write_kind.ensures c.in_ok-write_tokens.ensures wrote.0
-            ∙ ap (λ (kind : Kind). old ++ ((kind_line kind len ++ line (printed words m)) ++ lines)) c.requires.dm,
+            (line (printed words (tokens_of body))) lines _ _ _ c.in_ok-write_kind.ensures c.in_ok-write_tokens.ensures wrote.0
+            ∙ ap (λ (kind : Kind). old ++ ((kind_line kind len ++ line (printed words (tokens_of body))) ++ lines)) c.requires.dm,
         wrote.1,
       ),
     ))

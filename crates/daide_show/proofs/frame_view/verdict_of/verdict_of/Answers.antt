@@ -13,7 +13,7 @@ use Rattle.daide_reader.specs.ViablePrefix.{IsMessageOf}
 use Rattle.daide_reader.specs.Verdict.{HasVerdict}
 use Rattle.daide_reader.proofs.BodyLemmas.{place_in}
 use Rattle.daide_machine.specs.Bounds.{deepest}
-use Rattle.daide_traffic.proofs.WordedVerdicts.{worded_verdicts}
+use Rattle.daide_machine.proofs.WordedVerdicts.{worded_verdicts}
 use Rattle.daide_show.proofs.frame_view.verdict_of.verdict_of.Goals as goal
 
 pub returns-clause-verdict : goal.returns-clause-verdict

@@ -15,7 +15,7 @@ use Rattle.daide_reader.specs.Verdict.{HasVerdict}
 use Rattle.daide_reader.specs.declared.verdict.Verdict.TheVariants.{Relay}
 use Rattle.daide_reader.proofs.BodyLemmas.{place_in}
 use Rattle.daide_traffic.specs.Inbound.{Inbound, rules_of, words_in}
-use Rattle.daide_traffic.proofs.WordedVerdicts.{spoken_verdicts}
+use Rattle.daide_machine.proofs.WordedVerdicts.{spoken_verdicts}
 use Rattle.daide_traffic.proofs.HeadLemmas.{head_capped}
 use Rattle.daide_traffic.proofs.InboundLemmas.{IsJudged, all_held, raised_none, right_message, right_other, rules_kept}
 use Rattle.daide_traffic.proofs.InboundLemmas.{stands_deep}

@@ -1,12 +1,7 @@
-use Rattle.daide_traffic.proofs.AwaitedLemmas.{seen}
+use Rattle.daide_traffic.proofs.AwaitedLemmas.{picked}
 use Rattle.daide_traffic.proofs.traffic.Traffic.head.Goals as goal
 
-pub returns-in-Bot : goal.returns-in-Bot
-returns-in-Bot g c =
-    let h = seen c.self.invariant c.self.view_is c.in-Bot.is in
+pub returns : goal.returns
+returns g c =
+    let h = picked c.self.invariant c.self.view_is c.of_side.ensures in
     rw (h.cap, h.arrival) c.head.ensures
-
-pub returns-in-Server : goal.returns-in-Server
-returns-in-Server g c =
-    let h = seen c.self.invariant c.self.view_is c.in-Server.is in
-    rw (h.cap, h.arrival) c.head-in-Server.ensures

@@ -1,2 +1,0 @@
-pub mod WordedRuns
-pub mod RelayLemmas

@@ -1,5 +1,0 @@
-use Rattle.daide_session.proofs.DueLemmas.{due_go}
-use Rattle.daide_session.proofs.laws.due_bytes_go.Goals as goal
-
-pub returns : goal.returns
-returns c = due_go

@@ -1,0 +1,17 @@
+-- What ports in memory tell: the record that they stored.
+use Rattle.std.specs.Prelude.{List, map, Option, Some, None}
+use Rattle.std.specs.Prelude.{Vec}
+use Rattle.daide_tests.specs.declared.memory_ports.Call.{Call}
+use Rattle.daide_tests.specs.declared.memory_ports.Call.TheVariants as Calls
+use Rattle.daide_turns.specs.Record.{PortAnswer, Clock, Pulled, Offered}
+
+-- a stored call, as an answer
+abbrev pub answer_stored : {A : Type 0} → Call A → PortAnswer
+answer_stored (Calls.Clock popped) = Clock popped
+answer_stored (Calls.Pulled side buffer pull bytes) = Pulled side buffer pull bytes.items
+answer_stored (Calls.Offered side bytes put) = Offered side bytes.items put
+
+-- all that was stored; nothing is told once memory for it was refused
+abbrev pub answers_stored : {A : Type 0} → Option (Vec (Call A) A) → Option (List PortAnswer)
+answers_stored None = None
+answers_stored (Some calls) = Some (map answer_stored calls.items)

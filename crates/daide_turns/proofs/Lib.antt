@@ -1,0 +1,10 @@
+pub mod AnswerWork
+pub mod Stretches
+pub mod PortAnswers
+pub mod TurnLemmas
+pub mod Standing
+pub mod RelayLemmas
+pub mod HubLemmas
+mod BoundFacts
+pub mod ApartLemmas
+pub mod DueLemmas

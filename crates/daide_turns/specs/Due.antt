@@ -1,0 +1,41 @@
+-- That bytes which wait for a wire go, while the wire takes some.
+use Rattle.std.specs.Prelude.{◌≡◌, ℕ, ◌<◌, ◌≤◌, min, true, List, [], ◌∷◌, ◌++◌, length}
+use Rattle.daide_frame.specs.declared.side.Side.{Side}
+use Rattle.daide_machine.specs.Wires.{Gateway, waiting, same_side, bytes_of}
+use Rattle.daide_turns.specs.declared.ports.Put.TheVariants.{Took, Failed}
+use Rattle.daide_turns.specs.Record.{PortAnswer, Clock, Pulled, Offered, taken}
+use Rattle.daide_turns.specs.Turn.{Turn}
+
+-- turns in a row, each by the answers of its own
+abbrev pub AreTurns : Gateway → List (List PortAnswer) → Gateway → Type 0
+AreTurns old [] new = new ≡ old
+AreTurns old (answers ∷ turns) new = (mid : Gateway) × Turn old answers mid × AreTurns mid turns new
+
+-- a put to the wire toward a side takes one byte at least
+abbrev pub TakesSome : Side → PortAnswer → Type 0
+TakesSome side (Clock popped) = Unit {0}
+TakesSome side (Pulled from buffer pull bytes) = Unit {0}
+TakesSome side (Offered to bytes (Took n)) = same_side side to ≡ true → 0 < n
+TakesSome side (Offered to bytes Failed) = same_side side to ≡ true → ⊥
+
+-- and so does each put of these answers, and of these turns
+abbrev pub EachTakesSome : Side → List PortAnswer → Type 0
+EachTakesSome side [] = Unit {0}
+EachTakesSome side (answer ∷ answers) = TakesSome side answer × EachTakesSome side answers
+
+abbrev pub EachTurnTakesSome : Side → List (List PortAnswer) → Type 0
+EachTurnTakesSome side [] = Unit {0}
+EachTurnTakesSome side (answers ∷ turns) = EachTakesSome side answers × EachTurnTakesSome side turns
+
+-- the bytes that the wire toward a side took in turns, in order
+abbrev pub taken_in : Side → List (List PortAnswer) → List ℕ
+taken_in side [] = []
+taken_in side (answers ∷ turns) = taken side answers ++ taken_in side turns
+
+-- While a wire takes one byte a put at least, as many bytes are gone as there were turns, or all that waited before
+-- them,
+-- whatever else the turns bring.
+abbrev pub DueBytesGo : Type 0
+DueBytesGo = (side : Side) (turns : List (List PortAnswer)) (old new : Gateway) → AreTurns old turns new →
+    EachTurnTakesSome side turns →
+    min (length turns) (length (bytes_of (waiting old side))) ≤ length (taken_in side turns)

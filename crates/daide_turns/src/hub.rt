@@ -1,0 +1,204 @@
+//! Many sessions with their ports, each of which answers as if it were alone.
+//!
+//! A hub makes room for all its sessions at once, so that `add` takes the two bodies of a new session and nothing
+//! else, and no other call takes memory.
+
+ghost use Rattle.std.specs.Prelude.{◌≡◌, ℕ, ◌+◌, ◌*◌, ◌<◌, ◌≤◌, [], length, Ok, Some, None, false};
+ghost use Rattle.std.specs.Prelude.{IfOk, IfErr, IfSome, IfNone, OnOk, OnErr, slice_get, sum_by};
+ghost use Rattle.daide_machine.specs.Wires.{is_closed};
+ghost use Rattle.daide_machine.specs.Config.{config_fault};
+ghost use Rattle.daide_machine.specs.Config.{limits_of, limits_with};
+ghost use Rattle.daide_words.specs.Words.{words_of};
+ghost use Rattle.daide_turns.specs.Hub.{Hosting, IsHubSize, IsHubCause, IsAddCause, Adds, Removes, Changes, IsTurned};
+ghost use Rattle.daide_turns.specs.Hub.{weight_at, session_bound};
+
+use crate::exchange::{BUFFER, turn_through};
+use crate::ports::Ports;
+use daide_machine::config::{Config, ConfigError};
+use daide_session::session::Session;
+use daide_words::words::Words;
+use std::alloc::{Allocator, Global};
+use std::marker::Model;
+
+/// The most sessions that a hub has.
+const MOST: usize = 256;
+
+/// Why there is no hub, in the order in which it is looked at.
+#[derive(Clone, Copy, Debug, PartialEq, Eq)]
+pub enum HubError {
+    /// A limit of the sessions is wrong.
+    Config(ConfigError),
+    /// The number of sessions is not from 1 to 256.
+    Sessions,
+    /// The memory of the places was refused.
+    Memory,
+}
+
+/// Why a session was not added.
+#[derive(Clone, Copy, Debug, PartialEq, Eq)]
+pub enum AddFault {
+    /// The hub has as many sessions as it has room for.
+    Full,
+    /// The memory of a body was refused.
+    Memory,
+}
+
+/// A session and its ports.
+#[derive(Drop)]
+struct Place<P: Ports, A: Allocator> {
+    session: Session<A>,
+    ports: P,
+}
+
+/// Sessions in one loop. Contracts see the limits of its sessions, how many there may be, and at each place a
+/// session's value and its ports. All turns read through one buffer, which would else be made anew for each.
+#[derive(Drop)]
+pub struct Hub<P: Ports, A: Allocator = Global> {
+    alloc: A,
+    config: Config,
+    words: Words,
+    max: usize,
+    places: Vec<Place<P, A>, A>,
+    buffer: [u8; BUFFER],
+}
+
+impl<P: Ports, A: Allocator> Model for Hub<P, A> {
+    ghost use Rattle.std.specs.Prelude.{map, vec_capacity};
+    ghost use Rattle.daide_words.specs.Words.{words_of};
+    ghost use Rattle.daide_machine.specs.Config.{limits_with};
+    ghost use Rattle.daide_turns.specs.Hub.{Hosting, IsHosting};
+
+    ghost Value = { Hosting P };
+
+    ghost view = { λ h. record {
+      limits = limits_with h.config (words_of h.words);
+      max = h.max;
+      places = map (λ p. (p.session, p.ports)) h.places.items;
+    } };
+
+    ghost invariant = { λ h. IsHosting (λ p. p.session) h.config (words_of h.words) h.max (vec_capacity h.places)
+        h.places.items };
+}
+
+impl<P: Ports, A: Allocator + Copy> Hub<P, A> {
+    /// A hub with no sessions, and room for so many.
+    pub fn new(alloc: A, config: Config, max: usize) -> Result<Hub<P, A>, HubError>
+        ensures opening { IfOk result (λ hub. hub ≡ record { limits = limits_of config; max = max; places = [] }) }
+        ensures accepted { IfOk result (λ hub. (config_fault config ≡ Ok tt) × IsHubSize max) }
+        ensures refused { IfErr result (λ error. IsHubCause config max error) }
+    {
+        Hub::with_words(alloc, config, max, Words::new())
+    }
+
+    /// A hub with no sessions, and room for so many, whose messages may hold these words of the operator's. It
+    /// takes the same memory as one without, and is refused as one without.
+    pub fn with_words(
+        alloc: A,
+        config: Config,
+        max: usize,
+        words: Words,
+    ) -> Result<Hub<P, A>, HubError>
+        ensures opening { IfOk result (λ hub. hub
+            ≡ record { limits = limits_with config (words_of words); max = max; places = [] }) }
+        ensures accepted { IfOk result (λ hub. (config_fault config ≡ Ok tt) × IsHubSize max) }
+        ensures refused { IfErr result (λ error. IsHubCause config max error) }
+    {
+        if let Err(fault) = config.check() {
+            return Err(HubError::Config(fault));
+        }
+        if max == 0 || max > MOST {
+            return Err(HubError::Sessions);
+        }
+        let Ok(places) = Vec::with_capacity(alloc, max) else {
+            return Err(HubError::Memory);
+        };
+        Ok(Hub {
+            alloc,
+            config,
+            words,
+            max,
+            places,
+            buffer: [0; BUFFER],
+        })
+    }
+
+    /// Adds a session that nothing came to yet, and answers its place, which is the last. A refusal changes
+    /// nothing and hands the ports back.
+    pub fn add(&mut self, ports: P) -> Result<usize, (AddFault, P)>
+        ensures place { IfOk result (λ i. i ≡ length self.old.places) }
+        ensures room { OnOk result (length self.old.places < self.old.max) }
+        ensures added { OnOk result (Adds self.old ports self.new) }
+        ensures refused { IfErr result (λ refusal. IsAddCause self.old refusal.0) }
+        ensures unchanged { OnErr result (self.new ≡ self.old) }
+        ensures ports_back { IfErr result (λ refusal. refusal.1 ≡ ports) }
+    {
+        let place = self.places.len();
+        if place == self.max {
+            return Err((AddFault::Full, ports));
+        }
+        let Ok(session) = Session::with_words(self.alloc, self.config, self.words) else {
+            return Err((AddFault::Memory, ports));
+        };
+        self.places.push_reserved(Place { session, ports });
+        Ok(place)
+    }
+
+    /// One turn of the session at a place, with its ports.
+    pub fn turn(&mut self, i: usize)
+        requires { i < length self.old.places }
+        ensures { Changes (IsTurned P.becomes) self.old i self.new }
+    {
+        let place = &mut self.places[i];
+        turn_through(&mut place.session, &mut place.ports, &mut self.buffer);
+    }
+
+    /// The session at a place.
+    pub fn session(&self, i: usize) -> &Session<A>
+        requires { i < length self.now.places }
+        ensures { IfSome (slice_get self.now.places i) (λ place. result.now ≡ place.0) }
+    {
+        &self.places[i].session
+    }
+
+    /// The ports of the session at a place.
+    pub fn ports(&self, i: usize) -> &P
+        requires { i < length self.now.places }
+        ensures { IfSome (slice_get self.now.places i) (λ place. result.now ≡ place.1) }
+    {
+        &self.places[i].ports
+    }
+
+    /// How many sessions there are.
+    pub fn count(&self) -> usize
+        ensures { result ≡ length self.now.places }
+    {
+        self.places.len()
+    }
+
+    /// What all sessions hold together.
+    pub fn weight(&self) -> usize
+        ensures sum { result ≡ sum_by weight_at self.now.places }
+        ensures bound { result ≤ length self.now.places * session_bound self.now.limits }
+    {
+        let mut total = 0;
+        for place in &self.places {
+            total += place.session.weight();
+        }
+        total
+    }
+
+    /// Takes out the session at a place where it is over and nothing waits, and hands its ports back; the later
+    /// ones move down one place. Else nothing changes.
+    pub fn remove_over(&mut self, i: usize) -> Option<P>
+        requires { i < length self.old.places }
+        ensures moved_down { IfSome result (λ ports. Removes self.old i ports self.new) }
+        ensures unchanged { IfNone result (self.new ≡ self.old) }
+        ensures open { IfNone result (IfSome (slice_get self.old.places i) (λ place. is_closed place.0 ≡ false)) }
+    {
+        if !self.places[i].session.is_closed() {
+            return None;
+        }
+        let Place { session: _, ports } = self.places.remove(i);
+        Some(ports)
+    }
+}

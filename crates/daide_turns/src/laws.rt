@@ -1,0 +1,42 @@
+//! Laws of what ports answer: functions with no parameters and an empty body, whose contracts are the laws.
+
+ghost use Rattle.daide_turns.specs.Laws.{RelaysJoin, NewSessionsStand, HeadlinesJoin};
+ghost use Rattle.daide_turns.specs.HubRuns.{SessionsAreApart, PortsComeBackApart, EachHasItsHeadline};
+ghost use Rattle.daide_turns.specs.HubRuns.{OpenedSessionsStand};
+ghost use Rattle.daide_turns.specs.Due.{DueBytesGo};
+
+use crate::ports::Ports;
+
+/// What ports answered in two calls, one after the other, moves a session as if it were answered in one.
+pub fn relays_join()
+    ensures { RelaysJoin }
+{}
+
+/// A new session stands where a run from its opening stands.
+pub fn new_sessions_stand()
+    ensures { NewSessionsStand }
+{}
+
+/// Relaying twice is relaying once, by the answers of both: the headline of the one call and that of the next are
+/// the headline of both.
+pub fn headlines_join<P: Ports>()
+    ensures { HeadlinesJoin P.becomes }
+{}
+
+/// Whatever calls are made of a hub, in whatever order: the session at each place, however it moved, went on by turns
+/// of its own alone, as many as calls of `turn` were made of it, from its opening or from where it stood before. So
+/// its answers, and what its ports were asked, are those that it would have had with no other session beside it; and
+/// so are those of one that is taken out, whose ports come back. Each that was turned has the headline,
+/// and each that was added stands where a run from its opening stands, by the answers of its ports since then.
+pub fn sessions_are_apart<P: Ports>()
+    ensures kept { SessionsAreApart P.becomes }
+    ensures taken_out { PortsComeBackApart P.becomes }
+    ensures headline { EachHasItsHeadline P.becomes }
+    ensures stands { OpenedSessionsStand P.becomes }
+{}
+
+/// While a wire takes one byte a put at least, as many bytes are gone after n turns as there were turns, or all that
+/// waited before them, whatever else the turns bring: so n waiting bytes are gone after n turns.
+pub fn due_bytes_go()
+    ensures { DueBytesGo }
+{}

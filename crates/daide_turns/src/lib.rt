@@ -1,0 +1,17 @@
+//! What turns a session: its ports, one turn, many in a row, and many sessions in one loop.
+//!
+//! A session touches no wire. `ports` says what is asked of its two wires and of the clock, `exchange` is one turn,
+//! `relaying` makes turns until the session is closed, and `hub` holds sessions with their ports. What the ports answer is
+//! a parameter of all that is said here, stored or not.
+#![tactic(auto)]
+
+pub mod exchange;
+pub mod hub;
+pub mod laws;
+pub mod ports;
+pub mod relaying;
+
+pub use exchange::turn;
+pub use hub::{AddFault, Hub, HubError};
+pub use ports::{Ports, Pull, Put};
+pub use relaying::{RelayEnd, relay};
