@@ -58,6 +58,7 @@ fn first_ports<'w>(
 ) -> Option<SocketPorts<'w, &'w HostRuntime>> {
     let mut came = false;
     for _ in 0..MOST_WAITS {
+        system.begin_round();
         came = came || system.accept();
         if came {
             if let Connect::Ready(ports) = system.connected() {

@@ -625,6 +625,7 @@ fn play_rounds<'w, R: Clock + Net + AllocGlobal>(
             return Ok(round);
         }
         if is_served {
+            system.begin_round();
             system.wait(false);
         } else {
             service.round(system)?;

@@ -492,14 +492,18 @@ fn sessions_of<'w, 'a>(
     Ok(sessions)
 }
 
-/// At which turn it is known that somebody is at the door, behind so many.
+/// At which turn it is known that somebody is at the door, behind so many. A round begins where all had a turn.
 fn turn_that_knows(
+    watch: &Watch<&HostRuntime>,
     sessions: &mut Vec<SocketPorts<'_, &HostRuntime, End<'_>>>,
     door: &Flags,
     behind: usize,
 ) -> usize {
     let count = sessions.len().max(1);
     for turn in behind..199 {
+        if turn % count == 0 {
+            watch.look_by_turns();
+        }
         if let Some(ports) = sessions.get_mut(turn % count) {
             ports.clock_popped();
         }
@@ -523,11 +527,11 @@ fn asks(rt: &HostRuntime, asked: &Asked) -> Result<(), Fail> {
     let wire = Wire::new(0);
     let mut sessions = sessions_of(rt.alloc(), &watch, (&wire, place.flags), count)?;
     let _caller = TcpStream::connect(rt, doors.0.local_addr()?)?;
-    let known = turn_that_knows(&mut sessions, door.flags, 0);
+    let known = turn_that_knows(&watch, &mut sessions, door.flags, 0);
     same(&known, &first, &count)?;
     door.flags.readiness.set(Readiness::UNKNOWN);
     let _other = TcpStream::connect(rt, doors.0.local_addr()?)?;
-    let known = turn_that_knows(&mut sessions, door.flags, known);
+    let known = turn_that_knows(&watch, &mut sessions, door.flags, known);
     same(&known, &second, &count)
 }
 
