@@ -115,7 +115,10 @@ impl Clock for Set<'_> {
 }
 
 /// A row of the table for a stream in memory: a listener's, since the system must know what it follows.
-fn row_for<'w, R: Clock>(watch: &'w Watch<R>, door: &mut TcpListener) -> Result<Place<'w>, Fail> {
+pub fn row_for<'w, R: Clock>(
+    watch: &'w Watch<R>,
+    door: &mut TcpListener,
+) -> Result<Place<'w>, Fail> {
     match watch.follow(door, Interest::READABLE) {
         Some(place) => Ok(place),
         None => Err(Fail::new("no row")),
