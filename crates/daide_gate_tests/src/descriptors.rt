@@ -3,7 +3,8 @@
 use crate::gateway::{FM, IM, check, plays};
 use crate::runtimes::Halted;
 use crate::stage::Act::{
-    Comes, Ends, Frees, Hears, HearsEnd, Hoards, Meets, MeetsNobody, Passes, Says,
+    Comes, Ends, FindsClosed, FindsOpen, Frees, Hears, HearsEnd, Hoards, Meets, MeetsNobody,
+    Passes, Says,
 };
 use crate::stage::Who::{Bot, Server};
 use crate::stage::{Act, all_descriptors, run_beside};
@@ -28,12 +29,25 @@ fn ends_silently(acts: &mut Vec<Act>, number: usize) -> Result<(), AllocError> {
     ])
 }
 
-/// So many sessions, one after another.
+/// Of 300 sockets the 44 that began to close first are closed, which are those of 22 sessions.
+const OLDEST_ARE_CLOSED: &[Act] = &[
+    FindsClosed(Bot(0)),
+    FindsClosed(Server(0)),
+    FindsClosed(Bot(21)),
+    FindsClosed(Server(21)),
+    FindsOpen(Bot(22)),
+    FindsOpen(Server(22)),
+    FindsOpen(Bot(85)),
+    FindsOpen(Server(149)),
+];
+
+/// So many sessions, one after another, and whose sockets are closed behind them.
 fn all_silent(alloc: Global) -> Result<Vec<Act>, AllocError> {
     let mut acts = Vec::new(alloc);
     for number in 0..SESSIONS {
         ends_silently(&mut acts, number)?;
     }
+    acts.extend_from_slice(OLDEST_ARE_CLOSED)?;
     Ok(acts)
 }
 
@@ -47,7 +61,8 @@ fn plays_at_once(rt: &HostRuntime, acts: &[Act]) -> Result<(), Fail> {
     check(&run_beside(&halted, settings, acts, None)?, "")
 }
 
-/// Of the sockets that wait for these peers the gateway keeps 256, so that there is a row for each bot that comes.
+/// Of the sockets that wait for these peers the gateway keeps the last 256, so that there is a row for each bot that
+/// comes.
 #[test]
 fn silent_peers_keep_no_bot_out(rt: HostRuntime) -> Result<(), Fail> {
     plays_at_once(&rt, all_silent(rt.alloc())?.as_slice())

@@ -30,6 +30,9 @@ pub const FM: &[u8] = b"\x03\x00\x00\x00";
 /// The initial message came too late.
 pub const EM_01: &[u8] = b"\x04\x00\x00\x02\x00\x01";
 
+/// A length above the cap, or a type that there is none of.
+pub const EM_08: &[u8] = b"\x04\x00\x00\x02\x00\x08";
+
 /// A message `OBS`.
 pub const OBS: &[u8] = b"\x02\x00\x00\x02\x48\x0f";
 
@@ -172,6 +175,29 @@ fn server_that_never_answers_is_given_up(rt: HostRuntime) -> Result<(), Fail> {
     }
     let report = run_beside(&rt, "", &[Comes, HearsEnd(Bot(0))], Some(full))?;
     check(&report, "daide-gate: cannot reach the server\n")
+}
+
+/// `OBS` and the final message behind it.
+const OBS_FM: &[u8] = b"\x02\x00\x00\x02\x48\x0f\x03\x00\x00\x00";
+
+const ENDS_WITH_ITS_LAST: &[Act] = &[
+    Comes,
+    Meets,
+    Says(Bot(0), IM),
+    Hears(Server(0), IM),
+    Says(Server(0), RM),
+    Hears(Bot(0), RM),
+    Says(Bot(0), OBS),
+    Ends(Bot(0)),
+    Hears(Server(0), OBS_FM),
+    HearsEnd(Server(0)),
+    HearsEnd(Bot(0)),
+];
+
+/// An end that comes together with the last bytes is heard behind them, though the system tells it but once.
+#[test]
+fn end_that_comes_with_the_last_bytes_is_heard(rt: HostRuntime) -> Result<(), Fail> {
+    plays(&rt, "", ENDS_WITH_ITS_LAST)
 }
 
 const TWO_AT_ONCE: &[Act] = &[
@@ -331,11 +357,15 @@ fn failed_accept_is_made_again(rt: HostRuntime) -> Result<(), Fail> {
     check_listener(&rt, listener)
 }
 
-/// An output at whose first line a bot comes, which sends an IM and an FM and stays.
+/// The initial and the final message.
+const IM_FM: &[u8] = b"\x00\x00\x00\x04\x00\x01\xda\x10\x03\x00\x00\x00";
+
+/// An output at whose first line a bot comes, which sends this and stays.
 #[derive(Drop)]
 struct Announced<'a, R: Net> {
     rt: &'a R,
     gate: &'a str,
+    says: &'static [u8],
     text: Vec<u8>,
     bot: Option<R::Stream>,
 }
@@ -345,8 +375,7 @@ impl<R: Net> Write for Announced<'_, R> {
         self.text.extend_from_slice(bytes)?;
         if self.text.as_slice() == b"listening\n".as_slice() {
             let mut bot = TcpStream::connect(self.rt, self.gate)?;
-            bot.write_all(IM)?;
-            bot.write_all(FM)?;
+            bot.write_all(self.says)?;
             self.bot = Some(bot);
         }
         Ok(bytes.len())
@@ -367,6 +396,7 @@ fn serves_one<R: AllocGlobal + Clock + Net>(
     let mut output = Announced {
         rt,
         gate: at,
+        says: IM_FM,
         text: Vec::new(rt.alloc()),
         bot: None,
     };
@@ -433,6 +463,43 @@ fn second_address_is_listened_on(rt: HostRuntime) -> Result<(), Fail> {
     let to = server.local_addr()?.to_string(rt.alloc())?;
     serves_one(&names, ("gate:1", at.as_str()), to.as_str())?;
     holds(brought_both(&rt, &server)?, "both frames")
+}
+
+/// A frame of a type that there is none of, and more than a socket holds.
+const UNKNOWN: &[u8] = &[5; 20_000];
+
+/// The run ends once the last socket is closed in its stages: what its last bot sent and nobody read resets nothing.
+#[test]
+fn run_ends_without_a_reset(rt: HostRuntime) -> Result<(), Fail> {
+    let server = TcpListener::bind(&rt, any_port())?;
+    let to = server.local_addr()?.to_string(rt.alloc())?;
+    let at = TcpListener::bind(&rt, any_port())?
+        .local_addr()?
+        .to_string(rt.alloc())?;
+    let (listen, to) = (at.as_str(), to.as_str());
+    let settings = format!(in rt.alloc(); "listen = '{listen}'\nserver = '{to}'")?;
+    let mut output = Announced {
+        rt: &rt,
+        gate: listen,
+        says: UNKNOWN,
+        text: Vec::new(rt.alloc()),
+        bot: None,
+    };
+    let mut errors = Vec::new(rt.alloc());
+    holds(
+        run_text(&rt, settings.as_str(), &mut output, &mut errors) == Ok(()),
+        "the run",
+    )?;
+    let Some(mut bot) = output.bot.take() else {
+        return Err(Fail::new("no bot"));
+    };
+    let mut heard = Vec::new(rt.alloc());
+    bot.read_to_end(&mut heard)?;
+    let is_alone = bot.take_error()?.is_none();
+    holds(
+        heard.as_slice() == EM_08 && is_alone,
+        "its EM, the end, and no reset",
+    )
 }
 
 /// Nothing can be listened on there, and nothing is printed.

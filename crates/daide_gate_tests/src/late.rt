@@ -4,12 +4,13 @@ use crate::gateway::{EM_01, IM, check};
 use crate::stage::Act::{Comes, Empties, Hears, HearsEnd, Meets, Passes, Says};
 use crate::stage::Who::{Bot, Server};
 use crate::stage::{Act, any_port, run_towards};
+use crate::wires::row_for;
 use daide_gate::settings::{Settings, read_settings};
 use daide_gate::system::{Connect, System};
 use daide_sockets::ports::SocketPorts;
 use daide_sockets::system::Sockets;
-use daide_sockets::watch::Watch;
-use daide_tests::rows::same;
+use daide_sockets::watch::{Flags, Watch};
+use daide_tests::rows::{holds, same};
 use std::net::{SocketAddr, TcpListener};
 use std::test::Fail;
 use std::time::Duration;
@@ -58,6 +59,7 @@ fn first_ports<'w>(
 ) -> Option<SocketPorts<'w, &'w HostRuntime>> {
     let mut came = false;
     for _ in 0..MOST_WAITS {
+        system.begin_round();
         came = came || system.accept();
         if came {
             if let Connect::Ready(ports) = system.connected() {
@@ -116,4 +118,69 @@ fn small_writes_are_not_delayed(rt: HostRuntime) -> Result<(), Fail> {
     let settings = read_settings(rt.alloc(), "listen = 'a'\nserver = 'b'")?;
     let watch = Watch::new(rt.alloc(), &rt, &rt, 8)?;
     first_sends_at_once(&rt, &watch, (listener, &servers), &settings)
+}
+
+/// What is known of the socket in the third row of a table, in which no row is taken.
+fn third_row<'w>(rt: &HostRuntime, watch: &'w Watch<&'w HostRuntime>) -> Result<&'w Flags, Fail> {
+    let mut doors = (
+        daide_sockets::TcpListener::bind(rt, any_port())?,
+        daide_sockets::TcpListener::bind(rt, any_port())?,
+        daide_sockets::TcpListener::bind(rt, any_port())?,
+    );
+    let _first = row_for(watch, &mut doors.0)?;
+    let _second = row_for(watch, &mut doors.1)?;
+    let third = row_for(watch, &mut doors.2)?;
+    Ok(third.flags)
+}
+
+/// Whether a connect is under way though its socket, in the row behind the door's and the bot's, is told to take bytes.
+fn is_under_way(
+    system: &mut Sockets<'_, HostRuntime, &mut Vec<u8>>,
+    flags: &Flags,
+) -> Result<bool, Fail> {
+    for _ in 0..MOST_WAITS {
+        system.begin_round();
+        if system.accept() {
+            flags.note(false, true);
+            return Ok(matches!(system.connected(), Connect::Pending));
+        }
+        system.wait(true);
+    }
+    Err(Fail::new("no bot"))
+}
+
+/// The same of the first bot that comes to this listener, towards these addresses.
+fn first_is_under_way<'w>(
+    rt: &'w HostRuntime,
+    watch: &'w Watch<&'w HostRuntime>,
+    (listener, servers): (daide_sockets::TcpListener, &'w [SocketAddr]),
+    settings: &Settings,
+) -> Result<(), Fail> {
+    let flags = third_row(rt, watch)?;
+    let mut told = Vec::new(rt.alloc());
+    let system = Sockets::new(
+        rt.alloc(),
+        rt,
+        watch,
+        (listener, servers),
+        settings,
+        Duration::from_secs(5),
+        &mut told,
+    );
+    let Some(mut system) = system else {
+        return Err(Fail::new("no sockets"));
+    };
+    holds(is_under_way(&mut system, flags)?, "it is under way")
+}
+
+/// A connect that isn't done is no connection, whatever the system tells of its socket.
+#[test]
+fn connect_under_way_is_no_connection(rt: HostRuntime) -> Result<(), Fail> {
+    let server = full_listener(&rt)?;
+    let servers = [server.local_addr()?];
+    let listener = daide_sockets::TcpListener::bind(&rt, any_port())?;
+    let _bot = daide_sockets::TcpStream::connect(&rt, listener.local_addr()?)?;
+    let settings = read_settings(rt.alloc(), "listen = 'a'\nserver = 'b'")?;
+    let watch = Watch::new(rt.alloc(), &rt, &rt, 3)?;
+    first_is_under_way(&rt, &watch, (listener, &servers), &settings)
 }

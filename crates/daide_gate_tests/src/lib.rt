@@ -28,4 +28,6 @@ mod stage;
 #[cfg(test)]
 mod streams;
 #[cfg(test)]
+mod wires;
+#[cfg(test)]
 mod words;

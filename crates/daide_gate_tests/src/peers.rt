@@ -1,17 +1,15 @@
 //! Peers that are slow, silent or gone, over real sockets on loopback: what docs/OPERATING.md says of them.
 
-use crate::gateway::{FM, IM, OBS, RM, check, plays};
+use crate::gateway::{EM_08, FM, IM, OBS, RM, check, plays};
 use crate::stage::Act::{
-    Comes, Ends, Hears, HearsEnd, HearsTimes, Meets, Passes, Pours, Rests, Says,
+    Comes, Ends, FindsClosed, Flooded, Floods, Hears, HearsEnd, HearsEndAlone, HearsTimes, Leave,
+    Meets, Passes, Pours, Rests, Says,
 };
 use crate::stage::Who::{Bot, Server};
 use crate::stage::{Act, any_port, run_beside};
 use daide_tests::rows::holds;
 use std::net::{Net, TcpListener};
 use std::test::Fail;
-
-/// A length above the cap, or a type that there is none of.
-const EM_08: &[u8] = b"\x04\x00\x00\x02\x00\x08";
 
 /// `NME ( 'a..' ) ( 'a' )`, with a name of 480 letters: 976 bytes.
 const LONG_NAME: &[u8] = b"\x02\x00\x03\xcc\x48\x0c\x40\x00\
@@ -86,9 +84,12 @@ const IS_FLOODED: &[Act] = &[
     Hears(Bot(0), EM_08),
     HearsEnd(Bot(0)),
     HearsEnd(Server(0)),
+    Passes(1_200),
+    HearsEndAlone(Bot(0)),
 ];
 
-/// What a bot sent and nobody read destroys neither its EM nor the end behind it, at the run's last session too.
+/// What a bot sent and nobody read destroys neither its EM nor the end behind it, at the run's last session too, and no
+/// reset comes once the socket is closed.
 #[test]
 fn unread_bytes_leave_the_em_whole(rt: HostRuntime) -> Result<(), Fail> {
     plays(&rt, "", IS_FLOODED)
@@ -117,6 +118,71 @@ fn few_rounds_while_a_socket_closes(rt: HostRuntime) -> Result<(), Fail> {
     let report = run_beside(&rt, "sessions = 2", CLOSES_SLOWLY, None)?;
     holds(report.rounds < 200, "few rounds")?;
     check(&report, "")
+}
+
+const CLOSES_BESIDE: &[Act] = &[
+    Comes,
+    Meets,
+    Comes,
+    Meets,
+    Says(Bot(0), IM),
+    Hears(Server(0), IM),
+    Says(Bot(1), IM),
+    Hears(Server(1), IM),
+    Says(Bot(0), FM),
+    Hears(Server(0), FM),
+    Passes(1_500),
+    FindsClosed(Bot(0)),
+    FindsClosed(Server(0)),
+    Says(Bot(1), FM),
+    Hears(Server(1), FM),
+];
+
+/// Where nothing moves, the round behind each wait goes on with the sockets that close.
+#[test]
+fn sockets_close_beside_an_idle_session(rt: HostRuntime) -> Result<(), Fail> {
+    let report = run_beside(&rt, "sessions = 2", CLOSES_BESIDE, None)?;
+    holds(report.rounds < 200, "few rounds")?;
+    check(&report, "")
+}
+
+const CLOSES_BESIDE_A_FLOOD: &[Act] = &[
+    Comes,
+    Meets,
+    Comes,
+    Meets,
+    Says(Bot(0), IM),
+    Hears(Server(0), IM),
+    Says(Server(0), RM),
+    Hears(Bot(0), RM),
+    Says(Bot(1), IM),
+    Hears(Server(1), IM),
+    Floods(0),
+    Says(Bot(1), FM),
+    Hears(Server(1), FM),
+    Flooded,
+    Passes(300),
+    FindsClosed(Bot(1)),
+    FindsClosed(Server(1)),
+    Leave,
+    Hears(Server(0), FM),
+];
+
+/// Each round goes on with the sockets that close, though no bot more is let in and another one floods, so that nothing is
+/// ever waited for: those of silent peers are closed a second after their session.
+#[test]
+fn sockets_close_beside_a_flood(rt: HostRuntime) -> Result<(), Fail> {
+    plays(&rt, "sessions = 2", CLOSES_BESIDE_A_FLOOD)
+}
+
+const SPEAKS_TO_NOBODY: &[Act] = &[Comes, Says(Bot(0), IM), HearsEndAlone(Bot(0))];
+
+/// A bot that said something before its connect failed hears the end, and no reset.
+#[test]
+fn failed_connect_ends_without_a_reset(rt: HostRuntime) -> Result<(), Fail> {
+    let free = TcpListener::bind(&rt, any_port())?.local_addr()?;
+    let report = run_beside(&rt, "", SPEAKS_TO_NOBODY, Some(free))?;
+    check(&report, "daide-gate: cannot reach the server\n")
 }
 
 /// A connect that is refused is told at once: the time for a connect, for each of these, is more than the play has.

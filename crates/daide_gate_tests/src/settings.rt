@@ -1,7 +1,9 @@
 //! The text of a file of settings: its bound, and what can't be read.
 
+use daide_program::running::{RunFault, text_of};
 use daide_streams::text::{TextFault, read_text};
 use daide_tests::rows::{holds, same};
+use linked_list_allocator::LocalHeap;
 use std::alloc::Global;
 use std::io;
 use std::io::{ErrorKind, Read};
@@ -73,6 +75,28 @@ fn settings_that_cannot_be_read(rt: HostRuntime) -> Result<(), Fail> {
     same(&reset, &unreadable, &"a reset")?;
     let memory = refusal_at(rt.alloc(), ErrorKind::OutOfMemory);
     same(&memory, &Some(TextFault::Memory), &"want of memory")
+}
+
+/// What a run is told where its settings can't be read for an error of this kind.
+fn told_at(alloc: Global, kind: ErrorKind) -> Option<RunFault> {
+    text_of(alloc, &mut Fails(kind)).err()
+}
+
+/// What it is told where their text is to lie in a heap of so many bytes.
+fn told_within(alloc: Global, size: usize) -> Result<Option<RunFault>, Fail> {
+    let heap = LocalHeap::new(alloc, size)?;
+    Ok(text_of(&heap, &mut b"listen = ".as_slice()).err())
+}
+
+/// A run tells want of memory for the text of its settings as such, and nothing else.
+#[test]
+fn want_of_memory_for_settings_is_told(rt: HostRuntime) -> Result<(), Fail> {
+    let other = told_at(rt.alloc(), ErrorKind::Other);
+    same(&other, &Some(RunFault::Unreadable), &"another error")?;
+    let memory = told_at(rt.alloc(), ErrorKind::OutOfMemory);
+    same(&memory, &Some(RunFault::Memory), &"want of memory")?;
+    same(&told_within(rt.alloc(), 0)?, &Some(RunFault::Memory), &0)?;
+    same(&told_within(rt.alloc(), 4096)?, &None, &4096)
 }
 
 #[test]

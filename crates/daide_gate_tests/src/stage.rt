@@ -54,6 +54,12 @@ pub enum Act {
     Ends(Who),
     /// Hears the end of the other's stream.
     HearsEnd(Who),
+    /// The same, and no reset in place of it.
+    HearsEndAlone(Who),
+    /// Sends, and finds the other end's socket open still.
+    FindsOpen(Who),
+    /// Sends, and finds it closed.
+    FindsClosed(Who),
     /// A bot begins to send messages without end whose bracket never closes, and drops what it hears.
     Floods(usize),
     /// It has done so for a second.
@@ -205,6 +211,14 @@ impl Peer<'_> {
         }
     }
 
+    /// The same, where the connection has no fault, as a reset would leave one.
+    fn hears_end_alone(&mut self) -> Played {
+        match self.socket.connection().0.take_error() {
+            Ok(None) => self.hears_end(),
+            _ => Played::Wrong,
+        }
+    }
+
     /// Sends bytes that have room at once.
     fn says(&mut self, bytes: &[u8]) -> Played {
         let put = self.socket.put(bytes);
@@ -214,6 +228,15 @@ impl Peer<'_> {
             Put::Took(count) if count == bytes.len() => Played::Done,
             _ => Played::Wrong,
         }
+    }
+
+    /// Sends a byte twice, and finds the other end's socket open, or closed: the first byte is answered by a reset then.
+    fn finds(&mut self, is_open: bool) -> Played {
+        for _ in 0..2 {
+            let _ = self.socket.put(&[0]);
+            self.socket.flush();
+        }
+        done_where(is_open == (self.socket.put(&[0]) != Put::Failed))
     }
 
     /// Ends its stream.
@@ -310,6 +333,9 @@ fn play_one(peers: &mut Vec<Peer<'_>>, number: usize, act: Act) -> Played {
         Act::Hears(_, bytes) => peer.hears(bytes),
         Act::HearsTimes(_, bytes, times) => peer.hears_times(bytes, times),
         Act::Ends(_) => peer.ends(),
+        Act::HearsEndAlone(_) => peer.hears_end_alone(),
+        Act::FindsOpen(_) => peer.finds(true),
+        Act::FindsClosed(_) => peer.finds(false),
         _ => peer.hears_end(),
     }
 }
@@ -465,7 +491,10 @@ impl<'s, 'w, R: Clock + Net + AllocGlobal> Stage<'s, 'w, R> {
             | Act::Hears(who, _)
             | Act::HearsTimes(who, _, _)
             | Act::Ends(who)
-            | Act::HearsEnd(who) => {
+            | Act::HearsEnd(who)
+            | Act::HearsEndAlone(who)
+            | Act::FindsOpen(who)
+            | Act::FindsClosed(who) => {
                 return match who {
                     Who::Bot(number) => play_one(&mut self.bots, number, act),
                     Who::Server(number) => play_one(&mut self.servers, number, act),
@@ -596,6 +625,7 @@ fn play_rounds<'w, R: Clock + Net + AllocGlobal>(
             return Ok(round);
         }
         if is_served {
+            system.begin_round();
             system.wait(false);
         } else {
             service.round(system)?;

@@ -1,12 +1,13 @@
 //! `run`: the settings of a file, and the gateway at work until all its bots were served.
 
-ghost use Rattle.std.specs.Prelude.{◌≤◌, IfOk};
+ghost use Rattle.std.specs.Prelude.{◌≡◌, ◌≤◌, IfOk, IfSome, string_bytes};
 
 use crate::faults::{CLEAN, FAULT, tell};
 use daide_gate::settings::{Settings, SettingsError, read_settings};
 use daide_sockets::gateway::{GatewayFault, serve_at};
 use daide_streams::text::{TextFault, read_text};
-use std::io::Write;
+use std::alloc::Allocator;
+use std::io::{Read, Write};
 use std::net::Net;
 use std::rt::{Clock, Files};
 use std::{fs, io};
@@ -29,13 +30,20 @@ pub enum RunFault {
     Gateway(GatewayFault),
 }
 
-/// The text of a file of settings.
-fn text_at<R: AllocGlobal + Files>(rt: &R, path: &str) -> Result<String, RunFault> {
-    let mut file = fs::open(rt, path).map_err(|_| RunFault::Unreadable)?;
-    read_text(rt.alloc(), &mut file).map_err(|fault| match fault {
+/// The text of settings that a stream has.
+pub fn text_of<A: Allocator, I: Read>(alloc: A, input: &mut I) -> Result<String<A>, RunFault>
+    ensures { IfOk result (λ text. IfSome (I.remaining input.old) (λ all. string_bytes text ≡ all)) }
+{
+    read_text(alloc, input).map_err(|fault| match fault {
         TextFault::Unreadable => RunFault::Unreadable,
         TextFault::Memory => RunFault::Memory,
     })
+}
+
+/// The text of a file of settings.
+fn text_at<R: AllocGlobal + Files>(rt: &R, path: &str) -> Result<String, RunFault> {
+    let mut file = fs::open(rt, path).map_err(|_| RunFault::Unreadable)?;
+    text_of(rt.alloc(), &mut file)
 }
 
 /// The settings of a file.

@@ -9,7 +9,7 @@ use Rattle.daide_service.specs.declared.system.Connect.TheVariants.{Ready, Faile
 use Rattle.daide_service.specs.declared.system.Notice.TheVariants.{CannotReach}
 use Rattle.daide_service.specs.declared.tally.Tally.{Tally}
 use Rattle.daide_service.specs.Metered.{Meter}
-use Rattle.daide_service.specs.System.{SystemAnswer, Accepts, Connects, Retires, Notifies, Waits}
+use Rattle.daide_service.specs.System.{SystemAnswer, Begins, Accepts, Connects, Retires, Notifies, Waits}
 use Rattle.daide_service.specs.Serving.{arrived, come, AdmitsWhere, MeetsWhere, MeetsBy, last_words, farewell_where}
 use Rattle.daide_service.specs.Serving.{farewell, farewells, wait_where}
 use Rattle.daide_service.specs.Served.{comes, connects, unreached, counted}
@@ -73,6 +73,10 @@ module _ {P : Type 0} where
   }
 
   -- ---- the steps of a round
+
+  pub beginning_counts : (tally : Tally) → Counts (Begins ∷ []) tally tally
+  beginning_counts tally =
+      silent_counts (Begins ∷ []) tally (record { came = refl; joined = refl; failed = refl })
 
   pub admission_counts : (b : Bool) (old : Tally) (answers : List (SystemAnswer P)) (new : Tally) →
       AdmitsWhere b old answers new → Counts answers old new

@@ -26,14 +26,14 @@ use Rattle.daide_service.specs.declared.system.Connect.TheVariants.{Ready, Faile
 use Rattle.daide_service.specs.declared.system.Notice.TheVariants.{CannotReach, TurnsSpent}
 use Rattle.daide_service.specs.declared.tally.Tally.{Tally}
 use Rattle.daide_service.specs.Metered.{Meter, Meters, moved_by, one_less}
-use Rattle.daide_service.specs.System.{SystemAnswer, Accepts, Connects, Retires, Notifies, Waits}
+use Rattle.daide_service.specs.System.{SystemAnswer, Begins, Accepts, Connects, Retires, Notifies, Waits}
 use Rattle.daide_service.specs.Serving.{Serving, fresh, opening, accepts, come, AdmitsWhere, MeetsWhere, turns_below}
 use Rattle.daide_service.specs.Serving.{TurnsAll, last_words, farewell, farewell_where, farewells, remaining, parting}
 use Rattle.daide_service.specs.Serving.{MeetsBy, wait_where, any_stirs, any_moved, Round, Rounds, is_done}
 use Rattle.daide_service.specs.Served.{run_limits, IsSessionOfRun, IsServed, LetsGo, connects, retires, counted}
 use Rattle.daide_service.specs.Served.{IsWholeRun, looks_in}
 use Rattle.daide_service.proofs.CountLemmas.{counted_append, Counts, counts_then, admission_counts, meeting_counts}
-use Rattle.daide_service.proofs.CountLemmas.{removal_counts, wait_counts}
+use Rattle.daide_service.proofs.CountLemmas.{beginning_counts, removal_counts, wait_counts}
 
 -- ---- what moved
 
@@ -116,6 +116,9 @@ module _ {P : Type 0} where
 
   passes_as : (xs ys : List (SystemAnswer P)) (a b : ℕ) → xs ≡ ys → Passes ys a b → Passes xs a b
   passes_as xs ys a b e h = subst (λ (l : List (SystemAnswer P)). Passes l a b) (sym e) h
+
+  beginning_passes : Passes (Begins ∷ []) 0 0
+  beginning_passes = record { came = refl; went = refl }
 
   admission_passes : (b : Bool) (old : Tally) (answers : List (SystemAnswer P)) (new : Tally) →
       AdmitsWhere b old answers new → Passes answers 0 0
@@ -216,6 +219,7 @@ module _ {P : Type 0} (becomes : P → PortAnswer → P → Type 0) (settings : 
   gone_later : (xs ys : List (SystemAnswer P)) (answer : SystemAnswer P) → LetsGo becomes settings xs answer →
       LetsGo becomes settings (xs ++ ys) answer
   gone_later xs ys (Retires ports) h = (h.0, h.1, h.2, later IsBoundedAndExact xs ys h.0 h.3)
+  gone_later xs ys Begins h = tt
   gone_later xs ys (Accepts came) h = tt
   gone_later xs ys (Connects connect) h = tt
   gone_later xs ys (Notifies notice) h = tt
@@ -427,10 +431,11 @@ module _ {P : Type 0} (becomes : P → PortAnswer → P → Type 0) (settings : 
       subst (λ (l : List (SystemAnswer P)). Counts l new.tally new.tally) (sym r.removes.0)
       (removal_counts r.turned.places new.tally) in
       subst (λ (l : List (SystemAnswer P)). Counts l old.tally new.tally) (sym r.asked)
-      (counts_then (r.admission ++ r.meeting ++ r.removal) last old.tally new.tally new.tally
-      (counts_then (r.admission ++ r.meeting) r.removal old.tally new.tally new.tally
-      (counts_then r.admission r.meeting old.tally r.came new.tally
-      (admission_counts (accepts old.tally (length old.hub.places)) old.tally r.admission r.came r.admits)
+      (counts_then (Begins ∷ r.admission ++ r.meeting ++ r.removal) last old.tally new.tally new.tally
+      (counts_then (Begins ∷ r.admission ++ r.meeting) r.removal old.tally new.tally new.tally
+      (counts_then (Begins ∷ r.admission) r.meeting old.tally r.came new.tally
+      (counts_then (Begins ∷ []) r.admission old.tally old.tally r.came (beginning_counts old.tally)
+      (admission_counts (accepts old.tally (length old.hub.places)) old.tally r.admission r.came r.admits))
       (meeting_counts (r.came.connecting == 0) old.hub r.came r.meeting r.met new.tally refl r.meets))
       removes)
       (wait_counts moved more new.tally))
@@ -449,9 +454,9 @@ module _ {P : Type 0} (becomes : P → PortAnswer → P → Type 0) (settings : 
       let within : (ports : P) → Contains r.meeting (Connects (Ready ports)) → Contains all (Connects (Ready ports)) =
       λ ports c. Contains-append_right xs ys (Connects (Ready ports))
       (subst (λ (l : List (SystemAnswer P)). Contains l (Connects (Ready ports))) (sym r.asked)
-      (Contains-append_left (r.admission ++ r.meeting ++ r.removal) last (Connects (Ready ports))
-      (Contains-append_left (r.admission ++ r.meeting) r.removal (Connects (Ready ports))
-      (Contains-append_right r.admission r.meeting (Connects (Ready ports)) c)))) in
+      (Contains-append_left (Begins ∷ r.admission ++ r.meeting ++ r.removal) last (Connects (Ready ports))
+      (Contains-append_left (Begins ∷ r.admission ++ r.meeting) r.removal (Connects (Ready ports))
+      (Contains-append_right (Begins ∷ r.admission) r.meeting (Connects (Ready ports)) c)))) in
       let met = met all (r.came.connecting == 0) old.hub r.came r.meeting r.met new.tally within h.limits
       (come.1 ∙ h.turns) still_held r.meets in
       let turned = all_turned all r.met r.turned r.turns met.held in
@@ -465,22 +470,24 @@ module _ {P : Type 0} (becomes : P → PortAnswer → P → Type 0) (settings : 
             (All-filter (λ place. not (is_closed place.0)) (Served all) r.turned.places turned.0);
         gone = All-append (Gone all) xs ys
             (All-weaker (LetsGo becomes settings xs) (Gone all) (gone_later xs ys) xs h.gone)
-            (All-same (Gone all) ys (r.admission ++ r.meeting ++ r.removal ++ last) r.asked
-            (All-append (Gone all) (r.admission ++ r.meeting ++ r.removal) last
-            (All-append (Gone all) (r.admission ++ r.meeting) r.removal
-            (All-append (Gone all) r.admission r.meeting come.0 met.gone)
+            (All-same (Gone all) ys (Begins ∷ r.admission ++ r.meeting ++ r.removal ++ last) r.asked
+            (All-append (Gone all) (Begins ∷ r.admission ++ r.meeting ++ r.removal) last
+            (All-append (Gone all) (Begins ∷ r.admission ++ r.meeting) r.removal
+            (All-append (Gone all) (Begins ∷ r.admission) r.meeting (All-cons (Gone all) Begins r.admission tt come.0)
+            met.gone)
             (All-same (Gone all) r.removal (farewells r.turned.places) r.removes.0
             (all_parted all r.turned.places turned.0)))
             (waited all moved more)));
         balance =
             let meets = meeting_passes (r.came.connecting == 0) old.hub r.came r.meeting r.met new.tally r.meets in
             let leaves = removal_passes r.turned.places in
-            let passes = passes_as ys (r.admission ++ r.meeting ++ r.removal ++ last) (0 + meets.0 + 0 + 0)
+            let passes = passes_as ys (Begins ∷ r.admission ++ r.meeting ++ r.removal ++ last) (0 + meets.0 + 0 + 0)
             (0 + 0 + leaves.0 + 0) r.asked
-            (passes_then (r.admission ++ r.meeting ++ r.removal) last (0 + meets.0 + 0) (0 + 0 + leaves.0) 0 0
-            (passes_then (r.admission ++ r.meeting) r.removal (0 + meets.0) (0 + 0) 0 leaves.0
-            (passes_then r.admission r.meeting 0 0 meets.0 0
-            (admission_passes (accepts old.tally (length old.hub.places)) old.tally r.admission r.came r.admits) meets.1)
+            (passes_then (Begins ∷ r.admission ++ r.meeting ++ r.removal) last (0 + meets.0 + 0) (0 + 0 + leaves.0) 0 0
+            (passes_then (Begins ∷ r.admission ++ r.meeting) r.removal (0 + meets.0) (0 + 0) 0 leaves.0
+            (passes_then (Begins ∷ r.admission) r.meeting 0 0 meets.0 0
+            (passes_then (Begins ∷ []) r.admission 0 0 0 0 beginning_passes
+            (admission_passes (accepts old.tally (length old.hub.places)) old.tally r.admission r.came r.admits)) meets.1)
             (passes_as r.removal (farewells r.turned.places) 0 leaves.0 r.removes.0 leaves.1))
             (wait_passes moved more)) in
             let came = passes.came in

@@ -10,7 +10,7 @@ use Rattle.daide_turns.specs.Hub.{IsTurned}
 use Rattle.daide_settings.specs.declared.settings.Settings.{Settings}
 use Rattle.daide_service.specs.declared.system.Connect.TheVariants.{Ready, Failed, Pending}
 use Rattle.daide_service.specs.Metered.{Meter, Meters, moved_by}
-use Rattle.daide_service.specs.System.{SystemAnswer, Accepts, Connects, Retires, Notifies, Waits}
+use Rattle.daide_service.specs.System.{SystemAnswer, Begins, Accepts, Connects, Retires, Notifies, Waits}
 use Rattle.daide_service.specs.Serving.{Serving, fresh, opening, Rounds, Serves}
 
 -- the limits of a run's sessions
@@ -38,6 +38,7 @@ abbrev pub LetsGo : {P : Type 0} → (P → PortAnswer → P → Type 0) → Set
     SystemAnswer P → Type 0
 LetsGo {P} becomes settings answers (Retires ports) =
     (now : Gateway × Meter P) × (now.1.ports ≡ ports) × (is_closed now.0 ≡ true) × IsServed becomes settings answers now
+LetsGo becomes settings answers Begins = Unit {0}
 LetsGo becomes settings answers (Accepts came) = Unit {0}
 LetsGo becomes settings answers (Connects connect) = Unit {0}
 LetsGo becomes settings answers (Notifies notice) = Unit {0}
@@ -48,6 +49,7 @@ abbrev pub connects : {P : Type 0} → SystemAnswer P → ℕ
 connects (Connects (Ready ports)) = 1
 connects (Connects Failed) = 0
 connects (Connects Pending) = 0
+connects Begins = 0
 connects (Accepts came) = 0
 connects (Retires ports) = 0
 connects (Notifies notice) = 0
@@ -55,6 +57,7 @@ connects (Waits more) = 0
 
 abbrev pub retires : {P : Type 0} → SystemAnswer P → ℕ
 retires (Retires ports) = 1
+retires Begins = 0
 retires (Accepts came) = 0
 retires (Connects connect) = 0
 retires (Notifies notice) = 0
@@ -64,6 +67,7 @@ retires (Waits more) = 0
 abbrev pub comes : {P : Type 0} → SystemAnswer P → ℕ
 comes (Accepts true) = 1
 comes (Accepts false) = 0
+comes Begins = 0
 comes (Connects connect) = 0
 comes (Retires ports) = 0
 comes (Notifies notice) = 0
@@ -73,6 +77,7 @@ abbrev pub unreached : {P : Type 0} → SystemAnswer P → ℕ
 unreached (Connects Failed) = 1
 unreached (Connects (Ready ports)) = 0
 unreached (Connects Pending) = 0
+unreached Begins = 0
 unreached (Accepts came) = 0
 unreached (Retires ports) = 0
 unreached (Notifies notice) = 0

@@ -19,7 +19,7 @@ use Rattle.daide_service.specs.declared.system.Connect.{Connect}
 use Rattle.daide_service.specs.declared.system.Connect.TheVariants.{Ready, Failed, Pending}
 use Rattle.daide_service.specs.declared.system.Notice.TheVariants.{CannotReach, TurnsSpent}
 use Rattle.daide_service.specs.Metered.{Meter, Meters}
-use Rattle.daide_service.specs.System.{SystemAnswer, Accepts, Connects, Retires, Notifies, Waits}
+use Rattle.daide_service.specs.System.{SystemAnswer, Begins, Accepts, Connects, Retires, Notifies, Waits}
 
 -- a run at work: the sessions, and the counts of bots
 pub record Serving (P : Type 0) : Type 0 where
@@ -145,6 +145,7 @@ RemovesClosed old answers new = (answers ≡ farewells old.places) × (new ≡ w
 
 -- whether the system gave the run something: a bot, a connect that came about or failed, or ports to take
 abbrev pub stirs : {P : Type 0} → SystemAnswer P → Bool
+stirs Begins = false
 stirs (Accepts came) = came
 stirs (Connects (Ready ports)) = true
 stirs (Connects Failed) = true
@@ -161,8 +162,8 @@ abbrev pub wait_where : {P : Type 0} → Bool → Bool → List (SystemAnswer P)
 wait_where true more = []
 wait_where false more = Waits more ∷ []
 
--- At most one bot is admitted; at most one connect is taken up; each session has one turn; those that are over are
--- taken out; and there is one wait, exactly where nothing moved in all this.
+-- The system is told that a round begins; at most one bot is admitted; at most one connect is taken up; each session has
+-- one turn; those that are over are taken out; and there is one wait, exactly where nothing moved in all this.
 pub record Round {P : Type 0} (becomes : P → PortAnswer → P → Type 0) (old : Serving P)
     (answers : List (SystemAnswer P)) (new : Serving P) : Type 0 where
   pub admission : List (SystemAnswer P)
@@ -177,7 +178,7 @@ pub record Round {P : Type 0} (becomes : P → PortAnswer → P → Type 0) (old
   pub removes : RemovesClosed turned removal new.hub
   -- whatever came, no more are held than there may be at once, and no more came than there may be in all
   pub within : IsWithin new.hub new.tally
-  pub asked : answers ≡ admission ++ meeting ++ removal ++ wait_where
+  pub asked : answers ≡ Begins ∷ admission ++ meeting ++ removal ++ wait_where
       (any_stirs admission || any_stirs meeting || any_moved turned.places || any_stirs removal)
       (accepts new.tally (length new.hub.places))
 
@@ -220,15 +221,16 @@ Serves {P} becomes settings answers =
 
 -- ---- a run that is broken off
 
--- A round whose new session was refused its memory: at most one bot was admitted as in any round, a connect was under
--- way and came about, and with it the round ends. Its ports are dropped; no session had a turn, and none is taken out.
+-- A round whose new session was refused its memory: it was begun, and at most one bot admitted, as in any round; a connect
+-- was under way and came about, and with it the round ends. Its ports are dropped; no session had a turn, and none is
+-- taken out.
 pub record BreaksOff {P : Type 0} (old : Serving P) (answers : List (SystemAnswer P)) (new : Serving P) : Type 0 where
   pub admission : List (SystemAnswer P)
   pub came : Tally
   pub ports : P
   pub admits : Admits (length old.hub.places) old.tally admission came
   pub under_way : (came.connecting == 0) ≡ false
-  pub asked : answers ≡ admission ++ Connects (Ready ports) ∷ []
+  pub asked : answers ≡ Begins ∷ admission ++ Connects (Ready ports) ∷ []
   pub leaves : new ≡ record { hub = old.hub; tally = arrived came }
 
 -- rounds from the opening, and one that is broken off, of a run that isn't done

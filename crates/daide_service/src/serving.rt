@@ -225,10 +225,11 @@ impl<P: Ports, A: Allocator + Copy> Service<P, A> {
         self.tally.is_served(self.hub.count())
     }
 
-    /// One round: at most one bot is admitted, and at most one connect taken up; each session has one turn, in
-    /// order of place; those that are over and of which nothing waits are taken out, from the last place to the
-    /// first; and where nothing moved in all this, there is one wait. Want of memory for a session is its only
-    /// fault; its ports are dropped then, and the round broken off behind the connect that gave them.
+    /// One round: the system is told that it begins; at most one bot is admitted, and at most one connect taken up;
+    /// each session has one turn, in order of place; those that are over and of which nothing waits are taken out,
+    /// from the last place to the first; and where nothing moved in all this, there is one wait. Want of memory for a
+    /// session is its only fault; its ports are dropped then, and the round broken off behind the connect that gave
+    /// them.
     pub fn round<S: System<P>>(&mut self, system: &mut S) -> Result<(), ServeFault>
         ensures round { OnOk result ((answers : List (SystemAnswer P))
             × Tells (S.told system.old) answers (S.told system.new) × Round P.becomes self.old answers self.new) }
@@ -236,6 +237,7 @@ impl<P: Ports, A: Allocator + Copy> Service<P, A> {
         ensures broken_off { OnErr result ((answers : List (SystemAnswer P))
             × Tells (S.told system.old) answers (S.told system.new) × BreaksOff self.old answers self.new) }
     {
+        system.begin_round();
         let came = admit::<P, S>(self.hub.count(), &mut self.tally, system);
         let met = meet(&mut self.hub, &mut self.tally, system)?;
         turn_all(&mut self.hub);

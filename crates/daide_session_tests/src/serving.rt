@@ -25,6 +25,7 @@ enum Fate {
 /// What the system was asked, and answered.
 #[derive(Clone, Copy, PartialEq, Eq)]
 enum Event {
+    Begun,
     Came,
     NoneCame,
     Ready,
@@ -82,6 +83,10 @@ impl System<MemoryPorts<'static>> for Stage {
     ghost use Rattle.std.specs.Prelude.{None};
 
     ghost told = { λ _. None };
+
+    fn begin_round(&mut self) {
+        self.note(Event::Begun);
+    }
 
     fn accept(&mut self) -> bool {
         let came = self
@@ -184,12 +189,16 @@ const RUNS: &[(Scene, Limits, &[Event])] = &[
         },
         (16, 1, 9),
         &[
+            Event::Begun,
             Event::NoneCame,
             Event::Waited(true),
+            Event::Begun,
             Event::Came,
             Event::Pending,
+            Event::Begun,
             Event::Pending,
             Event::Waited(false),
+            Event::Begun,
             Event::Ready,
             Event::Retired,
         ],
@@ -202,7 +211,12 @@ const RUNS: &[(Scene, Limits, &[Event])] = &[
             bot: ENDS,
         },
         (1, 1, 9),
-        &[Event::Came, Event::Failed, Event::Told(Notice::CannotReach)],
+        &[
+            Event::Begun,
+            Event::Came,
+            Event::Failed,
+            Event::Told(Notice::CannotReach),
+        ],
     ),
     // one at once: the next comes when the first is gone
     (
@@ -213,11 +227,15 @@ const RUNS: &[(Scene, Limits, &[Event])] = &[
         },
         (1, 2, 9),
         &[
+            Event::Begun,
             Event::Came,
             Event::Ready,
+            Event::Begun,
             Event::Retired,
+            Event::Begun,
             Event::Came,
             Event::Ready,
+            Event::Begun,
             Event::Retired,
         ],
     ),
@@ -230,12 +248,16 @@ const RUNS: &[(Scene, Limits, &[Event])] = &[
         },
         (1, 2, 9),
         &[
+            Event::Begun,
             Event::Came,
             Event::Pending,
+            Event::Begun,
             Event::Pending,
             Event::Waited(false),
+            Event::Begun,
             Event::Failed,
             Event::Told(Notice::CannotReach),
+            Event::Begun,
             Event::Came,
             Event::Ready,
             Event::Retired,
@@ -250,12 +272,16 @@ const RUNS: &[(Scene, Limits, &[Event])] = &[
         },
         (2, 2, 9),
         &[
+            Event::Begun,
             Event::Came,
             Event::Pending,
+            Event::Begun,
             Event::Came,
             Event::Ready,
+            Event::Begun,
             Event::Ready,
             Event::Retired,
+            Event::Begun,
             Event::Retired,
         ],
     ),
@@ -268,10 +294,14 @@ const RUNS: &[(Scene, Limits, &[Event])] = &[
         },
         (1, 1, 3),
         &[
+            Event::Begun,
             Event::Came,
             Event::Ready,
+            Event::Begun,
             Event::Waited(false),
+            Event::Begun,
             Event::Waited(false),
+            Event::Begun,
             Event::Told(Notice::TurnsSpent),
             Event::Retired,
         ],
@@ -302,9 +332,16 @@ fn system_is_asked_round_by_round(rt: HostRuntime) -> Result<(), Fail> {
 
 /// What the system is asked where one bot's turns are spent while it is open.
 const SPENT: &[Event] = &[
+    Event::Begun,
     Event::Came,
     Event::Ready,
+    Event::Begun,
+    Event::Begun,
+    Event::Begun,
+    Event::Begun,
     Event::Waited(false),
+    Event::Begun,
+    Event::Begun,
     Event::Told(Notice::TurnsSpent),
     Event::Retired,
 ];

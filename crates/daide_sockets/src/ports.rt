@@ -165,8 +165,6 @@ fn put_past<S: Duplex + Drop>(
 #[derive(Drop)]
 pub struct SocketPorts<'w, R: Clock, S: Drop = Connection> {
     watch: &'w Watch<R>,
-    /// The round of the last turn, if there was one.
-    turned: Option<u64>,
     /// For how many turns something was held that may be written.
     held: usize,
     bot: Socket<'w, S>,
@@ -185,7 +183,6 @@ impl<'w, R: Clock, S: Drop> SocketPorts<'w, R, S> {
     {
         SocketPorts {
             watch,
-            turned: None,
             held: 0,
             bot,
             server,
@@ -199,7 +196,6 @@ impl<'w, R: Clock, S: Drop> SocketPorts<'w, R, S> {
     {
         let SocketPorts {
             watch: _,
-            turned: _,
             held: _,
             bot,
             server,
@@ -207,16 +203,11 @@ impl<'w, R: Clock, S: Drop> SocketPorts<'w, R, S> {
         (bot, server)
     }
 
-    /// Each turn asks the clock first, and each session is turned once a round: so the first session that is
-    /// turned again begins the next round.
+    /// Counts a turn, each of which asks the clock first; it asks the system nothing.
     fn begin_turn(&mut self)
         ensures bot { self.new.bot ≡ self.old.bot }
         ensures server { self.new.server ≡ self.old.server }
     {
-        if self.turned == Some(self.watch.round()) {
-            self.watch.next_round();
-        }
-        self.turned = Some(self.watch.round());
         self.watch.note_turn();
         self.held = if self.bot.stream.is_behind() || self.server.stream.is_behind() {
             self.held.saturating_add(1)

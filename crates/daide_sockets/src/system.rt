@@ -108,8 +108,12 @@ impl<'w, R: Clock + Net, E: Write + Drop> System<SocketPorts<'w, &'w R>> for Soc
 
     ghost told = { λ _. None };
 
+    fn begin_round(&mut self) {
+        self.watch.look_by_turns();
+        self.tidy();
+    }
+
     fn accept(&mut self) -> bool {
-        self.closings.advance(self.watch);
         let Some(stream) = self.door.accept(self.watch) else {
             return false;
         };
@@ -153,7 +157,6 @@ impl<'w, R: Clock + Net, E: Write + Drop> System<SocketPorts<'w, &'w R>> for Soc
     }
 
     fn wait(&mut self, _accepts: bool) {
-        self.tidy();
         self.rest();
     }
 }

@@ -34,7 +34,7 @@ pub struct Flags {
     pub due: Cell<Option<Instant>>,
 }
 
-/// The table of a run, and the moment of its present round.
+/// The table of a run, and the moment at which the system was asked last.
 #[derive(Drop)]
 pub struct Watch<R: Clock> {
     clock: R,
@@ -42,7 +42,6 @@ pub struct Watch<R: Clock> {
     waiter: RefCell<Waiter>,
     /// None where the clock can't be read: then no time passes.
     now: Cell<Option<Instant>>,
-    round: Cell<u64>,
     /// How many turns were begun since the system was asked.
     turns: Cell<u64>,
     /// How many rows, from the first on, were ever taken.
@@ -180,7 +179,6 @@ impl<R: Clock + Drop> Watch<R> {
             registry,
             waiter: RefCell::new(Waiter { poll, events }),
             now: Cell::new(now),
-            round: Cell::new(0),
             turns: Cell::new(0),
             used: Cell::new(0),
             has_news: Cell::new(false),
@@ -191,17 +189,12 @@ impl<R: Clock + Drop> Watch<R> {
 }
 
 impl<R: Clock> Watch<R> {
-    /// The number of the present round.
-    pub(crate) fn round(&self) -> u64 {
-        self.round.get()
-    }
-
     /// The room for what the sockets hold.
     pub fn pool(&self) -> &Pool {
         &self.pool
     }
 
-    /// So long after the moment of the present round; none where the clock can't be read, or no such moment is known.
+    /// So long after the moment at which the system was asked last; none where the clock can't be read, or no such moment is known.
     pub fn after(&self, duration: Duration) -> Option<Instant> {
         self.now.get()?.checked_add(duration)
     }
@@ -242,9 +235,8 @@ impl<R: Clock> Watch<R> {
         Some(nearest.saturating_duration_since(self.now.get()?))
     }
 
-    /// Begins a round: takes over what the system tells within a time, and reads the clock.
-    fn begin_round(&self, timeout: Option<Duration>) {
-        self.round.set(self.round.get().wrapping_add(1));
+    /// Takes over what the system tells within a time, and reads the clock.
+    fn ask(&self, timeout: Option<Duration>) {
         self.turns.set(0);
         if let Ok(mut waiter) = self.waiter.try_borrow_mut() {
             let Waiter { poll, events } = &mut *waiter;
@@ -268,29 +260,27 @@ impl<R: Clock> Watch<R> {
         self.turns.set(self.turns.get().saturating_add(1));
     }
 
-    /// Begins a round; with what the system tells now, where it wasn't asked for `MOST_TURNS` turns.
-    pub(crate) fn next_round(&self) {
+    /// Takes over what the system tells now, where it wasn't asked for `MOST_TURNS` turns.
+    pub fn look_by_turns(&self) {
         if self.turns.get() >= MOST_TURNS {
             self.look();
-        } else {
-            self.round.set(self.round.get().wrapping_add(1));
         }
     }
 
-    /// Begins a round with what the system tells now.
+    /// Takes over what the system tells now.
     pub(crate) fn look(&self) {
-        self.begin_round(Some(Duration::ZERO));
+        self.ask(Some(Duration::ZERO));
     }
 
-    /// Begins a round as soon as a socket is ready, or at the nearest moment that one waits for; at once where a look
-    /// since the last wait was told of something, which comes but once.
+    /// Returns as soon as a socket is ready, or at the nearest moment that one waits for; at once where a look since the
+    /// last wait was told of something, which comes but once.
     pub fn wait(&self) {
         let timeout = if self.has_news.get() {
             Some(Duration::ZERO)
         } else {
             self.patience()
         };
-        self.begin_round(timeout);
+        self.ask(timeout);
         self.has_news.set(false);
     }
 }

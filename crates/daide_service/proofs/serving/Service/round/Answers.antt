@@ -1,7 +1,7 @@
 use Rattle.std.proofs.Common.{ℕ, List, [], ◌∷◌, ◌++◌, Result, Ok, Err, refl, ap, ◌∙◌, subst, arith}
 use Rattle.std.specs.Prelude.{◌||◌, OnErr}
 use Rattle.daide_service.specs.declared.system.Connect.TheVariants.{Ready}
-use Rattle.daide_service.specs.System.{SystemAnswer, Connects}
+use Rattle.daide_service.specs.System.{SystemAnswer, Begins, Connects}
 use Rattle.daide_turns.specs.Record.{Tells}
 use Rattle.daide_service.specs.Serving.{Serving, Admits, BreaksOff, Round, wait_where, accepts}
 use Rattle.daide_service.proofs.ServingLemmas.{waits_alike}
@@ -19,7 +19,7 @@ returns-clause-round g c =
     let asleep = waits_alike {P = g.row.P.Denot} _ _ _ _ _ _ _ _ _ _ admits.3 meets.3 c.has_moved-moved.ensures
     removes.3 (c.accepts-more.ensures ∙ ap (accepts c.meet.new.tally) c.count-2.ensures) in
     let step : Round g.P.Ports.becomes (record { hub = old.hub; tally = old.tally })
-    (admits.0 ++ meets.0 ++ removes.0 ++ wait_where stirred c.accepts-more.result)
+    (Begins ∷ admits.0 ++ meets.0 ++ removes.0 ++ wait_where stirred c.accepts-more.result)
     (record { hub = c.remove_closed-removed.new.hub; tally = c.meet.new.tally }) = record {
       admission = admits.0;
       meeting = meets.0;
@@ -40,14 +40,16 @@ returns-clause-round g c =
             omega (arith, held, count, fewer);
         accepted = c.meet.ensures.within.accepted;
       };
-      asked = ap (λ w. admits.0 ++ meets.0 ++ removes.0 ++ w) asleep;
+      asked = ap (λ w. Begins ∷ admits.0 ++ meets.0 ++ removes.0 ++ w) asleep;
     } in (
-      admits.0 ++ meets.0 ++ removes.0 ++ wait_where stirred c.accepts-more.result,
-      tells_then _ _ _ (admits.0 ++ meets.0 ++ removes.0) _
-          (tells_then _ _ _ (admits.0 ++ meets.0) removes.0 (tells_then _ _ _ admits.0 meets.0 admits.1 meets.1) removes.1)
+      Begins ∷ admits.0 ++ meets.0 ++ removes.0 ++ wait_where stirred c.accepts-more.result,
+      tells_then _ _ _ (Begins ∷ admits.0 ++ meets.0 ++ removes.0) _
+          (tells_then _ _ _ (Begins ∷ admits.0 ++ meets.0) removes.0
+          (tells_then _ _ _ (Begins ∷ admits.0) meets.0
+          (tells_then _ _ _ (Begins ∷ []) admits.0 c.begin_round.ensures admits.1) meets.1) removes.1)
           c.rest.ensures,
       subst (λ (a : Serving g.row.P.Denot). Round g.P.Ports.becomes a
-          (admits.0 ++ meets.0 ++ removes.0 ++ wait_where stirred c.accepts-more.result)
+          (Begins ∷ admits.0 ++ meets.0 ++ removes.0 ++ wait_where stirred c.accepts-more.result)
           (record { hub = c.remove_closed-removed.new.hub; tally = c.meet.new.tally })) c.self.view_is step,
     )
 
@@ -63,7 +65,7 @@ returns-in_err-met-clause-broken_off g c =
     let broken = c.in_err-met.ensures.broken_off in
     let left = c.in_err-met.ensures.left in
     let old = c.self.inside in
-    let answers = admits.0 ++ Connects (Ready broken.0) ∷ [] in
+    let answers = Begins ∷ admits.0 ++ Connects (Ready broken.0) ∷ [] in
     let after : Serving g.row.P.Denot = record { hub = c.meet.new.hub; tally = c.meet.new.tally } in
     let breaks : BreaksOff (record { hub = old.hub; tally = old.tally }) answers after = record {
       admission = admits.0;
@@ -77,6 +79,7 @@ returns-in_err-met-clause-broken_off g c =
     at_error c.from_residual.result ((all : List (SystemAnswer g.row.P.Denot))
     × Tells (told c.args.system.now) all (told c.meet.new.system) × BreaksOff c.args.self.now all after) (
       answers,
-      tells_then _ _ _ admits.0 (Connects (Ready broken.0) ∷ []) admits.1 broken.1,
+      tells_then _ _ _ (Begins ∷ admits.0) (Connects (Ready broken.0) ∷ [])
+          (tells_then _ _ _ (Begins ∷ []) admits.0 c.begin_round.ensures admits.1) broken.1,
       subst (λ (a : Serving g.row.P.Denot). BreaksOff a answers after) c.self.view_is breaks,
     )
