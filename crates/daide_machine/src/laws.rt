@@ -10,6 +10,7 @@ ghost use Rattle.daide_reader.specs.Verdict.{HasVerdict};
 ghost use Rattle.daide_words.specs.declared.word.Word.{Word};
 ghost use Rattle.daide_words.specs.Word.{grammar_words};
 ghost use Rattle.daide_words.specs.Accepted.{are_accepted};
+ghost use Rattle.daide_words.specs.Words.{words_of};
 ghost use Rattle.daide_machine.specs.Bounds.{longest_body, deepest};
 ghost use Rattle.daide_machine.specs.Answers.{prn_open, huh_open, err_word, close_word};
 ghost use Rattle.daide_machine.specs.Events.{Event};
@@ -26,6 +27,7 @@ use crate::answers::{CLOSE_WORD, ERR_WORD, FM, HUH_OPEN, PRN_OPEN};
 use crate::bounds::{MAX_BODY, MAX_DEPTH, STACK_ENTRIES};
 use daide_grammar::predict::Predict;
 use daide_words::extended::Extended;
+use daide_words::words::Words;
 
 /// The words round an answer, and the final message, have the bytes that the definitions give them.
 pub fn words_are_those_of_the_definitions()
@@ -161,3 +163,14 @@ pub fn verdicts_with_words_are_the_grammars()
         (⟦<Extended as Predict>⟧.opening side level))) max_depth m v
         ↔ HasVerdict (IsMessageOver (grammar_words words) side level) max_depth m v }
 {}
+
+/// So they are with the words of who holds `Words`, which are accepted.
+pub fn verdicts_over(words: &Words)
+    ensures { (side : Side2) (level : Level) (max_depth : ℕ) (m : List ℕ) (v : Verdict) →
+        let added = grammar_words (words_of words.now) in
+        HasVerdict (IsMessageOf (⟦<Extended as Predict>⟧.language added (⟦<Extended as Predict>⟧.opening side level)))
+        max_depth m v ↔ HasVerdict (IsMessageOver added side level) max_depth m v }
+{
+    words.are_accepted();
+    verdicts_with_words_are_the_grammars();
+}

@@ -1,12 +1,10 @@
 -- A reader after one more token.
-use Rattle.std.proofs.Common.{◌≡◌, ◌≢◌, ℕ, zero, suc, ◌+◌, ◌-◌, ◌*◌, ◌%◌, ◌^◌, ◌≤◌, ◌<◌, ◌==◌, Bool, true, false, ◌||◌}
-use Rattle.std.proofs.Common.{List, [], ◌∷◌, ◌++◌, length, reverse, Option, None, Some, IfSome, IsSome, IsTrue, is_some}
-use Rattle.std.proofs.Common.{refl, sym, ◌∙◌, ap, subst, arith, if◌then◌else◌, ◌⊎◌, ◌↔◌, inl, inr}
+use Rattle.std.proofs.Common.{◌≡◌, ◌≢◌, ℕ, zero, suc, ◌+◌, ◌-◌, ◌*◌, ◌%◌, ◌^◌, ◌≤◌, ◌<◌, Bool, true, false, ◌||◌}
+use Rattle.std.proofs.Common.{List, [], ◌∷◌, ◌++◌, length, reverse, Option, None, Some, IfSome, is_some}
+use Rattle.std.proofs.Common.{refl, sym, ◌∙◌, ap, subst, arith, if◌then◌else◌, ◌⊎◌, inl, inr}
 use Rattle.std.proofs.lemmas.List.{length-append}
-use Rattle.std.proofs.lemmas.Bool.{eqb-true}
 use Rattle.daide_token.specs.declared.class.Class.{Class}
 use Rattle.daide_grammar.specs.declared.symbol.Sym.{Sym}
-use Rattle.daide_grammar.specs.Answers.{Answer}
 use Rattle.daide_grammar.specs.declared.predict.Predict.{Ghosts}
 use Rattle.daide_grammar.specs.Words.{Words}
 use Rattle.daide_grammar.specs.Stacks.{stack_after, ends_asked}
@@ -16,14 +14,14 @@ use Rattle.daide_grammar.specs.Depth.{excess, closes_early, open_brackets}
 use Rattle.std.specs.Option.{unwrap_or}
 use Rattle.daide_grammar.specs.Brackets.{is_bra, is_ket, counted, count_one}
 use Rattle.daide_reader.specs.declared.outline.Outline.{Outline}
-use Rattle.daide_reader.specs.Stack.{IsRefused, steps_at}
+use Rattle.daide_reader.specs.Stack.{steps_at}
 use Rattle.daide_reader.specs.Outline.{IsOutlineOf, with_token}
 use Rattle.daide_reader.specs.Reading.{Reading, IsRaised, StandsAfter, StackOrPlace, HasPlace, IsSteady, IsSettled}
 use Rattle.daide_reader.specs.Reading.{steps_since, brackets_open}
 use Rattle.daide_reader.proofs.StackLemmas.{lawful_more, four_steps}
 use Rattle.daide_grammar.proofs.Counting.{counted-snoc}
 use Rattle.daide_reader.proofs.OutlineLemmas.{outline-snoc}
-use Rattle.daide_reader.proofs.ErrorPlaceLemmas.{expects_start, expects_taken, wrong_here, place_kept}
+use Rattle.daide_reader.proofs.ErrorPlaceLemmas.{expects_start, expects_taken, wrong_here}
 
 -- what a reader's count says, in a message that does not begin with PRN
 pub counted_now : (u : Option ℕ) (p : List ℕ) → begins_with_prn p ≡ false
@@ -91,15 +89,6 @@ counts_more (Some zero) m false true h = tt
 counts_more (Some (suc n)) m false true h = omega arith
 counts_more (Some n) m false false h = omega arith
 
-pub counts_stay : (u : Option ℕ) (m : ℕ) → IfSome u (λ n. n ≤ m) → IfSome u (λ n. n ≤ m + 1)
-counts_stay None m h = tt
-counts_stay (Some n) m h = omega arith
-
--- the count of open brackets can go one up
-pub below_word : (u : Option ℕ) (m : ℕ) → IfSome u (λ n. n ≤ m) → m ≤ 32767 → IfSome u (λ n. n < 65535)
-below_word None m h le = tt
-below_word (Some n) m h le = omega arith
-
 -- a stack on which one symbol was put
 pub lone_symbol : (first opening : Sym) (empty items : List Sym) → empty ≡ [] → items ≡ empty ++ first ∷ [] →
     first ≡ opening
@@ -123,51 +112,9 @@ steady_start lawful size max_depth first stack o small deepest alone none plain 
   none_in_prn = λ report. let f : true ≡ false = sym report ∙ plain in absurd cc;
 }
 
--- a reader stays steady with one more token, where its stack and its place are what the token makes of them
-pub steady_more : (old_lawful lawful : List Sym → ℕ →
-    Type 0) (size max_depth : ℕ) (old_stack stack : List Sym) (old o : Outline)
-    (old_unclosed old_place unclosed place : Option ℕ) (t : ℕ)
-    → IsSteady old_lawful size max_depth old_stack old old_unclosed old_place → old.tokens < 32767 →
-    o ≡ with_token old t
-    → IfSome unclosed (λ n. n ≤ old.tokens + 1)
-    → (o.is_prn ≡ false → place ≡ None → (n : ℕ) × (unclosed ≡ Some n) × (n ≤ max_depth) × lawful stack n)
-    → (IsSome place → stack ≡ []) → (o.is_prn ≡ true → stack ≡ [])
-    → IsSteady lawful size max_depth stack o unclosed place
-steady_more old_lawful lawful size max_depth old_stack stack old o old_unclosed old_place unclosed place t steady room
-    more counts ok placed report = record {
-      small = steady.small;
-      deepest = steady.deepest;
-      counts = rw more counts;
-      tokens = rw more (omega arith);
-      fresh = rw more (λ none. absurd (omega (arith, none)));
-      lawful_stack = ok;
-      none_left = placed;
-      none_in_prn = report;
-    }
-
 pub none_from_test : (o : Option ℕ) → false ≡ is_some o → o ≡ None
 none_from_test None e = refl
 none_from_test (Some x) e = let f : false ≡ true = e in absurd cc
-
--- fewer brackets are open than may be, where a token that opens one is not at the greatest depth_of
-pub below_deepest : (u : Option ℕ) (n max_depth t : ℕ) (deepest : Bool)
-    → (IsTrue deepest ↔ ((is_bra t ≡ true) × (u ≡ Some max_depth))) → u ≡ Some n → (is_bra t ≡ true → deepest ≡ false)
-    → is_bra t ≡ true → n ≢ max_depth
-below_deepest u n max_depth t deepest iff is fits opens same =
-    let yes : deepest ≡ true = iff.1 (opens, is ∙ ap (λ (k : ℕ). Some k) same) in
-    let no = fits opens in
-    let f : true ≡ false = sym yes ∙ no in
-    cc
-
--- why a token was refused, at the count
-pub refused_at : (class_of : ℕ → Class) (moves : Sym → Class →
-    Answer) (u : Option ℕ) (n max_depth t : ℕ) (deepest : Bool) (stack : List Sym)
-    → (IsTrue deepest ↔ ((is_bra t ≡ true) × (u ≡ Some max_depth))) → u ≡ Some n →
-    IsRefused class_of moves t deepest stack
-    → ((is_bra t ≡ true) × (n ≡ max_depth)) ⊎ (stack_after moves (class_of t) stack ≡ None)
-refused_at class_of moves u n max_depth t deepest stack iff is (inl (opens, deep)) =
-    inl (opens, (let e = (iff.0 deep).1 in cc))
-refused_at class_of moves u n max_depth t deepest stack iff is (inr none) = inr none
 
 module _ {T : Type 0} (table : Ghosts T) (words : Words) (first : Sym) (max_depth : ℕ) where
   -- a reader whose counts moved on by a token, and whose place or stack says the same of one token more
@@ -247,19 +194,6 @@ module _ {T : Type 0} (table : Ghosts T) (words : Words) (first : Sym) (max_dept
 
       begins : begins_with_prn (p ++ q) ≡ true
       begins = sym outline.begins ∙ is_report
-
-  -- a place stays
-  pub stands_placed : (old new : Reading T) (t : ℕ) (p : List ℕ) → Moves old new t → true ≡ is_some old.place
-      → new.place ≡ old.place → StandsAfter table words first max_depth old p
-      → StandsAfter table words first max_depth new (p ++ t ∷ [])
-  stands_placed old new t p moves some same h = stands_more old new t p moves h (λ _ _ has.
-      subst (λ (o : Option ℕ). StackOrPlace (table.language words) first max_depth new.stack o (p ++ t ∷ [])) (sym same)
-      (go old.place some has))
-    where
-      go : (o : Option ℕ) → true ≡ is_some o → StackOrPlace (table.language words) first max_depth old.stack o p
-          → StackOrPlace (table.language words) first max_depth new.stack o (p ++ t ∷ [])
-      go None e has = let f : true ≡ false = e in absurd cc
-      go (Some i) e has = place_kept (table.language words first) max_depth p (t ∷ []) i has
 
 module _ {T : Type 0} (table : Ghosts T)
     (laws : (w : Words) →
@@ -344,15 +278,6 @@ module _ {T : Type 0} (table : Ghosts T)
       nothing_yet : (now before few : ℕ) → before ≡ now → before < 2 ^ 64 → (now + (2 ^ 64 - before)) % 2 ^ 64 ≤ few
       nothing_yet now before few same word = omega arith
 
--- a message that goes on without PRN at its front had none
-pub old_not_prn : (o : Outline) (t : ℕ) → (o.tokens ≡ 0 → o.is_prn ≡ false) → (with_token o t).is_prn ≡ false
-    → o.is_prn ≡ false
-old_not_prn o t fresh now = go (o.tokens == 0) refl
-  where
-    go : (b : Bool) → (o.tokens == 0) ≡ b → o.is_prn ≡ false
-    go true is = fresh (eqb-true o.tokens 0 is)
-    go false is = rw is at now
-
 -- what is not settled has no place, and does not begin with PRN
 pub unsettled : {T : Type 0} (v old : Reading T) → v ≡ old → v.place ≡ None → v.outline.is_prn ≡ false → ¬ IsSettled old
 unsettled {T = T} v old same none not_prn settled = go (subst (λ (r : Reading T). IsSettled r) (sym same) settled)
@@ -360,16 +285,6 @@ unsettled {T = T} v old same none not_prn settled = go (subst (λ (r : Reading T
     go : IsSettled v → ⊥
     go (inl placed) = let f : true ≡ false = sym placed ∙ ap is_some none in cc
     go (inr prn) = let f : true ≡ false = sym prn ∙ not_prn in cc
-
--- the count of a reader with no place
-pub count_here : (lawful : List Sym → ℕ →
-    Type 0) (size max_depth : ℕ) (stack : List Sym) (o new : Outline) (u place : Option ℕ) (t : ℕ)
-    → IsSteady lawful size max_depth stack o u place → new ≡ with_token o t → new.is_prn ≡ false
-    → false ≡ is_some place
-    → (n : ℕ) × (u ≡ Some n) × (n ≤ max_depth) × lawful stack n
-count_here lawful size max_depth stack o new u place t steady more now none =
-    steady.lawful_stack (old_not_prn o t steady.fresh (ap (λ (o : Outline). o.is_prn) (sym more) ∙ now))
-    (none_from_test place none)
 
 -- a reader stays steady with other answers counted, and the same words
 pub steady_along : {T : Type 0} (table : Ghosts T) (old new : T) (size max_depth : ℕ) (stack : List Sym) (o : Outline)

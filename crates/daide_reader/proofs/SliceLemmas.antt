@@ -1,11 +1,11 @@
 -- A reader that is in locals, after one more token of a body.
-use Rattle.std.proofs.Common.{◌≡◌, ◌≢◌, ℕ, zero, suc, ◌+◌, ◌*◌, ◌/◌, ◌%◌, ◌^◌, ◌≤◌, ◌<◌, Bool, true, false, List, []}
+use Rattle.std.proofs.Common.{◌≡◌, ◌≢◌, ℕ, zero, suc, ◌+◌, ◌-◌, ◌*◌, ◌/◌, ◌%◌, ◌^◌, ◌≤◌, ◌<◌, Bool, true, false, List, []}
 use Rattle.std.proofs.Common.{◌∷◌, ◌++◌, length, get_or, take, Option, None, Some, IfSome, IfNone, IsSome, drop}
 use Rattle.std.proofs.Common.{reverse, refl, sym, ◌∙◌}
 use Rattle.std.proofs.Common.{ap, subst, arith, ◌⊎◌, inr, append_assoc, append-nil, add-zero}
-use Rattle.std.proofs.lemmas.List.{length-append, length-drop}
+use Rattle.std.proofs.lemmas.List.{length-append, length-drop, take_all}
 use Rattle.std.proofs.Math.Seq.{drop-length, take-length}
-use Rattle.daide_token.specs.Token.{tokens_of}
+use Rattle.daide_token.specs.Token.{bytes_of, tokens_of}
 use Rattle.daide_token.specs.declared.class.Class.{Class}
 use Rattle.daide_grammar.specs.Answers.{Answer}
 use Rattle.daide_grammar.specs.declared.symbol.Sym.{Sym}
@@ -16,11 +16,12 @@ use Rattle.daide_grammar.specs.Laws.{PredictLaws}
 use Rattle.daide_grammar.specs.Paired.{begins_with_prn}
 use Rattle.daide_grammar.specs.Brackets.{is_bra, is_ket, counted, count_one}
 use Rattle.daide_reader.specs.declared.outline.Outline.{Outline}
-use Rattle.daide_reader.specs.Outline.{IsOutlineOf, with_token, outline_of, outline_on, count_all}
+use Rattle.daide_reader.specs.Outline.{IsOutlineOf, with_token, outline_of, count_all}
 use Rattle.daide_reader.specs.Reading.{Reading, StandsAfter, StackOrPlace, IsSteady, reading, tokens_read}
 use Rattle.std.specs.Prelude.{nat_eq, if◌then◌else◌}
 use Rattle.std.specs.Option.{unwrap_or}
 use Rattle.daide_reader.specs.Stack.{open_count}
+use Rattle.daide_reader.specs.Slice.{place_behind}
 use Rattle.daide_reader.proofs.OutlineLemmas.{outline-snoc, same_outline, outline_of-is}
 use Rattle.daide_reader.proofs.ErrorPlaceLemmas.{place_kept}
 use Rattle.daide_grammar.proofs.Counting.{counted-snoc}
@@ -73,6 +74,32 @@ pub length_front : (i : ℕ) (m : List ℕ) → i ≤ length m → i ≡ length 
 length_front zero m h = refl
 length_front (suc i) [] h = absurd (omega arith)
 length_front (suc i) (t ∷ m) h = ap suc (length_front i m (omega arith))
+
+-- so behind other tokens
+pub front_not_prn_behind : (before : List ℕ) (i : ℕ) (m : List ℕ) → begins_with_prn (before ++ m) ≡ false
+    → begins_with_prn (before ++ take i m) ≡ false
+front_not_prn_behind [] i m h = front_not_prn i m h
+front_not_prn_behind (t ∷ before) i m h = h
+
+pub length_behind : (before : List ℕ) (i : ℕ) (m : List ℕ) → i ≤ length m
+    → length before + i ≡ length (before ++ take i m)
+length_behind before i m h = ap (λ (k : ℕ). length before + k) (length_front i m h) ∙ sym (length-append before (take i m))
+
+-- the tokens of a body from one on are those of its bytes from there on
+pub tokens_of-drop : (i : ℕ) (b : List ℕ) → tokens_of (drop (2 * i) b) ≡ drop i (tokens_of b)
+tokens_of-drop zero b = refl
+tokens_of-drop (suc i) [] = let next : 2 * suc i ≡ suc (suc (2 * i)) = omega arith in rw next refl
+tokens_of-drop (suc i) (x ∷ []) = let next : 2 * suc i ≡ suc (suc (2 * i)) = omega arith in rw next refl
+tokens_of-drop (suc i) (x ∷ y ∷ b) =
+    let next : 2 * suc i ≡ suc (suc (2 * i)) = omega arith in
+    rw next (tokens_of-drop i b)
+
+-- the bytes from a place on, as a slice is taken
+pub slice_on : (n : ℕ) (b : List ℕ) → take (length b - n) (drop n b) ≡ drop n b
+slice_on n b = take_all (length b - n) (drop n b) (rw length-drop (omega arith))
+
+pub one_token : (t : ℕ) (bytes : List ℕ) → bytes ≡ bytes_of t → tokens_of bytes ≡ t ∷ []
+one_token t bytes is = ap tokens_of is ∙ ap (λ (n : ℕ). n ∷ []) (omega arith)
 
 pub outline_of-snoc : (p : List ℕ) (t : ℕ) → outline_of (p ++ t ∷ []) ≡ with_token (outline_of p) t
 outline_of-snoc p t = same_outline (with_token (outline_of p) t) (p ++ t ∷ [])
@@ -235,17 +262,16 @@ module _ {T : Type 0} (table : Ghosts T) (words : Words) (first : Sym) (max_dept
       (stands_report table words first max_depth old new p q same depth_same finished_same asked_same unclosed_same
       (λ o. subst (λ (r : List ℕ). IsOutlineOf new.outline r) (sym whole) (more o)) is_report h)
 
--- a reader stays steady with the outline of all tokens of a body
+-- a reader stays steady with the outline of more tokens
 pub steady_on : (old_lawful lawful : List Sym → ℕ →
-    Type 0) (size max_depth : ℕ) (old_stack stack : List Sym) (old : Outline) (m : List ℕ)
+    Type 0) (size max_depth : ℕ) (old_stack stack : List Sym) (old o : Outline)
     (old_unclosed old_place unclosed place : Option ℕ)
-    → IsSteady old_lawful size max_depth old_stack old old_unclosed old_place → old.tokens < length m → length m ≤ 32767
-    → IfSome unclosed (λ n. n ≤ length m)
-    → ((outline_on old m).is_prn ≡ false → place ≡ None
-    → (n : ℕ) × (unclosed ≡ Some n) × (n ≤ max_depth) × lawful stack n)
-    → (IsSome place → stack ≡ []) → ((outline_on old m).is_prn ≡ true → stack ≡ [])
-    → IsSteady lawful size max_depth stack (outline_on old m) unclosed place
-steady_on old_lawful lawful size max_depth old_stack stack old m old_unclosed old_place unclosed place steady more short
+    → IsSteady old_lawful size max_depth old_stack old old_unclosed old_place → old.tokens < o.tokens
+    → o.tokens ≤ 32767 → IfSome unclosed (λ n. n ≤ o.tokens)
+    → (o.is_prn ≡ false → place ≡ None → (n : ℕ) × (unclosed ≡ Some n) × (n ≤ max_depth) × lawful stack n)
+    → (IsSome place → stack ≡ []) → (o.is_prn ≡ true → stack ≡ [])
+    → IsSteady lawful size max_depth stack o unclosed place
+steady_on old_lawful lawful size max_depth old_stack stack old o old_unclosed old_place unclosed place steady more short
     counts ok placed report =
     record {
       small = steady.small;
@@ -307,12 +333,26 @@ pub closed_early : (opens closes : Bool) (n : ℕ) → opens ≡ false → close
     count_one opens closes (Some n) ≡ None
 closed_early opens closes n is_no is_ket none = rw (is_no, is_ket, none) refl
 
--- the count over the tokens from one on
-pub counts_past : (n : ℕ) (m : List ℕ) → n ≤ length m → (u : Option ℕ) → IfSome u (λ k. k ≤ n) →
-    IfSome (count_all u (drop n m)) (λ k. k ≤ length m)
-counts_past n m inside u few =
-    let size : n + length (drop n m) ≡ length m = rw length-drop (omega arith) in
-    subst (λ (k : ℕ). IfSome (count_all u (drop n m)) (λ j. j ≤ k)) size (count_all-few u n (drop n m) few)
+-- the count over the tokens of a body from one on, with those before it
+pub counts_past : (u : Option ℕ) (before i total : ℕ) (m : List ℕ) → i ≤ length m → total ≡ before + length m
+    → IfSome u (λ n. n ≤ before + i) → IfSome (count_all u (drop i m)) (λ n. n ≤ total)
+counts_past u before i total m inside sum few =
+    let size : before + i + length (drop i m) ≡ total = rw length-drop (omega (arith, inside, sum)) in
+    subst (λ (k : ℕ). IfSome (count_all u (drop i m)) (λ n. n ≤ k)) size (count_all-few u (before + i) (drop i m) few)
+
+-- a place behind other tokens is there where the place is
+pub behind_none : (before : ℕ) (place : Option ℕ) → place_behind before place ≡ None → place ≡ None
+behind_none before None e = refl
+behind_none before (Some i) e = absurd cc
+
+pub behind_some : (before : ℕ) (place : Option ℕ) → IsSome (place_behind before place) → IsSome place
+behind_some before None e = e
+behind_some before (Some i) e = refl
+
+pub behind_fits : (before tokens : ℕ) (place : Option ℕ) → IfSome place (λ i. i < tokens)
+    → before + tokens ≤ 65535 → IfSome place (λ i. before + i ≤ 65535)
+behind_fits before tokens None few room = tt
+behind_fits before tokens (Some i) few room = omega arith
 
 -- the stack after a token, by the class that a table tells of it
 pub taken_at : (moves : Sym → Class → Answer) (told class : Class) (stack : List Sym)

@@ -1,7 +1,7 @@
 -- A reader that is in locals, in the midst of a token of a body.
 use Rattle.std.proofs.Common.{◌≡◌, ◌≢◌, ℕ, zero, suc, ◌+◌, ◌-◌, ◌*◌, ◌%◌, ◌^◌, ◌≤◌, ◌<◌, Bool, true, false, ◌⊎◌, inr}
 use Rattle.std.proofs.Common.{List, [], ◌∷◌, ◌++◌, length, take, drop, Option, Some, None, IfSome, nat_eq}
-use Rattle.std.proofs.Common.{if◌then◌else◌, refl, sym, ap, ◌∙◌, subst, arith}
+use Rattle.std.proofs.Common.{if◌then◌else◌, refl, sym, ap, ◌∙◌, subst, arith, append_assoc}
 use Rattle.std.proofs.lemmas.Bool.Decides.{nat_tests}
 use Rattle.std.specs.Option.{unwrap_or}
 use Rattle.daide_token.specs.Class.{class_of}
@@ -19,12 +19,13 @@ use Rattle.daide_grammar.specs.declared.predict.Predict.{Ghosts}
 use Rattle.daide_grammar.specs.declared.symbol.Sym.{Sym}
 use Rattle.daide_reader.specs.Outline.{outline_of}
 use Rattle.daide_reader.specs.Reading.{IsRaised, StandsAfter, reading}
-use Rattle.daide_reader.specs.Slice.{ReadsTo, Standing}
+use Rattle.daide_reader.specs.Slice.{ReadsTo, Standing, place_behind}
 use Rattle.daide_reader.specs.Stack.{open_count, steps_at}
 use Rattle.daide_grammar.proofs.BracketSteps.{step_by_class}
 use Rattle.daide_reader.proofs.CellLemmas.{after_skipped, after_taken, steps_skipped, steps_taken}
 use Rattle.daide_reader.proofs.ReadingLemmas.{counts_more, few_steps, raised_by, raised_more, raised_none, room_more}
-use Rattle.daide_reader.proofs.SliceLemmas.{count_is, front_not_prn, length_front, open_told, run_refused, run_taken}
+use Rattle.daide_reader.proofs.SliceLemmas.{count_is, counts_up, front_not_prn_behind, length_behind, open_told}
+use Rattle.daide_reader.proofs.SliceLemmas.{run_refused, run_taken}
 use Rattle.daide_reader.proofs.StackLemmas.{lawful_more}
 
 -- a count that goes up by the step of a token's class counts it
@@ -66,28 +67,30 @@ module _ {T : Type 0} (table : Ghosts T)
   pub record AtToken (i opened : ℕ) (now : Standing T) : Type 0 where
     pub words : table.words now.table ≡ table.words old.table
     pub from : read ≤ i
-    pub few : opened ≤ i
+    pub few : opened ≤ unclosed + (i - read)
     pub deep : opened ≤ max_depth
     pub lawful : table.lawful (table.words now.table) now.stack opened
     pub raised : IsRaised (4 * (i - read)) (table.asked old.table) (table.asked now.table)
-    pub stands_after : (words : Words) (first : Sym) (depth base : ℕ) → begins_with_prn (tokens_of body) ≡ false →
+    pub stands_after : (words : Words) (first : Sym) (depth base : ℕ) (before : List ℕ)
+        → begins_with_prn (before ++ tokens_of body) ≡ false →
         StandsAfter table words first depth
-        (reading old.table max_depth old.stack (outline_of (take read (tokens_of body))) (Some unclosed) None base)
-        (take read (tokens_of body)) →
+        (reading old.table max_depth old.stack (outline_of (before ++ take read (tokens_of body))) (Some unclosed) None
+        base)
+        (before ++ take read (tokens_of body)) →
         StandsAfter table words first depth
-        (reading now.table max_depth now.stack (outline_of (take i (tokens_of body))) (Some opened) None base)
-        (take i (tokens_of body))
+        (reading now.table max_depth now.stack (outline_of (before ++ take i (tokens_of body))) (Some opened) None base)
+        (before ++ take i (tokens_of body))
 
-  pub at_start : unclosed ≤ read → unclosed ≤ max_depth → table.lawful (table.words old.table) old.stack unclosed
+  pub at_start : unclosed ≤ max_depth → table.lawful (table.words old.table) old.stack unclosed
       → AtToken read unclosed old
-  at_start few deep lawful = record {
+  at_start deep lawful = record {
     words = refl;
     from = omega arith;
-    few = few;
+    few = omega arith;
     deep = deep;
     lawful = lawful;
     raised = raised_none (table.asked old.table) (table.asked old.table) refl;
-    stands_after = λ words first depth base plain h. h;
+    stands_after = λ words first depth base before plain h. h;
   }
 
   -- the stack and the answers that are due at a token, by what a table says
@@ -113,7 +116,6 @@ module _ {T : Type 0} (table : Ghosts T)
   at_next i t opened after now new at front takes =
       let w = table.words now.table in
       let m = tokens_of body in
-      let p = take i m in
       let next = lawful_more _ _ _ _ _ (laws w) t opened max_depth now.stack new.stack at.lawful at.deep takes.fits
       takes.taken in
       let is : next.0 ≡ after = sym (open_told after next.0 (sym takes.counted ∙ next.1)) in
@@ -121,26 +123,31 @@ module _ {T : Type 0} (table : Ghosts T)
       next.1 ∙ ap (λ (k : ℕ). Some k) is in
       let few_here = few_steps table laws w (table.class_of w t) now.stack opened takes.steps.0 at.lawful takes.steps.1
       in
-      let few = counts_more (Some opened) i (is_bra t) (is_ket t) at.few in
+      let few = counts_more (Some opened) (unclosed + (i - read)) (is_bra t) (is_ket t) at.few in
+      let one : unclosed + (i - read) + 1 ≡ unclosed + (i + 1 - read) = (let from = at.from in omega (arith, from)) in
       record {
         words = takes.words ∙ at.words;
         from = (let from = at.from in omega (arith, from));
-        few = subst (λ (o : Option ℕ). IfSome o (λ n. n ≤ i + 1)) counts few;
+        few = subst (λ (k : ℕ). after ≤ k) one
+            (subst (λ (o : Option ℕ). IfSome o (λ n. n ≤ unclosed + (i - read) + 1)) counts few);
         deep = subst (λ (n : ℕ). n ≤ max_depth) is next.2;
         lawful = subst (λ (n : ℕ). table.lawful (table.words new.table) new.stack n) is
             (subst (λ (w : Words). table.lawful w new.stack next.0) (sym takes.words) next.3);
         raised = raised_more (4 * (i - read)) 4 _ _ _ _ (let from = at.from in omega (arith, from)) at.raised
             (raised_by takes.steps.0 _ _ _ few_here refl takes.steps.2);
-        stands_after = λ words first depth base plain h.
+        stands_after = λ words first depth base before plain h.
+            let p = before ++ take i m in
+            let next_front : before ++ take (i + 1) m ≡ p ++ t ∷ [] =
+            ap (λ (q : List ℕ). before ++ q) front ∙ sym (append_assoc before (take i m) (t ∷ [])) in
             let not_prn : begins_with_prn (p ++ t ∷ []) ≡ false =
-            subst (λ (q : List ℕ). begins_with_prn q ≡ false) front (front_not_prn (i + 1) m plain) in
+            subst (λ (q : List ℕ). begins_with_prn q ≡ false) next_front (front_not_prn_behind before (i + 1) m plain) in
             subst (λ (q : List ℕ). StandsAfter table words first depth
             (reading new.table max_depth new.stack (outline_of q) (Some after) None base) q)
-            (sym front)
+            (sym next_front)
             (run_taken table laws words first depth base _ _ max_depth _ _ p t opened after
             not_prn takes.words at.lawful at.deep takes.fits takes.taken counts
             (takes.steps.0, few_here, takes.steps.2)
-            (at.stands_after words first depth base plain h));
+            (at.stands_after words first depth base before plain h));
       }
 
   -- all tokens up to one were read
@@ -150,6 +157,7 @@ module _ {T : Type 0} (table : Ghosts T)
     words = at.words;
     goes_on = at.from;
     counts = at.few;
+    found = tt;
     lawful = λ _. (opened, refl, at.deep, at.lawful);
     none_left = λ some. absurd cc;
     raised = at.raised;
@@ -171,27 +179,33 @@ module _ {T : Type 0} (table : Ghosts T)
   reads_refused i t opened after now new at inside front empty refuses =
       let w = table.words now.table in
       let m = tokens_of body in
-      let p = take i m in
       let few_here = few_steps table laws w (table.class_of w t) now.stack opened refuses.steps.0 at.lawful
       refuses.steps.1 in
-      let few = counts_more (Some opened) i (is_bra t) (is_ket t) at.few in
+      let few = counts_more (Some opened) (unclosed + (i - read)) (is_bra t) (is_ket t) at.few in
+      let one : unclosed + (i - read) + 1 ≡ unclosed + (i + 1 - read) = (let from = at.from in omega (arith, from)) in
       record {
         words = refuses.words ∙ at.words;
         goes_on = (let from = at.from in omega (arith, from));
-        counts = subst (λ (o : Option ℕ). IfSome o (λ n. n ≤ i + 1)) (sym refuses.counted) few;
+        counts = subst (λ (k : ℕ). IfSome after (λ n. n ≤ k)) one
+            (subst (λ (o : Option ℕ). IfSome o (λ n. n ≤ unclosed + (i - read) + 1)) (sym refuses.counted) few);
+        found = omega arith;
         lawful = λ none. absurd cc;
         none_left = λ _. empty;
         raised = raised_more (4 * (i - read)) 4 _ _ _ _ (let from = at.from in omega (arith, from)) at.raised
             (raised_by refuses.steps.0 _ _ _ few_here refl refuses.steps.2);
-        stands_after = λ words first depth base plain h.
+        stands_after = λ words first depth base before plain h.
+            let p = before ++ take i m in
+            let next_front : before ++ take (i + 1) m ≡ p ++ t ∷ [] =
+            ap (λ (q : List ℕ). before ++ q) front ∙ sym (append_assoc before (take i m) (t ∷ [])) in
             let not_prn : begins_with_prn (p ++ t ∷ []) ≡ false =
-            subst (λ (q : List ℕ). begins_with_prn q ≡ false) front (front_not_prn (i + 1) m plain) in
+            subst (λ (q : List ℕ). begins_with_prn q ≡ false) next_front (front_not_prn_behind before (i + 1) m plain) in
             subst (λ (q : List ℕ). StandsAfter table words first depth
-            (reading new.table max_depth new.stack (outline_of q) after (Some i) base) q) (sym front)
-            (run_refused table laws words first depth base _ _ max_depth _ _ p t opened i after
-            not_prn refuses.words at.lawful at.deep refuses.why refuses.counted (length_front i m inside)
+            (reading new.table max_depth new.stack (outline_of q) after (Some (length before + i)) base) q)
+            (sym next_front)
+            (run_refused table laws words first depth base _ _ max_depth _ _ p t opened (length before + i) after
+            not_prn refuses.words at.lawful at.deep refuses.why refuses.counted (length_behind before i m inside)
             (refuses.steps.0, few_here, refuses.steps.2)
-            (at.stands_after words first depth base plain h));
+            (at.stands_after words first depth base before plain h));
       }
 
   -- a stretch more: from where all tokens up to one were read
@@ -201,13 +215,15 @@ module _ {T : Type 0} (table : Ghosts T)
   reads_joined i opened tokens unclosed' place now new at more = record {
     words = more.words ∙ at.words;
     goes_on = (let from = at.from in let on = more.goes_on in omega (arith, from, on));
-    counts = more.counts;
+    counts = counts_up unclosed' (opened + (tokens - i)) (unclosed + (tokens - read))
+        (let few = at.few in let from = at.from in let on = more.goes_on in omega (arith, few, from, on)) more.counts;
+    found = more.found;
     lawful = more.lawful;
     none_left = more.none_left;
     raised = raised_more (4 * (i - read)) (4 * (tokens - i)) _ _ _ _
         (let from = at.from in let on = more.goes_on in omega (arith, from, on)) at.raised more.raised;
-    stands_after = λ words first depth base plain h.
-        more.stands_after words first depth base plain (at.stands_after words first depth base plain h);
+    stands_after = λ words first depth base before plain h.
+        more.stands_after words first depth base before plain (at.stands_after words first depth base before plain h);
   }
 
   -- all of it taken
@@ -223,17 +239,18 @@ module _ {T : Type 0} (table : Ghosts T)
       record {
         words = whole.words;
         from = whole.goes_on;
-        few = subst (λ (o : Option ℕ). IfSome o (λ n. n ≤ tokens)) is whole.counts;
+        few = subst (λ (o : Option ℕ). IfSome o (λ n. n ≤ unclosed + (tokens - read))) is whole.counts;
         deep = subst (λ (n : ℕ). n ≤ max_depth) same ok.2;
         lawful = subst (λ (n : ℕ). table.lawful (table.words new.table) new.stack n) same ok.3;
         raised = whole.raised;
-        stands_after = λ words first depth base plain h.
+        stands_after = λ words first depth base before plain h.
+            let q = before ++ take tokens (tokens_of body) in
             subst (λ (o : Option ℕ). StandsAfter table words first depth
-            (reading new.table max_depth new.stack (outline_of (take tokens (tokens_of body))) (Some now_open) o base)
-            (take tokens (tokens_of body))) none
+            (reading new.table max_depth new.stack (outline_of q) (Some now_open) (place_behind (length before) o) base)
+            q) none
             (subst (λ (u : Option ℕ). StandsAfter table words first depth
-            (reading new.table max_depth new.stack (outline_of (take tokens (tokens_of body))) u place base)
-            (take tokens (tokens_of body))) is (whole.stands_after words first depth base plain h));
+            (reading new.table max_depth new.stack (outline_of q) u (place_behind (length before) place) base)
+            q) is (whole.stands_after words first depth base before plain h));
       }
 
   -- in the midst of a token some symbols of the stack at its start were skipped, and asked

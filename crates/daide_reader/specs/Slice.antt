@@ -1,5 +1,6 @@
 -- What reading some tokens of a body comes to, with what a reader holds in locals. (own)
-use Rattle.std.specs.Prelude.{◌≡◌, ℕ, ◌-◌, ◌*◌, ◌≤◌, false, List, [], take, Option, None, Some, IsSome, IfSome}
+use Rattle.std.specs.Prelude.{◌≡◌, ◌++◌, ◌+◌, ◌<◌, ℕ, ◌-◌, ◌*◌, ◌≤◌, false, List, [], length, take, Option, None, Some}
+use Rattle.std.specs.Prelude.{IsSome, IfSome}
 use Rattle.daide_token.specs.Token.{tokens_of}
 use Rattle.daide_grammar.specs.declared.symbol.Sym.{Sym}
 use Rattle.daide_grammar.specs.declared.predict.Predict.{Ghosts}
@@ -13,21 +14,30 @@ pub record Standing (T : Type 0) : Type 0 where
   pub table : T
   pub stack : List Sym
 
+-- the place in a message of one in a body that begins behind so many tokens
+abbrev pub place_behind : ℕ → Option ℕ → Option ℕ
+place_behind before None = None
+place_behind before (Some i) = Some (before + i)
+
 -- the tokens of the body from one on were read up to another, where `opened` brackets are open, or up to one that no
--- message continues
+-- message continues, whatever tokens the message had before the body
 pub record ReadsTo {T : Type 0} (table : Ghosts T) (max_depth : ℕ) (body : List ℕ) (read unclosed : ℕ)
     (old : Standing T) (tokens : ℕ) (opened place : Option ℕ) (new : Standing T) : Type 0 where
   pub words : table.words new.table ≡ table.words old.table
   pub goes_on : read ≤ tokens
-  pub counts : IfSome opened (λ n. n ≤ tokens)
+  pub counts : IfSome opened (λ n. n ≤ unclosed + (tokens - read))
+  pub found : IfSome place (λ i. i < tokens)
   pub lawful : place ≡ None
       → (n : ℕ) × (opened ≡ Some n) × (n ≤ max_depth) × table.lawful (table.words new.table) new.stack n
   pub none_left : IsSome place → new.stack ≡ []
   pub raised : IsRaised (4 * (tokens - read)) (table.asked old.table) (table.asked new.table)
-  pub stands_after : (words : Words) (first : Sym) (depth base : ℕ) → begins_with_prn (tokens_of body) ≡ false →
+  pub stands_after : (words : Words) (first : Sym) (depth base : ℕ) (before : List ℕ)
+      → begins_with_prn (before ++ tokens_of body) ≡ false →
       StandsAfter table words first depth
-      (reading old.table max_depth old.stack (outline_of (take read (tokens_of body))) (Some unclosed) None base)
-      (take read (tokens_of body)) →
+      (reading old.table max_depth old.stack (outline_of (before ++ take read (tokens_of body))) (Some unclosed) None
+      base)
+      (before ++ take read (tokens_of body)) →
       StandsAfter table words first depth
-      (reading new.table max_depth new.stack (outline_of (take tokens (tokens_of body))) opened place base)
-      (take tokens (tokens_of body))
+      (reading new.table max_depth new.stack (outline_of (before ++ take tokens (tokens_of body))) opened
+      (place_behind (length before) place) base)
+      (before ++ take tokens (tokens_of body))

@@ -37,38 +37,12 @@ pub fn is_prn(token: Token) -> bool
     token.code() == 0x4813
 }
 
-/// Counts one more token: the open brackets after it, or `None` once a KET came with nothing open.
-/// Only a bracket writes.
-#[inline(always)]
-pub fn count(unclosed: &mut Option<u16>, token: Token)
-    requires { IfSome unclosed.old (λ n. n < 65535) }
-    ensures { unclosed.new ≡ count_one (is_bra_token token) (is_ket_token token) unclosed.old }
-{
-    if is_bra(token) {
-        if let Some(open) = *unclosed {
-            *unclosed = Some(open + 1);
-        }
-    } else if is_ket(token) {
-        if let Some(open) = *unclosed {
-            *unclosed = open.checked_sub(1);
-        }
-    }
-}
-
 /// Whether just so many brackets are open.
 #[inline(always)]
 pub fn are_open(unclosed: Option<u16>, count: u16) -> bool
     ensures { IsTrue result ↔ (unclosed ≡ Some count) }
 {
     unclosed == Some(count)
-}
-
-/// Whether the token opens a bracket where just so many are open.
-#[inline(always)]
-pub fn opens_at(unclosed: Option<u16>, token: Token, count: u16) -> bool
-    ensures { IsTrue result ↔ ((is_bra_token token ≡ true) × (unclosed ≡ Some count)) }
-{
-    is_bra(token) && are_open(unclosed, count)
 }
 
 /// Counts one more token, and answers whether it doesn't open one bracket too many. The class tells

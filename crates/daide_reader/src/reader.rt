@@ -10,13 +10,14 @@ ghost use Rattle.daide_grammar.specs.Depth.{open_brackets};
 ghost use Rattle.daide_grammar.specs.Words.{Words};
 ghost use Rattle.daide_reader.specs.ViablePrefix.{IsMessageOf};
 ghost use Rattle.daide_reader.specs.Verdict.{HasVerdict};
+ghost use Rattle.daide_reader.specs.Outline.{IsOutlineOf};
 ghost use Rattle.daide_reader.specs.Reading.{StandsAfter, IsSettled, IsRaised, tokens_read, brackets_open, steps_since};
 ghost use Rattle.daide_reader.specs.declared.verdict.Verdict.TheVariants.{Prn};
 
-use crate::brackets::{are_open, count, opens_at};
+use crate::brackets::are_open;
 use crate::outline::Outline;
-use crate::slice::count_from;
-use crate::stack::{may_all_end, take};
+use crate::slice::{count_from, place_behind};
+use crate::stack::may_all_end;
 use crate::symbols::Symbols;
 use crate::verdict::Verdict;
 use daide_grammar::level::Level;
@@ -112,8 +113,7 @@ impl<T: Predict, const N: usize> Reader<T, N> {
         self.finished = false;
     }
 
-    /// Reads a token. A message has at most 32,767; `is_full` is the test.
-    #[inline(never)]
+    /// Reads a token, as a body of one token is read. A message has at most 32,767; `is_full` is the test.
     pub fn push(&mut self, token: Token)
         requires room { tokens_read self.old < 32767 }
         requires unfinished { self.old.finished ≡ false }
@@ -128,22 +128,10 @@ impl<T: Predict, const N: usize> Reader<T, N> {
         ensures unasked { IsSettled self.old → self.new.table ≡ self.old.table }
         ensures unfinished { self.new.finished ≡ false }
     {
-        let index = self.outline.tokens;
-        self.outline.add(token);
-        if self.outline.is_prn {
-            self.stack.clear();
-            return;
-        }
-        if self.place.is_some() {
-            count(&mut self.unclosed, token);
-            return;
-        }
-        let deepest = opens_at(self.unclosed, token, self.max_depth);
-        count(&mut self.unclosed, token);
-        if take(&mut self.table, &mut self.stack, token, deepest) {
-            return;
-        }
-        self.place = Some(index);
+        let mut outline = self.outline;
+        outline.add(token);
+        let body = token.to_be();
+        self.go_on(outline, &body);
     }
 
     /// Reads what has come of a body so far: the tokens that were not read yet, each once and in their
@@ -171,20 +159,43 @@ impl<T: Predict, const N: usize> Reader<T, N> {
         if read == body.len() / 2 {
             return;
         }
-        self.outline = self.outline.on(body);
-        if self.outline.is_prn {
+        let outline = self.outline.on(body);
+        self.go_on(outline, &body[2 * read..]);
+    }
+
+    /// Reads the tokens that come next, as a body of their own. All tokens so far have the outline then.
+    fn go_on(&mut self, outline: Outline, body: &[u8])
+        requires unfinished { self.old.finished ≡ false }
+        requires bytes { length body.now ≤ 65534 }
+        requires some { 2 ≤ length body.now }
+        requires tokens { outline.tokens ≡ tokens_read self.old + length body.now / 2 }
+        requires room { outline.tokens ≤ 32767 }
+        requires plain { outline.is_prn ≡ false → self.old.outline.is_prn ≡ false }
+        ensures stands_after { (words : Words) (first : Sym) (max_depth : ℕ) (p : List ℕ) →
+            IsOutlineOf outline (p ++ tokens_of body.now) →
+            StandsAfter T.Predict words first max_depth self.old p →
+            StandsAfter T.Predict words first max_depth self.new (p ++ tokens_of body.now) }
+        ensures tokens { tokens_read self.new ≡ outline.tokens }
+        ensures words { T.words self.new.table ≡ T.words self.old.table }
+        ensures depth { self.new.max_depth ≡ self.old.max_depth }
+        ensures base { self.new.asked_before ≡ self.old.asked_before }
+        ensures raised { IsRaised (4 * (length body.now / 2)) (T.asked self.old.table) (T.asked self.new.table) }
+        ensures unasked { IsSettled self.old → self.new.table ≡ self.old.table }
+        ensures unfinished { self.new.finished ≡ false }
+    {
+        let before = self.outline.tokens;
+        self.outline = outline;
+        if outline.is_prn {
             self.stack.clear();
             return;
         }
         if self.place.is_some() {
-            self.unclosed = count_from(self.unclosed, body, read);
+            self.unclosed = count_from(self.unclosed, body, 0);
             return;
         }
         let open = self.unclosed.unwrap_or(0);
-        let reached = self
-            .stack
-            .run(&mut self.table, body, read, open, self.max_depth);
-        self.place = reached.place;
+        let reached = self.stack.run(&mut self.table, body, open, self.max_depth);
+        self.place = place_behind(before, reached.place);
         self.unclosed = count_from(reached.unclosed, body, reached.tokens);
     }
 

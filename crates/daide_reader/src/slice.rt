@@ -3,16 +3,12 @@
 //! What belongs to the message or to the slice is not looked at in the loop: whether the message
 //! begins with PRN, its outline, and whether a place was found.
 
-ghost use Rattle.std.specs.Prelude.{◌≡◌, ◌≢◌, ◌≤◌, ◌<◌, ◌+◌, ◌-◌, ◌*◌, ◌/◌, ◌%◌, ◌^◌, ◌⊎◌, List, ℕ, None, Some, IsSome, IfSome, IfNone, take, drop, length, reverse, false, true};
+ghost use Rattle.std.specs.Prelude.{◌≡◌, ◌≢◌, ◌≤◌, ◌<◌, ◌+◌, ◌-◌, ◌*◌, ◌/◌, ◌%◌, ◌^◌, ◌⊎◌, List, ℕ, None, Some, IsSome, IfSome, IfNone, take, drop, length, reverse, true};
 ghost use Rattle.daide_token.specs.Token.{tokens_of};
-ghost use Rattle.daide_grammar.specs.declared.symbol.Sym.{Sym};
-ghost use Rattle.daide_grammar.specs.Paired.{begins_with_prn};
 ghost use Rattle.daide_grammar.specs.Brackets.{is_bra as is_bra_token, is_ket as is_ket_token, count_one};
 ghost use Rattle.daide_grammar.specs.Stacks.{stack_after};
-ghost use Rattle.daide_grammar.specs.Words.{Words};
-ghost use Rattle.daide_reader.specs.Outline.{count_all, outline_of};
-ghost use Rattle.daide_reader.specs.Reading.{IsRaised, StandsAfter, reading};
-ghost use Rattle.daide_reader.specs.Slice.{ReadsTo};
+ghost use Rattle.daide_reader.specs.Outline.{count_all};
+ghost use Rattle.daide_reader.specs.Slice.{ReadsTo, place_behind};
 ghost use Rattle.daide_reader.specs.Stack.{open_count, steps_at};
 
 use crate::body::token_at;
@@ -107,7 +103,6 @@ fn stretch<T: Predict, const N: usize>(
     requires deepest { 8 * max_depth + 16 ≤ N }
     requires room { length body.now ≤ 65534 }
     requires read { read < length body.now / 2 }
-    requires few { unclosed ≤ read }
     requires deep { unclosed < max_depth }
     requires lawful { T.lawful (T.words table.old) (reverse (take count cells.old)) unclosed }
     ensures inside { result.count ≤ N }
@@ -154,14 +149,14 @@ fn stretch<T: Predict, const N: usize>(
     }
 }
 
-/// Reads the tokens of a body from one on, with the stack and the open brackets of those before it.
+/// Reads the tokens of a body, with the stack and the open brackets of those before it. Neither they nor a place
+/// in the message is known here: a place is told in the body.
 #[inline(always)]
 pub fn run<T: Predict, const N: usize>(
     table: &mut T,
     cells: &mut [Symbol; N],
     count: usize,
     body: &[u8],
-    read: usize,
     unclosed: u16,
     max_depth: u16,
 ) -> Reached
@@ -169,34 +164,19 @@ pub fn run<T: Predict, const N: usize>(
     requires count { count ≤ N }
     requires deepest { 8 * max_depth + 16 ≤ N }
     requires room { length body.now ≤ 65534 }
-    requires read { read ≤ length body.now / 2 }
-    requires few { unclosed ≤ read }
     requires deep { unclosed ≤ max_depth }
     requires lawful { T.lawful (T.words table.old) (reverse (take count cells.old)) unclosed }
     ensures inside { result.count ≤ N }
-    ensures goes_on { read ≤ result.tokens }
     ensures tokens { result.tokens ≤ length body.now / 2 }
     ensures all { result.place ≡ None → result.tokens ≡ length body.now / 2 }
-    ensures words { T.words table.new ≡ T.words table.old }
-    ensures counts { IfSome result.unclosed (λ n. n ≤ result.tokens) }
-    ensures lawful { result.place ≡ None → (n : ℕ) × (result.unclosed ≡ Some n) × (n ≤ max_depth)
-        × T.lawful (T.words table.new) (reverse (take result.count cells.new)) n }
-    ensures none_left { IsSome result.place → result.count ≡ 0 }
-    ensures raised { IsRaised (4 * (result.tokens - read)) (T.asked table.old) (T.asked table.new) }
-    ensures stands_after { (words : Words) (first : Sym) (depth base : ℕ) →
-        begins_with_prn (tokens_of body.now) ≡ false →
-        StandsAfter T.Predict words first depth
-        (reading table.old max_depth (reverse (take count cells.old))
-        (outline_of (take read (tokens_of body.now))) (Some unclosed) None base)
-        (take read (tokens_of body.now)) →
-        StandsAfter T.Predict words first depth
-        (reading table.new max_depth (reverse (take result.count cells.new))
-        (outline_of (take result.tokens (tokens_of body.now))) result.unclosed result.place base)
-        (take result.tokens (tokens_of body.now)) }
+    ensures reads { ReadsTo T.Predict max_depth body.now 0 unclosed
+        (record { table = table.old; stack = reverse (take count cells.old) })
+        result.tokens result.unclosed result.place
+        (record { table = table.new; stack = reverse (take result.count cells.new) }) }
 {
     let mut opened = unclosed;
     let mut left = count;
-    let mut next = read;
+    let mut next = 0;
     while next < body.len() / 2 {
         if opened < max_depth {
             let reached = stretch(table, cells, left, body, next, opened, max_depth);
@@ -227,7 +207,7 @@ pub fn run<T: Predict, const N: usize>(
 pub fn count_from(unclosed: Option<u16>, body: &[u8], next: usize) -> Option<u16>
     requires room { length body.now ≤ 65534 }
     requires next { next ≤ length body.now / 2 }
-    requires few { IfSome unclosed (λ n. n ≤ next) }
+    requires few { IfSome unclosed (λ n. n ≤ 32767) }
     ensures count { result ≡ count_all unclosed (drop next (tokens_of body.now)) }
 {
     let Some(before) = unclosed else {
@@ -246,4 +226,15 @@ pub fn count_from(unclosed: Option<u16>, body: &[u8], next: usize) -> Option<u16
         }
     }
     Some(opened)
+}
+
+/// The place in a message of one in a body that begins behind so many tokens.
+pub fn place_behind(before: u16, place: Option<u16>) -> Option<u16>
+    requires { IfSome place (λ i. before + i ≤ 65535) }
+    ensures { result ≡ place_behind before place }
+{
+    match place {
+        Some(i) => Some(before + i),
+        None => None,
+    }
 }

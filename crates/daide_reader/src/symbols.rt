@@ -3,19 +3,10 @@
 //! Its cells lie open to the loop over a slice, which writes eight of them at once and has their count in
 //! a local. docs/DECISIONS.md tells what that saves.
 
-ghost use Rattle.std.specs.Prelude.{◌≡◌, ◌≤◌, ◌<◌, ◌+◌, ◌-◌, ◌*◌, ◌/◌, ℕ, IsSome, false, ◌%◌, ◌^◌, ◌++◌, ◌∷◌, [], Some, None, IfSome, take, length, reverse, if◌then◌else◌};
-ghost use Rattle.daide_token.specs.Token.{tokens_of};
-ghost use Rattle.daide_grammar.specs.declared.symbol.Sym.{Sym};
-ghost use Rattle.daide_grammar.specs.Paired.{begins_with_prn};
-ghost use Rattle.daide_grammar.specs.Words.{Words};
-ghost use Rattle.daide_grammar.specs.Stacks.{stack_after};
-ghost use Rattle.daide_reader.specs.Outline.{outline_of};
-ghost use Rattle.daide_reader.specs.Reading.{IsRaised, StandsAfter, reading};
-ghost use Rattle.daide_reader.specs.Stack.{steps_at};
+ghost use Rattle.std.specs.Prelude.{◌≡◌, ◌≤◌, ◌<◌, ◌+◌, ◌*◌, ◌/◌, ◌++◌, ◌∷◌, [], None, take, length, reverse};
+ghost use Rattle.daide_reader.specs.Slice.{ReadsTo};
 
-use crate::cells;
 use crate::slice::{Reached, run};
-use daide_grammar::column::Column;
 use daide_grammar::predict::Predict;
 use daide_grammar::symbol::Symbol;
 use std::marker::Model;
@@ -87,70 +78,32 @@ impl<S: Copy, const N: usize> Symbols<S, N> {
 }
 
 impl<const N: usize> Symbols<Symbol, N> {
-    /// Takes a token of this class off, and answers whether a symbol took it.
-    #[inline(always)]
-    pub fn follow<T: Predict>(&mut self, table: &mut T, class: Column) -> bool
-        requires size { N ≤ 4096 }
-        requires room { IfSome (stack_after (T.moves (T.words table.old)) class (reverse self.old))
-            (λ after. length after ≤ N) }
-        ensures stack { stack_after (T.moves (T.words table.old)) class (reverse self.old)
-            ≡ (if result then Some (reverse self.new) else None) }
-        ensures words { T.words table.new ≡ T.words table.old }
-        ensures steps { T.asked table.new % 2 ^ 64
-            ≡ (T.asked table.old + steps_at (T.moves (T.words table.old)) class (reverse self.old)) % 2 ^ 64 }
-    {
-        match cells::follow(table, &mut self.cells, self.count, class) {
-            Some(left) => {
-                self.count = left;
-                true
-            }
-            None => false,
-        }
-    }
-
-    /// Reads the tokens of a body from one on, with the open brackets of those before it.
+    /// Reads the tokens of a body, with the open brackets of those before it.
     #[inline(always)]
     pub fn run<T: Predict>(
         &mut self,
         table: &mut T,
         body: &[u8],
-        read: usize,
         unclosed: u16,
         max_depth: u16,
     ) -> Reached
         requires size { N ≤ 4096 }
         requires deepest { 8 * max_depth + 16 ≤ N }
         requires room { length body.now ≤ 65534 }
-        requires read { read ≤ length body.now / 2 }
-        requires few { unclosed ≤ read }
         requires deep { unclosed ≤ max_depth }
         requires lawful { T.lawful (T.words table.old) (reverse self.old) unclosed }
-        ensures goes_on { read ≤ result.tokens }
         ensures tokens { result.tokens ≤ length body.now / 2 }
         ensures all { result.place ≡ None → result.tokens ≡ length body.now / 2 }
-        ensures words { T.words table.new ≡ T.words table.old }
-        ensures counts { IfSome result.unclosed (λ n. n ≤ result.tokens) }
-        ensures lawful { result.place ≡ None → (n : ℕ) × (result.unclosed ≡ Some n) × (n ≤ max_depth)
-            × T.lawful (T.words table.new) (reverse self.new) n }
-        ensures none_left { IsSome result.place → self.new ≡ [] }
-        ensures raised { IsRaised (4 * (result.tokens - read)) (T.asked table.old) (T.asked table.new) }
-        ensures stands_after { (words : Words) (first : Sym) (depth base : ℕ) →
-            begins_with_prn (tokens_of body.now) ≡ false →
-            StandsAfter T.Predict words first depth
-            (reading table.old max_depth (reverse self.old)
-            (outline_of (take read (tokens_of body.now))) (Some unclosed) None base)
-            (take read (tokens_of body.now)) →
-            StandsAfter T.Predict words first depth
-            (reading table.new max_depth (reverse self.new)
-            (outline_of (take result.tokens (tokens_of body.now))) result.unclosed result.place base)
-            (take result.tokens (tokens_of body.now)) }
+        ensures reads { ReadsTo T.Predict max_depth body.now 0 unclosed
+            (record { table = table.old; stack = reverse self.old })
+            result.tokens result.unclosed result.place
+            (record { table = table.new; stack = reverse self.new }) }
     {
         let reached = run(
             table,
             &mut self.cells,
             self.count,
             body,
-            read,
             unclosed,
             max_depth,
         );

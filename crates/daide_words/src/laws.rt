@@ -1,5 +1,5 @@
 //! What holds of all words that an operator may add. Each law is a function whose contract says it; none has anything
-//! to do.
+//! to do. `laws_hold_over` gives them all to who holds `Words`.
 
 ghost use Rattle.std.specs.Prelude.{◌≡◌, ◌↔◌, ℕ, ◌≤◌, true, false, List, [], ◌∷◌, ◌++◌, take, drop};
 ghost use Rattle.daide_token.specs.Token.{bra, ket, prn, huh, err};
@@ -16,6 +16,9 @@ ghost use Rattle.daide_words.specs.declared.word.Word.{Word};
 ghost use Rattle.daide_words.specs.Word.{grammar_words};
 ghost use Rattle.daide_words.specs.Accepted.{are_accepted};
 ghost use Rattle.daide_words.specs.OverWords.{answer_over, spoken};
+ghost use Rattle.daide_words.specs.Words.{words_of};
+
+use crate::words::Words;
 
 /// Words that are accepted one after the other keep every law of prediction, whatever their list: the answers over
 /// them agree with the messages over them, and the stacks that can arise stay as small.
@@ -73,3 +76,30 @@ pub fn huh_answer_with_err_is_a_message()
         IsMessageOver (grammar_words words) side level
         (huh ∷ bra ∷ ((take place m ++ err ∷ drop place m) ++ ket ∷ [])) }
 {}
+
+/// Who holds `Words` has all of these laws, and owes nothing for them.
+pub fn laws_hold_over(words: &Words)
+    ensures laws { let added = grammar_words (words_of words.now) in
+        PredictLaws (dialect_of added).class_of (SymbolMatchesIn (dialect_of added)) (answer_over added) may_end_of
+        (IsLawful (answer_over added)) }
+    ensures opening { (side : Side2) (level : Level) (m : List ℕ) →
+        let added = grammar_words (words_of words.now) in
+        SymbolMatchesIn (dialect_of added) (opening_of side level) m
+        ↔ (IsMessageOver added side level m × (begins_with_prn m ≡ false)) }
+    ensures spoken { let added = grammar_words (words_of words.now) in spoken added ≡ added }
+    ensures paired { (side : Side2) (level : Level) (m : List ℕ) →
+        IsMessageOver (grammar_words (words_of words.now)) side level m → IsPaired m }
+    ensures huh { (side : Side2) (level : Level) (a : List ℕ) → IsBalanced a →
+        IsMessageOver (grammar_words (words_of words.now)) side level (huh ∷ bra ∷ (a ++ ket ∷ [])) }
+    ensures huh_with_err { (side : Side2) (level : Level) (m : List ℕ) (place : ℕ) → IsBalanced m →
+        IsMessageOver (grammar_words (words_of words.now)) side level
+        (huh ∷ bra ∷ ((take place m ++ err ∷ drop place m) ++ ket ∷ [])) }
+{
+    words.are_accepted();
+    added_words_keep_the_laws();
+    opening_stands_for_messages();
+    accepted_words_are_spoken();
+    messages_are_paired();
+    huh_answer_is_a_message();
+    huh_answer_with_err_is_a_message();
+}

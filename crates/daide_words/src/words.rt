@@ -86,6 +86,11 @@ impl Words {
         })
     }
 
+    /// Each was accepted after the ones before it: what the laws of `laws` ask of a list of words. It does nothing.
+    pub fn are_accepted(&self)
+        ensures { are_accepted (words_of self.now) ≡ true }
+    {}
+
     /// Each word's code and name, in the order in which the words were added.
     pub fn names(&self) -> &[(Token, [u8; 3])]
         ensures names { result.now ≡ names_of (words_of self.now) }

@@ -1,4 +1,4 @@
-use Rattle.std.proofs.Common.{◌≡◌, ◌≤◌, Some, drop}
+use Rattle.std.proofs.Common.{◌≡◌, ◌≤◌, ◌+◌, Some, drop}
 use Rattle.daide_token.specs.Token.{tokens_of}
 use Rattle.daide_reader.specs.Outline.{count_all}
 use Rattle.daide_reader.proofs.slice.count_from.Given as goal
@@ -6,7 +6,7 @@ use Rattle.daide_reader.proofs.slice.count_from.Given as goal
 -- what is left to count
 abbrev pub invariant-loop-i : goal.invariant-loop-i
 invariant-loop-i l = record {
-  few : l.opened ≤ l.i;
+  few : l.opened ≤ 32767 + l.i;
   left : count_all (Some l.opened) (drop l.i (tokens_of l.body))
       ≡ count_all l.fn.unclosed (drop l.next (tokens_of l.body));
 }

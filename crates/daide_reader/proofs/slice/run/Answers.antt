@@ -1,12 +1,9 @@
 use Rattle.std.proofs.Common.{◌≡◌, ◌/◌, ℕ, None, Some}
 use Rattle.std.proofs.Common.{take, length, reverse, refl, sym, ap, ◌∙◌, subst, rules, arith}
-use Rattle.daide_token.specs.Token.{tokens_of}
-use Rattle.daide_reader.specs.Outline.{outline_of}
-use Rattle.daide_reader.specs.Reading.{StandsAfter, reading}
-use Rattle.daide_reader.specs.Slice.{Standing}
+use Rattle.daide_reader.specs.Slice.{ReadsTo, Standing}
 use Rattle.daide_reader.proofs.BodyLemmas.{tokens_of-length}
 use Rattle.daide_reader.proofs.ReadingLemmas.{none_from_test, room_more}
-use Rattle.daide_reader.proofs.StretchLemmas.{at_joined, at_next, at_start, reads_joined, reads_refused}
+use Rattle.daide_reader.proofs.StretchLemmas.{at_joined, at_next, at_start, reads_all, reads_joined, reads_refused}
 use Rattle.daide_reader.proofs.slice.run.Goals as goal
 
 pub loop-next-init : goal.loop-next-init
@@ -15,14 +12,14 @@ loop-next-init g c =
     record { table = c.args.table.now; stack = reverse (take c.args.count c.args.cells.now) } in
     record {
       inside = c.requires.count;
-      upto = c.requires.read;
-      at = at_start g.T.Predict g.met.T.Predict.laws c.args.max_depth c.args.body.now c.args.read c.args.unclosed old
-          c.requires.few c.requires.deep c.requires.lawful;
+      upto = omega arith;
+      at = at_start g.T.Predict g.met.T.Predict.laws c.args.max_depth c.args.body.now 0 c.args.unclosed old
+          c.requires.deep c.requires.lawful;
     }
 
 -- a stretch in which a token is refused
-pub returns-then-is_some-clause-raised : goal.returns-then-is_some-clause-raised
-returns-then-is_some-clause-raised g c =
+pub returns-then-is_some-clause-reads : goal.returns-then-is_some-clause-reads
+returns-then-is_some-clause-reads g c =
     let old : Standing g.row.T.Denot =
     record { table = c.args.table.now; stack = reverse (take c.args.count c.args.cells.now) } in
     let now : Standing g.row.T.Denot =
@@ -34,30 +31,9 @@ returns-then-is_some-clause-raised g c =
       table = c.stretch-reached.new.table;
       stack = reverse (take c.stretch-reached.result.count c.stretch-reached.new.cells);
     } in
-    let whole = reads_joined g.T.Predict g.met.T.Predict.laws c.args.max_depth c.args.body.now c.args.read
-    c.args.unclosed old
+    reads_joined g.T.Predict g.met.T.Predict.laws c.args.max_depth c.args.body.now 0 c.args.unclosed old
     i opened c.stretch-reached.result.tokens c.stretch-reached.result.unclosed c.stretch-reached.result.place now new
-    inv.at c.stretch-reached.ensures.reads in
-    whole.raised
-
-pub returns-then-is_some-clause-stands_after : goal.returns-then-is_some-clause-stands_after
-returns-then-is_some-clause-stands_after g c =
-    let old : Standing g.row.T.Denot =
-    record { table = c.args.table.now; stack = reverse (take c.args.count c.args.cells.now) } in
-    let now : Standing g.row.T.Denot =
-    record { table = c.loop-next.table; stack = reverse (take c.loop-next.left c.loop-next.cells) } in
-    let inv = c.loop-next.invariant in
-    let i = c.loop-next.next in
-    let opened = c.loop-next.opened in
-    let new : Standing g.row.T.Denot = record {
-      table = c.stretch-reached.new.table;
-      stack = reverse (take c.stretch-reached.result.count c.stretch-reached.new.cells);
-    } in
-    let whole = reads_joined g.T.Predict g.met.T.Predict.laws c.args.max_depth c.args.body.now c.args.read
-    c.args.unclosed old
-    i opened c.stretch-reached.result.tokens c.stretch-reached.result.unclosed c.stretch-reached.result.place now new
-    inv.at c.stretch-reached.ensures.reads in
-    whole.stands_after
+    inv.at c.stretch-reached.ensures.reads
 
 -- a stretch that is taken
 pub loop-next-preserved-then-opened-max_depth : goal.loop-next-preserved-then-opened-max_depth
@@ -76,7 +52,7 @@ loop-next-preserved-then-opened-max_depth g c =
     record {
       inside = c.stretch-reached.ensures.inside;
       upto = c.stretch-reached.ensures.tokens;
-      at = at_joined g.T.Predict g.met.T.Predict.laws c.args.max_depth c.args.body.now c.args.read c.args.unclosed old
+      at = at_joined g.T.Predict g.met.T.Predict.laws c.args.max_depth c.args.body.now 0 c.args.unclosed old
           i opened c.stretch-reached.result.tokens c.unwrap_or-opened.result c.stretch-reached.result.unclosed
           c.stretch-reached.result.place now new
           inv.at c.stretch-reached.ensures.reads c.unwrap_or-opened.ensures (none_from_test _ c.if-is_some.ensures);
@@ -91,7 +67,7 @@ step-requires g c = (
     (
       c.loop-next.invariant.inside,
       (
-        (let few = c.loop-next.invariant.at.few in omega (arith, few)),
+        (let deep = c.loop-next.invariant.at.deep in omega (arith, deep, c.requires.size, c.requires.deepest)),
         λ fits.
             let Predict = g.T.Predict in
             let w = Predict.words c.loop-next.table in
@@ -103,8 +79,8 @@ step-requires g c = (
   ),
 )
 
-pub returns-in_default-clause-raised : goal.returns-in_default-clause-raised
-returns-in_default-clause-raised g c =
+pub returns-in_default-clause-reads : goal.returns-in_default-clause-reads
+returns-in_default-clause-reads g c =
     let old : Standing g.row.T.Denot =
     record { table = c.args.table.now; stack = reverse (take c.args.count c.args.cells.now) } in
     let now : Standing g.row.T.Denot =
@@ -116,8 +92,7 @@ returns-in_default-clause-raised g c =
     let upto = inv.upto in
     let new : Standing g.row.T.Denot =
     record { table = c.step.new.table; stack = reverse (take c.refused.result.count c.step.new.cells) } in
-    let whole = reads_refused g.T.Predict g.met.T.Predict.laws c.args.max_depth c.args.body.now c.args.read
-    c.args.unclosed old
+    let whole = reads_refused g.T.Predict g.met.T.Predict.laws c.args.max_depth c.args.body.now 0 c.args.unclosed old
     i t opened c.refused.result.unclosed now new inv.at (omega (arith, upto, tokens_of-length c.args.body.now))
     c.token_at-token.ensures.front (ap (λ (k : ℕ). reverse (take k c.step.new.cells)) c.refused.ensures.count)
     (record {
@@ -126,32 +101,7 @@ returns-in_default-clause-raised g c =
       counted = c.refused.ensures.unclosed ∙ sym c.step.ensures.counted;
       steps = c.step.ensures.steps;
     }) in
-    rw c.refused.ensures.tokens whole.raised
-
-pub returns-in_default-clause-stands_after : goal.returns-in_default-clause-stands_after
-returns-in_default-clause-stands_after g c =
-    let old : Standing g.row.T.Denot =
-    record { table = c.args.table.now; stack = reverse (take c.args.count c.args.cells.now) } in
-    let now : Standing g.row.T.Denot =
-    record { table = c.loop-next.table; stack = reverse (take c.loop-next.left c.loop-next.cells) } in
-    let inv = c.loop-next.invariant in
-    let i = c.loop-next.next in
-    let opened = c.loop-next.opened in
-    let t = c.token_at-token.result in
-    let upto = inv.upto in
-    let new : Standing g.row.T.Denot =
-    record { table = c.step.new.table; stack = reverse (take c.refused.result.count c.step.new.cells) } in
-    let whole = reads_refused g.T.Predict g.met.T.Predict.laws c.args.max_depth c.args.body.now c.args.read
-    c.args.unclosed old
-    i t opened c.refused.result.unclosed now new inv.at (omega (arith, upto, tokens_of-length c.args.body.now))
-    c.token_at-token.ensures.front (ap (λ (k : ℕ). reverse (take k c.step.new.cells)) c.refused.ensures.count)
-    (record {
-      words = c.step.ensures.words;
-      why = c.in_default.ensures.refused;
-      counted = c.refused.ensures.unclosed ∙ sym c.step.ensures.counted;
-      steps = c.step.ensures.steps;
-    }) in
-    rw (c.refused.ensures.tokens, c.refused.ensures.place) whole.stands_after
+    rw (c.refused.ensures.tokens, c.refused.ensures.place) whole
 
 pub loop-next-preserved : goal.loop-next-preserved
 loop-next-preserved g c =
@@ -167,7 +117,7 @@ loop-next-preserved g c =
     record {
       inside = c.in-Some.ensures.inside;
       upto = omega arith;
-      at = at_next g.T.Predict g.met.T.Predict.laws c.args.max_depth c.args.body.now c.args.read c.args.unclosed old
+      at = at_next g.T.Predict g.met.T.Predict.laws c.args.max_depth c.args.body.now 0 c.args.unclosed old
           i c.token_at-token.result opened c.step.new.opened now new inv.at c.token_at-token.ensures.front
           (record {
             words = c.step.ensures.words;
@@ -178,13 +128,15 @@ loop-next-preserved g c =
           });
     }
 
-pub returns-clause-stands_after : goal.returns-clause-stands_after
-returns-clause-stands_after g c = λ words first depth base plain h.
-    let Predict = g.T.Predict in
+pub returns-clause-reads : goal.returns-clause-reads
+returns-clause-reads g c =
+    let old : Standing g.row.T.Denot =
+    record { table = c.args.table.now; stack = reverse (take c.args.count c.args.cells.now) } in
+    let now : Standing g.row.T.Denot =
+    record { table = c.loop-next.table; stack = reverse (take c.loop-next.left c.loop-next.cells) } in
     let upto = c.loop-next.invariant.upto in
     let all : c.loop-next.next ≡ length c.args.body.now / 2 = omega (arith, upto) in
-    subst (λ (k : ℕ). StandsAfter Predict words first depth
-    (reading c.loop-next.table c.args.max_depth (reverse (take c.loop-next.left c.loop-next.cells))
-    (outline_of (take k (tokens_of c.args.body.now))) (Some c.loop-next.opened) None base)
-    (take k (tokens_of c.args.body.now))) all
-    (c.loop-next.invariant.at.stands_after words first depth base plain h)
+    subst (λ (k : ℕ). ReadsTo g.T.Predict c.args.max_depth c.args.body.now 0 c.args.unclosed old k
+    (Some c.loop-next.opened) None now) all
+    (reads_all g.T.Predict g.met.T.Predict.laws c.args.max_depth c.args.body.now 0 c.args.unclosed old
+    c.loop-next.next c.loop-next.opened now c.loop-next.invariant.at)

@@ -25,7 +25,7 @@ loop-next-init g c =
       mid = begun g.T.Predict g.met.T.Predict.laws c.args.max_depth c.args.body.now c.args.read c.args.unclosed old
           c.args.read c.args.unclosed c.min-end.result old
           (at_start g.T.Predict g.met.T.Predict.laws c.args.max_depth c.args.body.now c.args.read c.args.unclosed old
-          c.requires.few (omega (arith, deep)) c.requires.lawful);
+          (omega (arith, deep)) c.requires.lawful);
     }
 
 -- nothing is left to take the token
@@ -41,12 +41,11 @@ returns-then-left-eq0-clause-reads g c =
     let end = c.min-end.result in
     let t = c.token_at-token.result in
     let m = tokens_of c.args.body.now in
-    let few = inv.mid.at.few in
     let shallow = inv.shallow in
     let less : opened < c.args.max_depth = omega (arith, shallow) in
     let counted : count_one (is_bra t) (is_ket t) (Some opened) ≡ open_count ((opened + c.bracket_step.result) % 65536)
     =
-    counted_by_step opened t c.known-known.result c.known-known.ensures (omega (arith, few))
+    counted_by_step opened t c.known-known.result c.known-known.ensures (omega (arith, less, c.requires.size, c.requires.deepest))
     ∙ ap (λ (k : ℕ). open_count ((opened + k) % 65536)) (sym c.bracket_step.ensures) in
     let moves = g.T.Predict.moves (g.T.Predict.words c.loop-next.table) in
     let class = g.T.Predict.class_of (g.T.Predict.words c.loop-next.table) t in
@@ -75,12 +74,11 @@ loop-next-preserved-then-is_take g c =
     let end = c.min-end.result in
     let t = c.token_at-token.result in
     let m = tokens_of c.args.body.now in
-    let few = inv.mid.at.few in
     let shallow = inv.shallow in
     let less : opened < c.args.max_depth = omega (arith, shallow) in
     let counted : count_one (is_bra t) (is_ket t) (Some opened) ≡ open_count ((opened + c.bracket_step-opened.result) %
     65536) =
-    counted_by_step opened t c.known-known.result c.known-known.ensures (omega (arith, few))
+    counted_by_step opened t c.known-known.result c.known-known.ensures (omega (arith, less, c.requires.size, c.requires.deepest))
     ∙ ap (λ (k : ℕ). open_count ((opened + k) % 65536)) (sym c.bracket_step-opened.ensures) in
     let cells = c.loop-next.cells in
     let s = get_or cells (c.loop-next.left - 1) c.index-cells-top.result in
@@ -117,7 +115,6 @@ follow_word-requires g c =
     let end = c.min-end.result in
     let t = c.token_at-token.result in
     let m = tokens_of c.args.body.now in
-    let few = inv.mid.at.few in
     let shallow = inv.shallow in
     let less : opened < c.args.max_depth = omega (arith, shallow) in
     let whole : c.loop-next.left - 1 + 1 ≡ c.loop-next.left = omega arith in
@@ -156,12 +153,11 @@ returns-in_default-clause-reads g c =
     let end = c.min-end.result in
     let t = c.token_at-token.result in
     let m = tokens_of c.args.body.now in
-    let few = inv.mid.at.few in
     let shallow = inv.shallow in
     let less : opened < c.args.max_depth = omega (arith, shallow) in
     let counted : count_one (is_bra t) (is_ket t) (Some opened) ≡ open_count ((opened +
     c.bracket_step-opened-then-is_stop.result) % 65536) =
-    counted_by_step opened t c.known-known.result c.known-known.ensures (omega (arith, few))
+    counted_by_step opened t c.known-known.result c.known-known.ensures (omega (arith, less, c.requires.size, c.requires.deepest))
     ∙ ap (λ (k : ℕ). open_count ((opened + k) % 65536)) (sym c.bracket_step-opened-then-is_stop.ensures) in
     let whole : c.loop-next.left - 1 + 1 ≡ c.loop-next.left = omega arith in
     let stack : reverse (take (c.loop-next.left - 1 + 1) c.loop-next.cells) ≡ now.stack =
@@ -199,12 +195,11 @@ loop-next-preserved-then-is_stop g c =
     let end = c.min-end.result in
     let t = c.token_at-token.result in
     let m = tokens_of c.args.body.now in
-    let few = inv.mid.at.few in
     let shallow = inv.shallow in
     let less : opened < c.args.max_depth = omega (arith, shallow) in
     let counted : count_one (is_bra t) (is_ket t) (Some opened) ≡ open_count ((opened +
     c.bracket_step-opened-then-is_stop.result) % 65536) =
-    counted_by_step opened t c.known-known.result c.known-known.ensures (omega (arith, few))
+    counted_by_step opened t c.known-known.result c.known-known.ensures (omega (arith, less, c.requires.size, c.requires.deepest))
     ∙ ap (λ (k : ℕ). open_count ((opened + k) % 65536)) (sym c.bracket_step-opened-then-is_stop.ensures) in
     let whole : c.loop-next.left - 1 + 1 ≡ c.loop-next.left = omega arith in
     let stack : reverse (take (c.loop-next.left - 1 + 1) c.loop-next.cells) ≡ now.stack =
@@ -245,7 +240,6 @@ loop-next-preserved g c =
     let end = c.min-end.result in
     let t = c.token_at-token.result in
     let m = tokens_of c.args.body.now in
-    let few = inv.mid.at.few in
     let shallow = inv.shallow in
     let less : opened < c.args.max_depth = omega (arith, shallow) in
     let cells = c.loop-next.cells in

@@ -1,14 +1,13 @@
-use Rattle.std.proofs.Common.{List, None, Some, take, reverse, sym, subst}
-use Rattle.daide_token.specs.Token.{tokens_of}
+use Rattle.std.proofs.Common.{List, take, reverse, subst}
 use Rattle.daide_grammar.specs.declared.symbol.Sym.{Sym}
-use Rattle.daide_reader.specs.Outline.{outline_of}
-use Rattle.daide_reader.specs.Reading.{StandsAfter, reading}
+use Rattle.daide_reader.specs.Slice.{ReadsTo, Standing}
 use Rattle.daide_reader.proofs.symbols.Symbols+Symbol+N.run.Goals as goal
 
-pub returns-clause-stands_after : goal.returns-clause-stands_after
-returns-clause-stands_after g c = λ words first depth base plain h.
-    let p = take c.args.read (tokens_of c.args.body.now) in
-    c.run-reached.ensures.stands_after words first depth base plain
-    (subst (λ (s : List Sym). StandsAfter g.T.Predict words first depth
-    (reading c.args.table.now c.args.max_depth (reverse s) (outline_of p) (Some c.args.unclosed) None base) p)
-    (sym c.self.view_is) h)
+pub returns-clause-reads : goal.returns-clause-reads
+returns-clause-reads g c =
+    let new : Standing g.row.T.Denot =
+    record { table = c.run-reached.new.table; stack = reverse (take c.run-reached.result.count c.run-reached.new.cells) } in
+    subst (λ (s : List Sym). ReadsTo g.T.Predict c.args.max_depth c.args.body.now 0 c.args.unclosed
+    (record { table = c.args.table.now; stack = reverse s })
+    c.run-reached.result.tokens c.run-reached.result.unclosed c.run-reached.result.place new)
+    c.self.view_is c.run-reached.ensures.reads

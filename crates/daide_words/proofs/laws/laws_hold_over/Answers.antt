@@ -1,0 +1,15 @@
+use Rattle.daide_words.specs.Words.{words_of}
+use Rattle.daide_words.proofs.laws.laws_hold_over.Goals as goal
+
+pub returns : goal.returns
+returns c =
+    let words = words_of c.args.words.now in
+    let accepted = c.are_accepted.ensures in
+    record {
+      laws = c.added_words_keep_the_laws.ensures words accepted;
+      opening = λ side level m. c.opening_stands_for_messages.ensures words side level m accepted;
+      spoken = c.accepted_words_are_spoken.ensures words accepted;
+      paired = λ side level m. c.messages_are_paired.ensures words side level m accepted;
+      huh = λ side level a. c.huh_answer_is_a_message.ensures words side level a accepted;
+      huh_with_err = λ side level m place. c.huh_answer_with_err_is_a_message.ensures words side level m place accepted;
+    }
