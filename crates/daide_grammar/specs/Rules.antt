@@ -6,6 +6,10 @@ use Rattle.daide_grammar.specs.declared.table.rules.TheConstants.{LENGTHS, RESTS
 use Rattle.daide_grammar.specs.Answers.{Answer, Take, Skip, Stop}
 use Rattle.daide_grammar.specs.Numbers.{symbol_at}
 
+-- how many rules there is room for: a rule is a byte
+abbrev pub all_rules : ℕ
+all_rules = 256
+
 -- the symbols that a rule leaves: its row of the table holds their numbers, the last one's first
 unfoldable pub rest_at : ℕ → List Sym
 rest_at rule = reverse (map symbol_at (take (slice_index LENGTHS rule) (slice_index_or RESTS rule [])))
@@ -29,4 +33,4 @@ rest_of _ = []
 
 -- the table has a rule for the answer
 abbrev pub HasRule : Answer → Type 0
-HasRule answer = (rule : ℕ) × (rule < 256) × (deed rule ≡ answer)
+HasRule answer = (rule : ℕ) × (rule < all_rules) × (deed rule ≡ answer)

@@ -14,7 +14,7 @@ ghost use Rattle.daide_grammar.specs.declared.symbol.Sym.{Sym};
 ghost use Rattle.daide_grammar.specs.Answers.{Answer};
 ghost use Rattle.daide_grammar.specs.Words.{Words};
 ghost use Rattle.daide_grammar.specs.Laws.{PredictLaws};
-ghost use Rattle.daide_grammar.specs.Rules.{deed, is_stop, is_take, rest_of};
+ghost use Rattle.daide_grammar.specs.Rules.{all_rules, deed, is_stop, is_take, rest_of};
 ghost use Rattle.daide_grammar.specs.Cells.{cell_at, growth_at, length_at};
 ghost use Rattle.daide_grammar.specs.Numbers.{symbol_at};
 
@@ -35,14 +35,14 @@ pub struct Move {
 
 impl Model for Move {
     ghost use Rattle.daide_grammar.specs.Answers.{Answer};
-    ghost use Rattle.daide_grammar.specs.Rules.{deed};
+    ghost use Rattle.daide_grammar.specs.Rules.{all_rules, deed};
     ghost use Rattle.std.specs.Prelude.{◌<◌};
 
     ghost Value = { Answer };
 
     ghost view = { λ m. deed m.rule };
 
-    ghost invariant = { λ m. m.rule < 256 };
+    ghost invariant = { λ m. m.rule < all_rules };
 }
 
 impl Move {
@@ -111,7 +111,7 @@ impl Move {
 /// A symbol of a rule's row.
 #[inline(always)]
 fn cell_of(rule: usize, place: usize) -> Symbol
-    requires rule { rule < 256 }
+    requires rule { rule < all_rules }
     requires place { place < 8 }
     ensures { result ≡ symbol_at (cell_at rule place) }
 {
@@ -122,7 +122,7 @@ fn cell_of(rule: usize, place: usize) -> Symbol
 #[inline(always)]
 #[tactic(auto, unfolding(crate::specs::Cells::cell_at))]
 fn cell_at(rule: usize, place: usize) -> u8
-    requires rule { rule < 256 }
+    requires rule { rule < all_rules }
     requires place { place < 8 }
     ensures { result ≡ cell_at rule place }
 {
@@ -133,7 +133,7 @@ fn cell_at(rule: usize, place: usize) -> u8
 #[inline(always)]
 #[tactic(auto, unfolding(crate::specs::Cells::length_at))]
 fn length_at(rule: usize) -> u8
-    requires { rule < 256 }
+    requires { rule < all_rules }
     ensures { result ≡ length_at rule }
 {
     whole().lengths[rule]
@@ -143,7 +143,7 @@ fn length_at(rule: usize) -> u8
 #[inline(always)]
 #[tactic(auto, unfolding(crate::specs::Cells::growth_at))]
 fn growth_at(rule: usize) -> usize
-    requires { rule < 256 }
+    requires { rule < all_rules }
     ensures { result ≡ growth_at rule }
 {
     whole().growths[rule]

@@ -14,6 +14,7 @@ use Rattle.daide_token.specs.Names.{Named, names, name_of}
 use Rattle.daide_grammar.specs.Classes.{class_number, same_class}
 use Rattle.daide_grammar.specs.SideMessages.{dialect_from, dialect_of}
 use Rattle.daide_grammar.specs.Proved.Alternatives.{both-pass}
+use Rattle.daide_grammar.specs.Numbers.{most_words}
 use Rattle.daide_words.specs.declared.word.Word as code
 use Rattle.daide_words.specs.declared.word.WordError.{WordError}
 use Rattle.daide_words.specs.declared.word.WordError.TheVariants as faults
@@ -72,7 +73,7 @@ passed false true true level operand h = refl
 code_free : (taken : List Named) (word : code.Word) → is_ok (word_fault taken word) ≡ true →
     is_free_code taken word.code ≡ true
 code_free taken word h =
-    passed (nat_le 16 (length taken)) (is_free_name taken word.name) (is_free_code taken word.code)
+    passed (nat_le most_words (length taken)) (is_free_name taken word.name) (is_free_code taken word.code)
     (has_press word.level)
     (may_hold word.slot word.operand) h
 
@@ -138,6 +139,6 @@ class_told words t o e = class_from 0 words t ∙ ap (λ p. class_or p (class_of
 
 -- and that of a token with a meaning in the protocol
 pub class_kept : (words : List code.Word) (t : ℕ) → are_accepted_after [] words ≡ true →
-    (class_number (class_of t) ≡ 77 → ⊥) →
+    (class_number (class_of t) ≡ class_number Other → ⊥) →
     (dialect_of (grammar_words words)).class_of t ≡ class_of t
 class_kept words t a h = keeps 0 (grammar_words words) t (other-class (grammar_words words) t (accepted_free words a) h)

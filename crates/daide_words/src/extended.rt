@@ -17,13 +17,11 @@ use crate::words::{Words, place_in};
 use daide_grammar::column::Column;
 use daide_grammar::dense::Dense;
 use daide_grammar::level::Level;
+use daide_grammar::numbers::{OTHER, STOP};
 use daide_grammar::predict::{Move, Predict};
 use daide_grammar::side::Side2;
 use daide_grammar::symbol::Symbol;
 use daide_token::token::Token;
-
-/// The number of the class of tokens without a meaning, as which the protocol's table knows an operator's word.
-const OTHER: usize = 77;
 
 /// Predicts by the constant table and the words of an operator, and counts its answers.
 #[derive(Drop)]
@@ -56,14 +54,14 @@ fn where_stopped(words: &Words, sym: Symbol, class: Column) -> Move
     ensures { result ≡ answer_over (grammar_words (words_of words.now)) sym class }
 {
     let Some(number) = class.word_number() else {
-        return Move::of(0);
+        return Move::of(STOP);
     };
     let Some(word) = words.get(usize::from(number)) else {
-        return Move::of(0);
+        return Move::of(STOP);
     };
     match slot_of(sym.sym()) {
         Some((place, level)) => move_in(&word, place, level),
-        None => Move::of(0),
+        None => Move::of(STOP),
     }
 }
 

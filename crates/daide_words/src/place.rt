@@ -14,6 +14,10 @@ use crate::operand::Operand;
 use crate::slot::Slot;
 use crate::word::Word;
 use daide_grammar::level::Level;
+use daide_grammar::numbers::{
+    LEAVES_ARRANGEMENT_GROUP, LEAVES_OPERAND_GROUP, LEAVES_ORDER_GROUP, LEAVES_POWER_GROUP,
+    LEAVES_POWERS_GROUP, LEAVES_PRESS_GROUP, LEAVES_PROVINCES_GROUP, STOP,
+};
 use daide_grammar::predict::Move;
 use daide_grammar::symbol::Sym;
 
@@ -57,10 +61,10 @@ pub(crate) fn move_in(word: &Word, place: Place, level: Level) -> Move
         (operand_symbol (grammar_operand word.now.operand) (grammar_place place) level) Stop }
 {
     if !may_make(word.slot, place) {
-        return Move::of(0);
+        return Move::of(STOP);
     }
     if word.level.number() > level.number() {
-        return Move::of(0);
+        return Move::of(STOP);
     }
     Move::of(operand_rule(word.operand, place, level))
 }
@@ -81,12 +85,12 @@ fn operand_rule(operand: Operand, place: Place, level: Level) -> u8
     ensures { deed result ≡ Take (operand_symbol (grammar_operand operand) (grammar_place place) level ∷ []) }
 {
     match operand {
-        Operand::Power => 70,
-        Operand::Powers => 74,
-        Operand::Provinces => 96,
-        Operand::Order => 76,
+        Operand::Power => LEAVES_POWER_GROUP,
+        Operand::Powers => LEAVES_POWERS_GROUP,
+        Operand::Provinces => LEAVES_PROVINCES_GROUP,
+        Operand::Order => LEAVES_ORDER_GROUP,
         Operand::Arrangement => arrangement_rule(place, level),
-        Operand::Press => 160 + level_place(level),
+        Operand::Press => LEAVES_PRESS_GROUP + level_place(level),
     }
 }
 
@@ -96,9 +100,9 @@ fn arrangement_rule(place: Place, level: Level) -> u8
 {
     let step = level_place(level);
     match place {
-        Place::Press => 104 + step,
-        Place::Arrangement => 104 + step,
-        Place::Flat => 146 + step,
+        Place::Press => LEAVES_ARRANGEMENT_GROUP + step,
+        Place::Arrangement => LEAVES_ARRANGEMENT_GROUP + step,
+        Place::Flat => LEAVES_OPERAND_GROUP + step,
     }
 }
 

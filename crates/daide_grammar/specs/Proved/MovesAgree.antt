@@ -8,7 +8,7 @@ use Rattle.daide_grammar.specs.declared.symbol.Sym.{Sym}
 use Rattle.daide_token.specs.declared.class.Class.{Class}
 use Rattle.daide_token.specs.declared.class.Class.TheVariants.{Word}
 use Rattle.daide_grammar.specs.declared.level.Level.{Level}
-use Rattle.daide_grammar.specs.Classes.{class_number, same_class}
+use Rattle.daide_grammar.specs.Classes.{class_number, own_classes, same_class}
 use Rattle.daide_grammar.specs.Forms.{Kind, is, any_word, accepts, Slot, Press_slot, Arrangement_slot, Flat_slot, Name}
 use Rattle.daide_grammar.specs.Forms.{Added, Form, named, Dialect}
 use Rattle.daide_grammar.specs.Matches.{rule, Matches, by_name, MatchAll}
@@ -30,7 +30,7 @@ pub record Proper (d : Dialect) : Type 0 where
   pub not_empty : (s : Slot) (l : Level) → Matches d (d.added s l) [] → ⊥
   pub by_word : (s : Slot) (l : Level) (t : ℕ) (w : List ℕ) → Matches d (d.added s l) (t ∷ w) →
       (k : ℕ) × (d.class_of t ≡ Word k)
-  pub token_of : (c : Class) → class_number c < 79 → (t : ℕ) × (d.class_of t ≡ c)
+  pub token_of : (c : Class) → class_number c < own_classes → (t : ℕ) × (d.class_of t ≡ c)
 
 -- no word that may be added at the place begins with the token
 abbrev pub NoWord : Dialect → Option (Slot × Level) → ℕ → Type 0

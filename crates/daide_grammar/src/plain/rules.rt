@@ -6,6 +6,7 @@ ghost use Rattle.daide_grammar.specs.Answers.{Take, answer_of, symbols_of};
 ghost use Rattle.daide_grammar.specs.Rules.{HasRule, deed, rest_of};
 
 use crate::meaning::{Meaning, Rest};
+use crate::numbers::{RULE_COUNT, SKIP, STOP};
 use crate::predict::Move;
 use crate::symbol::{Sym, Symbol};
 
@@ -17,8 +18,8 @@ pub(super) fn rule_of(meaning: Meaning) -> Move
 {
     match meaning {
         Meaning::Take(rest) => rule_of_rest(&rest),
-        Meaning::Skip => Move::of(1),
-        Meaning::Stop => Move::of(0),
+        Meaning::Skip => Move::of(SKIP),
+        Meaning::Stop => Move::of(STOP),
     }
 }
 
@@ -28,12 +29,12 @@ fn rule_of_rest(rest: &Rest) -> Move
     ensures { result ≡ Take (symbols_of rest.now) }
 {
     let wanted = rest.as_slice();
-    for rule in 2..256u16 {
+    for rule in 2..RULE_COUNT {
         if leaves(rule as u8, wanted) {
             return Move::of(rule as u8);
         }
     }
-    Move::of(0)
+    Move::of(STOP)
 }
 
 /// Whether a rule leaves these symbols and no others.

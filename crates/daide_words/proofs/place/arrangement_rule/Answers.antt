@@ -1,4 +1,5 @@
 use Rattle.std.proofs.Common.{◌+◌, [], ◌∷◌, sym, ap, ◌∙◌}
+use Rattle.daide_grammar.specs.declared.numbers.TheConstants.{LEAVES_ARRANGEMENT_GROUP, LEAVES_OPERAND_GROUP}
 use Rattle.daide_grammar.specs.Answers.{Take}
 use Rattle.daide_grammar.specs.Rules.{deed}
 use Rattle.daide_grammar.specs.Words.{an_arrangement}
@@ -10,16 +11,16 @@ use Rattle.daide_words.proofs.place.arrangement_rule.Goals as goal
 
 pub returns-in-Press : goal.returns-in-Press
 returns-in-Press c =
-    ap (λ n. deed (104 + n)) c.level_place-step.ensures.place ∙ arrangement_rule c.args.level
+    ap (λ n. deed (LEAVES_ARRANGEMENT_GROUP + n)) c.level_place-step.ensures.place ∙ arrangement_rule c.args.level
     ∙ ap (λ (p : Place). Take (operand_symbol an_arrangement (grammar_place p) c.args.level ∷ [])) (sym c.in-Press.is)
 
 pub returns-in-Arrangement : goal.returns-in-Arrangement
 returns-in-Arrangement c =
-    ap (λ n. deed (104 + n)) c.level_place-step.ensures.place ∙ arrangement_rule c.args.level
+    ap (λ n. deed (LEAVES_ARRANGEMENT_GROUP + n)) c.level_place-step.ensures.place ∙ arrangement_rule c.args.level
     ∙ ap (λ (p : Place). Take (operand_symbol an_arrangement (grammar_place p) c.args.level ∷ []))
     (sym c.in-Arrangement.is)
 
 pub returns-in-Flat : goal.returns-in-Flat
 returns-in-Flat c =
-    ap (λ n. deed (146 + n)) c.level_place-step.ensures.place ∙ flat_rule c.args.level
+    ap (λ n. deed (LEAVES_OPERAND_GROUP + n)) c.level_place-step.ensures.place ∙ flat_rule c.args.level
     ∙ ap (λ (p : Place). Take (operand_symbol an_arrangement (grammar_place p) c.args.level ∷ [])) (sym c.in-Flat.is)
