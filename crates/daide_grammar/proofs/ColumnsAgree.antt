@@ -11,9 +11,9 @@ use Rattle.daide_token.specs.declared.class.Class.{Class}
 use Rattle.daide_token.specs.declared.class.Class.TheVariants.{Num, Power, Note, Outcome, Coast, Season, Text, Province}
 use Rattle.daide_token.specs.declared.class.Class.TheVariants.{Param, Other, Alien}
 use Rattle.daide_grammar.specs.declared.table.rows.TheConstants.{TABLE}
-use Rattle.daide_grammar.specs.Cells.{class_cell, column_at}
+use Rattle.daide_grammar.specs.Table.Cells.{class_cell, column_at}
 use Rattle.daide_grammar.specs.Classes.{class_number}
-use Rattle.daide_grammar.specs.Numbers.{all_classes, class_at}
+use Rattle.daide_grammar.specs.Table.Numbers.{all_classes, class_at}
 use Rattle.daide_grammar.proofs.WordColumns.{class_told, own_class}
 
 -- A code's classes, category by category. Six categories alone tell their codes apart, so a row is short to compute.

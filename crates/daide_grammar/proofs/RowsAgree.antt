@@ -10,12 +10,13 @@ use Rattle.daide_token.specs.declared.class.Class.TheVariants.{Ket, Num, Other, 
 use Rattle.daide_grammar.specs.declared.symbol.Sym.{Sym}
 use Rattle.daide_grammar.specs.declared.symbol.Sym.TheVariants.{Closing}
 use Rattle.daide_grammar.specs.declared.table.rows.TheConstants.{TABLE}
-use Rattle.daide_grammar.specs.Answers.{Answer, Take, Skip, Stop}
-use Rattle.daide_grammar.specs.Cells.{rule_at}
+use Rattle.daide_grammar.specs.Table.Answers.{Answer, Take, Skip, Stop}
+use Rattle.daide_grammar.specs.Table.Cells.{rule_at}
 use Rattle.daide_grammar.specs.Classes.{class_number, own_classes}
-use Rattle.daide_grammar.specs.Numbers.{all_classes, classes, class_at, most_words, symbol_at, symbol_number, symbols}
-use Rattle.daide_grammar.specs.Rules.{all_rules, deed, rest_at, HasRule}
-use Rattle.daide_grammar.specs.Symbols.{Entry, answer_by, entries, entry_at, may_end_of, table_answer}
+use Rattle.daide_grammar.specs.Table.Numbers.{all_classes, classes, class_at, symbol_at, symbol_number, symbols}
+use Rattle.daide_grammar.specs.Words.{most_words}
+use Rattle.daide_grammar.specs.Table.Rules.{all_rules, deed, rest_at, HasRule}
+use Rattle.daide_grammar.specs.Table.Symbols.{Entry, answer_by, entries, entry_at, may_end_of, table_answer}
 use Rattle.daide_grammar.proofs.Alike.{alike, passes_at}
 use Rattle.daide_grammar.proofs.NumberLemmas.{symbol_back, symbol_small}
 use Rattle.daide_grammar.proofs.WordColumns.{class_told, word_at}

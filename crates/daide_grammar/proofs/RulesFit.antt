@@ -7,9 +7,9 @@ use Rattle.std.specs.Prelude.{slice_index_or}
 use Rattle.std.specs.List.{list_all, range_with_len}
 use Rattle.daide_grammar.specs.declared.symbol.Sym.{Sym}
 use Rattle.daide_grammar.specs.declared.table.rows.TheConstants.{TABLE}
-use Rattle.daide_grammar.specs.Cells.{cell_at, growth_at, length_at}
-use Rattle.daide_grammar.specs.Numbers.{all_symbols, symbol_at}
-use Rattle.daide_grammar.specs.Rules.{all_rules, deed, rest_at, rest_of, is_take, is_stop}
+use Rattle.daide_grammar.specs.Table.Cells.{cell_at, growth_at, length_at}
+use Rattle.daide_grammar.specs.Table.Numbers.{all_symbols, symbol_at}
+use Rattle.daide_grammar.specs.Table.Rules.{all_rules, deed, rest_at, rest_of, is_take, is_stop}
 use Rattle.daide_grammar.proofs.Alike.{alike, passes_at}
 
 -- the rule's length is that of its rest

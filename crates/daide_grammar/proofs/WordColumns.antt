@@ -3,11 +3,12 @@
 use Rattle.std.proofs.Common.{◌≡◌, true, ℕ, ◌+◌, ◌-◌, ◌<◌, ◌≤◌, nat_le, Some, None, map, refl, ap, ◌∙◌, arith}
 use Rattle.std.specs.List.{range_with_len}
 use Rattle.daide_token.specs.Class.{class_of, is_standard}
-use Rattle.daide_token.specs.ClassLaws.{standard_class}
+use Rattle.daide_token.proofs.ClassLaws.{standard_class}
 use Rattle.daide_token.specs.declared.class.Class.{Class}
 use Rattle.daide_token.specs.declared.class.Class.TheVariants.{Word}
 use Rattle.daide_grammar.specs.Classes.{class_number, own_classes}
-use Rattle.daide_grammar.specs.Numbers.{all_classes, class_at, is_bracket, most_words, word_number}
+use Rattle.daide_grammar.specs.Table.Numbers.{all_classes, class_at, is_bracket, word_number}
+use Rattle.daide_grammar.specs.Words.{most_words}
 use Rattle.daide_grammar.proofs.Alike.{alike}
 
 words : map (λ k. class_at (own_classes + k)) (range_with_len 0 most_words) ≡ map Word (range_with_len 0 most_words)

@@ -4,8 +4,9 @@ ghost use Rattle.std.specs.Prelude.{◌≡◌, ◌<◌};
 ghost use Rattle.daide_token.specs.declared.class.Class.TheVariants.{Word};
 ghost use Rattle.daide_grammar.specs.Classes.{class_number};
 ghost use Rattle.daide_token.specs.Class.{class_of};
-ghost use Rattle.daide_grammar.specs.Cells.{bracket_cell};
-ghost use Rattle.daide_grammar.specs.Numbers.{all_classes, bracket_step, class_at, is_bracket, most_words, word_number};
+ghost use Rattle.daide_grammar.specs.Table.Cells.{bracket_cell};
+ghost use Rattle.daide_grammar.specs.Table.Numbers.{all_classes, bracket_step, class_at, is_bracket, word_number};
+ghost use Rattle.daide_grammar.specs.Words.{most_words};
 
 use crate::dense::class_of;
 use crate::numbers::{KET, OWN_CLASSES};
@@ -28,8 +29,8 @@ impl Model for Column {
     ghost use Rattle.std.proofs.Common.{ap};
     ghost use Rattle.daide_token.specs.declared.class.Class.{Class};
     ghost use Rattle.daide_grammar.specs.Classes.{class_number};
-    ghost use Rattle.daide_grammar.specs.Numbers.{all_classes, class_at};
-    ghost use Rattle.daide_grammar.specs.Proved.Numbers.{class_number_back};
+    ghost use Rattle.daide_grammar.specs.Table.Numbers.{all_classes, class_at};
+    ghost use Rattle.daide_grammar.specs.Table.Proved.Numbers.{class_number_back};
 
     ghost Value = { Class };
 
@@ -133,7 +134,7 @@ impl Column {
 
 /// What a token of a class adds.
 #[inline(always)]
-#[tactic(auto, unfolding(crate::specs::Cells::bracket_cell))]
+#[tactic(auto, unfolding(crate::specs::Table::Cells::bracket_cell))]
 fn bracket_cell(number: usize) -> u16
     requires { number < all_classes }
     ensures { result ≡ bracket_cell number }

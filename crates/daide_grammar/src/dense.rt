@@ -5,10 +5,10 @@
 
 ghost use Rattle.std.specs.Prelude.{◌≡◌, ◌<◌, ◌+◌, ◌%◌, ◌/◌, ◌^◌, [], slice_index_or};
 ghost use Rattle.daide_token.specs.Class.{class_of};
-ghost use Rattle.daide_grammar.specs.Symbols.{may_end_of, opening_of, table_answer};
-ghost use Rattle.daide_grammar.specs.AnswersGiven.{look_ups};
-ghost use Rattle.daide_grammar.specs.Cells.{class_cell, rule_at};
-ghost use Rattle.daide_grammar.specs.Numbers.{all_classes, all_symbols};
+ghost use Rattle.daide_grammar.specs.Table.Symbols.{may_end_of, opening_of, table_answer};
+ghost use Rattle.daide_grammar.specs.Table.AnswersGiven.{look_ups};
+ghost use Rattle.daide_grammar.specs.Table.Cells.{class_cell, rule_at};
+ghost use Rattle.daide_grammar.specs.Table.Numbers.{all_classes, all_symbols};
 ghost use Rattle.daide_grammar.specs.declared.table.rows.TheConstants.{TABLE};
 
 use crate::column::Column;
@@ -45,7 +45,7 @@ fn move_of(sym: Symbol, class: Column) -> Move
 
 /// A rule of the table.
 #[inline(always)]
-#[tactic(auto, unfolding(crate::specs::Cells::rule_at))]
+#[tactic(auto, unfolding(crate::specs::Table::Cells::rule_at))]
 fn rule_at(class: usize, symbol: u8) -> u8
     requires class { class < all_classes }
     requires symbol { symbol < all_symbols }
@@ -74,7 +74,7 @@ pub(crate) fn class_of(token: Token) -> Column
 
 /// The number of the class at a place of the list of classes.
 #[inline(always)]
-#[tactic(auto, unfolding(crate::specs::Cells::class_cell))]
+#[tactic(auto, unfolding(crate::specs::Table::Cells::class_cell))]
 fn class_cell(place: u16) -> u8
     ensures { result ≡ class_cell place }
 {
@@ -101,11 +101,11 @@ fn opening(side: Side2, level: Level) -> Symbol
 
 impl Predict for Dense {
     ghost use Rattle.daide_token.specs.Class.{class_of};
-    ghost use Rattle.daide_grammar.specs.LawfulStack.{IsLawful};
-    ghost use Rattle.daide_grammar.specs.SideMessages.{SymbolMatches};
-    ghost use Rattle.daide_grammar.specs.Symbols.{may_end_of, opening_of, table_answer};
-    ghost use Rattle.daide_grammar.specs.Proved.PlainLaws.{plain_laws, plain_begins};
-    ghost use Rattle.daide_grammar.specs.AnswersGiven.{look_ups};
+    ghost use Rattle.daide_grammar.specs.Table.LawfulStack.{IsLawful};
+    ghost use Rattle.daide_grammar.specs.Table.Languages.{SymbolMatches};
+    ghost use Rattle.daide_grammar.specs.Table.Symbols.{may_end_of, opening_of, table_answer};
+    ghost use Rattle.daide_grammar.specs.Table.Proved.PlainLaws.{plain_laws, plain_begins};
+    ghost use Rattle.daide_grammar.specs.Table.AnswersGiven.{look_ups};
 
     ghost words = { λ _. [] };
 

@@ -6,7 +6,7 @@
 //! symbol that may be empty stands last in its brackets, or last of all.
 
 ghost use Rattle.std.specs.Prelude.{◌≡◌, ◌+◌, ◌<◌, ◌≤◌};
-ghost use Rattle.daide_grammar.specs.Numbers.{all_symbols, level_place, symbol_number, symbol_at};
+ghost use Rattle.daide_grammar.specs.Table.Numbers.{all_symbols, level_place, symbol_number, symbol_at};
 
 use crate::level::Level;
 use crate::table::names::{SYMBOLS, number_of};
@@ -230,8 +230,8 @@ impl Model for Symbol {
     ghost use Rattle.std.specs.Prelude.{◌≡◌, ◌<◌, ℕ};
     ghost use Rattle.std.proofs.Common.{ap};
     ghost use Rattle.daide_grammar.specs.declared.symbol.Sym.{Sym};
-    ghost use Rattle.daide_grammar.specs.Numbers.{all_symbols, symbol_number, symbol_at};
-    ghost use Rattle.daide_grammar.specs.Proved.Numbers.{number_back};
+    ghost use Rattle.daide_grammar.specs.Table.Numbers.{all_symbols, symbol_number, symbol_at};
+    ghost use Rattle.daide_grammar.specs.Table.Proved.Numbers.{number_back};
 
     ghost Value = { Sym };
 

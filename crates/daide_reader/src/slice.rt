@@ -7,8 +7,8 @@ ghost use Rattle.std.specs.Prelude.{◌≡◌, ◌≢◌, ◌≤◌, ◌<◌, �
 ghost use Rattle.daide_token.specs.Token.{tokens_of};
 ghost use Rattle.daide_grammar.specs.declared.symbol.Sym.{Sym};
 ghost use Rattle.daide_grammar.specs.Paired.{begins_with_prn};
-ghost use Rattle.daide_grammar.specs.Brackets.{is_bra as is_bra_token, is_ket as is_ket_token, count_one};
-ghost use Rattle.daide_grammar.specs.Stacks.{stack_after};
+ghost use Rattle.daide_grammar.specs.Table.Brackets.{is_bra as is_bra_token, is_ket as is_ket_token, count_one};
+ghost use Rattle.daide_grammar.specs.Table.Stacks.{stack_after};
 ghost use Rattle.daide_grammar.specs.Words.{Words};
 ghost use Rattle.daide_reader.specs.Outline.{count_all, outline_of};
 ghost use Rattle.daide_reader.specs.Reading.{IsRaised, StandsAfter, reading};

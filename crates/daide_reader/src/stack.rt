@@ -6,8 +6,8 @@
 ghost use Rattle.std.specs.Prelude.{◌≡◌, ◌≤◌, ◌+◌, ◌%◌, ◌^◌, ◌++◌, [], ℕ, true, false, if◌then◌else◌, None, Some, reverse, length, IfSome};
 ghost use Rattle.std.specs.Bool.{OnTrue, OnFalse};
 ghost use Rattle.std.specs.List.{list_all};
-ghost use Rattle.daide_grammar.specs.Stacks.{stack_after, ends_asked};
-ghost use Rattle.daide_grammar.specs.Brackets.{is_bra as is_bra_token};
+ghost use Rattle.daide_grammar.specs.Table.Stacks.{stack_after, ends_asked};
+ghost use Rattle.daide_grammar.specs.Table.Brackets.{is_bra as is_bra_token};
 ghost use Rattle.daide_reader.specs.Stack.{steps_at, IsTaken, IsRefused};
 
 use crate::brackets::is_bra;

@@ -8,7 +8,7 @@ ghost use Rattle.daide_token.specs.Token.{tokens_of};
 ghost use Rattle.daide_grammar.specs.declared.symbol.Sym.{Sym};
 ghost use Rattle.daide_grammar.specs.Paired.{begins_with_prn};
 ghost use Rattle.daide_grammar.specs.Words.{Words};
-ghost use Rattle.daide_grammar.specs.Stacks.{stack_after};
+ghost use Rattle.daide_grammar.specs.Table.Stacks.{stack_after};
 ghost use Rattle.daide_reader.specs.Outline.{outline_of};
 ghost use Rattle.daide_reader.specs.Reading.{IsRaised, StandsAfter, reading};
 ghost use Rattle.daide_reader.specs.Stack.{steps_at};

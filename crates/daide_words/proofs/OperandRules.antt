@@ -10,12 +10,12 @@ use Rattle.daide_grammar.specs.declared.numbers.TheConstants.{LEAVES_ARRANGEMENT
 use Rattle.daide_grammar.specs.declared.numbers.TheConstants.{LEAVES_ORDER_GROUP, LEAVES_POWER_GROUP}
 use Rattle.daide_grammar.specs.declared.numbers.TheConstants.{LEAVES_POWERS_GROUP, LEAVES_PRESS_GROUP}
 use Rattle.daide_grammar.specs.declared.numbers.TheConstants.{LEAVES_PROVINCES_GROUP}
-use Rattle.daide_grammar.specs.Answers.{Take}
-use Rattle.daide_grammar.specs.Numbers.{level_place}
-use Rattle.daide_grammar.specs.Rules.{deed, rest_at}
+use Rattle.daide_grammar.specs.Table.Answers.{Take}
+use Rattle.daide_grammar.specs.Table.Numbers.{level_place}
+use Rattle.daide_grammar.specs.Table.Rules.{deed, rest_at}
 use Rattle.daide_grammar.specs.Forms.{Slot}
-use Rattle.daide_grammar.specs.Symbols.{slot_of}
-use Rattle.daide_words.specs.Place.{grammar_place, operand_place}
+use Rattle.daide_grammar.specs.Table.Symbols.{slot_of}
+use Rattle.daide_words.specs.Table.Place.{grammar_place, operand_place}
 
 pub power_rule : deed LEAVES_POWER_GROUP ≡ Take (PowerGroup ∷ [])
 unfolding deed rest_at

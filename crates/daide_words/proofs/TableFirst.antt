@@ -9,17 +9,17 @@ use Rattle.daide_token.specs.Class.{class_of}
 use Rattle.daide_token.specs.Names.{Named}
 use Rattle.daide_grammar.specs.declared.symbol.Sym.{Sym}
 use Rattle.daide_grammar.specs.Classes.{class_number}
-use Rattle.daide_grammar.specs.Rules.{is_stop}
+use Rattle.daide_grammar.specs.Table.Rules.{is_stop}
 use Rattle.daide_grammar.specs.SideMessages.{dialect_of}
-use Rattle.daide_grammar.specs.Symbols.{table_answer}
+use Rattle.daide_grammar.specs.Table.Symbols.{table_answer}
 use Rattle.daide_grammar.proofs.RowsAgree.{word_unknown}
-use Rattle.daide_grammar.specs.Numbers.{most_words}
+use Rattle.daide_grammar.specs.Words.{most_words}
 use Rattle.daide_words.specs.declared.word.Word as code
 use Rattle.daide_words.specs.Accepted.{are_accepted_after}
 use Rattle.daide_words.specs.Word.{grammar_words, names_of}
-use Rattle.daide_words.specs.OverWords.{answer_over}
-use Rattle.daide_words.specs.Places.{place_from}
-use Rattle.daide_words.specs.Proved.WordDialect.{class-Other}
+use Rattle.daide_words.specs.Table.OverWords.{answer_over}
+use Rattle.daide_words.specs.Table.Places.{place_from}
+use Rattle.daide_words.specs.Table.Proved.WordDialect.{class-Other}
 use Rattle.daide_words.proofs.AcceptedCodes.{class_told, class_kept}
 use Rattle.daide_words.proofs.WhereStopped.{not_stopped}
 

@@ -16,7 +16,8 @@ use Rattle.daide_words.specs.declared.word.Word.{Word}
 use Rattle.daide_words.specs.declared.word.Meaning.{Meaning}
 use Rattle.daide_words.specs.Word.{names_of, word_with, words_with}
 use Rattle.daide_words.specs.Accepted.{word_fault, are_accepted_after, are_accepted}
-use Rattle.daide_grammar.specs.Numbers.{most_words}
+use Rattle.daide_grammar.specs.Words.{most_words}
+use Rattle.daide_words.proofs.AcceptedCodes.{joined}
 
 -- the names of words that are put together are those they were put together from
 pub names_back : (names : List Named) (meanings : List Meaning) → length names ≤ length meanings →
@@ -41,10 +42,6 @@ words_with-append (n ∷ names) (m ∷ meanings) name meaning h =
 both : (a b : Bool) → (a && b) ≡ true → (a ≡ true) × (b ≡ true)
 both true b h = (refl, h)
 both false b h = cc
-
-joined : (a b : Bool) → a ≡ true → b ≡ true → (a && b) ≡ true
-joined true b e h = h
-joined false b e h = cc
 
 -- words of which the last is accepted after the others, which are accepted
 pub accepted-append : (taken : List Named) (words : List Word) (word : Word) →

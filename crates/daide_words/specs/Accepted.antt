@@ -4,7 +4,7 @@ use Rattle.std.specs.Prelude.{ℕ, Bool, true, false, not, ◌&&◌, ◌||◌, �
 use Rattle.std.specs.Prelude.{bytes_eq, is_none, is_ok, Result, Ok, Err, if◌then◌else◌}
 use Rattle.std.specs.List.{list_all, list_any}
 use Rattle.daide_token.specs.Names.{Named, name_of, token_named}
-use Rattle.daide_grammar.specs.Numbers.{most_words}
+use Rattle.daide_grammar.specs.Words.{most_words}
 use Rattle.daide_grammar.specs.declared.level.Level.{Level}
 use Rattle.daide_grammar.specs.declared.level.Level.TheVariants.{L0}
 use Rattle.daide_words.specs.declared.slot.Slot.{Slot}

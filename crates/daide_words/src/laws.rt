@@ -8,14 +8,15 @@ ghost use Rattle.daide_grammar.specs.declared.side.Side2.{Side2};
 ghost use Rattle.daide_grammar.specs.Level.{level_number};
 ghost use Rattle.daide_grammar.specs.Balanced.{IsBalanced};
 ghost use Rattle.daide_grammar.specs.Paired.{begins_with_prn, IsPaired};
-ghost use Rattle.daide_grammar.specs.Laws.{PredictLaws};
-ghost use Rattle.daide_grammar.specs.LawfulStack.{IsLawful};
-ghost use Rattle.daide_grammar.specs.SideMessages.{IsMessageOver, SymbolMatchesIn, dialect_of};
-ghost use Rattle.daide_grammar.specs.Symbols.{may_end_of, opening_of};
+ghost use Rattle.daide_grammar.specs.Table.Laws.{PredictLaws};
+ghost use Rattle.daide_grammar.specs.Table.LawfulStack.{IsLawful};
+ghost use Rattle.daide_grammar.specs.SideMessages.{IsMessageOver, dialect_of};
+ghost use Rattle.daide_grammar.specs.Table.Languages.{SymbolMatchesIn};
+ghost use Rattle.daide_grammar.specs.Table.Symbols.{may_end_of, opening_of};
 ghost use Rattle.daide_words.specs.declared.word.Word.{Word};
 ghost use Rattle.daide_words.specs.Word.{grammar_words};
 ghost use Rattle.daide_words.specs.Accepted.{are_accepted};
-ghost use Rattle.daide_words.specs.OverWords.{answer_over, spoken};
+ghost use Rattle.daide_words.specs.Table.OverWords.{answer_over, spoken};
 
 /// Words that are accepted one after the other keep every law of prediction, whatever their list: the answers over
 /// them agree with the messages over them, and the stacks that can arise stay as small.

@@ -1,14 +1,14 @@
 //! Where a word may stand, and what follows it there.
 
 ghost use Rattle.std.specs.Prelude.{◌≡◌, ◌∷◌, [], option_map, ◌≤◌, ◌<◌};
-ghost use Rattle.daide_grammar.specs.Answers.{Stop, Take};
-ghost use Rattle.daide_grammar.specs.Rules.{deed};
-ghost use Rattle.daide_grammar.specs.Symbols.{slot_of};
+ghost use Rattle.daide_grammar.specs.Table.Answers.{Stop, Take};
+ghost use Rattle.daide_grammar.specs.Table.Rules.{deed};
+ghost use Rattle.daide_grammar.specs.Table.Symbols.{slot_of};
 ghost use Rattle.daide_grammar.specs.Words.{an_arrangement};
 ghost use Rattle.daide_words.specs.Word.{grammar_operand, grammar_slot, grammar_word};
-ghost use Rattle.daide_grammar.specs.Numbers.{level_place};
-ghost use Rattle.daide_words.specs.Place.{grammar_place, operand_place};
-ghost use Rattle.daide_words.specs.OverWords.{if_stands, makes, operand_symbol, stands};
+ghost use Rattle.daide_grammar.specs.Table.Numbers.{level_place};
+ghost use Rattle.daide_words.specs.Table.Place.{grammar_place, operand_place};
+ghost use Rattle.daide_words.specs.Table.OverWords.{if_stands, makes, operand_symbol, stands};
 
 use crate::operand::Operand;
 use crate::slot::Slot;

@@ -4,9 +4,9 @@ ghost use Rattle.std.specs.Prelude.{◌≡◌, ℕ, ◌≤◌, ◌<◌, true, fa
 ghost use Rattle.std.specs.Prelude.{OnOk, OnErr, IfSome, is_some, get_or, slice_index_or, bytes_eq};
 ghost use Rattle.std.specs.List.{list_all, list_any};
 ghost use Rattle.daide_token.specs.Names.{token_named};
-ghost use Rattle.daide_grammar.specs.Numbers.{most_words};
+ghost use Rattle.daide_grammar.specs.Words.{most_words};
 ghost use Rattle.daide_words.specs.Word.{names_of, words_with};
-ghost use Rattle.daide_words.specs.Places.{place_from};
+ghost use Rattle.daide_words.specs.Table.Places.{place_from};
 ghost use Rattle.daide_words.specs.Accepted.{are_accepted, is_capital, is_free_code, is_free_name, word_fault};
 
 use crate::operand::Operand;

@@ -2,8 +2,8 @@
 
 ghost use Rattle.std.specs.Prelude.{◌≡◌, ◌<◌, ◌≤◌};
 ghost use Rattle.std.specs.Bool.{Decides};
-ghost use Rattle.daide_grammar.specs.Answers.{Take, answer_of, symbols_of};
-ghost use Rattle.daide_grammar.specs.Rules.{HasRule, deed, rest_of};
+ghost use Rattle.daide_grammar.specs.Table.Answers.{Take, answer_of, symbols_of};
+ghost use Rattle.daide_grammar.specs.Table.Rules.{HasRule, deed, rest_of};
 
 use crate::meaning::{Meaning, Rest};
 use crate::numbers::{RULE_COUNT, SKIP, STOP};
@@ -11,7 +11,7 @@ use crate::predict::Move;
 use crate::symbol::{Sym, Symbol};
 
 /// The move that says what a meaning says. The rules are gone through: nobody asks this table who is in a hurry.
-#[tactic(auto, unfolding(crate::specs::Rules::deed))]
+#[tactic(auto, unfolding(crate::specs::Table::Rules::deed))]
 pub(super) fn rule_of(meaning: Meaning) -> Move
     requires { HasRule (answer_of meaning) }
     ensures { result ≡ answer_of meaning }

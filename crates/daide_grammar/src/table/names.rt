@@ -2,7 +2,7 @@
 //! what is trusted.
 
 ghost use Rattle.std.specs.Prelude.{◌≡◌, ◌+◌, ◌≤◌};
-ghost use Rattle.daide_grammar.specs.Numbers.{level_place, symbol_number};
+ghost use Rattle.daide_grammar.specs.Table.Numbers.{level_place, symbol_number};
 
 use crate::level::Level;
 use crate::numbers::{CLASS_COUNT, SYMBOL_COUNT};

@@ -13,11 +13,11 @@ use Rattle.daide_grammar.specs.declared.symbol.Sym.TheVariants.{Arrangement, Ope
 use Rattle.daide_grammar.specs.Classes.{class_number, own_classes, same_class}
 use Rattle.daide_grammar.specs.Forms.{Kind, is, any_word, accepts, Slot, Press_slot, Arrangement_slot, Flat_slot, Added}
 use Rattle.daide_grammar.specs.Forms.{Form, named, Dialect}
-use Rattle.daide_grammar.specs.Symbols.{form_of, Entry, entries, forms, may_end_of, slot_of}
-use Rattle.daide_grammar.specs.Proved.Reading.{Head, starts, ends, unopened, heads}
-use Rattle.daide_grammar.specs.Proved.Reading
-use Rattle.daide_grammar.specs.Proved.Alternatives.{same_level, same_kind, parts_all, covers}
-use Rattle.daide_grammar.specs.Proved.Alternatives
+use Rattle.daide_grammar.specs.Table.Symbols.{form_of, Entry, entries, forms, may_end_of, slot_of}
+use Rattle.daide_grammar.specs.Table.Proved.Reading.{Head, starts, ends, unopened, heads}
+use Rattle.daide_grammar.specs.Table.Proved.Reading
+use Rattle.daide_grammar.specs.Table.Proved.Alternatives.{same_level, same_kind, parts_all, covers}
+use Rattle.daide_grammar.specs.Table.Proved.Alternatives
 
 -- the one alternatives before the others, where the test passes
 abbrev pub if_same : Bool → List (List Form) → List (List Form) → List (List Form)

@@ -5,7 +5,7 @@ use Rattle.std.proofs.lemmas.Bool.{and_parts, eqb-true}
 use Rattle.daide_token.specs.declared.class.Class.TheVariants.{Num}
 use Rattle.daide_grammar.specs.declared.symbol.Sym.TheVariants.{Closing}
 use Rattle.daide_grammar.specs.Classes.{class_number}
-use Rattle.daide_grammar.specs.Numbers.{symbols, symbol_number, symbol_at, all_symbols, classes, class_at, all_classes}
+use Rattle.daide_grammar.specs.Table.Numbers.{symbols, symbol_number, symbol_at, all_symbols, classes, class_at, all_classes}
 
 -- whether each item of a list has its place as its number, the first one's being given
 abbrev in_order : {X : Type 0} → (X → ℕ) → ℕ → List X → Bool

@@ -3,8 +3,8 @@ use Rattle.std.specs.Prelude.{◌≡◌, ℕ, ◌<◌, nat_eq, List, [], map, ta
 use Rattle.std.specs.Prelude.{if◌then◌else◌, Bool, true, false}
 use Rattle.daide_grammar.specs.declared.symbol.Sym.{Sym}
 use Rattle.daide_grammar.specs.declared.table.rules.TheConstants.{LENGTHS, RESTS}
-use Rattle.daide_grammar.specs.Answers.{Answer, Take, Skip, Stop}
-use Rattle.daide_grammar.specs.Numbers.{symbol_at}
+use Rattle.daide_grammar.specs.Table.Answers.{Answer, Take, Skip, Stop}
+use Rattle.daide_grammar.specs.Table.Numbers.{symbol_at}
 
 -- how many rules there is room for: a rule is a byte
 abbrev pub all_rules : ℕ

@@ -6,7 +6,7 @@ use Rattle.daide_token.specs.declared.class.Class.{Class}
 use Rattle.daide_token.specs.declared.class.Class.TheVariants.{Bra, Ket, Other, Word}
 use Rattle.daide_token.specs.Token.{bra, ket}
 use Rattle.daide_token.specs.Class.{class_of, token_of, is_standard}
-use Rattle.daide_token.specs.ClassLaws.{class_of-token_of, class_bra, class_ket, class_of-bra, class_of-ket}
+use Rattle.daide_token.proofs.ClassLaws.{class_of-token_of, class_bra, class_ket, class_of-bra, class_of-ket}
 use Rattle.daide_grammar.specs.declared.level.Level.{Level}
 use Rattle.daide_grammar.specs.Level.{level_number}
 use Rattle.daide_grammar.specs.Classes.{class_number, own_classes, same_class}
@@ -14,11 +14,12 @@ use Rattle.daide_grammar.specs.Forms.{is, Slot, ◌·◌, tok, group, Dialect}
 use Rattle.daide_grammar.specs.Matches.{Matches, first, second}
 use Rattle.daide_grammar.specs.SideMessages.{dialect_from, dialect_of}
 use Rattle.daide_grammar.specs.Words.{AddedWord, Words, operand_in}
-use Rattle.daide_grammar.specs.Proved.Reading.{Reads_from_MatchAll}
-use Rattle.daide_grammar.specs.Proved.Alternatives.{alone, both-pass}
-use Rattle.daide_grammar.specs.Proved.MovesAgree.{Proper, not-both}
-use Rattle.daide_words.specs.OverWords.{is_free, are_free}
-use Rattle.daide_words.specs.Proved.WordForms.{token-then, no-token, stands-passes}
+use Rattle.daide_grammar.specs.Table.Proved.Reading.{Reads_from_MatchAll}
+use Rattle.daide_grammar.specs.Table.Proved.Alternatives.{alone, both-pass}
+use Rattle.daide_grammar.specs.Table.Proved.MovesAgree.{Proper, not-both}
+use Rattle.daide_words.specs.Table.OverWords.{is_free, are_free}
+use Rattle.daide_words.specs.Table.Proved.WordForms.{token-then, no-token, stands-passes}
+use Rattle.daide_grammar.specs.Table.Proved.StandardDialect.{is_standard-below}
 
 -- the class of a word's number
 class-Word : (c : Class) (j : ℕ) → class_number c ≡ own_classes + j → c ≡ Word j
@@ -30,11 +31,6 @@ pub class-Other : (c : Class) → class_number c ≡ class_number Other → c �
 class-Other Other e = refl
 class-Other (Word k) e = absurd (omega arith)
 class-Other _ e = absurd (omega arith)
-
--- the classes with a number below that of any word are those of tokens
-standard-below : (c : Class) → class_number c < own_classes → is_standard c ≡ true
-standard-below (Word k) h = absurd (omega arith)
-standard-below _ h = refl
 
 module _ (s : Slot) (l : Level) where
   -- no list of an added form is empty
@@ -80,7 +76,7 @@ free-code x c f h e =
     let p = both-pass (same_class (class_of x.code) Other) (not (x.code == token_of Other)) f in
     let other : class_of x.code ≡ Other =
     class-Other (class_of x.code) (eqb-true (class_number (class_of x.code)) (class_number Other) p.0) in
-    let same : c ≡ Other = sym (class_of-token_of c (standard-below c h)) ∙ ap class_of e ∙ other in
+    let same : c ≡ Other = sym (class_of-token_of c (is_standard-below c h)) ∙ ap class_of e ∙ other in
     not-both (x.code == token_of Other) (eq-eqb x.code (token_of Other) (sym e ∙ ap token_of same)) p.1
 
 pub free-codes : (words : Words) (c : Class) → are_free words ≡ true → class_number c < own_classes → NoCode words (token_of c)
@@ -108,7 +104,7 @@ words-proper words f = record {
   by_word = λ s l t w m. begins-word s l (dialect_of words) 0 words t w m;
   token_of = λ c h. (
     token_of c,
-    keeps 0 words (token_of c) (free-codes words c f h) ∙ class_of-token_of c (standard-below c h),
+    keeps 0 words (token_of c) (free-codes words c f h) ∙ class_of-token_of c (is_standard-below c h),
   );
 }
 

@@ -13,11 +13,11 @@ use Rattle.daide_grammar.specs.declared.symbol.Sym.TheVariants.{Arrangement, Ope
 use Rattle.daide_grammar.specs.Classes.{class_number, own_classes}
 use Rattle.daide_grammar.specs.Forms.{Kind, is, any_word, accepts, Form, Dialect}
 use Rattle.daide_grammar.specs.Matches.{MatchAll}
-use Rattle.daide_grammar.specs.Symbols.{form_of, Entry, entries, entry_at, this_or, forms, may_end_of, slot_of}
-use Rattle.daide_grammar.specs.SideMessages.{SymbolMatchesIn}
-use Rattle.daide_grammar.specs.Proved.Alternatives.{both-pass, MatchAll-split}
-use Rattle.daide_grammar.specs.Proved.MovesAgree.{Proper, IsStandard, standard-no-word, AllMatchIn, entry-law}
-use Rattle.daide_grammar.specs.Proved.MovesAgree.{may_end-law}
+use Rattle.daide_grammar.specs.Table.Symbols.{form_of, Entry, entries, entry_at, this_or, forms, may_end_of, slot_of}
+use Rattle.daide_grammar.specs.Table.Languages.{SymbolMatchesIn}
+use Rattle.daide_grammar.specs.Table.Proved.Alternatives.{both-pass, MatchAll-split}
+use Rattle.daide_grammar.specs.Table.Proved.MovesAgree.{Proper, IsStandard, standard-no-word, AllMatchIn, entry-law}
+use Rattle.daide_grammar.specs.Table.Proved.MovesAgree.{may_end-law}
 
 -- the class of a token of the kind
 abbrev pub sample : Kind → Class

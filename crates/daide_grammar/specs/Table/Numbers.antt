@@ -3,6 +3,7 @@ use Rattle.std.specs.Prelude.{ℕ, ◌+◌, Bool, true, false, List, [], ◌∷�
 use Rattle.daide_token.specs.declared.class.Class.{Class}
 use Rattle.daide_token.specs.declared.class.Class.TheVariants.{Bra, Ket, Num, Word}
 use Rattle.daide_token.specs.ClassNumbers.{classes_in_order, own_classes}
+use Rattle.daide_grammar.specs.Words.{most_words}
 use Rattle.daide_grammar.specs.declared.level.Level.{Level}
 use Rattle.daide_grammar.specs.declared.level.Level.TheVariants.{L0, L10, L20, L30, L40, L50, L60}
 use Rattle.daide_grammar.specs.declared.symbol.Sym.{Sym}
@@ -167,10 +168,6 @@ symbol_number (Server l) = 195 + level_place l
 -- how many symbols there are
 abbrev pub all_symbols : ℕ
 all_symbols = 202
-
--- how many words an operator may add
-abbrev pub most_words : ℕ
-most_words = 16
 
 -- how many classes there are with those of an operator's words
 abbrev pub all_classes : ℕ
