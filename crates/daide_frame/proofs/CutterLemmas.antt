@@ -1,18 +1,17 @@
 -- What a cutter's fields tell of the bytes that it holds.
-use Rattle.std.proofs.Common.{◌≡◌, ℕ, inl, inr, ◌+◌, ◌-◌, ◌<◌, ◌≤◌, Bool, true, false, leb, List, [], ◌∷◌, ◌++◌, length}
+use Rattle.std.proofs.Common.{◌≡◌, ℕ, inl, inr, ◌-◌, ◌<◌, ◌≤◌, Bool, true, false, leb, List, [], ◌++◌, length}
 use Rattle.std.proofs.Common.{take, drop, Option, Some, None, Result, Ok, Err, refl, sym, ap, ◌∙◌, subst, arith}
 use Rattle.std.proofs.Common.{length-append, length-take, append-nil}
 use Rattle.std.specs.Prelude.{is_some, MatchOption}
 use Rattle.std.proofs.lemmas.Bool.{lt-ltb}
 use Rattle.std.proofs.lemmas.Bool.Decides.{leb_tells}
-use Rattle.std.proofs.lemmas.Grind.{common_steps}
 use Rattle.std.proofs.Math.Seq.{drop-append_seam}
 use Rattle.daide_frame.specs.declared.head.Head.{Head}
 use Rattle.daide_frame.specs.declared.code.Code.{Code}
 use Rattle.daide_frame.specs.declared.cutter.Step.{Step}
 use Rattle.daide_frame.specs.declared.cutter.Step.TheVariants.{Headed, Bodied}
 use Rattle.daide_frame.specs.Head.{head_of}
-use Rattle.std.proofs.Common.{◌⊎◌, set}
+use Rattle.std.proofs.Common.{◌⊎◌}
 use Rattle.daide_frame.specs.Frames.{alien_in, last_items, announced, announced_by, told, IsWholeBody, answer_to}
 use Rattle.daide_frame.specs.Frames.{head_part, head_in, missing_of_body, missing}
 use Rattle.daide_frame.specs.Cutter.{has_alien, IsConsistent}
@@ -192,13 +191,6 @@ body_of limit have header head f body capacity i = by_have (leb_tells 4 have)
     by_have (inr t) = rw (i.no_body t.1)
         (drop_past 4 (take have header ++ [])
         (omega (arith, length-append (take have header) [], length-take have header, i.four)))
-
--- a byte goes to the header's end
-pub header_bytes : (have : ℕ) (header body : List ℕ) (x : ℕ) → have < 4 → length header ≡ 4 → body ≡ [] →
-    take (have + 1) (set header have x) ++ body ≡ (take have header ++ body) ++ x ∷ []
-header_bytes have header body x l e b =
-    rw b (rw (append-nil (take (have + 1) (set header have x)))
-    (rw (append-nil (take have header)) (grind (arith, common_steps))))
 
 -- what the header's last byte tells, by the fields
 pub header_step : (limit have : ℕ) (header body : List ℕ) → have ≡ 4 → length header ≡ 4 → body ≡ [] →

@@ -38,7 +38,7 @@ by-push true w x e = alien-push w x e
     ∙ ap (λ (n : ℕ). cond {A = Option ℕ} (ends_alien (w ++ x ∷ [])) (Some n) None)
     (omega (arith, length-append w (x ∷ [])))
 
-by-grown : (dm : Bool) (v more : List ℕ) (n : ℕ) → alien_by dm v ≡ Some n → alien_by dm (v ++ more) ≡ Some n
+pub by-grown : (dm : Bool) (v more : List ℕ) (n : ℕ) → alien_by dm v ≡ Some n → alien_by dm (v ++ more) ≡ Some n
 by-grown false v more n e = absurd (cc)
 by-grown true v more n e = first_alien-grown v more n e
 

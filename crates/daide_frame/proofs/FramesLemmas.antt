@@ -12,10 +12,10 @@ use Rattle.daide_frame.specs.declared.head.Kind.TheVariants.{Im, Rm, Dm, Fm, Em}
 use Rattle.daide_frame.specs.declared.head.Head.{Head}
 use Rattle.daide_frame.specs.declared.code.Code.{Code}
 use Rattle.daide_frame.specs.declared.code.Code.TheVariants.{InvalidToken}
-use Rattle.daide_frame.specs.declared.cutter.Step.TheVariants.{More, Bodied}
+use Rattle.daide_frame.specs.declared.cutter.Step.TheVariants.{Bodied}
 use Rattle.daide_frame.specs.Head.{kind_number, head_of}
 use Rattle.daide_frame.specs.Frames.{first_alien, alien_in, Item, Begun, Whole, Wrong, items_of_body, items_from_head}
-use Rattle.daide_frame.specs.Frames.{first_items, ending_at, last_items, is_nothing, fed, fed_items, told, answer_to}
+use Rattle.daide_frame.specs.Frames.{first_items, ending_at, last_items, told}
 use Rattle.daide_frame.specs.Frames.{head_part, head_in, missing_of_body, missing}
 use Rattle.daide_frame.proofs.ListLemmas.{ltb_no, eqb_no, take_whole}
 
@@ -140,19 +140,6 @@ not_dm Em h = refl
 
 pub alien_in-other : (head : Head) (v : List ℕ) → (head.kind ≡ Dm → ⊥) → alien_in head v ≡ None
 alien_in-other head v h = rw (not_dm head.kind h) refl
-
-loud_items : (items : List Item) → (answer_to items ≡ More → ⊥) → is_nothing items ≡ false
-loud_items [] h = absurd (h refl)
-loud_items (item ∷ items) h = refl
-
-pub fed-loud : (limit : ℕ) (bytes : List ℕ) (x : ℕ) (piece : List ℕ) →
-    (answer_to (last_items limit (bytes ++ x ∷ [])) ≡ More → ⊥) →
-    (fed limit bytes (x ∷ piece) ≡ bytes ++ x ∷ [])
-    × (fed_items limit bytes (x ∷ piece) ≡ last_items limit (bytes ++ x ∷ []))
-fed-loud limit bytes x piece h =
-    let n : is_nothing (last_items limit (bytes ++ x ∷ [])) ≡ false =
-    loud_items (last_items limit (bytes ++ x ∷ [])) h in
-    (rw n refl, rw n refl)
 
 pub told_whole : (head : Head) (v : List ℕ) → 0 < length v → told Bodied (Some head) v ≡ Whole head v ∷ []
 told_whole head [] h = absurd (omega arith)

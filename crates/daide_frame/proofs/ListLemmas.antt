@@ -1,9 +1,8 @@
 -- Tests of numbers that are known, and lists that are cut where they end.
-use Rattle.std.proofs.Common.{◌≡◌, ℕ, ◌+◌, ◌<◌, ◌≤◌, true, false, ltb, leb, eqb, List, [], ◌∷◌, ◌++◌, length, get_or}
-use Rattle.std.proofs.Common.{take, drop, sym, ap, ◌∙◌, arith, length-drop, length-take, append_assoc}
+use Rattle.std.proofs.Common.{◌≡◌, ℕ, ◌<◌, ◌≤◌, true, false, ltb, leb, eqb, List, [], length}
+use Rattle.std.proofs.Common.{take, drop, arith, length-take}
 use Rattle.std.proofs.lemmas.Bool.Decides.{nat_tests}
 use Rattle.std.proofs.lemmas.Grind.{common_steps}
-use Rattle.std.proofs.lemmas.List.{take_more}
 
 pub ltb_no : (a b : ℕ) → b ≤ a → ltb a b ≡ false
 ltb_no a b h = grind (arith, nat_tests)
@@ -37,12 +36,3 @@ drop_past n v h = grind (arith, common_steps)
 
 pub within_part : (v : List ℕ) (n m : ℕ) → length v ≤ m → length (take n v) ≤ m
 within_part v n m h = omega (arith, length-take n v)
-
-pub short_rest : (piece : List ℕ) (i : ℕ) → i < length piece → length (drop i piece) ≤ 1 → take (i + 1) piece ≡ piece
-short_rest piece i l h = take_whole (i + 1) piece (omega (arith, length-drop i piece))
-
-pub all_taken : (first bytes : List ℕ) (piece : List ℕ) (i : ℕ) → i < length piece → length (drop i piece) ≤ 1 →
-    bytes ≡ first ++ take i piece → bytes ++ get_or piece i 0 ∷ [] ≡ first ++ piece
-all_taken first bytes piece i l h e =
-    ap (λ (t : List ℕ). t ++ get_or piece i 0 ∷ []) e ∙ append_assoc first (take i piece) (get_or piece i 0 ∷ [])
-    ∙ ap (λ (t : List ℕ). first ++ t) (sym (take_more piece i 0 l) ∙ short_rest piece i l h)

@@ -17,7 +17,7 @@ use Rattle.daide_frame.proofs.FramesLemmas.{at_head, at_body, alien_in-nothing, 
 use Rattle.daide_frame.proofs.FramesLemmas.{last_items-short, last_items-head4, last_items-body4, missing-short}
 use Rattle.daide_frame.proofs.FramesLemmas.{missing-of4, wanted}
 use Rattle.daide_frame.proofs.ListLemmas.{ltb_no, leb_no, leb_yes, eqb_same, eqb_is, eqb_apart}
-use Rattle.daide_frame.proofs.FeedingLemmas.{alien_by, is_dm, alien_in-within, alien_in-push}
+use Rattle.daide_frame.proofs.FeedingLemmas.{alien_by, by-grown, is_dm, alien_in-within, alien_in-push}
 
 -- The items of the first frame, by how far it has come
 
@@ -50,10 +50,6 @@ body_ends head w more e l =
     ap (items_of_body head (w ++ more)) none
     ∙ rw (leb_yes head.len (length (w ++ more)) (omega (arith, l, length-append w more)))
     (ap (λ (v : List ℕ). record { item = Whole head v; at = 4 + head.len } ∷ []) front)
-
-by-grown : (dm : Bool) (v more : List ℕ) (n : ℕ) → alien_by dm v ≡ Some n → alien_by dm (v ++ more) ≡ Some n
-by-grown false v more n e = absurd (cc)
-by-grown true v more n e = first_alien-grown v more n e
 
 body_fails : (head : Head) (v more : List ℕ) (n : ℕ) → alien_in head v ≡ Some n → length v ≤ head.len →
     items_of_body head (v ++ more) (alien_in head (v ++ more)) ≡ record { item = Wrong InvalidToken; at = 4 + n } ∷ []

@@ -19,9 +19,9 @@ use Rattle.daide_grammar.specs.Matches.{bracketed, by_name}
 use Rattle.daide_grammar.specs.Balanced.{IsBalanced}
 use Rattle.daide_grammar.specs.Balanced as Rules
 use Rattle.daide_grammar.specs.SideMessages.{message_form}
-use Rattle.daide_grammar.specs.Proved.Alternatives.{both-pass}
-use Rattle.daide_grammar.specs.Proved.MovesAgree.{accepts-like, not-both}
-use Rattle.daide_grammar.specs.Proved.StacksInOrder.{number-Bra, number-Ket}
+use Rattle.daide_grammar.specs.Table.Proved.Alternatives.{both-pass}
+use Rattle.daide_grammar.specs.Table.Proved.MovesAgree.{accepts-like, not-both}
+use Rattle.daide_grammar.specs.Table.Proved.StacksInOrder.{number-Bra, number-Ket}
 
 -- a dialect in which a bracket is the only token of its class
 pub record KeepsBrackets (d : Dialect) : Type 0 where

@@ -2,7 +2,7 @@
 use Rattle.std.proofs.Common.{◌≡◌, None, [], ◌∷◌, refl}
 use Rattle.daide_token.specs.Token.{bra, ket, prn, huh}
 use Rattle.daide_grammar.specs.Depth.{open_brackets, depth_of}
-use Rattle.daide_grammar.specs.Brackets.{counted}
+use Rattle.daide_grammar.specs.Table.Brackets.{counted}
 
 -- nothing is open in the empty list, and it has no depth
 nothing-open : open_brackets [] ≡ 0

@@ -7,18 +7,18 @@ use Rattle.daide_token.specs.Token.{bra, ket}
 use Rattle.daide_token.specs.Class.{class_of}
 use Rattle.daide_token.specs.declared.class.Class.{Class}
 use Rattle.daide_token.specs.declared.class.Class.TheVariants.{Bra, Ket}
-use Rattle.daide_grammar.specs.Brackets.{is_bra, is_ket}
-use Rattle.daide_grammar.specs.Cells.{bracket_cell}
-use Rattle.daide_grammar.specs.Numbers.{bracket_step, class_at}
-use Rattle.daide_grammar.specs.Proved.PlainLaws.{only_bra, only_ket}
+use Rattle.daide_grammar.specs.Table.Brackets.{is_bra, is_ket}
+use Rattle.daide_grammar.specs.Table.Cells.{bracket_cell}
+use Rattle.daide_grammar.specs.Table.Numbers.{all_classes, bracket_step, class_at}
+use Rattle.daide_grammar.specs.Table.Proved.PlainLaws.{only_bra, only_ket}
 use Rattle.daide_grammar.proofs.Alike.{alike}
 
-steps : map bracket_cell (range_with_len 0 95) ≡ map (λ n. bracket_step (class_at n)) (range_with_len 0 95)
+steps : map bracket_cell (range_with_len 0 all_classes) ≡ map (λ n. bracket_step (class_at n)) (range_with_len 0 all_classes)
 unfolding bracket_cell
 steps = refl
 
-pub step_told : (n : ℕ) → n < 95 → bracket_cell n ≡ bracket_step (class_at n)
-step_told n less = alike bracket_cell (λ n. bracket_step (class_at n)) 95 steps n less
+pub step_told : (n : ℕ) → n < all_classes → bracket_cell n ≡ bracket_step (class_at n)
+step_told n less = alike bracket_cell (λ n. bracket_step (class_at n)) all_classes steps n less
 
 neither : (c : Class) → (c ≡ Bra → ⊥) → (c ≡ Ket → ⊥) → bracket_step c ≡ 0
 neither Bra opens closes = absurd (opens refl)

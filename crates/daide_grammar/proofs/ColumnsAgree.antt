@@ -11,9 +11,9 @@ use Rattle.daide_token.specs.declared.class.Class.{Class}
 use Rattle.daide_token.specs.declared.class.Class.TheVariants.{Num, Power, Note, Outcome, Coast, Season, Text, Province}
 use Rattle.daide_token.specs.declared.class.Class.TheVariants.{Param, Other, Alien}
 use Rattle.daide_grammar.specs.declared.table.rows.TheConstants.{TABLE}
-use Rattle.daide_grammar.specs.Cells.{class_cell, column_at}
+use Rattle.daide_grammar.specs.Table.Cells.{class_cell, column_at}
 use Rattle.daide_grammar.specs.Classes.{class_number}
-use Rattle.daide_grammar.specs.Numbers.{class_at}
+use Rattle.daide_grammar.specs.Table.Numbers.{all_classes, class_at}
 use Rattle.daide_grammar.proofs.WordColumns.{class_told, own_class}
 
 -- A code's classes, category by category. Six categories alone tell their codes apart, so a row is short to compute.
@@ -104,5 +104,5 @@ number_told t word =
 pub class_found : (t : ℕ) → t < 65536 → class_at (column_at (t / 256) (t % 256)) ≡ class_of t
 class_found t word = ap class_at (number_told t word) ∙ class_told (class_of t) (own_class t)
 
-pub number_small : (t : ℕ) → t < 65536 → column_at (t / 256) (t % 256) < 95
-number_small t word = subst (λ n. n < 95) (sym (number_told t word)) (own_class t)
+pub number_small : (t : ℕ) → t < 65536 → column_at (t / 256) (t % 256) < all_classes
+number_small t word = subst (λ n. n < all_classes) (sym (number_told t word)) (own_class t)

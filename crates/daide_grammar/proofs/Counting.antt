@@ -12,9 +12,9 @@ use Rattle.std.proofs.lemmas.Bool.Decides.{nat_tests}
 use Rattle.daide_token.specs.Token.{bra, ket}
 use Rattle.daide_grammar.specs.Balanced.{IsBalanced, empty, plain, joined, bracketed}
 use Rattle.daide_grammar.specs.Paired.{begins_with_prn}
-use Rattle.daide_grammar.specs.Proved.MovesAgree.{no-yes}
+use Rattle.daide_grammar.specs.Table.Proved.MovesAgree.{no-yes}
 use Rattle.daide_grammar.specs.Depth.{bras, kets, excess, prefixes, closes_early, greatest, depth_of}
-use Rattle.daide_grammar.specs.Brackets.{is_bra, is_ket, counted, count_one}
+use Rattle.daide_grammar.specs.Table.Brackets.{is_bra, is_ket, counted, count_one}
 
 -- an induction from the end of a list
 pub from_the_end : (P : List ℕ → Type 0) → P [] → ((p : List ℕ) (t : ℕ) → P p → P (p ++ t ∷ [])) → (p : List ℕ) → P p

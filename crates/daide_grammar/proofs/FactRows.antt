@@ -15,12 +15,13 @@ use Rattle.daide_grammar.specs.declared.side.Side2.{Side2}
 use Rattle.daide_grammar.specs.declared.symbol.Sym.{Sym}
 use Rattle.daide_grammar.specs.Level.{level_number}
 use Rattle.daide_grammar.specs.Paired.{begins_with_prn}
-use Rattle.daide_grammar.specs.Symbols.{opening_of}
-use Rattle.daide_grammar.specs.Stacks.{StackMatches}
-use Rattle.daide_grammar.specs.SideMessages.{IsMessage, SymbolMatches}
-use Rattle.daide_grammar.specs.Proved.Alternatives.{both-pass, either-passes}
-use Rattle.daide_grammar.specs.Proved.MovesAgree.{no-yes}
-use Rattle.daide_grammar.specs.Proved.PlainLaws.{plain_begins}
+use Rattle.daide_grammar.specs.Table.Symbols.{opening_of}
+use Rattle.daide_grammar.specs.Table.Stacks.{StackMatches}
+use Rattle.daide_grammar.specs.SideMessages.{IsMessage}
+use Rattle.daide_grammar.specs.Table.Languages.{SymbolMatches}
+use Rattle.daide_grammar.specs.Table.Proved.Alternatives.{both-pass, either-passes}
+use Rattle.daide_grammar.specs.Table.Proved.MovesAgree.{no-yes}
+use Rattle.daide_grammar.specs.Table.Proved.PlainLaws.{plain_begins}
 use Rattle.daide_grammar.proofs.Languages.{opening-language}
 use Rattle.daide_grammar.proofs.LevelsGrow.{levels-only-add}
 use Rattle.daide_grammar.proofs.MessageText.{tokens_of_text}

@@ -5,7 +5,7 @@ use Rattle.std.proofs.lemmas.Bool.{eqb-true}
 use Rattle.daide_token.specs.declared.class.Class.TheVariants.{Prn, Huh}
 use Rattle.daide_token.specs.Token.{bra, ket, prn, huh}
 use Rattle.daide_token.specs.Class.{class_of}
-use Rattle.daide_token.specs.ClassLaws.{class_of-prn}
+use Rattle.daide_token.proofs.ClassLaws.{class_of-prn}
 use Rattle.daide_grammar.specs.declared.level.Level.{Level}
 use Rattle.daide_grammar.specs.declared.level.Level.TheVariants.{L60}
 use Rattle.daide_grammar.specs.declared.side.Side2.{Side2}
@@ -16,10 +16,11 @@ use Rattle.daide_grammar.specs.Message.Lists.{any}
 use Rattle.daide_grammar.specs.Matches.{Matches, bracketed}
 use Rattle.daide_grammar.specs.Balanced.{IsBalanced}
 use Rattle.daide_grammar.specs.Paired.{begins_with_prn, IsPrnReport, IsPaired}
-use Rattle.daide_grammar.specs.Answers.{Take, Stop}
-use Rattle.daide_grammar.specs.Symbols.{form_of, entries, may_end_of, table_answer, opening_of}
-use Rattle.daide_grammar.specs.SideMessages.{standard, message_form, IsMessage, SymbolMatches}
-use Rattle.daide_grammar.specs.Proved.PlainLaws.{only_bra, only_ket, plain_laws}
+use Rattle.daide_grammar.specs.Table.Answers.{Take, Stop}
+use Rattle.daide_grammar.specs.Table.Symbols.{form_of, entries, may_end_of, table_answer, opening_of}
+use Rattle.daide_grammar.specs.SideMessages.{standard, message_form, IsMessage}
+use Rattle.daide_grammar.specs.Table.Languages.{SymbolMatches}
+use Rattle.daide_grammar.specs.Table.Proved.PlainLaws.{only_bra, only_ket, plain_laws}
 use Rattle.daide_grammar.proofs.BalancedLemmas.{KeepsBrackets, message-balanced, any-balanced, paired, bra-accepted}
 use Rattle.daide_grammar.proofs.BalancedLemmas.{ket-accepted}
 
@@ -28,7 +29,7 @@ pub standard-brackets : KeepsBrackets standard
 standard-brackets = record { bras = only_bra; kets = only_ket }
 
 -- an opening symbol's form is that of its side's messages
-opening-form : (side : Side2) (l : Level) → form_of (opening_of side l) ≡ message_form side l
+pub opening-form : (side : Side2) (l : Level) → form_of (opening_of side l) ≡ message_form side l
 unfolding form_of
 opening-form Client l = refl
 opening-form ServerEnd l = refl
@@ -45,7 +46,7 @@ class-prn : (t : ℕ) → (t == prn) ≡ true → class_of t ≡ Prn
 class-prn t e = ap class_of (eqb-true t prn e) ∙ class_of-prn
 
 -- a test that cannot pass fails
-begins-false : (b : Bool) → (b ≡ true → ⊥) → b ≡ false
+pub begins-false : (b : Bool) → (b ≡ true → ⊥) → b ≡ false
 begins-false true f = absurd (f refl)
 begins-false false f = refl
 
@@ -66,7 +67,7 @@ from-form : (side : Side2) (l : Level) (m : List ℕ) → Matches standard (mess
 from-form side l m h = subst (λ (f : Form). Matches standard f m) (sym (opening-form side l)) h
 
 -- a report PRN begins with PRN
-report-begins : (m : List ℕ) → IsPrnReport m → begins_with_prn m ≡ false → ⊥
+pub report-begins : (m : List ℕ) → IsPrnReport m → begins_with_prn m ≡ false → ⊥
 report-begins m r e = let f : true ≡ false = sym (ap begins_with_prn r.1) ∙ e in cc
 
 -- an opening symbol stands for the messages that don't begin with PRN
@@ -111,7 +112,7 @@ any-grouped a h =
     (ket-accepted standard standard-brackets)
 
 -- the token HUH has the class HUH
-class-huh : class_of huh ≡ Huh
+pub class-huh : class_of huh ≡ Huh
 unfolding class_of
 class-huh = refl
 

@@ -22,5 +22,4 @@ pub mod RowsAgree
 pub mod PlainRules
 pub mod OtherClasses
 pub mod OneEntry
-pub mod Starts
 pub mod BracketSteps

@@ -6,7 +6,7 @@ use Rattle.daide_grammar.specs.declared.symbol.Sym.TheVariants.{ArrangementGroup
 use Rattle.daide_grammar.specs.declared.symbol.Sym.TheVariants.{OperandGroup, Operands, Operand, PressGroup, Press}
 use Rattle.daide_grammar.specs.declared.symbol.Sym.TheVariants.{SendGroup, MaybeSendGroup, Send, SendTail, SendFirst}
 use Rattle.daide_grammar.specs.declared.symbol.Sym.TheVariants.{Client, RequestGroup, Request, Server}
-use Rattle.daide_grammar.specs.Numbers.{symbol_number, symbol_at}
+use Rattle.daide_grammar.specs.Table.Numbers.{all_symbols, symbol_number, symbol_at}
 
 pub symbol_back : (s : Sym) → symbol_at (symbol_number s) ≡ s
 symbol_back (ArrangementGroup L60) = refl
@@ -29,7 +29,7 @@ symbol_back (Request L60) = refl
 symbol_back (Server L60) = refl
 symbol_back _ = refl
 
-pub symbol_small : (s : Sym) → symbol_number s < 202
+pub symbol_small : (s : Sym) → symbol_number s < all_symbols
 symbol_small (ArrangementGroup L60) = omega arith
 symbol_small (Arrangement L60) = omega arith
 symbol_small (FactGroup L60) = omega arith

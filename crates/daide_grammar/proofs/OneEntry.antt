@@ -3,9 +3,9 @@ use Rattle.std.proofs.Common.{◌≡◌, Bool, true, false, None, List, [], ◌�
 use Rattle.std.specs.Prelude.{if◌then◌else◌}
 use Rattle.daide_token.specs.declared.class.Class.{Class}
 use Rattle.daide_grammar.specs.declared.symbol.Sym.{Sym}
-use Rattle.daide_grammar.specs.Answers.{Answer, Take, Skip, Stop}
+use Rattle.daide_grammar.specs.Table.Answers.{Answer, Take, Skip, Stop}
 use Rattle.daide_grammar.specs.Classes.{same_class}
-use Rattle.daide_grammar.specs.Symbols.{Entry, on, answer_by, entries, entry_at, may_end_of, table_answer, this_or}
+use Rattle.daide_grammar.specs.Table.Symbols.{Entry, on, answer_by, entries, entry_at, may_end_of, table_answer, this_or}
 
 told : (b ends : Bool) (e : Entry) →
     (if b then Take e.rest else answer_by None ends) ≡ answer_by (this_or b e None) ends

@@ -21,9 +21,9 @@ use Rattle.daide_grammar.specs.declared.symbol.Sym.TheVariants.{UnitGroups}
 use Rattle.daide_grammar.specs.Level.{level_number}
 use Rattle.daide_grammar.specs.Classes.{same_class}
 use Rattle.daide_grammar.specs.Forms.{accepts, is}
-use Rattle.daide_grammar.specs.Answers.{Answer, Stop}
-use Rattle.daide_grammar.specs.Symbols.{Entry, on, answer_by, asking_entries, entries, entry_at, joining_entries}
-use Rattle.daide_grammar.specs.Symbols.{may_end_of, only_from, request_entries, simple_entries, table_answer, this_or}
+use Rattle.daide_grammar.specs.Table.Answers.{Answer, Stop}
+use Rattle.daide_grammar.specs.Table.Symbols.{Entry, on, answer_by, asking_entries, entries, entry_at, joining_entries}
+use Rattle.daide_grammar.specs.Table.Symbols.{may_end_of, only_from, request_entries, simple_entries, table_answer, this_or}
 
 -- no class of these entries is the class
 abbrev NoneTakes : Class → List Entry → Type 0

@@ -6,9 +6,9 @@ use Rattle.std.proofs.lemmas.List.{get_or-take, get_or-reverse, take_all}
 use Rattle.std.proofs.lemmas.Bool.{eqb-true}
 use Rattle.std.proofs.lemmas.Bool.Decides.{nat_tests}
 use Rattle.daide_grammar.specs.declared.symbol.Sym.{Sym}
-use Rattle.daide_grammar.specs.Answers.{Take}
-use Rattle.daide_grammar.specs.Numbers.{symbol_at, symbol_number}
-use Rattle.daide_grammar.specs.Rules.{deed, rest_of}
+use Rattle.daide_grammar.specs.Table.Answers.{Take}
+use Rattle.daide_grammar.specs.Table.Numbers.{symbol_at, symbol_number}
+use Rattle.daide_grammar.specs.Table.Rules.{deed, rest_of}
 use Rattle.daide_grammar.proofs.NumberLemmas.{symbol_back}
 
 -- symbols of one number are one symbol

@@ -11,15 +11,16 @@ use Rattle.daide_grammar.specs.declared.symbol.Sym.{Sym}
 use Rattle.daide_grammar.specs.declared.symbol.Sym.TheVariants.{Request, Client, MaybeSendGroup, Server, Press}
 use Rattle.daide_grammar.specs.declared.symbol.Sym.TheVariants.{Arrangement, Operand, Fact}
 use Rattle.daide_grammar.specs.Forms.{accepts}
-use Rattle.daide_grammar.specs.Answers.{Answer, Take, Skip, Stop}
-use Rattle.daide_grammar.specs.Symbols.{Entry, entries, entry_at, may_end_of, table_answer}
-use Rattle.daide_grammar.specs.Stacks.{StackMatches, stack_after}
-use Rattle.daide_grammar.specs.LawfulStack.{IsLawful}
-use Rattle.daide_grammar.specs.SideMessages.{SymbolMatches, standard}
-use Rattle.daide_grammar.specs.Proved.Alternatives.{both-pass}
-use Rattle.daide_grammar.specs.Proved.RightEntries.{apart, all_apart}
-use Rattle.daide_grammar.specs.Proved.MovesAgree.{apart-sound, find-passes, take-entry, right_parts}
-use Rattle.daide_grammar.specs.Proved.PlainLaws.{plain_laws}
+use Rattle.daide_grammar.specs.Table.Answers.{Answer, Take, Skip, Stop}
+use Rattle.daide_grammar.specs.Table.Symbols.{Entry, entries, entry_at, may_end_of, table_answer}
+use Rattle.daide_grammar.specs.Table.Stacks.{StackMatches, stack_after}
+use Rattle.daide_grammar.specs.Table.LawfulStack.{IsLawful}
+use Rattle.daide_grammar.specs.SideMessages.{standard}
+use Rattle.daide_grammar.specs.Table.Languages.{SymbolMatches}
+use Rattle.daide_grammar.specs.Table.Proved.Alternatives.{both-pass}
+use Rattle.daide_grammar.specs.Table.Proved.RightEntries.{apart, all_apart}
+use Rattle.daide_grammar.specs.Table.Proved.MovesAgree.{apart-sound, find-passes, take-entry, right_parts}
+use Rattle.daide_grammar.specs.Table.Proved.PlainLaws.{plain_laws}
 
 -- ---- two alternatives never begin with the same class
 

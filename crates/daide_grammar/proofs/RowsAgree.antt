@@ -6,16 +6,17 @@ use Rattle.std.proofs.lemmas.Bool.{and_parts, eqb-true}
 use Rattle.std.specs.List.{list_all, range_with_len}
 use Rattle.std.specs.Prelude.{slice_index_or}
 use Rattle.daide_token.specs.declared.class.Class.{Class}
-use Rattle.daide_token.specs.declared.class.Class.TheVariants.{Num, Other, Word}
+use Rattle.daide_token.specs.declared.class.Class.TheVariants.{Ket, Num, Other, Word}
 use Rattle.daide_grammar.specs.declared.symbol.Sym.{Sym}
 use Rattle.daide_grammar.specs.declared.symbol.Sym.TheVariants.{Closing}
 use Rattle.daide_grammar.specs.declared.table.rows.TheConstants.{TABLE}
-use Rattle.daide_grammar.specs.Answers.{Answer, Take, Skip, Stop}
-use Rattle.daide_grammar.specs.Cells.{rule_at}
-use Rattle.daide_grammar.specs.Classes.{class_number}
-use Rattle.daide_grammar.specs.Numbers.{classes, class_at, symbol_at, symbol_number, symbols}
-use Rattle.daide_grammar.specs.Rules.{deed, rest_at, HasRule}
-use Rattle.daide_grammar.specs.Symbols.{Entry, answer_by, entries, entry_at, may_end_of, table_answer}
+use Rattle.daide_grammar.specs.Table.Answers.{Answer, Take, Skip, Stop}
+use Rattle.daide_grammar.specs.Table.Cells.{rule_at}
+use Rattle.daide_grammar.specs.Classes.{class_number, own_classes}
+use Rattle.daide_grammar.specs.Table.Numbers.{all_classes, classes, class_at, symbol_at, symbol_number, symbols}
+use Rattle.daide_grammar.specs.Words.{most_words}
+use Rattle.daide_grammar.specs.Table.Rules.{all_rules, deed, rest_at, HasRule}
+use Rattle.daide_grammar.specs.Table.Symbols.{Entry, answer_by, entries, entry_at, may_end_of, table_answer}
 use Rattle.daide_grammar.proofs.Alike.{alike, passes_at}
 use Rattle.daide_grammar.proofs.NumberLemmas.{symbol_back, symbol_small}
 use Rattle.daide_grammar.proofs.WordColumns.{class_told, word_at}
@@ -159,7 +160,7 @@ right s =
     (there.0, subst (λ (x : Sym). is_right x there.0 ≡ true) (symbol_back s) there.1, there.2)
 
 -- and a look-up answers what the table of the definitions answers
-pub looked_up : (s : Sym) (n : ℕ) → n < 95 → deed (rule_at n (symbol_number s)) ≡ table_answer s (class_at n)
+pub looked_up : (s : Sym) (n : ℕ) → n < all_classes → deed (rule_at n (symbol_number s)) ≡ table_answer s (class_at n)
 unfolding table_answer
 looked_up s n less =
     let there = right s in
@@ -169,24 +170,24 @@ looked_up s n less =
     ∙ told_at (entries s) (may_end_of s) there.0 classes (and_parts told ends there.1).0 n less
 
 -- each rule has a number of one byte
-in_a_byte : list_all (list_all (λ rule. nat_lt rule 256)) TABLE.rows ≡ true
+in_a_byte : list_all (list_all (λ rule. nat_lt rule all_rules)) TABLE.rows ≡ true
 in_a_byte = refl
 
-small_rule : (c s : ℕ) → rule_at c s < 256
+small_rule : (c s : ℕ) → rule_at c s < all_rules
 unfolding rule_at
 small_rule c s =
-    let column = passes_at (list_all (λ rule. nat_lt rule 256)) TABLE.rows c [] in_a_byte refl in
-    ltb-true (rule_at c s) 256 (passes_at (λ rule. nat_lt rule 256) (slice_index_or TABLE.rows c []) s 0 column refl)
+    let column = passes_at (list_all (λ rule. nat_lt rule all_rules)) TABLE.rows c [] in_a_byte refl in
+    ltb-true (rule_at c s) all_rules (passes_at (λ rule. nat_lt rule all_rules) (slice_index_or TABLE.rows c []) s 0 column refl)
 
 -- whatever the entries say is said by a rule
-pub has_rule : (s : Sym) (c : Class) → class_number c < 95 → HasRule (table_answer s c)
+pub has_rule : (s : Sym) (c : Class) → class_number c < all_classes → HasRule (table_answer s c)
 has_rule s c less =
     let n = class_number c in
     let rule = rule_at n (symbol_number s) in
     (rule, small_rule n (symbol_number s), looked_up s n less ∙ ap (table_answer s) (class_told c less))
 
 -- a symbol may be empty exactly where a closing bracket skips it
-pub ends_told : (s : Sym) → nat_eq (rule_at 1 (symbol_number s)) 1 ≡ may_end_of s
+pub ends_told : (s : Sym) → nat_eq (rule_at (class_number Ket) (symbol_number s)) 1 ≡ may_end_of s
 ends_told s =
     let there = right s in
     let told = all_told (entries s) (may_end_of s) there.0 classes in
@@ -195,16 +196,16 @@ ends_told s =
     ∙ truths_same (nat_eq (get_or there.0 1 0) 1) (may_end_of s) (and_parts told ends there.1).1
 
 -- the rules of an operator's word are those of a token without a meaning
-repeated : map (λ k. slice_index_or TABLE.rows (79 + k) []) (range_with_len 0 16)
-    ≡ map (λ k. slice_index_or TABLE.rows 77 []) (range_with_len 0 16)
+repeated : map (λ k. slice_index_or TABLE.rows (own_classes + k) []) (range_with_len 0 most_words)
+    ≡ map (λ k. slice_index_or TABLE.rows (class_number Other) []) (range_with_len 0 most_words)
 repeated = refl
 
 -- so the table doesn't know it
-pub word_unknown : (s : Sym) (k : ℕ) → k < 16 → table_answer s (Word k) ≡ table_answer s Other
+pub word_unknown : (s : Sym) (k : ℕ) → k < most_words → table_answer s (Word k) ≡ table_answer s Other
 unfolding rule_at
 word_unknown s k less =
     let n = symbol_number s in
-    let row = alike (λ k. slice_index_or TABLE.rows (79 + k) []) (λ k. slice_index_or TABLE.rows 77 []) 16 repeated k
+    let row = alike (λ k. slice_index_or TABLE.rows (own_classes + k) []) (λ k. slice_index_or TABLE.rows (class_number Other) []) most_words repeated k
     less in
-    ap (table_answer s) (sym (word_at k less)) ∙ sym (looked_up s (79 + k) (omega (arith, less)))
-    ∙ ap (λ (row : List ℕ). deed (get_or row n 0)) row ∙ looked_up s 77 (omega arith)
+    ap (table_answer s) (sym (word_at k less)) ∙ sym (looked_up s (own_classes + k) (omega (arith, less)))
+    ∙ ap (λ (row : List ℕ). deed (get_or row n 0)) row ∙ looked_up s (class_number Other) (omega arith)

@@ -7,34 +7,34 @@ use Rattle.std.specs.Prelude.{slice_index_or}
 use Rattle.std.specs.List.{list_all, range_with_len}
 use Rattle.daide_grammar.specs.declared.symbol.Sym.{Sym}
 use Rattle.daide_grammar.specs.declared.table.rows.TheConstants.{TABLE}
-use Rattle.daide_grammar.specs.Cells.{cell_at, growth_at, length_at}
-use Rattle.daide_grammar.specs.Numbers.{symbol_at}
-use Rattle.daide_grammar.specs.Rules.{deed, rest_at, rest_of, is_take, is_stop}
+use Rattle.daide_grammar.specs.Table.Cells.{cell_at, growth_at, length_at}
+use Rattle.daide_grammar.specs.Table.Numbers.{all_symbols, symbol_at}
+use Rattle.daide_grammar.specs.Table.Rules.{all_rules, deed, rest_at, rest_of, is_take, is_stop}
 use Rattle.daide_grammar.proofs.Alike.{alike, passes_at}
 
 -- the rule's length is that of its rest
 rest_length : ℕ → ℕ
 rest_length n = length (rest_of (deed n))
 
-lengths : map length_at (range_with_len 0 256) ≡ map rest_length (range_with_len 0 256)
+lengths : map length_at (range_with_len 0 all_rules) ≡ map rest_length (range_with_len 0 all_rules)
 unfolding rest_length deed rest_at length_at
 lengths = refl
 
-pub length_fits : (n : ℕ) → n < 256 → length_at n ≡ length (rest_of (deed n))
+pub length_fits : (n : ℕ) → n < all_rules → length_at n ≡ length (rest_of (deed n))
 unfolding rest_length
-length_fits n less = alike length_at rest_length 256 lengths n less
+length_fits n less = alike length_at rest_length all_rules lengths n less
 
 -- no rest is longer than a row
 short_row : ℕ → Bool
 short_row n = nat_le (length_at n) 8
 
-short_rows : map short_row (range_with_len 0 256) ≡ map (λ n. true) (range_with_len 0 256)
+short_rows : map short_row (range_with_len 0 all_rules) ≡ map (λ n. true) (range_with_len 0 all_rules)
 unfolding short_row length_at
 short_rows = refl
 
-pub length_small : (n : ℕ) → n < 256 → length_at n ≤ 8
+pub length_small : (n : ℕ) → n < all_rules → length_at n ≤ 8
 unfolding short_row
-length_small n less = leb-true (length_at n) 8 (alike short_row (λ n. true) 256 short_rows n less)
+length_small n less = leb-true (length_at n) 8 (alike short_row (λ n. true) all_rules short_rows n less)
 
 -- the eight cells of a rule
 abbrev pub eight : ℕ → List Sym
@@ -48,23 +48,23 @@ front n = take (length (rest_of (deed n))) (eight n)
 turned : ℕ → List Sym
 turned n = reverse (rest_of (deed n))
 
-fronts : map front (range_with_len 0 256) ≡ map turned (range_with_len 0 256)
+fronts : map front (range_with_len 0 all_rules) ≡ map turned (range_with_len 0 all_rules)
 unfolding front turned deed rest_at cell_at
 fronts = refl
 
-pub cells_hold : (n : ℕ) → n < 256 → take (length (rest_of (deed n))) (eight n) ≡ reverse (rest_of (deed n))
+pub cells_hold : (n : ℕ) → n < all_rules → take (length (rest_of (deed n))) (eight n) ≡ reverse (rest_of (deed n))
 unfolding front turned
-cells_hold n less = alike front turned 256 fronts n less
+cells_hold n less = alike front turned all_rules fronts n less
 
 -- a cell's number is a symbol's
-few : list_all (list_all (λ n. nat_lt n 202)) TABLE.rests ≡ true
+few : list_all (list_all (λ n. nat_lt n all_symbols)) TABLE.rests ≡ true
 few = refl
 
-pub cell_small : (n place : ℕ) → cell_at n place < 202
+pub cell_small : (n place : ℕ) → cell_at n place < all_symbols
 unfolding cell_at
 cell_small n place =
-    let row = passes_at (list_all (λ n. nat_lt n 202)) TABLE.rests n [] few refl in
-    ltb-true (cell_at n place) 202 (passes_at (λ n. nat_lt n 202) (slice_index_or TABLE.rests n []) place 0 row refl)
+    let row = passes_at (list_all (λ n. nat_lt n all_symbols)) TABLE.rests n [] few refl in
+    ltb-true (cell_at n place) all_symbols (passes_at (λ n. nat_lt n all_symbols) (slice_index_or TABLE.rests n []) place 0 row refl)
 
 pub take_told : (n : ℕ) → nat_le 2 n ≡ is_take (deed n)
 unfolding deed
@@ -86,15 +86,15 @@ stop_told (suc (suc n)) =
     rw not_none (rw not_one refl)
 
 -- a rule's growth is the length of its rest less one, wrapping
-growths : map growth_at (range_with_len 0 256) ≡ map (λ n. (length_at n + (2 ^ 64 - 1)) % 2 ^ 64) (range_with_len 0 256)
+growths : map growth_at (range_with_len 0 all_rules) ≡ map (λ n. (length_at n + (2 ^ 64 - 1)) % 2 ^ 64) (range_with_len 0 all_rules)
 unfolding growth_at length_at
 growths = refl
 
-growth_fits : (n : ℕ) → n < 256 → growth_at n ≡ (length_at n + (2 ^ 64 - 1)) % 2 ^ 64
-growth_fits n less = alike growth_at (λ n. (length_at n + (2 ^ 64 - 1)) % 2 ^ 64) 256 growths n less
+growth_fits : (n : ℕ) → n < all_rules → growth_at n ≡ (length_at n + (2 ^ 64 - 1)) % 2 ^ 64
+growth_fits n less = alike growth_at (λ n. (length_at n + (2 ^ 64 - 1)) % 2 ^ 64) all_rules growths n less
 
 -- the height that a growth makes of a top's place
-pub grown : (n top : ℕ) → n < 256 → top ≤ 65535
+pub grown : (n top : ℕ) → n < all_rules → top ≤ 65535
     → ((top + growth_at n) % 2 ^ 64 + 1) % 2 ^ 64 ≡ top + length (rest_of (deed n))
 grown n top less few =
     let growth = growth_fits n less in

@@ -8,7 +8,7 @@ use Rattle.daide_token.specs.Names.{names, name_of, token_named}
 use Rattle.daide_token.specs.Text.{text_of}
 use Rattle.daide_grammar.specs.declared.level.Level.TheVariants.{L0, L10, L20, L30, L40, L50, L60}
 use Rattle.daide_grammar.specs.declared.side.Side2.TheVariants.{Client, ServerEnd}
-use Rattle.daide_grammar.specs.Symbols.{entries, may_end_of, table_answer}
+use Rattle.daide_grammar.specs.Table.Symbols.{entries, may_end_of, table_answer}
 use Rattle.daide_grammar.proofs.FactRows.{Row, said_from, never_said, AllHold, rows-hold}
 
 -- What a client asks. From the protocol's list of client requests.

@@ -11,11 +11,11 @@ use Rattle.daide_grammar.specs.declared.symbol.Sym.TheVariants.{MaybeNumberGroup
 use Rattle.daide_grammar.specs.declared.symbol.Sym.TheVariants.{SubmitFirst, OrderGroup, NoteGroup, Arrangement}
 use Rattle.daide_grammar.specs.declared.symbol.Sym.TheVariants.{ArrangementGroup, OperandGroup, Operands, Operand, Fact}
 use Rattle.daide_grammar.specs.declared.symbol.Sym.TheVariants.{FactGroup, PressGroup, SendTail, Client, Server, Any}
-use Rattle.daide_grammar.specs.Answers.{Answer, Take, Skip, Stop}
-use Rattle.daide_grammar.specs.Cells.{class_cell, rule_at, column_at}
+use Rattle.daide_grammar.specs.Table.Answers.{Answer, Take, Skip, Stop}
+use Rattle.daide_grammar.specs.Table.Cells.{class_cell, rule_at, column_at}
 use Rattle.daide_grammar.specs.Classes.{class_number}
-use Rattle.daide_grammar.specs.Numbers.{class_at, symbol_number}
-use Rattle.daide_grammar.specs.Rules.{deed, rest_at}
+use Rattle.daide_grammar.specs.Table.Numbers.{class_at, symbol_number}
+use Rattle.daide_grammar.specs.Table.Rules.{deed, rest_at}
 
 -- what the table says to a symbol and a class
 abbrev says : Sym → Class → Answer

@@ -8,15 +8,15 @@ use Rattle.daide_token.specs.declared.class.Class.TheVariants.{Bra, Ket}
 use Rattle.daide_token.specs.Class.{class_of}
 use Rattle.daide_grammar.specs.declared.symbol.Sym.{Sym}
 use Rattle.daide_grammar.specs.Classes.{class_number, same_class}
-use Rattle.daide_grammar.specs.Answers.{Answer, Take, Skip, Stop}
-use Rattle.daide_grammar.specs.Symbols.{may_end_of, table_answer}
-use Rattle.daide_grammar.specs.Stacks.{StackMatches, stack_after}
-use Rattle.daide_grammar.specs.LawfulStack.{IsLawful}
-use Rattle.daide_grammar.specs.SideMessages.{SymbolMatches}
-use Rattle.daide_grammar.specs.Proved.Alternatives.{both-pass}
-use Rattle.daide_grammar.specs.Proved.StacksInOrder.{number-Bra, number-Ket}
-use Rattle.daide_grammar.specs.Proved.MovesAgree.{no-yes}
-use Rattle.daide_grammar.specs.Proved.PlainLaws.{plain_laws}
+use Rattle.daide_grammar.specs.Table.Answers.{Answer, Take, Skip, Stop}
+use Rattle.daide_grammar.specs.Table.Symbols.{may_end_of, table_answer}
+use Rattle.daide_grammar.specs.Table.Stacks.{StackMatches, stack_after}
+use Rattle.daide_grammar.specs.Table.LawfulStack.{IsLawful}
+use Rattle.daide_grammar.specs.Table.Languages.{SymbolMatches}
+use Rattle.daide_grammar.specs.Table.Proved.Alternatives.{both-pass}
+use Rattle.daide_grammar.specs.Table.Proved.StacksInOrder.{number-Bra, number-Ket}
+use Rattle.daide_grammar.specs.Table.Proved.MovesAgree.{no-yes}
+use Rattle.daide_grammar.specs.Table.Proved.PlainLaws.{plain_laws}
 use Rattle.daide_grammar.proofs.PredictionLemmas.{none-begins}
 
 -- whether the table follows the whole list from the stack, and what is left may be empty

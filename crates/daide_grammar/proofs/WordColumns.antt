@@ -3,46 +3,47 @@
 use Rattle.std.proofs.Common.{◌≡◌, true, ℕ, ◌+◌, ◌-◌, ◌<◌, ◌≤◌, nat_le, Some, None, map, refl, ap, ◌∙◌, arith}
 use Rattle.std.specs.List.{range_with_len}
 use Rattle.daide_token.specs.Class.{class_of, is_standard}
-use Rattle.daide_token.specs.ClassLaws.{standard_class}
+use Rattle.daide_token.proofs.ClassLaws.{standard_class}
 use Rattle.daide_token.specs.declared.class.Class.{Class}
 use Rattle.daide_token.specs.declared.class.Class.TheVariants.{Word}
-use Rattle.daide_grammar.specs.Classes.{class_number}
-use Rattle.daide_grammar.specs.Numbers.{class_at, is_bracket, word_number}
+use Rattle.daide_grammar.specs.Classes.{class_number, own_classes}
+use Rattle.daide_grammar.specs.Table.Numbers.{all_classes, class_at, is_bracket, word_number}
+use Rattle.daide_grammar.specs.Words.{most_words}
 use Rattle.daide_grammar.proofs.Alike.{alike}
 
-words : map (λ k. class_at (79 + k)) (range_with_len 0 16) ≡ map Word (range_with_len 0 16)
+words : map (λ k. class_at (own_classes + k)) (range_with_len 0 most_words) ≡ map Word (range_with_len 0 most_words)
 words = refl
 
-pub word_at : (k : ℕ) → k < 16 → class_at (79 + k) ≡ Word k
-word_at k less = alike (λ k. class_at (79 + k)) Word 16 words k less
+pub word_at : (k : ℕ) → k < most_words → class_at (own_classes + k) ≡ Word k
+word_at k less = alike (λ k. class_at (own_classes + k)) Word most_words words k less
 
 -- a class that has a number of the table is that of its number
-pub class_told : (c : Class) → class_number c < 95 → class_at (class_number c) ≡ c
+pub class_told : (c : Class) → class_number c < all_classes → class_at (class_number c) ≡ c
 class_told (Word k) less = word_at k (omega arith)
 class_told _ less = refl
 
-own_small : (c : Class) → is_standard c ≡ true → class_number c < 95
+own_small : (c : Class) → is_standard c ≡ true → class_number c < all_classes
 own_small (Word k) h = absurd cc
 own_small _ h = omega arith
 
 -- a token's own class has one
-pub own_class : (t : ℕ) → class_number (class_of t) < 95
+pub own_class : (t : ℕ) → class_number (class_of t) < all_classes
 own_class t = own_small (class_of t) (standard_class t)
 
-brackets : map (λ n. nat_le n 1) (range_with_len 0 95) ≡ map (λ n. is_bracket (class_at n)) (range_with_len 0 95)
+brackets : map (λ n. nat_le n 1) (range_with_len 0 all_classes) ≡ map (λ n. is_bracket (class_at n)) (range_with_len 0 all_classes)
 brackets = refl
 
-pub bracket_told : (n : ℕ) → n < 95 → nat_le n 1 ≡ is_bracket (class_at n)
-bracket_told n less = alike (λ n. nat_le n 1) (λ n. is_bracket (class_at n)) 95 brackets n less
+pub bracket_told : (n : ℕ) → n < all_classes → nat_le n 1 ≡ is_bracket (class_at n)
+bracket_told n less = alike (λ n. nat_le n 1) (λ n. is_bracket (class_at n)) all_classes brackets n less
 
-own : map (λ n. word_number (class_at n)) (range_with_len 0 79) ≡ map (λ n. None) (range_with_len 0 79)
+own : map (λ n. word_number (class_at n)) (range_with_len 0 own_classes) ≡ map (λ n. None) (range_with_len 0 own_classes)
 own = refl
 
-pub no_word : (n : ℕ) → n < 79 → word_number (class_at n) ≡ None
-no_word n less = alike (λ n. word_number (class_at n)) (λ n. None) 79 own n less
+pub no_word : (n : ℕ) → n < own_classes → word_number (class_at n) ≡ None
+no_word n less = alike (λ n. word_number (class_at n)) (λ n. None) own_classes own n less
 
-pub some_word : (n : ℕ) → n < 95 → 79 ≤ n → word_number (class_at n) ≡ Some (n - 79)
+pub some_word : (n : ℕ) → n < all_classes → own_classes ≤ n → word_number (class_at n) ≡ Some (n - own_classes)
 some_word n less high =
-    let few : n - 79 < 16 = omega (arith, less, high) in
-    let at : n ≡ 79 + (n - 79) = omega (arith, high) in
-    ap (λ n. word_number (class_at n)) at ∙ ap word_number (word_at (n - 79) few)
+    let few : n - own_classes < most_words = omega (arith, less, high) in
+    let at : n ≡ own_classes + (n - own_classes) = omega (arith, high) in
+    ap (λ n. word_number (class_at n)) at ∙ ap word_number (word_at (n - own_classes) few)

@@ -7,7 +7,7 @@ use Rattle.std.specs.List.{list_all}
 use Rattle.std.proofs.lemmas.List.Folds.{list_all-append}
 use Rattle.daide_token.specs.declared.class.Class.TheVariants.{Bra, Ket, Word}
 use Rattle.daide_token.specs.Class.{class_of, is_standard}
-use Rattle.daide_token.specs.ClassLaws.{standard_class}
+use Rattle.daide_token.proofs.ClassLaws.{standard_class}
 use Rattle.daide_grammar.specs.declared.level.Level.{Level}
 use Rattle.daide_grammar.specs.declared.side.Side2.{Side2}
 use Rattle.daide_grammar.specs.Level.{level_number}
@@ -22,7 +22,7 @@ use Rattle.daide_grammar.specs.Words.{AddedWord, Words, WordSlot, press_word, ar
 use Rattle.daide_grammar.specs.Words.{operand_in}
 use Rattle.daide_grammar.specs.Words.{stands_in, word_form}
 use Rattle.daide_grammar.specs.SideMessages.{standard, dialect_from, dialect_of, message_form, IsMessage, IsMessageOver}
-use Rattle.daide_grammar.specs.Proved.Alternatives.{both-pass}
+use Rattle.daide_grammar.specs.Table.Proved.Alternatives.{both-pass}
 use Rattle.daide_token.proofs.ClassNumbers.{told-apart}
 
 -- no token of the list is a word

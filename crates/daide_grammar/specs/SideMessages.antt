@@ -1,17 +1,15 @@
--- The messages of either side at each level, and what the table's symbols stand for.
+-- The messages of either side at each level.
 use Rattle.std.specs.Prelude.{ℕ, suc, ◌==◌, List, [], ◌∷◌, ◌⊎◌, if◌then◌else◌}
 use Rattle.daide_token.specs.declared.class.Class.TheVariants.{Word}
 use Rattle.daide_token.specs.Class.{class_of}
 use Rattle.daide_grammar.specs.declared.level.Level.{Level}
 use Rattle.daide_grammar.specs.declared.side.Side2.{Side2}
 use Rattle.daide_grammar.specs.declared.side.Side2.TheVariants.{Client, ServerEnd}
-use Rattle.daide_grammar.specs.declared.symbol.Sym.{Sym}
 use Rattle.daide_grammar.specs.Forms.{Dialect, Form, never, ◌∣◌}
 use Rattle.daide_grammar.specs.Message.Client.{client}
 use Rattle.daide_grammar.specs.Message.Server.{server}
 use Rattle.daide_grammar.specs.Matches.{Matches}
 use Rattle.daide_grammar.specs.Paired.{IsPrnReport}
-use Rattle.daide_grammar.specs.Symbols.{form_of}
 use Rattle.daide_grammar.specs.Words.{AddedWord, Words, word_form}
 
 -- the protocol's own tokens and forms, to which no operator added words
@@ -50,11 +48,3 @@ IsMessageOver words = IsMessageIn (dialect_of words)
 -- the messages of a side at a level
 abbrev pub IsMessage : Side2 → Level → List ℕ → Type 0
 IsMessage = IsMessageOver []
-
--- the lists of tokens that match a symbol's form, in a dialect
-abbrev pub SymbolMatchesIn : Dialect → Sym → List ℕ → Type 0
-SymbolMatchesIn d s m = Matches d (form_of s) m
-
--- the lists of tokens that a symbol of the table stands for
-abbrev pub SymbolMatches : Sym → List ℕ → Type 0
-SymbolMatches = SymbolMatchesIn standard

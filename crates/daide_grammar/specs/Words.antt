@@ -35,6 +35,10 @@ pub record AddedWord : Type 0 where
 abbrev pub Words : Type 0
 Words = List AddedWord
 
+-- how many words an operator may add
+abbrev pub most_words : ℕ
+most_words = 16
+
 -- whether a token is the code of one of the words
 abbrev pub is_code : Words → ℕ → Bool
 is_code [] t = false

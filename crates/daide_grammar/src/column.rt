@@ -4,10 +4,12 @@ ghost use Rattle.std.specs.Prelude.{◌≡◌, ◌<◌};
 ghost use Rattle.daide_token.specs.declared.class.Class.TheVariants.{Word};
 ghost use Rattle.daide_grammar.specs.Classes.{class_number};
 ghost use Rattle.daide_token.specs.Class.{class_of};
-ghost use Rattle.daide_grammar.specs.Cells.{bracket_cell};
-ghost use Rattle.daide_grammar.specs.Numbers.{bracket_step, class_at, is_bracket, word_number};
+ghost use Rattle.daide_grammar.specs.Table.Cells.{bracket_cell};
+ghost use Rattle.daide_grammar.specs.Table.Numbers.{all_classes, bracket_step, class_at, is_bracket, word_number};
+ghost use Rattle.daide_grammar.specs.Words.{most_words};
 
 use crate::dense::class_of;
+use crate::numbers::{KET, OWN_CLASSES};
 use crate::table::names::CLASSES;
 use crate::table::whole;
 use daide_token::class::Class;
@@ -27,14 +29,14 @@ impl Model for Column {
     ghost use Rattle.std.proofs.Common.{ap};
     ghost use Rattle.daide_token.specs.declared.class.Class.{Class};
     ghost use Rattle.daide_grammar.specs.Classes.{class_number};
-    ghost use Rattle.daide_grammar.specs.Numbers.{class_at};
-    ghost use Rattle.daide_grammar.specs.Proved.Numbers.{class_number_back};
+    ghost use Rattle.daide_grammar.specs.Table.Numbers.{all_classes, class_at};
+    ghost use Rattle.daide_grammar.specs.Table.Proved.Numbers.{class_number_back};
 
     ghost Value = { Class };
 
     ghost view = { λ c. class_at c.number };
 
-    ghost invariant = { λ c. c.number < 95 };
+    ghost invariant = { λ c. c.number < all_classes };
 
     ghost inverse = { λ c. record { number = class_number c } };
 
@@ -45,7 +47,7 @@ impl Column {
     /// The class of a number.
     #[inline(always)]
     pub fn of(number: u8) -> Column
-        requires { number < 95 }
+        requires { number < all_classes }
         ensures { result ≡ class_at number }
     {
         Column {
@@ -56,7 +58,7 @@ impl Column {
     /// The class of a name.
     #[tactic(auto, using(crate::proofs::WordColumns::class_told))]
     pub fn named(class: Class) -> Column
-        requires { class_number class < 95 }
+        requires { class_number class < all_classes }
         ensures { result ≡ class }
     {
         Column {
@@ -68,18 +70,18 @@ impl Column {
     #[inline(always)]
     #[tactic(auto, using(crate::proofs::WordColumns::word_at))]
     pub fn word(place: u8) -> Column
-        requires { place < 16 }
+        requires { place < most_words }
         ensures { result ≡ Word place }
     {
         Column {
-            number: 79 + place as usize,
+            number: OWN_CLASSES + place as usize,
         }
     }
 
     /// The class by its name.
     pub fn class(self) -> Class
         ensures class { result ≡ self }
-        ensures few { class_number result < 95 }
+        ensures few { class_number result < all_classes }
     {
         listed(self.number)
     }
@@ -89,7 +91,7 @@ impl Column {
     pub fn number(self) -> usize
         ensures number { result ≡ class_number self }
         ensures class { class_at result ≡ self }
-        ensures below { result < 95 }
+        ensures below { result < all_classes }
     {
         self.number
     }
@@ -115,7 +117,7 @@ impl Column {
     pub fn is_bracket(self) -> bool
         ensures { result ≡ is_bracket self }
     {
-        self.number <= 1
+        self.number <= KET
     }
 
     /// The place of the added word that it is the class of.
@@ -123,8 +125,8 @@ impl Column {
     pub fn word_number(self) -> Option<u8>
         ensures { result ≡ word_number self }
     {
-        if self.number >= 79 {
-            return Some((self.number - 79) as u8);
+        if self.number >= OWN_CLASSES {
+            return Some((self.number - OWN_CLASSES) as u8);
         }
         None
     }
@@ -132,9 +134,9 @@ impl Column {
 
 /// What a token of a class adds.
 #[inline(always)]
-#[tactic(auto, unfolding(crate::specs::Cells::bracket_cell))]
+#[tactic(auto, unfolding(crate::specs::Table::Cells::bracket_cell))]
 fn bracket_cell(number: usize) -> u16
-    requires { number < 95 }
+    requires { number < all_classes }
     ensures { result ≡ bracket_cell number }
 {
     whole().brackets[number]
@@ -142,7 +144,7 @@ fn bracket_cell(number: usize) -> u16
 
 /// The class at a place of the list of classes.
 fn listed(number: usize) -> Class
-    requires { number < 95 }
+    requires { number < all_classes }
     ensures { result ≡ class_at number }
 {
     CLASSES[number]

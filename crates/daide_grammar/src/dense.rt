@@ -5,16 +5,18 @@
 
 ghost use Rattle.std.specs.Prelude.{◌≡◌, ◌<◌, ◌+◌, ◌%◌, ◌/◌, ◌^◌, [], slice_index_or};
 ghost use Rattle.daide_token.specs.Class.{class_of};
-ghost use Rattle.daide_grammar.specs.Symbols.{may_end_of, opening_of, table_answer};
-ghost use Rattle.daide_grammar.specs.AnswersGiven.{look_ups};
-ghost use Rattle.daide_grammar.specs.Cells.{class_cell, rule_at};
+ghost use Rattle.daide_grammar.specs.Table.Symbols.{may_end_of, opening_of, table_answer};
+ghost use Rattle.daide_grammar.specs.Table.AnswersGiven.{look_ups};
+ghost use Rattle.daide_grammar.specs.Table.Cells.{class_cell, rule_at};
+ghost use Rattle.daide_grammar.specs.Table.Numbers.{all_classes, all_symbols};
 ghost use Rattle.daide_grammar.specs.declared.table.rows.TheConstants.{TABLE};
 
 use crate::column::Column;
 use crate::level::Level;
+use crate::numbers::{KET, SKIP, SYMBOL_COUNT};
 use crate::predict::{Move, Predict};
 use crate::side::Side2;
-use crate::symbol::{Symbol, level_place};
+use crate::symbol::{Sym, Symbol};
 use crate::table::whole;
 use daide_token::token::Token;
 
@@ -43,10 +45,10 @@ fn move_of(sym: Symbol, class: Column) -> Move
 
 /// A rule of the table.
 #[inline(always)]
-#[tactic(auto, unfolding(crate::specs::Cells::rule_at))]
+#[tactic(auto, unfolding(crate::specs::Table::Cells::rule_at))]
 fn rule_at(class: usize, symbol: u8) -> u8
-    requires class { class < 95 }
-    requires symbol { symbol < 202 }
+    requires class { class < all_classes }
+    requires symbol { symbol < all_symbols }
     ensures { result ≡ rule_at class symbol }
 {
     rules_of(class)[symbol as usize]
@@ -54,8 +56,8 @@ fn rule_at(class: usize, symbol: u8) -> u8
 
 /// The rules of a class, symbol by symbol.
 #[inline(always)]
-fn rules_of(class: usize) -> &'static [u8; 202]
-    requires { class < 95 }
+fn rules_of(class: usize) -> &'static [u8; SYMBOL_COUNT]
+    requires { class < all_classes }
     ensures { result.now ≡ slice_index_or TABLE.rows class [] }
 {
     whole().rows[class]
@@ -72,7 +74,7 @@ pub(crate) fn class_of(token: Token) -> Column
 
 /// The number of the class at a place of the list of classes.
 #[inline(always)]
-#[tactic(auto, unfolding(crate::specs::Cells::class_cell))]
+#[tactic(auto, unfolding(crate::specs::Table::Cells::class_cell))]
 fn class_cell(place: u16) -> u8
     ensures { result ≡ class_cell place }
 {
@@ -84,28 +86,26 @@ fn class_cell(place: u16) -> u8
 fn is_optional(sym: Symbol) -> bool
     ensures { result ≡ may_end_of sym }
 {
-    rule_at(1, sym.number()) == 1
+    rule_at(KET, sym.number()) == SKIP
 }
 
 /// The symbol of a side's messages.
-#[tactic(auto, using(crate::proofs::Starts::client_start, crate::proofs::Starts::server_start))]
 fn opening(side: Side2, level: Level) -> Symbol
     ensures { result ≡ opening_of side level }
 {
-    let place = level_place(level);
     match side {
-        Side2::Client => Symbol::of(174 + place),
-        Side2::ServerEnd => Symbol::of(195 + place),
+        Side2::Client => Symbol::named(Sym::Client(level)),
+        Side2::ServerEnd => Symbol::named(Sym::Server(level)),
     }
 }
 
 impl Predict for Dense {
     ghost use Rattle.daide_token.specs.Class.{class_of};
-    ghost use Rattle.daide_grammar.specs.LawfulStack.{IsLawful};
-    ghost use Rattle.daide_grammar.specs.SideMessages.{SymbolMatches};
-    ghost use Rattle.daide_grammar.specs.Symbols.{may_end_of, opening_of, table_answer};
-    ghost use Rattle.daide_grammar.specs.Proved.PlainLaws.{plain_laws, plain_begins};
-    ghost use Rattle.daide_grammar.specs.AnswersGiven.{look_ups};
+    ghost use Rattle.daide_grammar.specs.Table.LawfulStack.{IsLawful};
+    ghost use Rattle.daide_grammar.specs.Table.Languages.{SymbolMatches};
+    ghost use Rattle.daide_grammar.specs.Table.Symbols.{may_end_of, opening_of, table_answer};
+    ghost use Rattle.daide_grammar.specs.Table.Proved.PlainLaws.{plain_laws, plain_begins};
+    ghost use Rattle.daide_grammar.specs.Table.AnswersGiven.{look_ups};
 
     ghost words = { λ _. [] };
 

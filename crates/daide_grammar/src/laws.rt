@@ -16,11 +16,12 @@ ghost use Rattle.daide_grammar.specs.Balanced.{IsBalanced};
 ghost use Rattle.daide_grammar.specs.Paired.{IsPaired, begins_with_prn};
 ghost use Rattle.daide_grammar.specs.Depth.{depth_of};
 ghost use Rattle.daide_grammar.specs.Forms.{accepts};
-ghost use Rattle.daide_grammar.specs.Answers.{Take, Skip, Stop};
-ghost use Rattle.daide_grammar.specs.Symbols.{entries, may_end_of, opening_of, table_answer};
-ghost use Rattle.daide_grammar.specs.Stacks.{StackMatches, skips_before, ends_asked};
-ghost use Rattle.daide_grammar.specs.LawfulStack.{IsLawful};
-ghost use Rattle.daide_grammar.specs.SideMessages.{IsMessage, IsMessageOver, SymbolMatches, standard};
+ghost use Rattle.daide_grammar.specs.Table.Answers.{Take, Skip, Stop};
+ghost use Rattle.daide_grammar.specs.Table.Symbols.{entries, may_end_of, opening_of, table_answer};
+ghost use Rattle.daide_grammar.specs.Table.Stacks.{StackMatches, skips_before, ends_asked};
+ghost use Rattle.daide_grammar.specs.Table.LawfulStack.{IsLawful};
+ghost use Rattle.daide_grammar.specs.SideMessages.{IsMessage, IsMessageOver, standard};
+ghost use Rattle.daide_grammar.specs.Table.Languages.{SymbolMatches};
 ghost use Rattle.daide_grammar.specs.Words.{Words, has_no_word};
 
 /// The symbol that a reader starts with stands for the messages of its side and level, but for the

@@ -10,6 +10,7 @@ pub mod dense;
 pub mod laws;
 pub mod level;
 pub mod meaning;
+pub mod numbers;
 pub mod plain;
 pub mod predict;
 pub mod side;

@@ -1,7 +1,7 @@
 //! What a token means to a symbol, told in symbols: the answer of a table that a reader of the code understands.
 
 ghost use Rattle.std.specs.Prelude.{◌≡◌, ◌≤◌};
-ghost use Rattle.daide_grammar.specs.Answers.{symbols_of};
+ghost use Rattle.daide_grammar.specs.Table.Answers.{symbols_of};
 
 use crate::symbol::Sym;
 

@@ -6,10 +6,10 @@
 //! is seen to last, in `rules`.
 
 ghost use Rattle.std.specs.Prelude.{◌≡◌, ◌≤◌, ◌+◌, ◌%◌, ◌^◌, [], if◌then◌else◌};
-ghost use Rattle.daide_grammar.specs.Answers.{Take, Skip, Stop, answer_of};
-ghost use Rattle.daide_grammar.specs.AnswersGiven.{answers_given};
+ghost use Rattle.daide_grammar.specs.Table.Answers.{Take, Skip, Stop, answer_of};
+ghost use Rattle.daide_grammar.specs.Table.AnswersGiven.{answers_given};
 ghost use Rattle.daide_grammar.specs.Classes.{same_class};
-ghost use Rattle.daide_grammar.specs.Symbols.{may_end_of, table_answer};
+ghost use Rattle.daide_grammar.specs.Table.Symbols.{may_end_of, table_answer};
 
 mod orders;
 mod press;
@@ -57,11 +57,11 @@ fn move_of(sym: Symbol, class: Column) -> Move
 
 impl Predict for Plain {
     ghost use Rattle.daide_token.specs.Class.{class_of};
-    ghost use Rattle.daide_grammar.specs.AnswersGiven.{answers_given};
-    ghost use Rattle.daide_grammar.specs.LawfulStack.{IsLawful};
-    ghost use Rattle.daide_grammar.specs.SideMessages.{SymbolMatches};
-    ghost use Rattle.daide_grammar.specs.Symbols.{may_end_of, opening_of, table_answer};
-    ghost use Rattle.daide_grammar.specs.Proved.PlainLaws.{plain_laws, plain_begins};
+    ghost use Rattle.daide_grammar.specs.Table.AnswersGiven.{answers_given};
+    ghost use Rattle.daide_grammar.specs.Table.LawfulStack.{IsLawful};
+    ghost use Rattle.daide_grammar.specs.Table.Languages.{SymbolMatches};
+    ghost use Rattle.daide_grammar.specs.Table.Symbols.{may_end_of, opening_of, table_answer};
+    ghost use Rattle.daide_grammar.specs.Table.Proved.PlainLaws.{plain_laws, plain_begins};
 
     ghost words = { λ _. [] };
 
@@ -143,7 +143,7 @@ fn may<const N: usize>(wanted: Class, class: Class, rest: [Sym; N]) -> Meaning
 
 /// What a token of the class means to the symbol. A closing bracket, the symbol that is met most
 /// often, is told before the jump.
-#[tactic(auto, unfolding(crate::specs::Symbols::table_answer, crate::specs::Symbols::entries, crate::specs::Symbols::may_end_of))]
+#[tactic(auto, unfolding(crate::specs::Table::Symbols::table_answer, crate::specs::Table::Symbols::entries, crate::specs::Table::Symbols::may_end_of))]
 pub fn meaning_of(sym: Sym, class: Class) -> Meaning
     ensures { answer_of result ≡ table_answer sym class }
 {
@@ -163,9 +163,9 @@ pub fn meaning_of(sym: Sym, class: Class) -> Meaning
 #[tactic(
     auto,
     unfolding(
-        crate::specs::Symbols::table_answer,
-        crate::specs::Symbols::entries,
-        crate::specs::Symbols::may_end_of
+        crate::specs::Table::Symbols::table_answer,
+        crate::specs::Table::Symbols::entries,
+        crate::specs::Table::Symbols::may_end_of
     )
 )]
 fn entry_of(sym: Sym, class: Class) -> Meaning
@@ -285,7 +285,7 @@ fn entry_of(sym: Sym, class: Class) -> Meaning
 }
 
 /// Whether the symbol may be empty.
-#[tactic(auto, unfolding(crate::specs::Symbols::may_end_of))]
+#[tactic(auto, unfolding(crate::specs::Table::Symbols::may_end_of))]
 fn is_optional(sym: Sym) -> bool
     ensures { result ≡ may_end_of sym }
 {

@@ -11,12 +11,12 @@ ghost use Rattle.daide_token.specs.Class.{class_of as known_class};
 ghost use Rattle.daide_grammar.specs.declared.level.Level.{Level};
 ghost use Rattle.daide_grammar.specs.declared.side.Side2.{Side2};
 ghost use Rattle.daide_grammar.specs.declared.symbol.Sym.{Sym};
-ghost use Rattle.daide_grammar.specs.Answers.{Answer};
+ghost use Rattle.daide_grammar.specs.Table.Answers.{Answer};
 ghost use Rattle.daide_grammar.specs.Words.{Words};
-ghost use Rattle.daide_grammar.specs.Laws.{PredictLaws};
-ghost use Rattle.daide_grammar.specs.Rules.{deed, is_stop, is_take, rest_of};
-ghost use Rattle.daide_grammar.specs.Cells.{cell_at, growth_at, length_at};
-ghost use Rattle.daide_grammar.specs.Numbers.{symbol_at};
+ghost use Rattle.daide_grammar.specs.Table.Laws.{PredictLaws};
+ghost use Rattle.daide_grammar.specs.Table.Rules.{all_rules, deed, is_stop, is_take, rest_of};
+ghost use Rattle.daide_grammar.specs.Table.Cells.{cell_at, growth_at, length_at};
+ghost use Rattle.daide_grammar.specs.Table.Numbers.{symbol_at};
 
 use crate::column::Column;
 use crate::level::Level;
@@ -34,15 +34,15 @@ pub struct Move {
 }
 
 impl Model for Move {
-    ghost use Rattle.daide_grammar.specs.Answers.{Answer};
-    ghost use Rattle.daide_grammar.specs.Rules.{deed};
+    ghost use Rattle.daide_grammar.specs.Table.Answers.{Answer};
+    ghost use Rattle.daide_grammar.specs.Table.Rules.{all_rules, deed};
     ghost use Rattle.std.specs.Prelude.{◌<◌};
 
     ghost Value = { Answer };
 
     ghost view = { λ m. deed m.rule };
 
-    ghost invariant = { λ m. m.rule < 256 };
+    ghost invariant = { λ m. m.rule < all_rules };
 }
 
 impl Move {
@@ -111,7 +111,7 @@ impl Move {
 /// A symbol of a rule's row.
 #[inline(always)]
 fn cell_of(rule: usize, place: usize) -> Symbol
-    requires rule { rule < 256 }
+    requires rule { rule < all_rules }
     requires place { place < 8 }
     ensures { result ≡ symbol_at (cell_at rule place) }
 {
@@ -120,9 +120,9 @@ fn cell_of(rule: usize, place: usize) -> Symbol
 
 /// A number of a rule's row.
 #[inline(always)]
-#[tactic(auto, unfolding(crate::specs::Cells::cell_at))]
+#[tactic(auto, unfolding(crate::specs::Table::Cells::cell_at))]
 fn cell_at(rule: usize, place: usize) -> u8
-    requires rule { rule < 256 }
+    requires rule { rule < all_rules }
     requires place { place < 8 }
     ensures { result ≡ cell_at rule place }
 {
@@ -131,9 +131,9 @@ fn cell_at(rule: usize, place: usize) -> u8
 
 /// How many symbols a rule leaves.
 #[inline(always)]
-#[tactic(auto, unfolding(crate::specs::Cells::length_at))]
+#[tactic(auto, unfolding(crate::specs::Table::Cells::length_at))]
 fn length_at(rule: usize) -> u8
-    requires { rule < 256 }
+    requires { rule < all_rules }
     ensures { result ≡ length_at rule }
 {
     whole().lengths[rule]
@@ -141,9 +141,9 @@ fn length_at(rule: usize) -> u8
 
 /// What a rule adds to the place of a stack's top, wrapping.
 #[inline(always)]
-#[tactic(auto, unfolding(crate::specs::Cells::growth_at))]
+#[tactic(auto, unfolding(crate::specs::Table::Cells::growth_at))]
 fn growth_at(rule: usize) -> usize
-    requires { rule < 256 }
+    requires { rule < all_rules }
     ensures { result ≡ growth_at rule }
 {
     whole().growths[rule]

@@ -6,10 +6,10 @@
 //! symbol that may be empty stands last in its brackets, or last of all.
 
 ghost use Rattle.std.specs.Prelude.{◌≡◌, ◌+◌, ◌<◌, ◌≤◌};
-ghost use Rattle.daide_grammar.specs.Numbers.{level_place, symbol_number, symbol_at};
+ghost use Rattle.daide_grammar.specs.Table.Numbers.{all_symbols, level_place, symbol_number, symbol_at};
 
 use crate::level::Level;
-use crate::table::names::SYMBOLS;
+use crate::table::names::{SYMBOLS, number_of};
 use std::marker::Model;
 
 /// What the reader still expects. A symbol holds its level where the level matters.
@@ -230,14 +230,14 @@ impl Model for Symbol {
     ghost use Rattle.std.specs.Prelude.{◌≡◌, ◌<◌, ℕ};
     ghost use Rattle.std.proofs.Common.{ap};
     ghost use Rattle.daide_grammar.specs.declared.symbol.Sym.{Sym};
-    ghost use Rattle.daide_grammar.specs.Numbers.{symbol_number, symbol_at};
-    ghost use Rattle.daide_grammar.specs.Proved.Numbers.{number_back};
+    ghost use Rattle.daide_grammar.specs.Table.Numbers.{all_symbols, symbol_number, symbol_at};
+    ghost use Rattle.daide_grammar.specs.Table.Proved.Numbers.{number_back};
 
     ghost Value = { Sym };
 
     ghost view = { λ s. symbol_at s.number };
 
-    ghost invariant = { λ s. s.number < 202 };
+    ghost invariant = { λ s. s.number < all_symbols };
 
     ghost inverse = { λ s. record { number = symbol_number s } };
 
@@ -272,7 +272,7 @@ impl Symbol {
     /// The symbol of a number.
     #[inline(always)]
     pub fn of(number: u8) -> Symbol
-        requires { number < 202 }
+        requires { number < all_symbols }
         ensures { result ≡ symbol_at number }
     {
         Symbol { number }
@@ -283,7 +283,7 @@ impl Symbol {
     pub fn number(self) -> u8
         ensures number { result ≡ symbol_number self }
         ensures symbol { symbol_at result ≡ self }
-        ensures below { result < 202 }
+        ensures below { result < all_symbols }
     {
         self.number
     }
@@ -291,7 +291,7 @@ impl Symbol {
 
 /// The symbol at a place of the list of symbols.
 fn listed(number: u8) -> Sym
-    requires { number < 202 }
+    requires { number < all_symbols }
     ensures { result ≡ symbol_at number }
 {
     SYMBOLS[number as usize]
@@ -310,115 +310,5 @@ pub(crate) fn level_place(level: Level) -> u8
         Level::L40 => 4,
         Level::L50 => 5,
         Level::L60 => 6,
-    }
-}
-
-/// The number of a symbol with a level, from that of level 0.
-fn leveled(first: u8, level: Level) -> u8
-    requires { first ≤ 195 }
-    ensures { result ≡ first + level_place level }
-{
-    first + level_place(level)
-}
-
-/// The symbol's place in the list of symbols.
-fn number_of(sym: Sym) -> u8
-    ensures { result ≡ symbol_number sym }
-{
-    match sym {
-        Sym::Closing => 0,
-        Sym::OnePower => 1,
-        Sym::OneProvince => 2,
-        Sym::OneCoast => 3,
-        Sym::OneNumber => 4,
-        Sym::OneNote => 5,
-        Sym::OneFleet => 6,
-        Sym::Waived => 7,
-        Sym::ConvoyTo => 8,
-        Sym::Through => 9,
-        Sym::Against => 10,
-        Sym::TextGroup => 11,
-        Sym::Texts => 12,
-        Sym::PowerGroup => 13,
-        Sym::PowersGroup => 14,
-        Sym::MaybePowersGroup => 15,
-        Sym::Powers => 16,
-        Sym::NumberGroup => 17,
-        Sym::MaybeNumberGroup => 18,
-        Sym::MaybeNumber => 19,
-        Sym::ProvincesGroup => 20,
-        Sym::MaybeProvincesGroup => 21,
-        Sym::Provinces => 22,
-        Sym::TurnGroup => 23,
-        Sym::OneTurn => 24,
-        Sym::WordsGroup => 25,
-        Sym::WordList => 26,
-        Sym::AnyGroup => 27,
-        Sym::Any => 28,
-        Sym::OnePlace => 29,
-        Sym::PlacesGroup => 30,
-        Sym::Places => 31,
-        Sym::UnitGroup => 32,
-        Sym::UnitGroups => 33,
-        Sym::OneUnit => 34,
-        Sym::UnitType => 35,
-        Sym::OrderGroup => 36,
-        Sym::Orders => 37,
-        Sym::OneOrder => 38,
-        Sym::OrderTail => 39,
-        Sym::SupportTail => 40,
-        Sym::ShareGroup => 41,
-        Sym::Shares => 42,
-        Sym::SubmitTail => 43,
-        Sym::SubmitFirst => 44,
-        Sym::CancelGroup => 45,
-        Sym::Cancel => 46,
-        Sym::ReplyGroup => 47,
-        Sym::Reply => 48,
-        Sym::WhoGroup => 49,
-        Sym::Who => 50,
-        Sym::ParamsGroup => 51,
-        Sym::Params => 52,
-        Sym::OneParam => 53,
-        Sym::CentresGroup => 54,
-        Sym::OwnersGroup => 55,
-        Sym::Owners => 56,
-        Sym::Owned => 57,
-        Sym::BordersGroup => 58,
-        Sym::BordersList => 59,
-        Sym::Borders => 60,
-        Sym::KindList => 61,
-        Sym::KindPlaces => 62,
-        Sym::Stands => 63,
-        Sym::OneStand => 64,
-        Sym::StandTail => 65,
-        Sym::MissingTail => 66,
-        Sym::MissingFirst => 67,
-        Sym::NoteGroup => 68,
-        Sym::OutcomesGroup => 69,
-        Sym::Outcomes => 70,
-        Sym::OneOutcome => 71,
-        Sym::CivilDisorderGroup => 72,
-        Sym::CivilDisorder => 73,
-        Sym::Players => 74,
-        Sym::OnePlayer => 75,
-        Sym::ArrangementGroup(level) => leveled(76, level),
-        Sym::Arrangement(level) => leveled(83, level),
-        Sym::FactGroup(level) => leveled(90, level),
-        Sym::Fact(level) => leveled(97, level),
-        Sym::OperandGroup(level) => leveled(104, level),
-        Sym::Operands(level) => leveled(111, level),
-        Sym::Operand(level) => leveled(118, level),
-        Sym::PressGroup(level) => leveled(125, level),
-        Sym::Press(level) => leveled(132, level),
-        Sym::SendGroup(level) => leveled(139, level),
-        Sym::MaybeSendGroup(level) => leveled(146, level),
-        Sym::Send(level) => leveled(153, level),
-        Sym::SendTail(level) => leveled(160, level),
-        Sym::SendFirst(level) => leveled(167, level),
-        Sym::Client(level) => leveled(174, level),
-        Sym::RequestGroup(level) => leveled(181, level),
-        Sym::Request(level) => leveled(188, level),
-        Sym::Server(level) => leveled(195, level),
     }
 }

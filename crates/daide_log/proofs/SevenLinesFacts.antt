@@ -9,7 +9,7 @@ use Rattle.daide_frame.specs.declared.head.Kind.TheVariants.{Im, Rm, Dm, Fm}
 use Rattle.daide_frame.specs.Head.{head_of}
 use Rattle.daide_frame.specs.Frames.{is_alien, first_items, last_items}
 use Rattle.daide_token.specs.Class.{class_of}
-use Rattle.daide_grammar.specs.Symbols.{entries, may_end_of, slot_of, table_answer}
+use Rattle.daide_grammar.specs.Table.Symbols.{entries, may_end_of, slot_of, table_answer}
 use Rattle.daide_machine.specs.declared.note.Deed.TheVariants.{Relayed, Prn}
 use Rattle.daide_machine.specs.declared.note.Note.{Note}
 use Rattle.daide_machine.specs.declared.note.Note.TheVariants.{Frame}

@@ -12,7 +12,7 @@ use Rattle.daide_frame.specs.Frames.{is_alien, first_items, last_items}
 use Rattle.daide_frame.specs.InitialMessage.{im_of}
 use Rattle.daide_grammar.specs.declared.level.Level.{Level}
 use Rattle.daide_grammar.specs.declared.level.Level.TheVariants.{L0, L10, L30, L60}
-use Rattle.daide_grammar.specs.Symbols.{entries, may_end_of, table_answer}
+use Rattle.daide_grammar.specs.Table.Symbols.{entries, may_end_of, table_answer}
 use Rattle.daide_machine.specs.declared.phase.Phase.{Phase}
 use Rattle.daide_machine.specs.declared.phase.Phase.TheVariants.{WaitIm, WaitRm, Open, Over}
 use Rattle.daide_machine.specs.declared.note.Deed.TheVariants as Deeds

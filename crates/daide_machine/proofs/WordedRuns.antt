@@ -1,12 +1,12 @@
 -- With an operator's words too, each event has a step from each state, and events have a run.
 use Rattle.std.proofs.Common.{◌≡◌, ℕ, true, List, [], ◌∷◌, ◌++◌, Option, Some, None, refl, sym, ◌∙◌, ap, subst}
 use Rattle.std.proofs.Common.{append-nil}
-use Rattle.daide_grammar.specs.LawfulStack.{opening}
+use Rattle.daide_grammar.specs.Table.LawfulStack.{opening}
 use Rattle.daide_grammar.specs.SideMessages.{dialect_of}
-use Rattle.daide_grammar.specs.Symbols.{may_end_of, opening_of}
+use Rattle.daide_grammar.specs.Table.Symbols.{may_end_of, opening_of}
 use Rattle.daide_grammar.specs.Words.{Words}
-use Rattle.daide_words.specs.OverWords.{answer_over, are_free}
-use Rattle.daide_words.specs.Proved.WordLaws.{laws_over}
+use Rattle.daide_words.specs.Table.OverWords.{answer_over, are_free}
+use Rattle.daide_words.specs.Table.Proved.WordLaws.{laws_over}
 use Rattle.daide_reader.specs.declared.verdict.Verdict.{Verdict}
 use Rattle.daide_reader.specs.declared.verdict.Verdict.TheVariants.{Relay}
 use Rattle.daide_reader.proofs.SomeVerdict.{verdict_by, verdict_by_right}

@@ -4,11 +4,12 @@ use Rattle.daide_grammar.specs.declared.level.Level.{Level}
 use Rattle.daide_grammar.specs.declared.side.Side2.{Side2}
 use Rattle.daide_grammar.specs.declared.side.Side2.TheVariants.{Client, ServerEnd}
 use Rattle.daide_grammar.specs.Matches.{Matches}
-use Rattle.daide_grammar.specs.SideMessages.{dialect_of, message_form, IsMessageOver, SymbolMatchesIn}
-use Rattle.daide_grammar.specs.Symbols.{form_of, opening_of}
+use Rattle.daide_grammar.specs.SideMessages.{dialect_of, message_form, IsMessageOver}
+use Rattle.daide_grammar.specs.Table.Languages.{SymbolMatchesIn}
+use Rattle.daide_grammar.specs.Table.Symbols.{form_of, opening_of}
 use Rattle.daide_grammar.specs.Words.{Words}
-use Rattle.daide_words.specs.OverWords.{are_free, spoken, spoken_dialect}
-use Rattle.daide_words.specs.Proved.WordLaws.{all-spoken}
+use Rattle.daide_words.specs.Table.OverWords.{are_free, spoken, spoken_dialect}
+use Rattle.daide_words.specs.Table.Proved.WordLaws.{all-spoken}
 use Rattle.daide_words.proofs.OverMessages.{opening-language}
 use Rattle.daide_reader.specs.ViablePrefix.{IsMessageOf}
 use Rattle.daide_reader.specs.Verdict.{HasVerdict}

@@ -8,9 +8,9 @@ use Rattle.std.specs.List.{list_all}
 use Rattle.std.proofs.Math.Seq.{take-suc}
 use Rattle.daide_token.specs.declared.class.Class.{Class}
 use Rattle.daide_grammar.specs.declared.symbol.Sym.{Sym}
-use Rattle.daide_grammar.specs.Answers.{Answer, Take, Skip, Stop}
-use Rattle.daide_grammar.specs.Rules.{is_take, is_stop, rest_of}
-use Rattle.daide_grammar.specs.Stacks.{stack_after, ends_asked}
+use Rattle.daide_grammar.specs.Table.Answers.{Answer, Take, Skip, Stop}
+use Rattle.daide_grammar.specs.Table.Rules.{is_take, is_stop, rest_of}
+use Rattle.daide_grammar.specs.Table.Stacks.{stack_after, ends_asked}
 use Rattle.daide_reader.specs.Stack.{steps_at}
 
 -- a front that reaches into the second of two lists

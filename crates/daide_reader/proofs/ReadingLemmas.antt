@@ -7,12 +7,12 @@ use Rattle.daide_token.specs.declared.class.Class.{Class}
 use Rattle.daide_grammar.specs.declared.symbol.Sym.{Sym}
 use Rattle.daide_grammar.specs.declared.predict.Predict.{Ghosts}
 use Rattle.daide_grammar.specs.Words.{Words}
-use Rattle.daide_grammar.specs.Stacks.{stack_after, ends_asked}
-use Rattle.daide_grammar.specs.Laws.{PredictLaws}
+use Rattle.daide_grammar.specs.Table.Stacks.{stack_after, ends_asked}
+use Rattle.daide_grammar.specs.Table.Laws.{PredictLaws}
 use Rattle.daide_grammar.specs.Paired.{begins_with_prn}
 use Rattle.daide_grammar.specs.Depth.{excess, closes_early, open_brackets}
 use Rattle.std.specs.Option.{unwrap_or}
-use Rattle.daide_grammar.specs.Brackets.{is_bra, is_ket, counted, count_one}
+use Rattle.daide_grammar.specs.Table.Brackets.{is_bra, is_ket, counted, count_one}
 use Rattle.daide_reader.specs.declared.outline.Outline.{Outline}
 use Rattle.daide_reader.specs.Stack.{steps_at}
 use Rattle.daide_reader.specs.Outline.{IsOutlineOf, with_token}

@@ -7,14 +7,14 @@ use Rattle.std.proofs.lemmas.List.{length-append, length-drop, take_all}
 use Rattle.std.proofs.Math.Seq.{drop-length, take-length}
 use Rattle.daide_token.specs.Token.{bytes_of, tokens_of}
 use Rattle.daide_token.specs.declared.class.Class.{Class}
-use Rattle.daide_grammar.specs.Answers.{Answer}
+use Rattle.daide_grammar.specs.Table.Answers.{Answer}
 use Rattle.daide_grammar.specs.declared.symbol.Sym.{Sym}
 use Rattle.daide_grammar.specs.declared.predict.Predict.{Ghosts}
 use Rattle.daide_grammar.specs.Words.{Words}
-use Rattle.daide_grammar.specs.Stacks.{stack_after}
-use Rattle.daide_grammar.specs.Laws.{PredictLaws}
+use Rattle.daide_grammar.specs.Table.Stacks.{stack_after}
+use Rattle.daide_grammar.specs.Table.Laws.{PredictLaws}
 use Rattle.daide_grammar.specs.Paired.{begins_with_prn}
-use Rattle.daide_grammar.specs.Brackets.{is_bra, is_ket, counted, count_one}
+use Rattle.daide_grammar.specs.Table.Brackets.{is_bra, is_ket, counted, count_one}
 use Rattle.daide_reader.specs.declared.outline.Outline.{Outline}
 use Rattle.daide_reader.specs.Outline.{IsOutlineOf, with_token, outline_of, count_all}
 use Rattle.daide_reader.specs.Reading.{Reading, StandsAfter, StackOrPlace, IsSteady, reading, tokens_read}

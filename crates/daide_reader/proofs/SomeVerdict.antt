@@ -12,14 +12,14 @@ use Rattle.daide_token.specs.Class.{class_of as token_class}
 use Rattle.daide_grammar.specs.declared.level.Level.{Level}
 use Rattle.daide_grammar.specs.declared.side.Side2.{Side2}
 use Rattle.daide_grammar.specs.declared.symbol.Sym.{Sym}
-use Rattle.daide_grammar.specs.Answers.{Answer}
-use Rattle.daide_grammar.specs.Brackets.{is_bra, is_ket, counted, count_one}
-use Rattle.daide_grammar.specs.Laws.{PredictLaws}
+use Rattle.daide_grammar.specs.Table.Answers.{Answer}
+use Rattle.daide_grammar.specs.Table.Brackets.{is_bra, is_ket, counted, count_one}
+use Rattle.daide_grammar.specs.Table.Laws.{PredictLaws}
 use Rattle.daide_grammar.specs.SideMessages.{IsMessage}
 use Rattle.daide_grammar.specs.Paired.{begins_with_prn}
-use Rattle.daide_grammar.specs.Proved.PlainLaws.{plain_laws, plain_begins}
-use Rattle.daide_grammar.specs.Stacks.{stack_after}
-use Rattle.daide_grammar.specs.Symbols.{opening_of, table_answer, may_end_of}
+use Rattle.daide_grammar.specs.Table.Proved.PlainLaws.{plain_laws, plain_begins}
+use Rattle.daide_grammar.specs.Table.Stacks.{stack_after}
+use Rattle.daide_grammar.specs.Table.Symbols.{opening_of, table_answer, may_end_of}
 use Rattle.daide_grammar.proofs.Counting.{counted-snoc}
 use Rattle.daide_reader.specs.declared.outline.Outline.{Outline}
 use Rattle.daide_reader.specs.declared.verdict.Verdict.{Verdict}

@@ -7,13 +7,13 @@ use Rattle.std.specs.Option.{unwrap_or}
 use Rattle.daide_token.specs.Class.{class_of}
 use Rattle.daide_token.specs.Token.{tokens_of}
 use Rattle.daide_token.specs.declared.class.Class.{Class}
-use Rattle.daide_grammar.specs.Answers.{Answer, Take, Skip, Stop}
-use Rattle.daide_grammar.specs.Brackets.{is_bra, is_ket, count_one}
-use Rattle.daide_grammar.specs.Laws.{PredictLaws}
-use Rattle.daide_grammar.specs.Numbers.{bracket_step}
+use Rattle.daide_grammar.specs.Table.Answers.{Answer, Take, Skip, Stop}
+use Rattle.daide_grammar.specs.Table.Brackets.{is_bra, is_ket, count_one}
+use Rattle.daide_grammar.specs.Table.Laws.{PredictLaws}
+use Rattle.daide_grammar.specs.Table.Numbers.{bracket_step}
 use Rattle.daide_grammar.specs.Paired.{begins_with_prn}
-use Rattle.daide_grammar.specs.Rules.{is_take, is_stop, rest_of}
-use Rattle.daide_grammar.specs.Stacks.{stack_after}
+use Rattle.daide_grammar.specs.Table.Rules.{is_take, is_stop, rest_of}
+use Rattle.daide_grammar.specs.Table.Stacks.{stack_after}
 use Rattle.daide_grammar.specs.Words.{Words}
 use Rattle.daide_grammar.specs.declared.predict.Predict.{Ghosts}
 use Rattle.daide_grammar.specs.declared.symbol.Sym.{Sym}

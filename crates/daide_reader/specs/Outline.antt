@@ -3,7 +3,7 @@ use Rattle.std.specs.Prelude.{Option, ◌≡◌, ℕ, ◌+◌, ◌==◌, ◌&&�
 use Rattle.std.specs.Prelude.{drop, if◌then◌else◌}
 use Rattle.daide_token.specs.Token.{prn}
 use Rattle.daide_grammar.specs.Paired.{begins_with_prn}
-use Rattle.daide_grammar.specs.Brackets.{is_bra, is_ket, count_one}
+use Rattle.daide_grammar.specs.Table.Brackets.{is_bra, is_ket, count_one}
 use Rattle.daide_reader.specs.declared.outline.Outline.{Outline}
 
 -- the token is PRN

@@ -5,13 +5,13 @@ use Rattle.std.specs.Option.{unwrap_or}
 use Rattle.daide_grammar.specs.declared.symbol.Sym.{Sym}
 use Rattle.daide_grammar.specs.declared.predict.Predict.{Ghosts}
 use Rattle.daide_grammar.specs.Words.{Words}
-use Rattle.daide_grammar.specs.Stacks.{StackMatches}
+use Rattle.daide_grammar.specs.Table.Stacks.{StackMatches}
 use Rattle.daide_grammar.specs.Paired.{begins_with_prn}
 use Rattle.daide_grammar.specs.Depth.{depth_of}
 use Rattle.daide_reader.specs.declared.outline.Outline.{Outline}
 use Rattle.daide_reader.specs.ViablePrefix.{IsMessageOf}
 use Rattle.daide_reader.specs.ErrorPlace.{IsAllowedPrefix, IsErrorPlace}
-use Rattle.daide_grammar.specs.Brackets.{counted}
+use Rattle.daide_grammar.specs.Table.Brackets.{counted}
 use Rattle.daide_reader.specs.Outline.{IsOutlineOf}
 
 -- a reader over a table of type T

@@ -5,8 +5,8 @@
 //! for plain ones.
 
 ghost use Rattle.std.specs.Prelude.{◌≡◌, ◌≢◌, ◌<◌, ◌==◌, ◌↔◌, ◌||◌, IsTrue, true, false, Some, IsSome, IfSome, IfNone};
-ghost use Rattle.daide_grammar.specs.Brackets.{is_bra as is_bra_token, is_ket as is_ket_token, count_one};
-ghost use Rattle.daide_grammar.specs.Numbers.{is_bracket};
+ghost use Rattle.daide_grammar.specs.Table.Brackets.{is_bra as is_bra_token, is_ket as is_ket_token, count_one};
+ghost use Rattle.daide_grammar.specs.Table.Numbers.{is_bracket};
 ghost use Rattle.daide_reader.specs.Stack.{open_count};
 ghost use Rattle.daide_reader.specs.Outline.{is_prn as is_prn_token};
 

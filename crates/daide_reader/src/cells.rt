@@ -2,8 +2,8 @@
 
 ghost use Rattle.std.specs.Prelude.{◌≡◌, ◌≤◌, ◌<◌, ◌+◌, ◌%◌, ◌^◌, ◌++◌, List, None, Some, IfSome, IfNone, take, length, reverse};
 ghost use Rattle.daide_token.specs.Class.{class_of as known_class};
-ghost use Rattle.daide_grammar.specs.Rules.{rest_of};
-ghost use Rattle.daide_grammar.specs.Stacks.{stack_after};
+ghost use Rattle.daide_grammar.specs.Table.Rules.{rest_of};
+ghost use Rattle.daide_grammar.specs.Table.Stacks.{stack_after};
 ghost use Rattle.daide_reader.specs.Stack.{steps_at};
 
 use daide_grammar::column::Column;

@@ -5,8 +5,8 @@
 
 ghost use Rattle.std.specs.Prelude.{◌≡◌, ◌≢◌, ◌≤◌, ◌<◌, ◌+◌, ◌-◌, ◌*◌, ◌/◌, ◌%◌, ◌^◌, ◌⊎◌, List, ℕ, None, Some, IsSome, IfSome, IfNone, take, drop, length, reverse, true};
 ghost use Rattle.daide_token.specs.Token.{tokens_of};
-ghost use Rattle.daide_grammar.specs.Brackets.{is_bra as is_bra_token, is_ket as is_ket_token, count_one};
-ghost use Rattle.daide_grammar.specs.Stacks.{stack_after};
+ghost use Rattle.daide_grammar.specs.Table.Brackets.{is_bra as is_bra_token, is_ket as is_ket_token, count_one};
+ghost use Rattle.daide_grammar.specs.Table.Stacks.{stack_after};
 ghost use Rattle.daide_reader.specs.Outline.{count_all};
 ghost use Rattle.daide_reader.specs.Slice.{ReadsTo, place_behind};
 ghost use Rattle.daide_reader.specs.Stack.{open_count, steps_at};

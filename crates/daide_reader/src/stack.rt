@@ -4,7 +4,7 @@
 
 ghost use Rattle.std.specs.Prelude.{◌≡◌, ◌≤◌, ◌+◌, ◌%◌, ◌^◌, false, reverse};
 ghost use Rattle.std.specs.List.{list_all};
-ghost use Rattle.daide_grammar.specs.Stacks.{ends_asked};
+ghost use Rattle.daide_grammar.specs.Table.Stacks.{ends_asked};
 
 use crate::symbols::Symbols;
 use daide_grammar::predict::Predict;

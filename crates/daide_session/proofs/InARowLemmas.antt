@@ -17,7 +17,7 @@ use Rattle.daide_grammar.specs.Depth.{depth_of}
 use Rattle.daide_reader.specs.Verdict.{HasVerdict, IsRelayed}
 use Rattle.daide_reader.specs.declared.verdict.Verdict.{Verdict}
 use Rattle.daide_reader.specs.declared.verdict.Verdict.TheVariants.{Relay, Prn, Huh}
-use Rattle.daide_words.specs.OverWords.{are_free}
+use Rattle.daide_words.specs.Table.OverWords.{are_free}
 use Rattle.daide_words.proofs.WordsGrow.{levels-only-add-over}
 use Rattle.daide_words.proofs.PairedOverWords.{huh-err-over}
 use Rattle.daide_machine.specs.Events.{other}

@@ -1,14 +1,17 @@
-//! Prints the answers of the grammar's plain table, from which `print` writes the text of the constant one.
+//! Prints what the code answers by matching, from which `print` writes the text of the grammar's constant table.
 //!
-//! With the word `answers`: a line for each symbol and class where the table doesn't stop, with their numbers, `skip` or
-//! `take`, and the numbers of the symbols that follow. Nothing here is trusted: the check of `daide_grammar` shows of
-//! each cell of the constant table that it says what the definitions say.
+//! With the word `answers`: a line for each symbol and class where the plain table doesn't stop, with their numbers,
+//! `skip` or `take`, and the numbers of the symbols that follow. With the word `classes`: a line for each token, with its
+//! code and the number of its class. Nothing here is trusted: the check of `daide_grammar` shows of each cell of the
+//! constant table that it says what the definitions say.
 #![tactic(auto)]
 
 use daide_grammar::column::Column;
 use daide_grammar::meaning::Meaning;
+use daide_grammar::numbers::{OWN_CLASSES, SYMBOL_COUNT};
 use daide_grammar::plain::meaning_of;
 use daide_grammar::symbol::Symbol;
+use daide_token::token::Token;
 use std::alloc::{AllocError, Global};
 use std::{env, io};
 
@@ -32,20 +35,32 @@ fn write_answer(text: &mut String, symbol: Symbol, class: Column) -> Result<(), 
 /// The answers of the plain table at the classes that are no operator's words.
 fn answers(alloc: Global) -> Result<String, AllocError> {
     let mut text = String::new(alloc);
-    for symbol in 0..202 {
-        for class in 0..79 {
-            write_answer(&mut text, Symbol::of(symbol), Column::of(class))?;
+    for symbol in 0..SYMBOL_COUNT {
+        for class in 0..OWN_CLASSES {
+            write_answer(&mut text, Symbol::of(symbol as u8), Column::of(class as u8))?;
         }
+    }
+    Ok(text)
+}
+
+/// The class of each token.
+fn classes(alloc: Global) -> Result<String, AllocError> {
+    let mut text = String::new(alloc);
+    for code in 0..=u16::MAX {
+        let number = Token::from_code(code).class().number();
+        writeln!(text, "{code} {number}")?;
     }
     Ok(text)
 }
 
 fn main(rt: HostRuntime) -> io::Result<()> {
     for word in env::args(&rt)? {
-        if word.as_str() == "answers" {
-            let text = answers(rt.alloc())?;
-            print!(rt; "{text}")?;
-        }
+        let text = match word.as_str() {
+            "answers" => answers(rt.alloc())?,
+            "classes" => classes(rt.alloc())?,
+            _ => String::new(rt.alloc()),
+        };
+        print!(rt; "{text}")?;
     }
     Ok(())
 }

@@ -1,3 +1,4 @@
+pub mod ClassLaws
 mod TableLemmas
 mod NameLaws
 mod NamePages

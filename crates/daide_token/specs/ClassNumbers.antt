@@ -1,5 +1,5 @@
 -- A number for each class of tokens, by which two classes are compared. (own)
-use Rattle.std.specs.Prelude.{ℕ, ◌+◌, Bool, nat_eq}
+use Rattle.std.specs.Prelude.{ℕ, ◌+◌, Bool, nat_eq, List, [], ◌∷◌}
 use Rattle.daide_token.specs.declared.class.Class.{Class}
 use Rattle.daide_token.specs.declared.class.Class.TheVariants.{Num, Bra, Ket, Power, Note, Outcome, Coast, Season}
 use Rattle.daide_token.specs.declared.class.Class.TheVariants.{Text, Province, Amy, Flt, Cto, Cvy, Hld, Mto, Sup, Via}
@@ -9,6 +9,10 @@ use Rattle.daide_token.specs.declared.class.Class.TheVariants.{Ord, Out, Prn, Re
 use Rattle.daide_token.specs.declared.class.Class.TheVariants.{Yes, Adm, Smr, Aly, And, Bwx, Dmz, Fct, Idk, Ins, Occ}
 use Rattle.daide_token.specs.declared.class.Class.TheVariants.{Orr, Pce, Prp, Qry, Scd, Sry, Sug, Thk, Try, Vss, Xdo}
 use Rattle.daide_token.specs.declared.class.Class.TheVariants.{Lvl, Mrt, Uno, Param, Other, Alien, Word}
+
+-- how many classes there are beside the operator's words, whose numbers follow theirs
+abbrev pub own_classes : ℕ
+own_classes = 79
 
 -- the class's place in the list of classes: the brackets first, the operator's words last
 abbrev pub class_number : Class → ℕ
@@ -91,7 +95,16 @@ class_number Uno = 75
 class_number Param = 76
 class_number Other = 77
 class_number Alien = 78
-class_number (Word k) = 79 + k
+class_number (Word k) = own_classes + k
 
 abbrev pub same_class : Class → Class → Bool
 same_class c d = nat_eq (class_number c) (class_number d)
+
+-- the classes in the order of their numbers, but for the operator's words
+abbrev pub classes_in_order : List Class
+classes_in_order =
+    Bra ∷ Ket ∷ Num ∷ Power ∷ Note ∷ Outcome ∷ Coast ∷ Season ∷ Text ∷ Province ∷ Amy ∷ Flt ∷ Cto ∷ Cvy ∷
+    Hld ∷ Mto ∷ Sup ∷ Via ∷ Dsb ∷ Rto ∷ Bld ∷ Rem ∷ Wve ∷ Ccd ∷ Drw ∷ Frm ∷ Gof ∷ Hlo ∷ Hst ∷ Huh ∷ Iam ∷
+    Lod ∷ Map ∷ Mdf ∷ Mis ∷ Nme ∷ Not ∷ Now ∷ Obs ∷ Off ∷ Ord ∷ Out ∷ Prn ∷ Rej ∷ Sco ∷ Slo ∷ Snd ∷ Sub ∷
+    Sve ∷ Thx ∷ Tme ∷ Yes ∷ Adm ∷ Smr ∷ Aly ∷ And ∷ Bwx ∷ Dmz ∷ Fct ∷ Idk ∷ Ins ∷ Occ ∷ Orr ∷ Pce ∷ Prp ∷
+    Qry ∷ Scd ∷ Sry ∷ Sug ∷ Thk ∷ Try ∷ Vss ∷ Xdo ∷ Lvl ∷ Mrt ∷ Uno ∷ Param ∷ Other ∷ Alien ∷ []

@@ -1,6 +1,5 @@
 pub mod Token
 pub mod Class
-pub mod ClassLaws
 pub mod ClassNumbers
 pub mod Names
 pub mod NamePages

@@ -19,7 +19,7 @@ use Rattle.daide_machine.specs.Machine.{IsRight, question_of, is_dm, side2_of}
 use Rattle.daide_grammar.specs.declared.level.Level.{Level}
 use Rattle.daide_grammar.specs.declared.predict.Predict.{Ghosts}
 use Rattle.daide_grammar.specs.SideMessages.{IsMessageOver}
-use Rattle.daide_grammar.specs.Symbols.{opening_of}
+use Rattle.daide_grammar.specs.Table.Symbols.{opening_of}
 use Rattle.daide_grammar.specs.Words.{Words}
 use Rattle.daide_reader.specs.Reading.{Reading, IsRaised, StandsAfter}
 use Rattle.daide_reader.specs.declared.verdict.Verdict.{Verdict}

@@ -8,11 +8,11 @@ use Rattle.daide_frame.specs.Frames.{Cut, fed, head_in}
 use Rattle.daide_frame.specs.Head.{head_bytes}
 use Rattle.daide_grammar.specs.declared.level.Level.{Level}
 use Rattle.daide_grammar.specs.declared.predict.Predict.{Ghosts}
-use Rattle.daide_grammar.specs.Symbols.{opening_of}
+use Rattle.daide_grammar.specs.Table.Symbols.{opening_of}
 use Rattle.daide_grammar.specs.Words.{Words}
 use Rattle.daide_words.specs.declared.extended.Extended.{Extended}
-use Rattle.daide_words.specs.Extended.{spoken_words}
-use Rattle.daide_words.specs.OverWords.{spoken}
+use Rattle.daide_words.specs.Table.Extended.{spoken_words}
+use Rattle.daide_words.specs.Table.OverWords.{spoken}
 use Rattle.daide_reader.specs.Reading.{Reading, StandsAfter}
 use Rattle.daide_reader.specs.declared.verdict.Verdict.{Verdict}
 use Rattle.daide_reader.specs.declared.verdict.Verdict.TheVariants.{Relay, Prn, Huh}

@@ -13,16 +13,17 @@ use Rattle.daide_token.specs.Class.{class_of, token_of}
 use Rattle.daide_token.specs.Names.{Named, names, name_of}
 use Rattle.daide_grammar.specs.Classes.{class_number, same_class}
 use Rattle.daide_grammar.specs.SideMessages.{dialect_from, dialect_of}
-use Rattle.daide_grammar.specs.Proved.Alternatives.{both-pass}
+use Rattle.daide_grammar.specs.Table.Proved.Alternatives.{both-pass}
+use Rattle.daide_grammar.specs.Words.{most_words}
 use Rattle.daide_words.specs.declared.word.Word as code
 use Rattle.daide_words.specs.declared.word.WordError.{WordError}
 use Rattle.daide_words.specs.declared.word.WordError.TheVariants as faults
 use Rattle.daide_words.specs.Word.{grammar_words, names_of}
 use Rattle.daide_words.specs.Accepted.{is_free_name, is_free_code, is_barred, has_press, may_hold, word_fault}
 use Rattle.daide_words.specs.Accepted.{are_accepted_after}
-use Rattle.daide_words.specs.Places.{place_from}
-use Rattle.daide_words.specs.OverWords.{are_free}
-use Rattle.daide_words.specs.Proved.WordDialect.{keeps, other-class}
+use Rattle.daide_words.specs.Table.Places.{place_from}
+use Rattle.daide_words.specs.Table.OverWords.{are_free}
+use Rattle.daide_words.specs.Table.Proved.WordDialect.{keeps, other-class}
 
 -- whether a code means nothing in the protocol, and isn't the token that stands for such
 means_nothing : ℕ → Bool
@@ -72,7 +73,7 @@ passed false true true level operand h = refl
 code_free : (taken : List Named) (word : code.Word) → is_ok (word_fault taken word) ≡ true →
     is_free_code taken word.code ≡ true
 code_free taken word h =
-    passed (nat_le 16 (length taken)) (is_free_name taken word.name) (is_free_code taken word.code)
+    passed (nat_le most_words (length taken)) (is_free_name taken word.name) (is_free_code taken word.code)
     (has_press word.level)
     (may_hold word.slot word.operand) h
 
@@ -92,7 +93,7 @@ free_means_nothing taken t h =
     (every_at told 0x4A00 256 t every_told (leb-true 0x4A00 t b.0) (omega (arith, leb-true t 0x4AFF b.1)))
 
 -- so accepted words have free codes
-joined : (a b : Bool) → a ≡ true → b ≡ true → (a && b) ≡ true
+pub joined : (a b : Bool) → a ≡ true → b ≡ true → (a && b) ≡ true
 joined true b e h = h
 joined false b e h = cc
 
@@ -138,6 +139,6 @@ class_told words t o e = class_from 0 words t ∙ ap (λ p. class_or p (class_of
 
 -- and that of a token with a meaning in the protocol
 pub class_kept : (words : List code.Word) (t : ℕ) → are_accepted_after [] words ≡ true →
-    (class_number (class_of t) ≡ 77 → ⊥) →
+    (class_number (class_of t) ≡ class_number Other → ⊥) →
     (dialect_of (grammar_words words)).class_of t ≡ class_of t
 class_kept words t a h = keeps 0 (grammar_words words) t (other-class (grammar_words words) t (accepted_free words a) h)

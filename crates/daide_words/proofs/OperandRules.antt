@@ -6,30 +6,34 @@ use Rattle.daide_grammar.specs.declared.symbol.Sym.{Sym}
 use Rattle.daide_grammar.specs.declared.symbol.Sym.TheVariants.{PowerGroup, PowersGroup, ProvincesGroup, OrderGroup}
 use Rattle.daide_grammar.specs.declared.symbol.Sym.TheVariants.{ArrangementGroup, OperandGroup, PressGroup}
 use Rattle.daide_grammar.specs.declared.symbol.Sym.TheVariants.{Press, Arrangement, Fact, Operand}
-use Rattle.daide_grammar.specs.Answers.{Take}
-use Rattle.daide_grammar.specs.Numbers.{level_place}
-use Rattle.daide_grammar.specs.Rules.{deed, rest_at}
+use Rattle.daide_grammar.specs.declared.numbers.TheConstants.{LEAVES_ARRANGEMENT_GROUP, LEAVES_OPERAND_GROUP}
+use Rattle.daide_grammar.specs.declared.numbers.TheConstants.{LEAVES_ORDER_GROUP, LEAVES_POWER_GROUP}
+use Rattle.daide_grammar.specs.declared.numbers.TheConstants.{LEAVES_POWERS_GROUP, LEAVES_PRESS_GROUP}
+use Rattle.daide_grammar.specs.declared.numbers.TheConstants.{LEAVES_PROVINCES_GROUP}
+use Rattle.daide_grammar.specs.Table.Answers.{Take}
+use Rattle.daide_grammar.specs.Table.Numbers.{level_place}
+use Rattle.daide_grammar.specs.Table.Rules.{deed, rest_at}
 use Rattle.daide_grammar.specs.Forms.{Slot}
-use Rattle.daide_grammar.specs.Symbols.{slot_of}
-use Rattle.daide_words.specs.Place.{grammar_place, operand_place}
+use Rattle.daide_grammar.specs.Table.Symbols.{slot_of}
+use Rattle.daide_words.specs.Table.Place.{grammar_place, operand_place}
 
-pub power_rule : deed 70 ≡ Take (PowerGroup ∷ [])
+pub power_rule : deed LEAVES_POWER_GROUP ≡ Take (PowerGroup ∷ [])
 unfolding deed rest_at
 power_rule = refl
 
-pub powers_rule : deed 74 ≡ Take (PowersGroup ∷ [])
+pub powers_rule : deed LEAVES_POWERS_GROUP ≡ Take (PowersGroup ∷ [])
 unfolding deed rest_at
 powers_rule = refl
 
-pub provinces_rule : deed 96 ≡ Take (ProvincesGroup ∷ [])
+pub provinces_rule : deed LEAVES_PROVINCES_GROUP ≡ Take (ProvincesGroup ∷ [])
 unfolding deed rest_at
 provinces_rule = refl
 
-pub order_rule : deed 76 ≡ Take (OrderGroup ∷ [])
+pub order_rule : deed LEAVES_ORDER_GROUP ≡ Take (OrderGroup ∷ [])
 unfolding deed rest_at
 order_rule = refl
 
-pub arrangement_rule : (l : Level) → deed (104 + level_place l) ≡ Take (ArrangementGroup l ∷ [])
+pub arrangement_rule : (l : Level) → deed (LEAVES_ARRANGEMENT_GROUP + level_place l) ≡ Take (ArrangementGroup l ∷ [])
 unfolding deed rest_at
 arrangement_rule L0 = refl
 arrangement_rule L10 = refl
@@ -39,7 +43,7 @@ arrangement_rule L40 = refl
 arrangement_rule L50 = refl
 arrangement_rule L60 = refl
 
-pub flat_rule : (l : Level) → deed (146 + level_place l) ≡ Take (OperandGroup l ∷ [])
+pub flat_rule : (l : Level) → deed (LEAVES_OPERAND_GROUP + level_place l) ≡ Take (OperandGroup l ∷ [])
 unfolding deed rest_at
 flat_rule L0 = refl
 flat_rule L10 = refl
@@ -49,7 +53,7 @@ flat_rule L40 = refl
 flat_rule L50 = refl
 flat_rule L60 = refl
 
-pub press_rule : (l : Level) → deed (160 + level_place l) ≡ Take (PressGroup l ∷ [])
+pub press_rule : (l : Level) → deed (LEAVES_PRESS_GROUP + level_place l) ≡ Take (PressGroup l ∷ [])
 unfolding deed rest_at
 press_rule L0 = refl
 press_rule L10 = refl

@@ -4,7 +4,7 @@ use Rattle.std.proofs.Common.{arith}
 use Rattle.std.proofs.lemmas.Bool.{eqb-true}
 use Rattle.daide_token.specs.declared.class.Class.TheVariants.{Prn}
 use Rattle.daide_token.specs.Token.{prn}
-use Rattle.daide_token.specs.ClassLaws.{class_of-prn}
+use Rattle.daide_token.proofs.ClassLaws.{class_of-prn}
 use Rattle.daide_grammar.specs.declared.level.Level.{Level}
 use Rattle.daide_grammar.specs.declared.level.Level.TheVariants.{L60}
 use Rattle.daide_grammar.specs.declared.side.Side2.{Side2}
@@ -12,19 +12,15 @@ use Rattle.daide_grammar.specs.declared.side.Side2.TheVariants.{Client, ServerEn
 use Rattle.daide_grammar.specs.Forms.{Form}
 use Rattle.daide_grammar.specs.Matches.{Matches}
 use Rattle.daide_grammar.specs.Paired.{begins_with_prn, IsPrnReport}
-use Rattle.daide_grammar.specs.Answers.{Stop}
-use Rattle.daide_grammar.specs.Symbols.{form_of, entries, may_end_of, table_answer, opening_of}
-use Rattle.daide_grammar.specs.SideMessages.{dialect_of, message_form, IsMessageOver, SymbolMatchesIn}
+use Rattle.daide_grammar.specs.Table.Answers.{Stop}
+use Rattle.daide_grammar.specs.Table.Symbols.{form_of, entries, may_end_of, table_answer, opening_of}
+use Rattle.daide_grammar.specs.SideMessages.{dialect_of, message_form, IsMessageOver}
+use Rattle.daide_grammar.specs.Table.Languages.{SymbolMatchesIn}
 use Rattle.daide_grammar.specs.Words.{Words}
-use Rattle.daide_words.specs.OverWords.{answer_over, are_free}
-use Rattle.daide_words.specs.Proved.WordDialect.{free-codes, keeps}
-use Rattle.daide_words.specs.Proved.WordLaws.{laws_over}
-
--- an opening symbol's form is that of its side's messages
-pub opening-form : (side : Side2) (l : Level) → form_of (opening_of side l) ≡ message_form side l
-unfolding form_of
-opening-form Client l = refl
-opening-form ServerEnd l = refl
+use Rattle.daide_words.specs.Table.OverWords.{answer_over, are_free}
+use Rattle.daide_words.specs.Table.Proved.WordDialect.{free-codes, keeps}
+use Rattle.daide_words.specs.Table.Proved.WordLaws.{laws_over}
+use Rattle.daide_grammar.proofs.Languages.{opening-form, begins-false, report-begins}
 
 -- PRN begins none of the forms: it is the reader's own case
 opening-stops : (words : Words) (side : Side2) (l : Level) → answer_over words (opening_of side l) Prn ≡ Stop
@@ -32,15 +28,6 @@ unfolding answer_over table_answer entries may_end_of
 opening-stops words Client L60 = refl
 opening-stops words ServerEnd L60 = refl
 opening-stops words _ _ = refl
-
--- a test that cannot pass fails
-begins-false : (b : Bool) → (b ≡ true → ⊥) → b ≡ false
-begins-false true f = absurd (f refl)
-begins-false false f = refl
-
--- a report PRN begins with PRN
-report-begins : (m : List ℕ) → IsPrnReport m → begins_with_prn m ≡ false → ⊥
-report-begins m r e = let f : true ≡ false = sym (ap begins_with_prn r.1) ∙ e in cc
 
 module _ (words : Words) (free : are_free words ≡ true) where
   -- the token PRN has the class PRN

@@ -16,19 +16,21 @@ use Rattle.daide_grammar.specs.Forms.{never, tok, group}
 use Rattle.daide_grammar.specs.Matches.{Matches, bracketed}
 use Rattle.daide_grammar.specs.Balanced.{IsBalanced}
 use Rattle.daide_grammar.specs.Paired.{IsPaired}
-use Rattle.daide_grammar.specs.Answers.{Take}
-use Rattle.daide_grammar.specs.Symbols.{form_of, entries, may_end_of, table_answer, opening_of}
-use Rattle.daide_grammar.specs.SideMessages.{dialect_from, dialect_of, IsMessageOver, SymbolMatchesIn}
+use Rattle.daide_grammar.specs.Table.Answers.{Take}
+use Rattle.daide_grammar.specs.Table.Symbols.{form_of, entries, may_end_of, table_answer, opening_of}
+use Rattle.daide_grammar.specs.SideMessages.{dialect_from, dialect_of, IsMessageOver}
+use Rattle.daide_grammar.specs.Table.Languages.{SymbolMatchesIn}
 use Rattle.daide_grammar.specs.Words.{AddedWord, Words, WordSlot, press_word, arrangement_word, WordOperand}
 use Rattle.daide_grammar.specs.Words.{an_arrangement, operand_in}
 use Rattle.daide_grammar.specs.Words.{stands_in, word_form}
 use Rattle.daide_grammar.proofs.BalancedLemmas.{KeepsBrackets, paired, message-balanced, any-balanced, bra-accepted}
 use Rattle.daide_grammar.proofs.BalancedLemmas.{ket-accepted}
 use Rattle.daide_grammar.proofs.ErrPutIn.{err-put-in}
-use Rattle.daide_words.specs.OverWords.{answer_over, are_free}
-use Rattle.daide_words.specs.Proved.WordDialect.{free-codes, keeps, only_bra, only_ket}
-use Rattle.daide_words.specs.Proved.WordLaws.{laws_over}
-use Rattle.daide_words.proofs.OverMessages.{opening-language, form-not-prn, opening-form}
+use Rattle.daide_words.specs.Table.OverWords.{answer_over, are_free}
+use Rattle.daide_words.specs.Table.Proved.WordDialect.{free-codes, keeps, only_bra, only_ket}
+use Rattle.daide_words.specs.Table.Proved.WordLaws.{laws_over}
+use Rattle.daide_words.proofs.OverMessages.{opening-language, form-not-prn}
+use Rattle.daide_grammar.proofs.Languages.{class-huh, opening-form}
 
 -- ---- brackets of added words stand in pairs
 
@@ -83,10 +85,6 @@ words-paired place (word ∷ words) s l =
     (word-paired place word s l) (words-paired (suc place) words s l)
 
 -- ---- messages and answers over words of free codes
-
-class-huh : class_of huh ≡ Huh
-unfolding class_of
-class-huh = refl
 
 module _ (words : Words) (free : are_free words ≡ true) where
   keeps-brackets : KeepsBrackets (dialect_of words)

@@ -9,16 +9,17 @@ use Rattle.daide_token.specs.Class.{class_of}
 use Rattle.daide_token.specs.Names.{Named}
 use Rattle.daide_grammar.specs.declared.symbol.Sym.{Sym}
 use Rattle.daide_grammar.specs.Classes.{class_number}
-use Rattle.daide_grammar.specs.Rules.{is_stop}
+use Rattle.daide_grammar.specs.Table.Rules.{is_stop}
 use Rattle.daide_grammar.specs.SideMessages.{dialect_of}
-use Rattle.daide_grammar.specs.Symbols.{table_answer}
+use Rattle.daide_grammar.specs.Table.Symbols.{table_answer}
 use Rattle.daide_grammar.proofs.RowsAgree.{word_unknown}
+use Rattle.daide_grammar.specs.Words.{most_words}
 use Rattle.daide_words.specs.declared.word.Word as code
 use Rattle.daide_words.specs.Accepted.{are_accepted_after}
 use Rattle.daide_words.specs.Word.{grammar_words, names_of}
-use Rattle.daide_words.specs.OverWords.{answer_over}
-use Rattle.daide_words.specs.Places.{place_from}
-use Rattle.daide_words.specs.Proved.WordDialect.{class-Other}
+use Rattle.daide_words.specs.Table.OverWords.{answer_over}
+use Rattle.daide_words.specs.Table.Places.{place_from}
+use Rattle.daide_words.specs.Table.Proved.WordDialect.{class-Other}
 use Rattle.daide_words.proofs.AcceptedCodes.{class_told, class_kept}
 use Rattle.daide_words.proofs.WhereStopped.{not_stopped}
 
@@ -34,9 +35,9 @@ place_inside j (named ∷ names) t k e = by_test (t == named.0) e (place_inside 
 
 module _ (words : List code.Word) (s : Sym) (t : ℕ) where
   -- the table says the same of a token by its class with and without words
-  pub told_before : are_accepted_after [] words ≡ true → length (names_of words) ≤ 16
+  pub told_before : are_accepted_after [] words ≡ true → length (names_of words) ≤ most_words
       → table_answer s ((dialect_of (grammar_words words)).class_of t) ≡ table_answer s (class_of t)
-  told_before accepted few = by_number (nat_eq (class_number (class_of t)) 77) refl
+  told_before accepted few = by_number (nat_eq (class_number (class_of t)) (class_number Other)) refl
     where
       by_place : (o : Option ℕ) → place_from 0 (names_of words) t ≡ o → class_of t ≡ Other
           → table_answer s ((dialect_of (grammar_words words)).class_of t) ≡ table_answer s (class_of t)
@@ -47,15 +48,15 @@ module _ (words : List code.Word) (s : Sym) (t : ℕ) where
           ∙ word_unknown s k (omega (arith, inside, few))
           ∙ ap (table_answer s) (sym other)
 
-      by_number : (b : Bool) → nat_eq (class_number (class_of t)) 77 ≡ b
+      by_number : (b : Bool) → nat_eq (class_number (class_of t)) (class_number Other) ≡ b
           → table_answer s ((dialect_of (grammar_words words)).class_of t) ≡ table_answer s (class_of t)
       by_number true e =
           by_place (place_from 0 (names_of words) t) refl
-          (class-Other (class_of t) (eqb-true (class_number (class_of t)) 77 e))
+          (class-Other (class_of t) (eqb-true (class_number (class_of t)) (class_number Other) e))
       by_number false e = ap (table_answer s) (class_kept words t accepted (λ is. grind (arith, nat_tests)))
 
   -- so where it doesn't stop, that is the answer
-  pub answered_before : are_accepted_after [] words ≡ true → length (names_of words) ≤ 16
+  pub answered_before : are_accepted_after [] words ≡ true → length (names_of words) ≤ most_words
       → is_stop (table_answer s (class_of t)) ≡ false
       → answer_over (grammar_words words) s ((dialect_of (grammar_words words)).class_of t)
       ≡ table_answer s (class_of t)

@@ -9,23 +9,23 @@ use Rattle.daide_token.specs.declared.class.Class.TheVariants.{Word}
 use Rattle.daide_grammar.specs.declared.level.Level.{Level}
 use Rattle.daide_grammar.specs.declared.symbol.Sym.{Sym}
 use Rattle.daide_grammar.specs.declared.symbol.Sym.TheVariants.{Closing}
-use Rattle.daide_grammar.specs.Answers.{Answer, Take, Skip, Stop}
-use Rattle.daide_grammar.specs.Numbers.{word_number}
-use Rattle.daide_grammar.specs.Rules.{is_stop}
+use Rattle.daide_grammar.specs.Table.Answers.{Answer, Take, Skip, Stop}
+use Rattle.daide_grammar.specs.Table.Numbers.{word_number}
+use Rattle.daide_grammar.specs.Table.Rules.{is_stop}
 use Rattle.daide_grammar.specs.Forms.{Slot, accepts}
-use Rattle.daide_grammar.specs.Symbols.{Entry, entries, entry_at, this_or, form_of, slot_of, may_end_of, answer_by}
-use Rattle.daide_grammar.specs.Symbols.{table_answer}
+use Rattle.daide_grammar.specs.Table.Symbols.{Entry, entries, entry_at, this_or, form_of, slot_of, may_end_of, answer_by}
+use Rattle.daide_grammar.specs.Table.Symbols.{table_answer}
 use Rattle.daide_grammar.specs.Words.{AddedWord, Words}
-use Rattle.daide_grammar.specs.Proved.Alternatives.{both-pass}
-use Rattle.daide_grammar.specs.Proved.RightEntries.{is_plain, is_unopened, added_right}
-use Rattle.daide_grammar.specs.Proved.Reading.{heads}
-use Rattle.daide_grammar.specs.Proved.MovesAgree.{right_parts}
+use Rattle.daide_grammar.specs.Table.Proved.Alternatives.{both-pass}
+use Rattle.daide_grammar.specs.Table.Proved.RightEntries.{is_plain, is_unopened, added_right}
+use Rattle.daide_grammar.specs.Table.Proved.Reading.{heads}
+use Rattle.daide_grammar.specs.Table.Proved.MovesAgree.{right_parts}
 use Rattle.daide_grammar.specs.SideMessages.{standard}
 use Rattle.daide_words.specs.declared.word.Word as code
 use Rattle.daide_words.specs.Word.{grammar_word, grammar_words}
 use Rattle.daide_words.specs.Words.{word_at}
-use Rattle.daide_words.specs.OverWords.{this_word, word_from, if_stands, word_answer, answer_over}
-use Rattle.daide_words.specs.Proved.WordForms.{plain-no-word}
+use Rattle.daide_words.specs.Table.OverWords.{this_word, word_from, if_stands, word_answer, answer_over}
+use Rattle.daide_words.specs.Table.Proved.WordForms.{plain-no-word}
 
 -- a class with a word's number is that word's
 pub the_word : (c : Class) (k : ℕ) → word_number c ≡ Some k → c ≡ Word k

@@ -13,8 +13,8 @@ use Rattle.daide_grammar.specs.declared.symbol.Sym.{Sym}
 use Rattle.daide_grammar.specs.declared.symbol.Sym.TheVariants.{Press, Arrangement, Fact, Operand}
 use Rattle.daide_grammar.specs.declared.symbol.Sym.TheVariants.{PowerGroup, PowersGroup, ProvincesGroup, OrderGroup}
 use Rattle.daide_grammar.specs.declared.symbol.Sym.TheVariants.{ArrangementGroup, OperandGroup, PressGroup}
-use Rattle.daide_grammar.specs.Answers.{Answer, Take, Stop}
-use Rattle.daide_grammar.specs.Symbols.{entries, may_end_of, slot_of, table_answer}
+use Rattle.daide_grammar.specs.Table.Answers.{Answer, Take, Stop}
+use Rattle.daide_grammar.specs.Table.Symbols.{entries, may_end_of, slot_of, table_answer}
 use Rattle.daide_words.specs.declared.slot.Slot.{Slot}
 use Rattle.daide_words.specs.declared.slot.Slot.TheVariants as slots
 use Rattle.daide_words.specs.declared.operand.Operand as kinds
@@ -24,7 +24,7 @@ use Rattle.daide_words.specs.declared.word.WordError.{WordError}
 use Rattle.daide_words.specs.declared.word.WordError.TheVariants as faults
 use Rattle.daide_words.specs.Word.{grammar_words}
 use Rattle.daide_words.specs.Accepted.{word_fault}
-use Rattle.daide_words.specs.OverWords.{answer_over}
+use Rattle.daide_words.specs.Table.OverWords.{answer_over}
 
 abbrev made : List ℕ → ℕ → Slot → Level → kinds.Operand → code.Word
 made name token slot level operand = record { name = name; code = token; slot = slot; level = level; operand = operand }

@@ -9,8 +9,8 @@ use Rattle.daide_grammar.specs.declared.level.Level.{Level}
 use Rattle.daide_grammar.specs.declared.level.Level.TheVariants.{L0, L10, L20, L30, L40, L50, L60}
 use Rattle.daide_grammar.specs.declared.symbol.Sym.TheVariants.{Press, Arrangement, Fact, Operand, WordList, Client}
 use Rattle.daide_grammar.specs.declared.symbol.Sym.TheVariants.{PowerGroup, ArrangementGroup, OperandGroup}
-use Rattle.daide_grammar.specs.Answers.{Take, Stop}
-use Rattle.daide_grammar.specs.Symbols.{entries, may_end_of, slot_of, table_answer}
+use Rattle.daide_grammar.specs.Table.Answers.{Take, Stop}
+use Rattle.daide_grammar.specs.Table.Symbols.{entries, may_end_of, slot_of, table_answer}
 use Rattle.daide_grammar.specs.Words.{Words}
 use Rattle.daide_grammar.specs.SideMessages.{dialect_of}
 use Rattle.daide_words.specs.declared.slot.Slot.{Slot}
@@ -21,7 +21,7 @@ use Rattle.daide_words.specs.declared.word.Word as code
 use Rattle.daide_words.specs.declared.word.WordError.TheVariants as faults
 use Rattle.daide_words.specs.Word.{grammar_words, names_of}
 use Rattle.daide_words.specs.Accepted.{word_fault, are_accepted}
-use Rattle.daide_words.specs.OverWords.{answer_over, spoken}
+use Rattle.daide_words.specs.Table.OverWords.{answer_over, spoken}
 
 abbrev made : List ℕ → ℕ → Slot → Level → kinds.Operand → code.Word
 made name token slot level operand = record { name = name; code = token; slot = slot; level = level; operand = operand }

@@ -1,11 +1,9 @@
 -- Words whose names and meanings are kept apart.
 use Rattle.std.proofs.Common.{◌≡◌, ℕ, zero, suc, ◌+◌, ◌≤◌, ◌<◌, Bool, true, false, ◌&&◌, List, [], ◌∷◌, ◌++◌, length}
 use Rattle.std.proofs.Common.{take, refl, sym, ap, ◌∙◌, arith, subst, append_assoc, append-nil, nat_le, leb-true}
-use Rattle.std.proofs.Common.{leb-false, if◌then◌else◌, Result, Err, slice_set, get_or, ◌==◌, Option, Some, None}
-use Rattle.std.proofs.Common.{IfSome}
+use Rattle.std.proofs.Common.{leb-false, if◌then◌else◌, Result, Err, slice_set, get_or, Some, None}
 use Rattle.std.proofs.lemmas.List.{get_or-take}
 use Rattle.daide_words.specs.Words.{word_at}
-use Rattle.daide_words.specs.Places.{place_from}
 use Rattle.std.proofs.lemmas.List.{length-take-le, take_more_set}
 use Rattle.daide_words.specs.declared.word.WordError.{WordError}
 use Rattle.daide_words.specs.declared.word.WordError.TheVariants.{Full}
@@ -18,6 +16,8 @@ use Rattle.daide_words.specs.declared.word.Word.{Word}
 use Rattle.daide_words.specs.declared.word.Meaning.{Meaning}
 use Rattle.daide_words.specs.Word.{names_of, word_with, words_with}
 use Rattle.daide_words.specs.Accepted.{word_fault, are_accepted_after, are_accepted}
+use Rattle.daide_grammar.specs.Words.{most_words}
+use Rattle.daide_words.proofs.AcceptedCodes.{joined}
 
 -- the names of words that are put together are those they were put together from
 pub names_back : (names : List Named) (meanings : List Meaning) → length names ≤ length meanings →
@@ -42,10 +42,6 @@ words_with-append (n ∷ names) (m ∷ meanings) name meaning h =
 both : (a b : Bool) → (a && b) ≡ true → (a ≡ true) × (b ≡ true)
 both true b h = (refl, h)
 both false b h = cc
-
-joined : (a b : Bool) → a ≡ true → b ≡ true → (a && b) ≡ true
-joined true b e h = h
-joined false b e h = cc
 
 -- words of which the last is accepted after the others, which are accepted
 pub accepted-append : (taken : List Named) (words : List Word) (word : Word) →
@@ -91,15 +87,15 @@ first_names names meanings n few enough =
 -- an accepted word finds room
 pub has_room : (names : List Named) (meanings : List Meaning) (n : ℕ) (word : Word) → n ≤ length names →
     n ≤ length meanings →
-    is_ok (word_fault (names_of (first_words names meanings n)) word) ≡ true → n < 16
+    is_ok (word_fault (names_of (first_words names meanings n)) word) ≡ true → n < most_words
 has_room names meanings n word few enough ok =
     let many : length (names_of (first_words names meanings n)) ≡ n =
     ap length (first_names names meanings n few enough) ∙ length-take-le n names few in
     omega (
       arith,
       many,
-      leb-false 16 (length (names_of (first_words names meanings n)))
-          (full-refused (nat_le 16 (length (names_of (first_words names meanings n)))) _ ok),
+      leb-false most_words (length (names_of (first_words names meanings n)))
+          (full-refused (nat_le most_words (length (names_of (first_words names meanings n)))) _ ok),
     )
 
 -- one of each put in the place behind is one word more
@@ -152,22 +148,6 @@ first_words-at names meanings n k d e few enough low =
     ∙ ap (λ x. Some (word_with x (get_or (take n meanings) k e))) (get_or-take n names k d low)
     ∙ ap (λ y. Some (word_with (get_or names k d) y)) (get_or-take n meanings k e low)
 
--- a token has none of the places from one on where there are that few names
-pub place_few : (place : ℕ) (names : List Named) (t : ℕ) →
-    IfSome (place_from place names t) (λ p. p < place + length names)
-place_few place [] t = tt
-place_few place (named ∷ names) t = by_test (t == named.0) (place_few (suc place) names t)
-  where
-    by_test : (b : Bool) → IfSome (place_from (suc place) names t) (λ p. p < suc place + length names) →
-        IfSome (if b then Some place else place_from (suc place) names t) (λ p. p < place + suc (length names))
-    by_test true h = omega arith
-    by_test false h = raise (place_from (suc place) names t) h
-      where
-        raise : (o : Option ℕ) → IfSome o (λ p. p < suc place + length names) →
-            IfSome o (λ p. p < place + suc (length names))
-        raise None h = tt
-        raise (Some p) h = omega (arith, h)
-
 pub names-few : (names : List Named) (meanings : List Meaning) (n : ℕ) → n ≤ length names → n ≤ length meanings →
     length (names_of (first_words names meanings n)) ≡ n
 names-few names meanings n few enough =
@@ -181,6 +161,6 @@ within [] meanings (suc count) = omega arith
 within (name ∷ names) [] (suc count) = omega arith
 within (name ∷ names) (meaning ∷ meanings) (suc count) = let few = within names meanings count in omega (arith, few)
 
-pub few_names : (names : List Named) (meanings : List Meaning) (count : ℕ) → count ≤ 16
-    → length (names_of (words_with (take count names) (take count meanings))) ≤ 16
+pub few_names : (names : List Named) (meanings : List Meaning) (count : ℕ) → count ≤ most_words
+    → length (names_of (words_with (take count names) (take count meanings))) ≤ most_words
 few_names names meanings count few = let less = within names meanings count in omega (arith, less, few)

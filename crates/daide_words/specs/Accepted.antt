@@ -4,6 +4,7 @@ use Rattle.std.specs.Prelude.{ℕ, Bool, true, false, not, ◌&&◌, ◌||◌, �
 use Rattle.std.specs.Prelude.{bytes_eq, is_none, is_ok, Result, Ok, Err, if◌then◌else◌}
 use Rattle.std.specs.List.{list_all, list_any}
 use Rattle.daide_token.specs.Names.{Named, name_of, token_named}
+use Rattle.daide_grammar.specs.Words.{most_words}
 use Rattle.daide_grammar.specs.declared.level.Level.{Level}
 use Rattle.daide_grammar.specs.declared.level.Level.TheVariants.{L0}
 use Rattle.daide_words.specs.declared.slot.Slot.{Slot}
@@ -46,7 +47,7 @@ may_hold _ _ = true
 -- what is wrong of a word after words with these codes and names: the first of these
 abbrev pub word_fault : List Named → Word → Result (Unit {0}) WordError
 word_fault taken word =
-    if nat_le 16 (length taken) then Err faults.Full else
+    if nat_le most_words (length taken) then Err faults.Full else
     if not (is_free_name taken word.name) then Err faults.Name else
     if not (is_free_code taken word.code) then Err faults.Code else
     if not (has_press word.level) then Err faults.Level else

@@ -2,8 +2,4 @@ pub mod WordNames
 pub mod Word
 pub mod Accepted
 pub mod Words
-pub mod Place
-pub mod Places
-pub mod Extended
-pub mod OverWords
-pub mod Proved
+pub mod Table

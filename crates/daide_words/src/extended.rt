@@ -4,26 +4,24 @@
 //! that is no word is looked up once, as without words.
 
 ghost use Rattle.std.specs.Prelude.{◌≡◌};
-ghost use Rattle.daide_grammar.specs.Answers.{Stop};
-ghost use Rattle.daide_grammar.specs.Symbols.{table_answer};
+ghost use Rattle.daide_grammar.specs.Table.Answers.{Stop};
+ghost use Rattle.daide_grammar.specs.Table.Symbols.{table_answer};
 ghost use Rattle.daide_token.specs.Class.{class_of};
 ghost use Rattle.daide_grammar.specs.SideMessages.{dialect_of};
 ghost use Rattle.daide_words.specs.Words.{words_of};
 ghost use Rattle.daide_words.specs.Word.{grammar_words};
-ghost use Rattle.daide_words.specs.OverWords.{answer_over, spoken};
+ghost use Rattle.daide_words.specs.Table.OverWords.{answer_over, spoken};
 
 use crate::place::{move_in, slot_of};
 use crate::words::{Words, place_in};
 use daide_grammar::column::Column;
 use daide_grammar::dense::Dense;
 use daide_grammar::level::Level;
+use daide_grammar::numbers::{OTHER, STOP};
 use daide_grammar::predict::{Move, Predict};
 use daide_grammar::side::Side2;
 use daide_grammar::symbol::Symbol;
 use daide_token::token::Token;
-
-/// The number of the class of tokens without a meaning, as which the protocol's table knows an operator's word.
-const OTHER: usize = 77;
 
 /// Predicts by the constant table and the words of an operator, and counts its answers.
 #[derive(Drop)]
@@ -33,7 +31,7 @@ pub struct Extended {
 }
 
 impl Extended {
-    ghost use Rattle.daide_words.specs.Extended.{answers_given, spoken_words};
+    ghost use Rattle.daide_words.specs.Table.Extended.{answers_given, spoken_words};
 
     /// A table with these words that was never asked.
     pub fn new(words: Words) -> Extended
@@ -56,14 +54,14 @@ fn where_stopped(words: &Words, sym: Symbol, class: Column) -> Move
     ensures { result ≡ answer_over (grammar_words (words_of words.now)) sym class }
 {
     let Some(number) = class.word_number() else {
-        return Move::of(0);
+        return Move::of(STOP);
     };
     let Some(word) = words.get(usize::from(number)) else {
-        return Move::of(0);
+        return Move::of(STOP);
     };
     match slot_of(sym.sym()) {
         Some((place, level)) => move_in(&word, place, level),
-        None => Move::of(0),
+        None => Move::of(STOP),
     }
 }
 
@@ -96,12 +94,12 @@ fn class_with(words: &Words, token: Token, class: Column) -> Column
 }
 
 impl Predict for Extended {
-    ghost use Rattle.daide_grammar.specs.LawfulStack.{IsLawful};
-    ghost use Rattle.daide_grammar.specs.SideMessages.{SymbolMatchesIn};
-    ghost use Rattle.daide_grammar.specs.Symbols.{may_end_of, opening_of};
-    ghost use Rattle.daide_words.specs.OverWords.{answer_over, spoken, spoken_dialect};
-    ghost use Rattle.daide_words.specs.Extended.{answers_given, spoken_words};
-    ghost use Rattle.daide_words.specs.Proved.WordLaws.{spoken_begins, spoken_laws};
+    ghost use Rattle.daide_grammar.specs.Table.LawfulStack.{IsLawful};
+    ghost use Rattle.daide_grammar.specs.Table.Languages.{SymbolMatchesIn};
+    ghost use Rattle.daide_grammar.specs.Table.Symbols.{may_end_of, opening_of};
+    ghost use Rattle.daide_words.specs.Table.OverWords.{answer_over, spoken, spoken_dialect};
+    ghost use Rattle.daide_words.specs.Table.Extended.{answers_given, spoken_words};
+    ghost use Rattle.daide_words.specs.Table.Proved.WordLaws.{spoken_begins, spoken_laws};
 
     ghost words = { spoken_words };
 

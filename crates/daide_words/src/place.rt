@@ -1,19 +1,23 @@
 //! Where a word may stand, and what follows it there.
 
 ghost use Rattle.std.specs.Prelude.{◌≡◌, ◌∷◌, [], option_map, ◌≤◌, ◌<◌};
-ghost use Rattle.daide_grammar.specs.Answers.{Stop, Take};
-ghost use Rattle.daide_grammar.specs.Rules.{deed};
-ghost use Rattle.daide_grammar.specs.Symbols.{slot_of};
+ghost use Rattle.daide_grammar.specs.Table.Answers.{Stop, Take};
+ghost use Rattle.daide_grammar.specs.Table.Rules.{deed};
+ghost use Rattle.daide_grammar.specs.Table.Symbols.{slot_of};
 ghost use Rattle.daide_grammar.specs.Words.{an_arrangement};
 ghost use Rattle.daide_words.specs.Word.{grammar_operand, grammar_slot, grammar_word};
-ghost use Rattle.daide_grammar.specs.Numbers.{level_place};
-ghost use Rattle.daide_words.specs.Place.{grammar_place, operand_place};
-ghost use Rattle.daide_words.specs.OverWords.{if_stands, makes, operand_symbol, stands};
+ghost use Rattle.daide_grammar.specs.Table.Numbers.{level_place};
+ghost use Rattle.daide_words.specs.Table.Place.{grammar_place, operand_place};
+ghost use Rattle.daide_words.specs.Table.OverWords.{if_stands, makes, operand_symbol, stands};
 
 use crate::operand::Operand;
 use crate::slot::Slot;
 use crate::word::Word;
 use daide_grammar::level::Level;
+use daide_grammar::numbers::{
+    LEAVES_ARRANGEMENT_GROUP, LEAVES_OPERAND_GROUP, LEAVES_ORDER_GROUP, LEAVES_POWER_GROUP,
+    LEAVES_POWERS_GROUP, LEAVES_PRESS_GROUP, LEAVES_PROVINCES_GROUP, STOP,
+};
 use daide_grammar::predict::Move;
 use daide_grammar::symbol::Sym;
 
@@ -57,10 +61,10 @@ pub(crate) fn move_in(word: &Word, place: Place, level: Level) -> Move
         (operand_symbol (grammar_operand word.now.operand) (grammar_place place) level) Stop }
 {
     if !may_make(word.slot, place) {
-        return Move::of(0);
+        return Move::of(STOP);
     }
     if word.level.number() > level.number() {
-        return Move::of(0);
+        return Move::of(STOP);
     }
     Move::of(operand_rule(word.operand, place, level))
 }
@@ -81,12 +85,12 @@ fn operand_rule(operand: Operand, place: Place, level: Level) -> u8
     ensures { deed result ≡ Take (operand_symbol (grammar_operand operand) (grammar_place place) level ∷ []) }
 {
     match operand {
-        Operand::Power => 70,
-        Operand::Powers => 74,
-        Operand::Provinces => 96,
-        Operand::Order => 76,
+        Operand::Power => LEAVES_POWER_GROUP,
+        Operand::Powers => LEAVES_POWERS_GROUP,
+        Operand::Provinces => LEAVES_PROVINCES_GROUP,
+        Operand::Order => LEAVES_ORDER_GROUP,
         Operand::Arrangement => arrangement_rule(place, level),
-        Operand::Press => 160 + level_place(level),
+        Operand::Press => LEAVES_PRESS_GROUP + level_place(level),
     }
 }
 
@@ -96,9 +100,9 @@ fn arrangement_rule(place: Place, level: Level) -> u8
 {
     let step = level_place(level);
     match place {
-        Place::Press => 104 + step,
-        Place::Arrangement => 104 + step,
-        Place::Flat => 146 + step,
+        Place::Press => LEAVES_ARRANGEMENT_GROUP + step,
+        Place::Arrangement => LEAVES_ARRANGEMENT_GROUP + step,
+        Place::Flat => LEAVES_OPERAND_GROUP + step,
     }
 }
 

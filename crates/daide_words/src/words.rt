@@ -4,27 +4,29 @@ ghost use Rattle.std.specs.Prelude.{◌≡◌, ℕ, ◌≤◌, ◌<◌, true, fa
 ghost use Rattle.std.specs.Prelude.{OnOk, OnErr, IfSome, is_some, get_or, slice_index_or, bytes_eq};
 ghost use Rattle.std.specs.List.{list_all, list_any};
 ghost use Rattle.daide_token.specs.Names.{token_named};
+ghost use Rattle.daide_grammar.specs.Words.{most_words};
 ghost use Rattle.daide_words.specs.Word.{names_of, words_with};
-ghost use Rattle.daide_words.specs.Places.{place_from};
+ghost use Rattle.daide_words.specs.Table.Places.{place_from};
 ghost use Rattle.daide_words.specs.Accepted.{are_accepted, is_capital, is_free_code, is_free_name, word_fault};
 
 use crate::operand::Operand;
 use crate::slot::Slot;
 use crate::word::{Meaning, Word, WordError};
 use daide_grammar::level::Level;
+use daide_grammar::numbers::WORD_COUNT;
 use daide_token::token::Token;
 use std::str;
 
 /// The most words that an operator may add.
-pub const MAX_WORDS: usize = 16;
+pub const MAX_WORDS: usize = WORD_COUNT;
 
 /// Words that an operator added, each accepted after the ones before it.
 #[derive(Clone, Copy, Debug)]
 pub struct Words {
-    names: [(Token, [u8; 3]); 16],
-    meanings: [Meaning; 16],
+    names: [(Token, [u8; 3]); MAX_WORDS],
+    meanings: [Meaning; MAX_WORDS],
     count: u8,
-    ghost few: { count ≤ 16 },
+    ghost few: { count ≤ most_words },
     ghost accepted: { are_accepted (words_with (take count names) (take count meanings)) ≡ true },
 }
 
@@ -36,12 +38,12 @@ impl Words {
         ensures { words_of result ≡ [] }
     {
         Words {
-            names: [(Token::from_code(0), [0; 3]); 16],
+            names: [(Token::from_code(0), [0; 3]); MAX_WORDS],
             meanings: [Meaning {
                 slot: Slot::Press,
                 level: Level::L0,
                 operand: Operand::Power,
-            }; 16],
+            }; MAX_WORDS],
             count: 0,
         }
     }
@@ -94,7 +96,7 @@ impl Words {
     /// Each word's code and name, in the order in which the words were added.
     pub fn names(&self) -> &[(Token, [u8; 3])]
         ensures names { result.now ≡ names_of (words_of self.now) }
-        ensures few { length result.now ≤ 16 }
+        ensures few { length result.now ≤ most_words }
     {
         &self.names[..self.count as usize]
     }
@@ -102,9 +104,9 @@ impl Words {
 
 /// The place of the first entry of a token.
 pub(crate) fn place_in(names: &[(Token, [u8; 3])], token: Token) -> Option<u8>
-    requires { length names.now ≤ 16 }
+    requires { length names.now ≤ most_words }
     ensures place { result ≡ place_from 0 names.now token }
-    ensures few { IfSome result (λ place. place < 16) }
+    ensures few { IfSome result (λ place. place < most_words) }
 {
     let code = token.code();
     let mut place = 0;

@@ -1,9 +1,9 @@
 //! Predictions of places, units and orders.
-#![tactic(auto, unfolding(crate::specs::Symbols::table_answer, crate::specs::Symbols::entries, crate::specs::Symbols::may_end_of))]
+#![tactic(auto, unfolding(crate::specs::Table::Symbols::table_answer, crate::specs::Table::Symbols::entries, crate::specs::Table::Symbols::may_end_of))]
 
 ghost use Rattle.std.specs.Prelude.{◌≡◌};
-ghost use Rattle.daide_grammar.specs.Answers.{answer_of};
-ghost use Rattle.daide_grammar.specs.Symbols.{table_answer};
+ghost use Rattle.daide_grammar.specs.Table.Answers.{answer_of};
+ghost use Rattle.daide_grammar.specs.Table.Symbols.{table_answer};
 
 use crate::meaning::{Meaning, Rest};
 use crate::symbol::Sym;

@@ -1,10 +1,10 @@
 //! Predictions of arrangements, facts and press, each by its level.
-#![tactic(auto, unfolding(crate::specs::Symbols::table_answer, crate::specs::Symbols::entries, crate::specs::Symbols::may_end_of))]
+#![tactic(auto, unfolding(crate::specs::Table::Symbols::table_answer, crate::specs::Table::Symbols::entries, crate::specs::Table::Symbols::may_end_of))]
 
 ghost use Rattle.std.specs.Prelude.{◌≡◌, false, [], ◌∷◌};
 ghost use Rattle.daide_grammar.specs.declared.symbol.Sym.TheVariants.{OperandGroup, Operands};
-ghost use Rattle.daide_grammar.specs.Answers.{Take, answer_of};
-ghost use Rattle.daide_grammar.specs.Symbols.{answer_by, entry_at, simple_entries, table_answer};
+ghost use Rattle.daide_grammar.specs.Table.Answers.{Take, answer_of};
+ghost use Rattle.daide_grammar.specs.Table.Symbols.{answer_by, entry_at, simple_entries, table_answer};
 
 use crate::level::Level;
 use crate::meaning::{Meaning, Rest};

@@ -2,23 +2,24 @@
 
 ghost use Rattle.std.specs.Prelude.{◌≡◌, ◌<◌, ◌≤◌};
 ghost use Rattle.std.specs.Bool.{Decides};
-ghost use Rattle.daide_grammar.specs.Answers.{Take, answer_of, symbols_of};
-ghost use Rattle.daide_grammar.specs.Rules.{HasRule, deed, rest_of};
+ghost use Rattle.daide_grammar.specs.Table.Answers.{Take, answer_of, symbols_of};
+ghost use Rattle.daide_grammar.specs.Table.Rules.{HasRule, deed, rest_of};
 
 use crate::meaning::{Meaning, Rest};
+use crate::numbers::{RULE_COUNT, SKIP, STOP};
 use crate::predict::Move;
 use crate::symbol::{Sym, Symbol};
 
 /// The move that says what a meaning says. The rules are gone through: nobody asks this table who is in a hurry.
-#[tactic(auto, unfolding(crate::specs::Rules::deed))]
+#[tactic(auto, unfolding(crate::specs::Table::Rules::deed))]
 pub(super) fn rule_of(meaning: Meaning) -> Move
     requires { HasRule (answer_of meaning) }
     ensures { result ≡ answer_of meaning }
 {
     match meaning {
         Meaning::Take(rest) => rule_of_rest(&rest),
-        Meaning::Skip => Move::of(1),
-        Meaning::Stop => Move::of(0),
+        Meaning::Skip => Move::of(SKIP),
+        Meaning::Stop => Move::of(STOP),
     }
 }
 
@@ -28,12 +29,12 @@ fn rule_of_rest(rest: &Rest) -> Move
     ensures { result ≡ Take (symbols_of rest.now) }
 {
     let wanted = rest.as_slice();
-    for rule in 2..256u16 {
+    for rule in 2..RULE_COUNT {
         if leaves(rule as u8, wanted) {
             return Move::of(rule as u8);
         }
     }
-    Move::of(0)
+    Move::of(STOP)
 }
 
 /// Whether a rule leaves these symbols and no others.

@@ -1,12 +1,17 @@
-//! The symbols and classes in the order of their numbers.
+//! The symbols and classes in the order of their numbers, and a symbol's number. Printed by `daide_table`; the check is
+//! what is trusted.
+
+ghost use Rattle.std.specs.Prelude.{◌≡◌, ◌+◌, ◌≤◌};
+ghost use Rattle.daide_grammar.specs.Table.Numbers.{level_place, symbol_number};
 
 use crate::level::Level;
-use crate::symbol::Sym;
+use crate::numbers::{CLASS_COUNT, SYMBOL_COUNT};
+use crate::symbol::{Sym, level_place};
 use daide_token::class::Class;
 
 /// The symbols: those without a level, then each of the others level by level.
 #[rattlefmt::skip]
-pub(crate) static SYMBOLS: [Sym; 202] = [
+pub(crate) static SYMBOLS: [Sym; SYMBOL_COUNT] = [
     Sym::Closing, Sym::OnePower, Sym::OneProvince, Sym::OneCoast, Sym::OneNumber, Sym::OneNote, Sym::OneFleet,
     Sym::Waived, Sym::ConvoyTo, Sym::Through, Sym::Against, Sym::TextGroup, Sym::Texts, Sym::PowerGroup,
     Sym::PowersGroup, Sym::MaybePowersGroup, Sym::Powers, Sym::NumberGroup, Sym::MaybeNumberGroup, Sym::MaybeNumber,
@@ -62,9 +67,9 @@ pub(crate) static SYMBOLS: [Sym; 202] = [
     Sym::Server(Level::L40), Sym::Server(Level::L50), Sym::Server(Level::L60),
 ];
 
-/// The classes, and then those of sixteen words.
+/// The classes, and then those of the words that an operator may add.
 #[rattlefmt::skip]
-pub(crate) static CLASSES: [Class; 95] = [
+pub(crate) static CLASSES: [Class; CLASS_COUNT] = [
     Class::Bra, Class::Ket, Class::Num, Class::Power, Class::Note, Class::Outcome, Class::Coast, Class::Season,
     Class::Text, Class::Province, Class::Amy, Class::Flt, Class::Cto, Class::Cvy, Class::Hld, Class::Mto, Class::Sup,
     Class::Via, Class::Dsb, Class::Rto, Class::Bld, Class::Rem, Class::Wve, Class::Ccd, Class::Drw, Class::Frm,
@@ -78,3 +83,113 @@ pub(crate) static CLASSES: [Class; 95] = [
     Class::Word(7), Class::Word(8), Class::Word(9), Class::Word(10), Class::Word(11), Class::Word(12),
     Class::Word(13), Class::Word(14), Class::Word(15),
 ];
+
+/// The number of a symbol with a level, from that of level 0.
+fn leveled(first: u8, level: Level) -> u8
+    requires { first ≤ 195 }
+    ensures { result ≡ first + level_place level }
+{
+    first + level_place(level)
+}
+
+/// The symbol's place in the list of symbols.
+pub(crate) fn number_of(sym: Sym) -> u8
+    ensures { result ≡ symbol_number sym }
+{
+    match sym {
+        Sym::Closing => 0,
+        Sym::OnePower => 1,
+        Sym::OneProvince => 2,
+        Sym::OneCoast => 3,
+        Sym::OneNumber => 4,
+        Sym::OneNote => 5,
+        Sym::OneFleet => 6,
+        Sym::Waived => 7,
+        Sym::ConvoyTo => 8,
+        Sym::Through => 9,
+        Sym::Against => 10,
+        Sym::TextGroup => 11,
+        Sym::Texts => 12,
+        Sym::PowerGroup => 13,
+        Sym::PowersGroup => 14,
+        Sym::MaybePowersGroup => 15,
+        Sym::Powers => 16,
+        Sym::NumberGroup => 17,
+        Sym::MaybeNumberGroup => 18,
+        Sym::MaybeNumber => 19,
+        Sym::ProvincesGroup => 20,
+        Sym::MaybeProvincesGroup => 21,
+        Sym::Provinces => 22,
+        Sym::TurnGroup => 23,
+        Sym::OneTurn => 24,
+        Sym::WordsGroup => 25,
+        Sym::WordList => 26,
+        Sym::AnyGroup => 27,
+        Sym::Any => 28,
+        Sym::OnePlace => 29,
+        Sym::PlacesGroup => 30,
+        Sym::Places => 31,
+        Sym::UnitGroup => 32,
+        Sym::UnitGroups => 33,
+        Sym::OneUnit => 34,
+        Sym::UnitType => 35,
+        Sym::OrderGroup => 36,
+        Sym::Orders => 37,
+        Sym::OneOrder => 38,
+        Sym::OrderTail => 39,
+        Sym::SupportTail => 40,
+        Sym::ShareGroup => 41,
+        Sym::Shares => 42,
+        Sym::SubmitTail => 43,
+        Sym::SubmitFirst => 44,
+        Sym::CancelGroup => 45,
+        Sym::Cancel => 46,
+        Sym::ReplyGroup => 47,
+        Sym::Reply => 48,
+        Sym::WhoGroup => 49,
+        Sym::Who => 50,
+        Sym::ParamsGroup => 51,
+        Sym::Params => 52,
+        Sym::OneParam => 53,
+        Sym::CentresGroup => 54,
+        Sym::OwnersGroup => 55,
+        Sym::Owners => 56,
+        Sym::Owned => 57,
+        Sym::BordersGroup => 58,
+        Sym::BordersList => 59,
+        Sym::Borders => 60,
+        Sym::KindList => 61,
+        Sym::KindPlaces => 62,
+        Sym::Stands => 63,
+        Sym::OneStand => 64,
+        Sym::StandTail => 65,
+        Sym::MissingTail => 66,
+        Sym::MissingFirst => 67,
+        Sym::NoteGroup => 68,
+        Sym::OutcomesGroup => 69,
+        Sym::Outcomes => 70,
+        Sym::OneOutcome => 71,
+        Sym::CivilDisorderGroup => 72,
+        Sym::CivilDisorder => 73,
+        Sym::Players => 74,
+        Sym::OnePlayer => 75,
+        Sym::ArrangementGroup(level) => leveled(76, level),
+        Sym::Arrangement(level) => leveled(83, level),
+        Sym::FactGroup(level) => leveled(90, level),
+        Sym::Fact(level) => leveled(97, level),
+        Sym::OperandGroup(level) => leveled(104, level),
+        Sym::Operands(level) => leveled(111, level),
+        Sym::Operand(level) => leveled(118, level),
+        Sym::PressGroup(level) => leveled(125, level),
+        Sym::Press(level) => leveled(132, level),
+        Sym::SendGroup(level) => leveled(139, level),
+        Sym::MaybeSendGroup(level) => leveled(146, level),
+        Sym::Send(level) => leveled(153, level),
+        Sym::SendTail(level) => leveled(160, level),
+        Sym::SendFirst(level) => leveled(167, level),
+        Sym::Client(level) => leveled(174, level),
+        Sym::RequestGroup(level) => leveled(181, level),
+        Sym::Request(level) => leveled(188, level),
+        Sym::Server(level) => leveled(195, level),
+    }
+}

@@ -6,10 +6,10 @@
 //! place among the levels is added.
 
 use crate::table::classes::{
-    bracket_class, by_code, class, classes, command_class, order_class, parameter_class,
-    press_class, unit_class,
+    BRACKETS, by_code, class, class_4a, class_40, class_42, class_43, class_48, class_49, classes,
 };
 use crate::table::rules::{GROWTHS, LENGTHS, RESTS};
+use crate::table::{Linked, Table};
 
 macro_rules! closing {
     (KET) => { 2 };
@@ -763,37 +763,13 @@ macro_rules! columns {
             $($link)? column!(SUG), $($link)? column!(THK), $($link)? column!(TRY), $($link)? column!(VSS),
             $($link)? column!(XDO), $($link)? column!(LVL), $($link)? column!(MRT), $($link)? column!(UNO),
             $($link)? column!(PARAM), $($link)? column!(OTHER), $($link)? column!(ALIEN),
-            // sixteen words
+            // an operator's words
             $($link)? column!(OTHER), $($link)? column!(OTHER), $($link)? column!(OTHER), $($link)? column!(OTHER),
             $($link)? column!(OTHER), $($link)? column!(OTHER), $($link)? column!(OTHER), $($link)? column!(OTHER),
             $($link)? column!(OTHER), $($link)? column!(OTHER), $($link)? column!(OTHER), $($link)? column!(OTHER),
             $($link)? column!(OTHER), $($link)? column!(OTHER), $($link)? column!(OTHER), $($link)? column!(OTHER),
         ]
     };
-}
-
-/// What a token of each class adds to the open brackets, wrapping.
-#[rattlefmt::skip]
-const BRACKETS: [u16; 95] = [
-    1, 65535, 0, 0, 0, 0, 0, 0, 0, 0, 0, 0, 0, 0, 0, 0, 0, 0, 0, 0, 0, 0, 0, 0, 0, 0, 0, 0, 0, 0, 0, 0, 0, 0, 0, 0, 0,
-    0, 0, 0, 0, 0, 0, 0, 0, 0, 0, 0, 0, 0, 0, 0, 0, 0, 0, 0, 0, 0, 0, 0, 0, 0, 0, 0, 0, 0, 0, 0, 0, 0, 0, 0, 0, 0, 0,
-    0, 0, 0, 0, 0, 0, 0, 0, 0, 0, 0, 0, 0, 0, 0, 0, 0, 0, 0, 0,
-];
-
-/// The constant table as it is read aloud, which no code looks into.
-pub(crate) struct Table {
-    /// The rule of each symbol at each class. An operator's word means what a token without a meaning does.
-    pub(crate) rows: [[u8; 202]; 95],
-    /// The symbols that each rule leaves, as they are put on a stack.
-    pub(crate) rests: [[u8; 8]; 256],
-    /// How many symbols each rule leaves.
-    pub(crate) lengths: [u8; 256],
-    /// What each rule adds to the place of a stack's top, wrapping.
-    pub(crate) growths: [usize; 256],
-    /// What a token of each class adds to the open brackets, wrapping.
-    pub(crate) brackets: [u16; 95],
-    /// The number of the class of each token, code by code.
-    pub(crate) classes: [u8; 65536],
 }
 
 pub(crate) static TABLE: Table = Table {
@@ -804,17 +780,6 @@ pub(crate) static TABLE: Table = Table {
     brackets: BRACKETS,
     rows: columns!(),
 };
-
-/// The same in one piece, so that one address reaches all of it, with each row behind a reference, so that a class has
-/// its row by one load.
-pub(crate) struct Linked {
-    pub(crate) rows: [&'static [u8; 202]; 95],
-    pub(crate) rests: [[u8; 8]; 256],
-    pub(crate) lengths: [u8; 256],
-    pub(crate) growths: [usize; 256],
-    pub(crate) brackets: [u16; 95],
-    pub(crate) classes: [u8; 65536],
-}
 
 pub(crate) static LINKED: Linked = Linked {
     rests: RESTS,

@@ -4,6 +4,8 @@
 //! Rule 0 stops and rule 1 skips; every other takes the token and leaves the symbols of its rest, the next one first.
 //! A rest that names a level has seven rules, one for each level, and stands here once.
 
+use crate::numbers::RULE_COUNT;
+
 // the numbers of the symbols, those with a level at level 0
 const CLOSING: u8 = 0;
 
@@ -389,10 +391,10 @@ macro_rules! rules {
 }
 
 /// The symbols that each rule leaves, as they are put on a stack.
-pub(crate) const RESTS: [[u8; 8]; 256] = rules!(cells);
+pub(crate) const RESTS: [[u8; 8]; RULE_COUNT] = rules!(cells);
 
 /// How many symbols each rule leaves.
-pub(crate) const LENGTHS: [u8; 256] = rules!(length);
+pub(crate) const LENGTHS: [u8; RULE_COUNT] = rules!(length);
 
 /// What each rule adds to the place of a stack's top, wrapping: the symbols that it leaves, less the one that it takes.
-pub(crate) const GROWTHS: [usize; 256] = rules!(growth);
+pub(crate) const GROWTHS: [usize; RULE_COUNT] = rules!(growth);

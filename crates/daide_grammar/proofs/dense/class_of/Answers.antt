@@ -1,13 +1,13 @@
 use Rattle.std.proofs.Common.{◌<◌, ap, sym, subst, ◌∙◌}
 use Rattle.daide_token.specs.Class.{class_of}
-use Rattle.daide_grammar.specs.Numbers.{class_at}
+use Rattle.daide_grammar.specs.Table.Numbers.{all_classes, class_at}
 use Rattle.daide_grammar.proofs.ColumnsAgree.{class_found, number_small}
 use Rattle.daide_grammar.proofs.dense.class_of.Goals as goal
 
 pub of-requires : goal.of-requires
 of-requires c =
     let t = c.code-bits.result in
-    subst (λ n. n < 95) (sym c.class_cell.ensures) (number_small t c.code-bits.type_inv)
+    subst (λ n. n < all_classes) (sym c.class_cell.ensures) (number_small t c.code-bits.type_inv)
 
 pub returns : goal.returns
 returns c =

@@ -1,7 +1,7 @@
 use Rattle.std.proofs.Common.{ap, ◌∙◌}
-use Rattle.daide_grammar.specs.Cells.{rule_at}
-use Rattle.daide_grammar.specs.Rules.{deed}
-use Rattle.daide_grammar.specs.Symbols.{table_answer}
+use Rattle.daide_grammar.specs.Table.Cells.{rule_at}
+use Rattle.daide_grammar.specs.Table.Rules.{deed}
+use Rattle.daide_grammar.specs.Table.Symbols.{table_answer}
 use Rattle.daide_grammar.proofs.RowsAgree.{looked_up}
 use Rattle.daide_grammar.proofs.dense.move_of.Goals as goal
 

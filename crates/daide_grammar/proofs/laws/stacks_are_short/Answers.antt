@@ -1,4 +1,4 @@
-use Rattle.daide_grammar.specs.Proved.PlainLaws.{plain_laws}
+use Rattle.daide_grammar.specs.Table.Proved.PlainLaws.{plain_laws}
 use Rattle.daide_grammar.proofs.PredictionLemmas.{short-rest}
 use Rattle.daide_grammar.proofs.laws.stacks_are_short.Goals as goal
 

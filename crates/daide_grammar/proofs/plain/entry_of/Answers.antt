@@ -23,7 +23,7 @@ use Rattle.daide_grammar.specs.declared.symbol.Sym.TheVariants.{Stands, SubmitFi
 use Rattle.daide_grammar.specs.declared.symbol.Sym.TheVariants.{TextGroup, Texts, Through, TurnGroup, UnitGroup}
 use Rattle.daide_grammar.specs.declared.symbol.Sym.TheVariants.{UnitGroups, UnitType, Waived, Who, WhoGroup, WordList}
 use Rattle.daide_grammar.specs.declared.symbol.Sym.TheVariants.{WordsGroup}
-use Rattle.daide_grammar.specs.Symbols.{entries, may_end_of}
+use Rattle.daide_grammar.specs.Table.Symbols.{entries, may_end_of}
 use Rattle.daide_grammar.proofs.OneEntry.{must_told, may_told, by_name}
 use Rattle.daide_grammar.proofs.plain.entry_of.Goals as goal
 

@@ -1,5 +1,5 @@
 use Rattle.std.proofs.Common.{◌≡◌, ◌≤◌, ◌+◌, ◌%◌, ◌^◌, take, reverse, length}
-use Rattle.daide_grammar.specs.Stacks.{stack_after}
+use Rattle.daide_grammar.specs.Table.Stacks.{stack_after}
 use Rattle.daide_reader.specs.Stack.{steps_at}
 use Rattle.daide_reader.proofs.cells.follow.Given as goal
 

@@ -3,8 +3,8 @@ use Rattle.std.proofs.Common.{take, reverse}
 use Rattle.std.proofs.Common.{sym, ap, ◌∙◌, subst, rules, arith}
 use Rattle.daide_token.specs.declared.class.Class.{Class}
 use Rattle.daide_grammar.specs.declared.symbol.Sym.{Sym}
-use Rattle.daide_grammar.specs.Rules.{rest_of}
-use Rattle.daide_grammar.specs.Stacks.{stack_after}
+use Rattle.daide_grammar.specs.Table.Rules.{rest_of}
+use Rattle.daide_grammar.specs.Table.Stacks.{stack_after}
 use Rattle.daide_reader.specs.Stack.{steps_at}
 use Rattle.daide_reader.proofs.CellLemmas.{on_place, put_on_top, room_after}
 use Rattle.daide_reader.proofs.CellLemmas.{after_taken, after_stopped, after_skipped}

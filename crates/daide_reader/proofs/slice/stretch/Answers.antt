@@ -2,8 +2,8 @@ use Rattle.std.proofs.Common.{◌≡◌, ◌≤◌, ◌<◌, ◌+◌, ◌-◌, �
 use Rattle.std.proofs.Common.{IfSome, take, length, get_or, reverse, refl, sym, ap, ◌∙◌, subst, rules, arith}
 use Rattle.daide_token.specs.Token.{tokens_of}
 use Rattle.daide_grammar.specs.declared.symbol.Sym.{Sym}
-use Rattle.daide_grammar.specs.Brackets.{is_bra, is_ket, count_one}
-use Rattle.daide_grammar.specs.Stacks.{stack_after}
+use Rattle.daide_grammar.specs.Table.Brackets.{is_bra, is_ket, count_one}
+use Rattle.daide_grammar.specs.Table.Stacks.{stack_after}
 use Rattle.daide_reader.specs.Slice.{ReadsTo, Standing}
 use Rattle.daide_reader.specs.Stack.{open_count, steps_at}
 use Rattle.daide_reader.proofs.BodyLemmas.{tokens_of-length}

@@ -3,7 +3,7 @@ use Rattle.std.specs.List.{list_all}
 use Rattle.std.proofs.Math.Seq.{take-length}
 use Rattle.daide_grammar.specs.declared.symbol.Sym.{Sym}
 use Rattle.daide_grammar.specs.Words.{Words}
-use Rattle.daide_grammar.specs.Stacks.{ends_asked}
+use Rattle.daide_grammar.specs.Table.Stacks.{ends_asked}
 use Rattle.daide_reader.proofs.CellLemmas.{on_top, asked_all, asked_one, asked_more}
 use Rattle.daide_reader.proofs.CellLemmas.{all_more, all_stopped, ends_more, ends_stopped}
 use Rattle.daide_reader.proofs.Sizes.{cells_fit}

@@ -1,4 +1,4 @@
-use Rattle.daide_token.specs.ClassLaws.{class_of-token_of, only_token, standard_class}
+use Rattle.daide_token.proofs.ClassLaws.{class_of-token_of, only_token, standard_class}
 use Rattle.daide_token.proofs.laws.single_tokens_stand_alone.Goals as goal
 
 pub returns-clause-alone : goal.returns-clause-alone

@@ -1,14 +1,14 @@
 use Rattle.std.proofs.Common.{◌≡◌, true, sym, ap, ◌∙◌}
 use Rattle.daide_token.specs.declared.class.Class.{Class}
-use Rattle.daide_token.specs.declared.class.Class.TheVariants.{Bra, Ket}
+use Rattle.daide_token.specs.declared.class.Class.TheVariants.{Bra, Ket, Other}
 use Rattle.daide_grammar.specs.Classes.{class_number}
-use Rattle.daide_grammar.specs.Numbers.{is_bracket}
+use Rattle.daide_grammar.specs.Table.Numbers.{is_bracket}
 use Rattle.daide_words.specs.Words.{words_of}
 use Rattle.daide_words.proofs.AcceptedCodes.{class_kept}
 use Rattle.daide_words.proofs.extended.class_with.Goals as goal
 
 -- a bracket has a meaning without words
-bracket_known : (class : Class) → is_bracket class ≡ true → class_number class ≡ 77 → ⊥
+bracket_known : (class : Class) → is_bracket class ≡ true → class_number class ≡ class_number Other → ⊥
 bracket_known Bra h e = cc
 bracket_known Ket h e = cc
 bracket_known _ h e = cc

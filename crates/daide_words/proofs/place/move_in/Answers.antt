@@ -1,10 +1,10 @@
 use Rattle.std.proofs.Common.{◌≡◌, true, false, nat_le, sym, ◌∙◌, arith}
 use Rattle.std.proofs.lemmas.Bool.Decides.{nat_tests}
 use Rattle.daide_grammar.specs.Level.{level_number}
-use Rattle.daide_grammar.specs.Rules.{deed}
+use Rattle.daide_grammar.specs.Table.Rules.{deed}
 use Rattle.daide_words.specs.Word.{grammar_slot}
-use Rattle.daide_words.specs.Place.{grammar_place}
-use Rattle.daide_words.specs.OverWords.{makes}
+use Rattle.daide_words.specs.Table.Place.{grammar_place}
+use Rattle.daide_words.specs.Table.OverWords.{makes}
 use Rattle.daide_words.proofs.WhereStopped.{not_standing, standing, first_fails, second_fails, both_hold}
 use Rattle.daide_words.proofs.place.move_in.Goals as goal
 

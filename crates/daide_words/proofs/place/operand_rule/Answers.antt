@@ -1,9 +1,10 @@
 use Rattle.std.proofs.Common.{◌+◌, [], ◌∷◌, sym, ap, ◌∙◌}
-use Rattle.daide_grammar.specs.Answers.{Take}
-use Rattle.daide_grammar.specs.Rules.{deed}
+use Rattle.daide_grammar.specs.declared.numbers.TheConstants.{LEAVES_PRESS_GROUP}
+use Rattle.daide_grammar.specs.Table.Answers.{Take}
+use Rattle.daide_grammar.specs.Table.Rules.{deed}
 use Rattle.daide_words.specs.Word.{grammar_operand}
-use Rattle.daide_words.specs.Place.{grammar_place}
-use Rattle.daide_words.specs.OverWords.{operand_symbol}
+use Rattle.daide_words.specs.Table.Place.{grammar_place}
+use Rattle.daide_words.specs.Table.OverWords.{operand_symbol}
 use Rattle.daide_words.specs.declared.operand.Operand.{Operand}
 use Rattle.daide_words.proofs.OperandRules.{power_rule, powers_rule, provinces_rule, order_rule, press_rule}
 use Rattle.daide_words.proofs.place.operand_rule.Goals as goal
@@ -37,6 +38,6 @@ returns-in-Arrangement c =
 
 pub returns-in-Press : goal.returns-in-Press
 returns-in-Press c =
-    ap (λ n. deed (160 + n)) c.level_place.ensures.place ∙ press_rule c.args.level
+    ap (λ n. deed (LEAVES_PRESS_GROUP + n)) c.level_place.ensures.place ∙ press_rule c.args.level
     ∙ ap (λ (o : Operand). Take (operand_symbol (grammar_operand o) (grammar_place c.args.place) c.args.level ∷ []))
     (sym c.in-Press.is)

@@ -1,5 +1,5 @@
 use Rattle.std.proofs.Common.{◌≡◌, ◌+◌, length}
-use Rattle.daide_words.specs.Places.{place_from}
+use Rattle.daide_words.specs.Table.Places.{place_from}
 use Rattle.daide_words.proofs.words.place_in.Given as goal
 
 -- the names before the place are of other tokens

@@ -1,6 +1,7 @@
 use Rattle.std.proofs.Common.{◌<◌, sym, ap, subst, ◌∙◌}
 use Rattle.daide_grammar.specs.Classes.{class_number}
-use Rattle.daide_grammar.specs.Proved.Numbers.{class_number_back}
+use Rattle.daide_grammar.specs.Table.Numbers.{all_classes}
+use Rattle.daide_grammar.specs.Table.Proved.Numbers.{class_number_back}
 use Rattle.daide_grammar.proofs.column.Column.class.Goals as goal
 
 pub returns-clause-class : goal.returns-clause-class
@@ -9,4 +10,4 @@ returns-clause-class c = c.listed.ensures ∙ c.self.view_is
 pub returns-clause-few : goal.returns-clause-few
 returns-clause-few c =
     let number = ap class_number c.listed.ensures ∙ class_number_back c.self.inside.number c.self.invariant in
-    subst (λ n. n < 95) (sym number) c.self.invariant
+    subst (λ n. n < all_classes) (sym number) c.self.invariant

@@ -1,10 +1,10 @@
 use Rattle.std.proofs.Common.{sym, ap, ◌∙◌, arith}
-use Rattle.daide_grammar.specs.Numbers.{word_number}
+use Rattle.daide_grammar.specs.Table.Numbers.{word_number}
 use Rattle.daide_grammar.proofs.WordColumns.{no_word, some_word}
 use Rattle.daide_grammar.proofs.column.Column.word_number.Goals as goal
 
-pub returns-then-self-ge79 : goal.returns-then-self-ge79
-returns-then-self-ge79 c =
+pub returns-then-self-ge-OWN_CLASSES : goal.returns-then-self-ge-OWN_CLASSES
+returns-then-self-ge-OWN_CLASSES c =
     sym (some_word c.self.inside.number c.self.invariant (omega arith)) ∙ ap word_number c.self.view_is
 
 pub returns : goal.returns

@@ -1,5 +1,5 @@
 use Rattle.std.proofs.Common.{◌≡◌, take}
-use Rattle.daide_grammar.specs.Rules.{deed, rest_of}
+use Rattle.daide_grammar.specs.Table.Rules.{deed, rest_of}
 use Rattle.daide_grammar.proofs.plain.rules.leaves.Given as goal
 
 -- the symbols so far are those of the rule

@@ -1,6 +1,6 @@
 use Rattle.std.proofs.Common.{◌≡◌, Bool, false, true, sym, ap, ◌∙◌, arith}
-use Rattle.daide_grammar.specs.Answers.{Take, symbols_of}
-use Rattle.daide_grammar.specs.Rules.{deed, rest_of}
+use Rattle.daide_grammar.specs.Table.Answers.{Take, symbols_of}
+use Rattle.daide_grammar.specs.Table.Rules.{deed, rest_of}
 use Rattle.daide_grammar.proofs.PlainRules.{takes_rest, from_two, none_yet}
 use Rattle.daide_grammar.proofs.plain.rules.rule_of_rest.Goals as goal
 

@@ -1,5 +1,5 @@
 use Rattle.std.proofs.Common.{◌≡◌, ◌<◌, ◌≤◌, ℕ}
-use Rattle.daide_grammar.specs.Rules.{deed, rest_of}
+use Rattle.daide_grammar.specs.Table.Rules.{deed, rest_of}
 use Rattle.daide_grammar.proofs.plain.rules.rule_of_rest.Given as goal
 
 -- no rule so far leaves the symbols

@@ -1,6 +1,6 @@
 use Rattle.std.proofs.Common.{◌≡◌, [], ◌∷◌, take, reverse, length, refl, sym, ap, ◌∙◌, arith}
-use Rattle.daide_grammar.specs.Answers.{Answer}
-use Rattle.daide_grammar.specs.Rules.{rest_of}
+use Rattle.daide_grammar.specs.Table.Answers.{Answer}
+use Rattle.daide_grammar.specs.Table.Rules.{rest_of}
 use Rattle.daide_grammar.proofs.RulesFit.{eight, cells_hold}
 use Rattle.daide_grammar.proofs.predict.Move.cells.Goals as goal
 

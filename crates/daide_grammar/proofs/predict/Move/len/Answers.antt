@@ -1,6 +1,6 @@
 use Rattle.std.proofs.Common.{length, ap, ◌∙◌, arith}
-use Rattle.daide_grammar.specs.Rules.{rest_of}
-use Rattle.daide_grammar.specs.Answers.{Answer}
+use Rattle.daide_grammar.specs.Table.Rules.{rest_of}
+use Rattle.daide_grammar.specs.Table.Answers.{Answer}
 use Rattle.daide_grammar.proofs.RulesFit.{length_fits, length_small}
 use Rattle.daide_grammar.proofs.predict.Move.len.Goals as goal
 

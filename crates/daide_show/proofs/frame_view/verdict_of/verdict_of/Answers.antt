@@ -1,13 +1,14 @@
 use Rattle.std.proofs.Common.{◌≡◌, ◌∙◌, ap, ℕ, subst}
 use Rattle.daide_token.specs.Token.{tokens_of}
-use Rattle.daide_grammar.specs.Symbols.{opening_of}
-use Rattle.daide_grammar.specs.SideMessages.{SymbolMatchesIn, dialect_of}
+use Rattle.daide_grammar.specs.Table.Symbols.{opening_of}
+use Rattle.daide_grammar.specs.SideMessages.{dialect_of}
+use Rattle.daide_grammar.specs.Table.Languages.{SymbolMatchesIn}
 use Rattle.daide_grammar.specs.Words.{Words}
 use Rattle.daide_words.specs.Word.{grammar_words}
 use Rattle.daide_words.specs.Words.{words_of}
 use Rattle.daide_words.specs.declared.extended.Extended.{Extended}
-use Rattle.daide_words.specs.Extended.{spoken_words}
-use Rattle.daide_words.specs.OverWords.{spoken}
+use Rattle.daide_words.specs.Table.Extended.{spoken_words}
+use Rattle.daide_words.specs.Table.OverWords.{spoken}
 use Rattle.daide_words.proofs.AcceptedCodes.{accepted_free}
 use Rattle.daide_reader.specs.ViablePrefix.{IsMessageOf}
 use Rattle.daide_reader.specs.Verdict.{HasVerdict}

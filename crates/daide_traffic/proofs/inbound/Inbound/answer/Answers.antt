@@ -3,10 +3,10 @@ use Rattle.daide_token.specs.Token.{tokens_of}
 use Rattle.daide_frame.specs.Frames.{head_in}
 use Rattle.daide_frame.specs.Head.{head_bytes}
 use Rattle.daide_grammar.specs.SideMessages.{IsMessageOver}
-use Rattle.daide_grammar.specs.Symbols.{opening_of}
+use Rattle.daide_grammar.specs.Table.Symbols.{opening_of}
 use Rattle.daide_words.specs.contracts.extended.ExtendedPredict.TheImpl.{ghosts}
-use Rattle.daide_words.specs.Extended.{answers_given, spoken_words}
-use Rattle.daide_words.specs.OverWords.{spoken}
+use Rattle.daide_words.specs.Table.Extended.{answers_given, spoken_words}
+use Rattle.daide_words.specs.Table.OverWords.{spoken}
 use Rattle.daide_machine.specs.Machine.{IsRight, question_of, is_dm, side2_of}
 use Rattle.daide_machine.specs.Weight.{tokens_held}
 use Rattle.daide_machine.specs.Wires.{is_dm_head}

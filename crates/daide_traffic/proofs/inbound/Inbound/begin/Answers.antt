@@ -1,9 +1,9 @@
 use Rattle.std.proofs.Common.{[], refl, ap, ◌∙◌, drop, subst}
 use Rattle.daide_grammar.specs.declared.side.Side2.{Side2}
-use Rattle.daide_grammar.specs.Symbols.{opening_of}
+use Rattle.daide_grammar.specs.Table.Symbols.{opening_of}
 use Rattle.daide_reader.specs.Reading.{StandsAfter}
 use Rattle.daide_words.specs.contracts.extended.ExtendedPredict.TheImpl.{ghosts}
-use Rattle.daide_words.specs.Extended.{answers_given, spoken_words}
+use Rattle.daide_words.specs.Table.Extended.{answers_given, spoken_words}
 use Rattle.daide_traffic.specs.Inbound.{Inbound, words_in}
 use Rattle.daide_traffic.proofs.InboundLemmas.{begins_of, fresh_on}
 use Rattle.daide_traffic.proofs.inbound.Inbound.begin.Goals as goal

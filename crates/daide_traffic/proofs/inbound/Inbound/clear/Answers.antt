@@ -1,6 +1,6 @@
 use Rattle.std.proofs.Common.{[], refl, ap, drop, rules}
 use Rattle.daide_words.specs.contracts.extended.ExtendedPredict.TheImpl.{ghosts}
-use Rattle.daide_words.specs.Extended.{answers_given}
+use Rattle.daide_words.specs.Table.Extended.{answers_given}
 use Rattle.daide_traffic.specs.Inbound.{Inbound, words_in}
 use Rattle.daide_traffic.proofs.InboundLemmas.{begins_of, fresh_on}
 use Rattle.daide_traffic.proofs.inbound.Inbound.clear.Goals as goal

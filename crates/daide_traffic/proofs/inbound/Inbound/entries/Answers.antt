@@ -1,9 +1,9 @@
 use Rattle.std.proofs.Common.{◌+◌, ◌*◌, ◌≤◌, subst}
 use Rattle.daide_grammar.specs.Depth.{open_brackets}
-use Rattle.daide_grammar.specs.Symbols.{opening_of}
+use Rattle.daide_grammar.specs.Table.Symbols.{opening_of}
 use Rattle.daide_machine.specs.Machine.{side2_of}
 use Rattle.daide_machine.specs.Weight.{tokens_held}
-use Rattle.daide_words.specs.Extended.{spoken_words}
+use Rattle.daide_words.specs.Table.Extended.{spoken_words}
 use Rattle.daide_traffic.specs.Inbound.{Inbound}
 use Rattle.daide_traffic.proofs.inbound.Inbound.entries.Goals as goal
 

@@ -2,11 +2,11 @@ use Rattle.std.proofs.Common.{◌≡◌, ℕ, ◌+◌, ◌-◌, ◌*◌, ◌/◌
 use Rattle.std.proofs.Common.{refl, sym, ap, ◌∙◌, subst, arith}
 use Rattle.daide_token.specs.Token.{tokens_of}
 use Rattle.daide_frame.specs.Frames.{fed, head_in}
-use Rattle.daide_grammar.specs.Symbols.{opening_of}
+use Rattle.daide_grammar.specs.Table.Symbols.{opening_of}
 use Rattle.daide_words.specs.declared.extended.Extended.{Extended}
 use Rattle.daide_words.specs.contracts.extended.ExtendedPredict.TheImpl.{ghosts}
-use Rattle.daide_words.specs.Extended.{answers_given, spoken_words}
-use Rattle.daide_words.specs.OverWords.{spoken}
+use Rattle.daide_words.specs.Table.Extended.{answers_given, spoken_words}
+use Rattle.daide_words.specs.Table.OverWords.{spoken}
 use Rattle.daide_machine.specs.HloLevel.{found_in}
 use Rattle.daide_machine.specs.Machine.{side2_of}
 use Rattle.daide_machine.specs.Weight.{tokens_held}

@@ -1,11 +1,11 @@
 use Rattle.std.proofs.Common.{[], refl, ap, ◌∙◌, drop, subst, arith}
 use Rattle.daide_grammar.specs.declared.level.Level.TheVariants.{L0}
 use Rattle.daide_grammar.specs.declared.side.Side2.{Side2}
-use Rattle.daide_grammar.specs.Symbols.{opening_of}
+use Rattle.daide_grammar.specs.Table.Symbols.{opening_of}
 use Rattle.daide_reader.specs.Reading.{StandsAfter}
 use Rattle.daide_words.specs.contracts.extended.ExtendedPredict.TheImpl.{ghosts}
-use Rattle.daide_words.specs.Extended.{answers_given, spoken_words}
-use Rattle.daide_words.specs.OverWords.{spoken}
+use Rattle.daide_words.specs.Table.Extended.{answers_given, spoken_words}
+use Rattle.daide_words.specs.Table.OverWords.{spoken}
 use Rattle.daide_traffic.specs.Inbound.{words_in}
 use Rattle.daide_traffic.proofs.InboundLemmas.{fresh_on, rules_set}
 use Rattle.daide_traffic.proofs.inbound.Inbound.new.Goals as goal

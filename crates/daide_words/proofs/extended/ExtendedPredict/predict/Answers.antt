@@ -1,10 +1,10 @@
 use Rattle.std.proofs.Common.{◌≡◌, true, false, refl, sym, ap, ◌∙◌}
-use Rattle.daide_grammar.specs.Answers.{Answer, Take, Skip, Stop}
-use Rattle.daide_grammar.specs.Rules.{is_stop, is_take}
+use Rattle.daide_grammar.specs.Table.Answers.{Answer, Take, Skip, Stop}
+use Rattle.daide_grammar.specs.Table.Rules.{is_stop, is_take}
 use Rattle.daide_words.specs.Words.{words_of}
-use Rattle.daide_words.specs.Extended.{spoken_words}
-use Rattle.daide_words.specs.OverWords.{answer_over}
-use Rattle.daide_words.specs.Proved.WordLaws.{all-spoken}
+use Rattle.daide_words.specs.Table.Extended.{spoken_words}
+use Rattle.daide_words.specs.Table.OverWords.{answer_over}
+use Rattle.daide_words.specs.Table.Proved.WordLaws.{all-spoken}
 use Rattle.daide_words.proofs.AcceptedCodes.{accepted_free}
 use Rattle.daide_words.proofs.WhereStopped.{not_stopped, the_stop}
 use Rattle.daide_words.proofs.extended.ExtendedPredict.predict.Goals as goal

@@ -4,13 +4,14 @@ use Rattle.daide_words.specs.Words.{words_of}
 use Rattle.daide_words.specs.Accepted.{word_fault}
 use Rattle.daide_words.proofs.WordLists.{has_room, kept, kept-accepted}
 use Rattle.daide_words.proofs.words.Words.add.Goals as goal
+use Rattle.daide_grammar.specs.Words.{most_words}
 
 pub listed : goal.listed
 unfolding words_of
 listed c =
     let words = c.args.self.now in
-    let full : length words.names ≡ 16 = search rules in
-    let more : length words.meanings ≡ 16 = search rules in
+    let full : length words.names ≡ most_words = search rules in
+    let more : length words.meanings ≡ most_words = search rules in
     let ok =
     ap is_ok (ap (λ ns. word_fault ns c.args.word) (sym c.names.ensures.names) ∙ sym c.check.ensures
     ∙ c.in_ok-check.was) in
@@ -23,8 +24,8 @@ pub bounds-self-place : goal.bounds-self-place
 unfolding words_of
 bounds-self-place c =
     let words = c.args.self.now in
-    let full : length words.names ≡ 16 = search rules in
-    let more : length words.meanings ≡ 16 = search rules in
+    let full : length words.names ≡ most_words = search rules in
+    let more : length words.meanings ≡ most_words = search rules in
     let ok =
     ap is_ok (ap (λ ns. word_fault ns c.args.word) (sym c.names.ensures.names) ∙ sym c.check.ensures
     ∙ c.in_ok-check.was) in
@@ -35,8 +36,8 @@ pub bounds-self-place-2 : goal.bounds-self-place-2
 unfolding words_of
 bounds-self-place-2 c =
     let words = c.args.self.now in
-    let full : length words.names ≡ 16 = search rules in
-    let more : length words.meanings ≡ 16 = search rules in
+    let full : length words.names ≡ most_words = search rules in
+    let more : length words.meanings ≡ most_words = search rules in
     let ok =
     ap is_ok (ap (λ ns. word_fault ns c.args.word) (sym c.names.ensures.names) ∙ sym c.check.ensures
     ∙ c.in_ok-check.was) in
@@ -47,8 +48,8 @@ pub invariant_of-self : goal.invariant_of-self
 unfolding words_of
 invariant_of-self c =
     let words = c.args.self.now in
-    let full : length words.names ≡ 16 = search rules in
-    let more : length words.meanings ≡ 16 = search rules in
+    let full : length words.names ≡ most_words = search rules in
+    let more : length words.meanings ≡ most_words = search rules in
     let ok =
     ap is_ok (ap (λ ns. word_fault ns c.args.word) (sym c.names.ensures.names) ∙ sym c.check.ensures
     ∙ c.in_ok-check.was) in
@@ -66,8 +67,8 @@ pub returns-clause-added : goal.returns-clause-added
 unfolding words_of
 returns-clause-added c =
     let words = c.args.self.now in
-    let full : length words.names ≡ 16 = search rules in
-    let more : length words.meanings ≡ 16 = search rules in
+    let full : length words.names ≡ most_words = search rules in
+    let more : length words.meanings ≡ most_words = search rules in
     let ok =
     ap is_ok (ap (λ ns. word_fault ns c.args.word) (sym c.names.ensures.names) ∙ sym c.check.ensures
     ∙ c.in_ok-check.was) in

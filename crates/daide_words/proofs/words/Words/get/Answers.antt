@@ -2,6 +2,7 @@ use Rattle.std.proofs.Common.{rules, ◌≡◌, length, sym, ap, ◌∙◌, arit
 use Rattle.daide_words.specs.Words.{words_of}
 use Rattle.daide_words.proofs.WordLists.{behind, names-length, names-few, first_words-at}
 use Rattle.daide_words.proofs.words.Words.get.Goals as goal
+use Rattle.daide_grammar.specs.Words.{most_words}
 
 pub returns-then-place-names : goal.returns-then-place-names
 returns-then-place-names c =
@@ -13,8 +14,8 @@ pub returns : goal.returns
 unfolding words_of
 returns c =
     let words = c.args.self.now in
-    let full : length words.names ≡ 16 = search rules in
-    let more : length words.meanings ≡ 16 = search rules in
+    let full : length words.names ≡ most_words = search rules in
+    let more : length words.meanings ≡ most_words = search rules in
     let many : length c.names.result.now ≡ words.count =
     ap length c.names.ensures.names
     ∙ names-few words.names words.meanings words.count (omega (arith, full, words.few))

@@ -10,14 +10,14 @@ use Rattle.daide_grammar.specs.declared.symbol.Sym.TheVariants.{PressGroup, Arra
 use Rattle.daide_grammar.specs.declared.symbol.Sym.TheVariants.{RequestGroup, SendGroup, Request, Client, SendTail}
 use Rattle.daide_grammar.specs.declared.symbol.Sym.TheVariants.{SendFirst, Send, MaybeSendGroup, Server, Press}
 use Rattle.daide_grammar.specs.declared.symbol.Sym.TheVariants.{Arrangement, Operand, Operands, Fact}
-use Rattle.daide_grammar.specs.Classes.{class_number, same_class}
+use Rattle.daide_grammar.specs.Classes.{class_number, own_classes, same_class}
 use Rattle.daide_grammar.specs.Forms.{Kind, is, any_word, accepts, Slot, Press_slot, Arrangement_slot, Flat_slot, Added}
 use Rattle.daide_grammar.specs.Forms.{Form, named, Dialect}
-use Rattle.daide_grammar.specs.Symbols.{form_of, Entry, entries, forms, may_end_of, slot_of}
-use Rattle.daide_grammar.specs.Proved.Reading.{Head, starts, ends, unopened, heads}
-use Rattle.daide_grammar.specs.Proved.Reading
-use Rattle.daide_grammar.specs.Proved.Alternatives.{same_level, same_kind, parts_all, covers}
-use Rattle.daide_grammar.specs.Proved.Alternatives
+use Rattle.daide_grammar.specs.Table.Symbols.{form_of, Entry, entries, forms, may_end_of, slot_of}
+use Rattle.daide_grammar.specs.Table.Proved.Reading.{Head, starts, ends, unopened, heads}
+use Rattle.daide_grammar.specs.Table.Proved.Reading
+use Rattle.daide_grammar.specs.Table.Proved.Alternatives.{same_level, same_kind, parts_all, covers}
+use Rattle.daide_grammar.specs.Table.Proved.Alternatives
 
 -- the one alternatives before the others, where the test passes
 abbrev pub if_same : Bool → List (List Form) → List (List Form) → List (List Form)
@@ -80,7 +80,7 @@ is_unopened _ = false
 
 -- a kind of the standard's own classes
 abbrev pub is_plain : Kind → Bool
-is_plain (is c) = nat_lt (class_number c) 79
+is_plain (is c) = nat_lt (class_number c) own_classes
 is_plain any_word = false
 
 -- where words may be added, they are heads, and no entry takes them

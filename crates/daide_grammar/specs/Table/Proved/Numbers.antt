@@ -5,7 +5,7 @@ use Rattle.std.proofs.lemmas.Bool.{and_parts, eqb-true}
 use Rattle.daide_token.specs.declared.class.Class.TheVariants.{Num}
 use Rattle.daide_grammar.specs.declared.symbol.Sym.TheVariants.{Closing}
 use Rattle.daide_grammar.specs.Classes.{class_number}
-use Rattle.daide_grammar.specs.Numbers.{symbols, symbol_number, symbol_at, classes, class_at}
+use Rattle.daide_grammar.specs.Table.Numbers.{symbols, symbol_number, symbol_at, all_symbols, classes, class_at, all_classes}
 
 -- whether each item of a list has its place as its number, the first one's being given
 abbrev in_order : {X : Type 0} → (X → ℕ) → ℕ → List X → Bool
@@ -27,18 +27,18 @@ numbered number place (suc k) (x ∷ xs) d h less =
 symbols_in_order : in_order symbol_number 0 symbols ≡ true
 symbols_in_order = refl
 
-all_symbols : length symbols ≡ 202
-all_symbols = refl
+symbols_counted : length symbols ≡ all_symbols
+symbols_counted = refl
 
-pub number_back : (n : ℕ) → n < 202 → symbol_number (symbol_at n) ≡ n
+pub number_back : (n : ℕ) → n < all_symbols → symbol_number (symbol_at n) ≡ n
 number_back n h =
     let at : 0 + n ≡ n = omega arith in
-    numbered symbol_number 0 n symbols Closing symbols_in_order (rw all_symbols h) ∙ at
+    numbered symbol_number 0 n symbols Closing symbols_in_order (rw symbols_counted h) ∙ at
 
-all_classes : length classes ≡ 95
-all_classes = refl
+classes_counted : length classes ≡ all_classes
+classes_counted = refl
 
-pub class_number_back : (n : ℕ) → n < 95 → class_number (class_at n) ≡ n
+pub class_number_back : (n : ℕ) → n < all_classes → class_number (class_at n) ≡ n
 class_number_back n h =
     let at : 0 + n ≡ n = omega arith in
-    numbered class_number 0 n classes Num refl (rw all_classes h) ∙ at
+    numbered class_number 0 n classes Num refl (rw classes_counted h) ∙ at

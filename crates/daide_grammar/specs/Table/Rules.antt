@@ -3,8 +3,12 @@ use Rattle.std.specs.Prelude.{◌≡◌, ℕ, ◌<◌, nat_eq, List, [], map, ta
 use Rattle.std.specs.Prelude.{if◌then◌else◌, Bool, true, false}
 use Rattle.daide_grammar.specs.declared.symbol.Sym.{Sym}
 use Rattle.daide_grammar.specs.declared.table.rules.TheConstants.{LENGTHS, RESTS}
-use Rattle.daide_grammar.specs.Answers.{Answer, Take, Skip, Stop}
-use Rattle.daide_grammar.specs.Numbers.{symbol_at}
+use Rattle.daide_grammar.specs.Table.Answers.{Answer, Take, Skip, Stop}
+use Rattle.daide_grammar.specs.Table.Numbers.{symbol_at}
+
+-- how many rules there is room for: a rule is a byte
+abbrev pub all_rules : ℕ
+all_rules = 256
 
 -- the symbols that a rule leaves: its row of the table holds their numbers, the last one's first
 unfoldable pub rest_at : ℕ → List Sym
@@ -29,4 +33,4 @@ rest_of _ = []
 
 -- the table has a rule for the answer
 abbrev pub HasRule : Answer → Type 0
-HasRule answer = (rule : ℕ) × (rule < 256) × (deed rule ≡ answer)
+HasRule answer = (rule : ℕ) × (rule < all_rules) × (deed rule ≡ answer)

@@ -3,20 +3,20 @@ use Rattle.std.proofs.Common.{◌≡◌, ℕ, ◌<◌, true, Option, None, Some,
 use Rattle.daide_token.specs.declared.class.Class.{Class}
 use Rattle.daide_token.specs.declared.class.Class.TheVariants.{Word}
 use Rattle.daide_token.specs.Class.{class_of, token_of, is_standard}
-use Rattle.daide_token.specs.ClassLaws.{class_of-token_of}
+use Rattle.daide_token.proofs.ClassLaws.{class_of-token_of}
 use Rattle.daide_grammar.specs.declared.level.Level.{Level}
-use Rattle.daide_grammar.specs.Classes.{class_number}
+use Rattle.daide_grammar.specs.Classes.{class_number, own_classes}
 use Rattle.daide_grammar.specs.Forms.{Slot}
 use Rattle.daide_grammar.specs.SideMessages.{standard}
-use Rattle.daide_grammar.specs.Proved.MovesAgree.{Proper, NoWord}
+use Rattle.daide_grammar.specs.Table.Proved.MovesAgree.{Proper, NoWord}
 
--- the classes with a number below 79 are those of tokens
-is_standard-below : (c : Class) → class_number c < 79 → is_standard c ≡ true
+-- the classes with a number below that of any word are those of tokens
+pub is_standard-below : (c : Class) → class_number c < own_classes → is_standard c ≡ true
 is_standard-below (Word k) h = absurd (omega arith)
 is_standard-below _ h = refl
 
 -- a token of each class but those of added words
-token_of_class : (c : Class) → class_number c < 79 → (t : ℕ) × (class_of t ≡ c)
+token_of_class : (c : Class) → class_number c < own_classes → (t : ℕ) × (class_of t ≡ c)
 token_of_class c h = (token_of c, class_of-token_of c (is_standard-below c h))
 
 -- added forms are none, and each class has a token

@@ -14,7 +14,7 @@ use Rattle.daide_grammar.specs.Forms.{one, never, empty, ◌·◌, ◌∣◌, ma
 use Rattle.daide_grammar.specs.Message.Lists.{anything}
 use Rattle.daide_grammar.specs.Matches.{Matches, token, nothing, both, first, second, no_more, one_more, bracketed}
 use Rattle.daide_grammar.specs.Matches.{by_name, MatchAll}
-use Rattle.daide_grammar.specs.Proved.Reading.{Some-of, Some-first, Some-second, Some-split}
+use Rattle.daide_grammar.specs.Table.Proved.Reading.{Some-of, Some-first, Some-second, Some-split}
 
 -- each of the one in front of each of the other
 unfoldable pub product : List (List Form) → List (List Form) → List (List Form)

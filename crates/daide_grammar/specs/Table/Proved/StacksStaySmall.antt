@@ -8,16 +8,16 @@ use Rattle.daide_token.specs.declared.class.Class.{Class}
 use Rattle.daide_token.specs.declared.class.Class.TheVariants.{Bra, Ket}
 use Rattle.daide_grammar.specs.declared.symbol.Sym.{Sym}
 use Rattle.daide_grammar.specs.declared.symbol.Sym.TheVariants.{Closing}
-use Rattle.daide_grammar.specs.Symbols.{entries, may_end_of}
-use Rattle.daide_grammar.specs.Answers.{Answer, Take, Skip, Stop}
-use Rattle.daide_grammar.specs.Stacks.{stack_after, skips_before, ends_asked}
-use Rattle.daide_grammar.specs.Shapes.{is_last, shape, shapes}
-use Rattle.daide_grammar.specs.LawfulStack.{IsLawful, bra, ket}
-use Rattle.daide_grammar.specs.Proved.Alternatives.{both-pass}
-use Rattle.daide_grammar.specs.Proved.Sizes.{begins_positive, shapes-cons, caps, total, total-mono, total-caps}
-use Rattle.daide_grammar.specs.Proved.Sizes.{total-join, positive-total, no-tail, no-room}
-use Rattle.daide_grammar.specs.Proved.StacksInOrder.{is_closing, tidy, entry_ordered, ordered, all_ordered, sized-Ket}
-use Rattle.daide_grammar.specs.Proved.StacksInOrder.{GoodMoves, empty-parts, Lawful-ordered}
+use Rattle.daide_grammar.specs.Table.Symbols.{entries, may_end_of}
+use Rattle.daide_grammar.specs.Table.Answers.{Answer, Take, Skip, Stop}
+use Rattle.daide_grammar.specs.Table.Stacks.{stack_after, skips_before, ends_asked}
+use Rattle.daide_grammar.specs.Table.Shapes.{is_last, shape, shapes}
+use Rattle.daide_grammar.specs.Table.LawfulStack.{IsLawful, bra, ket}
+use Rattle.daide_grammar.specs.Table.Proved.Alternatives.{both-pass}
+use Rattle.daide_grammar.specs.Table.Proved.Sizes.{begins_positive, shapes-cons, caps, total, total-mono, total-caps}
+use Rattle.daide_grammar.specs.Table.Proved.Sizes.{total-join, positive-total, no-tail, no-room}
+use Rattle.daide_grammar.specs.Table.Proved.StacksInOrder.{is_closing, tidy, entry_ordered, ordered, all_ordered, sized-Ket}
+use Rattle.daide_grammar.specs.Table.Proved.StacksInOrder.{GoodMoves, empty-parts, Lawful-ordered}
 
 -- every symbol counts for at least one entry
 shape-positive : (s : Sym) → 1 ≤ total (shape s)

@@ -6,35 +6,31 @@ use Rattle.daide_token.specs.declared.class.Class.{Class}
 use Rattle.daide_token.specs.declared.class.Class.TheVariants.{Bra, Ket, Other, Word}
 use Rattle.daide_token.specs.Token.{bra, ket}
 use Rattle.daide_token.specs.Class.{class_of, token_of, is_standard}
-use Rattle.daide_token.specs.ClassLaws.{class_of-token_of, class_bra, class_ket, class_of-bra, class_of-ket}
+use Rattle.daide_token.proofs.ClassLaws.{class_of-token_of, class_bra, class_ket, class_of-bra, class_of-ket}
 use Rattle.daide_grammar.specs.declared.level.Level.{Level}
 use Rattle.daide_grammar.specs.Level.{level_number}
-use Rattle.daide_grammar.specs.Classes.{class_number, same_class}
+use Rattle.daide_grammar.specs.Classes.{class_number, own_classes, same_class}
 use Rattle.daide_grammar.specs.Forms.{is, Slot, ◌·◌, tok, group, Dialect}
 use Rattle.daide_grammar.specs.Matches.{Matches, first, second}
 use Rattle.daide_grammar.specs.SideMessages.{dialect_from, dialect_of}
 use Rattle.daide_grammar.specs.Words.{AddedWord, Words, operand_in}
-use Rattle.daide_grammar.specs.Proved.Reading.{Reads_from_MatchAll}
-use Rattle.daide_grammar.specs.Proved.Alternatives.{alone, both-pass}
-use Rattle.daide_grammar.specs.Proved.MovesAgree.{Proper, not-both}
-use Rattle.daide_words.specs.OverWords.{is_free, are_free}
-use Rattle.daide_words.specs.Proved.WordForms.{token-then, no-token, stands-passes}
+use Rattle.daide_grammar.specs.Table.Proved.Reading.{Reads_from_MatchAll}
+use Rattle.daide_grammar.specs.Table.Proved.Alternatives.{alone, both-pass}
+use Rattle.daide_grammar.specs.Table.Proved.MovesAgree.{Proper, not-both}
+use Rattle.daide_words.specs.Table.OverWords.{is_free, are_free}
+use Rattle.daide_words.specs.Table.Proved.WordForms.{token-then, no-token, stands-passes}
+use Rattle.daide_grammar.specs.Table.Proved.StandardDialect.{is_standard-below}
 
 -- the class of a word's number
-class-Word : (c : Class) (j : ℕ) → class_number c ≡ 79 + j → c ≡ Word j
+class-Word : (c : Class) (j : ℕ) → class_number c ≡ own_classes + j → c ≡ Word j
 class-Word (Word k) j e = ap Word (omega arith)
 class-Word _ j e = absurd (omega arith)
 
 -- and that of the number of tokens without a meaning
-pub class-Other : (c : Class) → class_number c ≡ 77 → c ≡ Other
+pub class-Other : (c : Class) → class_number c ≡ class_number Other → c ≡ Other
 class-Other Other e = refl
 class-Other (Word k) e = absurd (omega arith)
 class-Other _ e = absurd (omega arith)
-
--- the classes with a number below 79 are those of tokens
-standard-below : (c : Class) → class_number c < 79 → is_standard c ≡ true
-standard-below (Word k) h = absurd (omega arith)
-standard-below _ h = refl
 
 module _ (s : Slot) (l : Level) where
   -- no list of an added form is empty
@@ -56,7 +52,7 @@ module _ (s : Slot) (l : Level) where
       let form = tok (Word j) · f in
       let h = stands-passes d x.slot s (nat_le (level_number x.level) (level_number l)) form (t ∷ w) m in
       let g = token-then d (is (Word j)) f t w (Reads_from_MatchAll d (form ∷ []) (t ∷ w) (alone d form (t ∷ w) h.1)) in
-      (j, class-Word (d.class_of t) j (sym (eqb-true (79 + j) (class_number (d.class_of t)) g.0)))
+      (j, class-Word (d.class_of t) j (sym (eqb-true (own_classes + j) (class_number (d.class_of t)) g.0)))
   begins-word d j (x ∷ words) t w (second m) = begins-word d (suc j) words t w m
 
 -- a token of this class has no word's code
@@ -75,29 +71,29 @@ keeps j (x ∷ words) t h =
     not-that (t == x.code) (Word j) ((dialect_from (suc j) words).class_of t) h.0 ∙ keeps (suc j) words t h.1
 
 -- a free code is of no other class, and isn't the token that stands for its own
-free-code : (x : AddedWord) (c : Class) → is_free x ≡ true → class_number c < 79 → token_of c ≡ x.code → ⊥
+free-code : (x : AddedWord) (c : Class) → is_free x ≡ true → class_number c < own_classes → token_of c ≡ x.code → ⊥
 free-code x c f h e =
     let p = both-pass (same_class (class_of x.code) Other) (not (x.code == token_of Other)) f in
     let other : class_of x.code ≡ Other =
-    class-Other (class_of x.code) (eqb-true (class_number (class_of x.code)) 77 p.0) in
-    let same : c ≡ Other = sym (class_of-token_of c (standard-below c h)) ∙ ap class_of e ∙ other in
+    class-Other (class_of x.code) (eqb-true (class_number (class_of x.code)) (class_number Other) p.0) in
+    let same : c ≡ Other = sym (class_of-token_of c (is_standard-below c h)) ∙ ap class_of e ∙ other in
     not-both (x.code == token_of Other) (eq-eqb x.code (token_of Other) (sym e ∙ ap token_of same)) p.1
 
-pub free-codes : (words : Words) (c : Class) → are_free words ≡ true → class_number c < 79 → NoCode words (token_of c)
+pub free-codes : (words : Words) (c : Class) → are_free words ≡ true → class_number c < own_classes → NoCode words (token_of c)
 free-codes [] c f h = tt
 free-codes (x ∷ words) c f h =
     let p = both-pass (is_free x) (are_free words) f in
     (λ e. free-code x c p.0 h (eqb-true (token_of c) x.code e), free-codes words c p.1 h)
 
 -- a token of another class than that of tokens without a meaning has no word's code
-pub other-class : (words : Words) (t : ℕ) → are_free words ≡ true → (class_number (class_of t) ≡ 77 → ⊥) →
+pub other-class : (words : Words) (t : ℕ) → are_free words ≡ true → (class_number (class_of t) ≡ class_number Other → ⊥) →
     NoCode words t
 other-class [] t f h = tt
 other-class (x ∷ words) t f h =
     let p = both-pass (is_free x) (are_free words) f in
     let q = both-pass (same_class (class_of x.code) Other) (not (x.code == token_of Other)) p.0 in (
       λ e. h (ap (λ n. class_number (class_of n)) (eqb-true t x.code e)
-          ∙ eqb-true (class_number (class_of x.code)) 77 q.0),
+          ∙ eqb-true (class_number (class_of x.code)) (class_number Other) q.0),
       other-class words t p.1 h,
     )
 
@@ -108,7 +104,7 @@ words-proper words f = record {
   by_word = λ s l t w m. begins-word s l (dialect_of words) 0 words t w m;
   token_of = λ c h. (
     token_of c,
-    keeps 0 words (token_of c) (free-codes words c f h) ∙ class_of-token_of c (standard-below c h),
+    keeps 0 words (token_of c) (free-codes words c f h) ∙ class_of-token_of c (is_standard-below c h),
   );
 }
 

@@ -3,15 +3,16 @@ use Rattle.std.proofs.Common.{◌≡◌, ℕ, [], ◌∷◌, ◌↔◌, ◌∙�
 use Rattle.daide_token.specs.declared.class.Class.TheVariants.{Bra, Ket}
 use Rattle.daide_token.specs.Class.{class_of}
 use Rattle.daide_token.specs.Token.{bra, ket}
-use Rattle.daide_token.specs.ClassLaws.{class_bra, class_ket, class_of-bra, class_of-ket}
+use Rattle.daide_token.proofs.ClassLaws.{class_bra, class_ket, class_of-bra, class_of-ket}
 use Rattle.daide_grammar.specs.declared.side.Side2.{Side2}
 use Rattle.daide_grammar.specs.declared.level.Level.{Level}
-use Rattle.daide_grammar.specs.Symbols.{slot_of, may_end_of, table_answer, opening_of}
-use Rattle.daide_grammar.specs.SideMessages.{standard, SymbolMatches}
-use Rattle.daide_grammar.specs.LawfulStack.{IsLawful, opening}
-use Rattle.daide_grammar.specs.Laws.{PredictLaws}
-use Rattle.daide_grammar.specs.Proved.StandardDialect.{standard-proper, standard-words}
-use Rattle.daide_grammar.specs.Proved.TableLaws.{table_laws}
+use Rattle.daide_grammar.specs.Table.Symbols.{slot_of, may_end_of, table_answer, opening_of}
+use Rattle.daide_grammar.specs.SideMessages.{standard}
+use Rattle.daide_grammar.specs.Table.Languages.{SymbolMatches}
+use Rattle.daide_grammar.specs.Table.LawfulStack.{IsLawful, opening}
+use Rattle.daide_grammar.specs.Table.Laws.{PredictLaws}
+use Rattle.daide_grammar.specs.Table.Proved.StandardDialect.{standard-proper, standard-words}
+use Rattle.daide_grammar.specs.Table.Proved.TableLaws.{table_laws}
 
 -- a bracket is the only token of its class
 pub only_bra : (t : ℕ) → (class_of t ≡ Bra) ↔ (t ≡ bra)

@@ -4,17 +4,17 @@ use Rattle.std.proofs.Common.{◌≡◌, ℕ, List, [], ◌∷◌, ◌↔◌, sy
 use Rattle.daide_token.specs.declared.class.Class.TheVariants.{Bra, Ket}
 use Rattle.daide_grammar.specs.declared.symbol.Sym.{Sym}
 use Rattle.daide_grammar.specs.Forms.{Dialect}
-use Rattle.daide_grammar.specs.Symbols.{may_end_of, slot_of, table_answer}
-use Rattle.daide_grammar.specs.Stacks.{StackMatches}
-use Rattle.daide_grammar.specs.LawfulStack.{IsLawful, word, skip}
-use Rattle.daide_grammar.specs.Laws.{PredictLaws}
+use Rattle.daide_grammar.specs.Table.Symbols.{may_end_of, slot_of, table_answer}
+use Rattle.daide_grammar.specs.Table.Stacks.{StackMatches}
+use Rattle.daide_grammar.specs.Table.LawfulStack.{IsLawful, word, skip}
+use Rattle.daide_grammar.specs.Table.Laws.{PredictLaws}
 use Rattle.daide_token.specs.Token.{bra, ket}
-use Rattle.daide_grammar.specs.SideMessages.{SymbolMatchesIn}
-use Rattle.daide_grammar.specs.Proved.MovesAgree.{Proper, NoWord, AllMatchIn, take-law, skip-law, stop-law, may_end-law}
-use Rattle.daide_grammar.specs.Proved.StacksInOrder.{table-moves}
-use Rattle.daide_grammar.specs.Proved.StacksStaySmall.{Lawful-short, Lawful-apart, Lawful-open, Lawful-close}
-use Rattle.daide_grammar.specs.Proved.StacksStaySmall.{Lawful-skips, Lawful-ends}
-use Rattle.daide_grammar.specs.Proved.NoLanguageIsEmpty.{symbol-inhabited}
+use Rattle.daide_grammar.specs.Table.Languages.{SymbolMatchesIn}
+use Rattle.daide_grammar.specs.Table.Proved.MovesAgree.{Proper, NoWord, AllMatchIn, take-law, skip-law, stop-law, may_end-law}
+use Rattle.daide_grammar.specs.Table.Proved.StacksInOrder.{table-moves}
+use Rattle.daide_grammar.specs.Table.Proved.StacksStaySmall.{Lawful-short, Lawful-apart, Lawful-open, Lawful-close}
+use Rattle.daide_grammar.specs.Table.Proved.StacksStaySmall.{Lawful-skips, Lawful-ends}
+use Rattle.daide_grammar.specs.Table.Proved.NoLanguageIsEmpty.{symbol-inhabited}
 
 -- the forms of the symbols, one after the other, are their languages one after the other
 pub follows : (d : Dialect) (ss : List Sym) (w : List ℕ) → AllMatchIn d ss w → StackMatches (SymbolMatchesIn d) ss w

@@ -2,20 +2,21 @@
 use Rattle.std.proofs.Common.{◌≡◌, Bool, true, false, [], ◌∷◌, refl, ap, arith, if◌then◌else◌}
 use Rattle.daide_grammar.specs.declared.level.Level.{Level}
 use Rattle.daide_grammar.specs.declared.side.Side2.{Side2}
-use Rattle.daide_grammar.specs.Symbols.{may_end_of, opening_of}
-use Rattle.daide_grammar.specs.SideMessages.{dialect_of, SymbolMatchesIn}
-use Rattle.daide_grammar.specs.LawfulStack.{IsLawful, opening, word, skip}
-use Rattle.daide_grammar.specs.Laws.{PredictLaws}
+use Rattle.daide_grammar.specs.Table.Symbols.{may_end_of, opening_of}
+use Rattle.daide_grammar.specs.SideMessages.{dialect_of}
+use Rattle.daide_grammar.specs.Table.Languages.{SymbolMatchesIn}
+use Rattle.daide_grammar.specs.Table.LawfulStack.{IsLawful, opening, word, skip}
+use Rattle.daide_grammar.specs.Table.Laws.{PredictLaws}
 use Rattle.daide_grammar.specs.Words.{Words}
-use Rattle.daide_grammar.specs.Proved.MovesAgree.{may_end-law}
-use Rattle.daide_grammar.specs.Proved.StacksStaySmall.{Lawful-short, Lawful-apart, Lawful-open, Lawful-close}
-use Rattle.daide_grammar.specs.Proved.StacksStaySmall.{Lawful-skips, Lawful-ends}
-use Rattle.daide_grammar.specs.Proved.NoLanguageIsEmpty.{symbol-inhabited}
-use Rattle.daide_grammar.specs.Proved.TableLaws.{follows, followed}
-use Rattle.daide_words.specs.OverWords.{answer_over, are_free, spoken, spoken_dialect}
-use Rattle.daide_words.specs.Proved.WordMoves.{takes-over, skips-over, stops-over}
-use Rattle.daide_words.specs.Proved.WordStacks.{word-moves}
-use Rattle.daide_words.specs.Proved.WordDialect.{words-proper, only_bra, only_ket}
+use Rattle.daide_grammar.specs.Table.Proved.MovesAgree.{may_end-law}
+use Rattle.daide_grammar.specs.Table.Proved.StacksStaySmall.{Lawful-short, Lawful-apart, Lawful-open, Lawful-close}
+use Rattle.daide_grammar.specs.Table.Proved.StacksStaySmall.{Lawful-skips, Lawful-ends}
+use Rattle.daide_grammar.specs.Table.Proved.NoLanguageIsEmpty.{symbol-inhabited}
+use Rattle.daide_grammar.specs.Table.Proved.TableLaws.{follows, followed}
+use Rattle.daide_words.specs.Table.OverWords.{answer_over, are_free, spoken, spoken_dialect}
+use Rattle.daide_words.specs.Table.Proved.WordMoves.{takes-over, skips-over, stops-over}
+use Rattle.daide_words.specs.Table.Proved.WordStacks.{word-moves}
+use Rattle.daide_words.specs.Table.Proved.WordDialect.{words-proper, only_bra, only_ket}
 
 -- added words keep the laws of prediction, whatever their list
 pub laws_over : (words : Words) → are_free words ≡ true →

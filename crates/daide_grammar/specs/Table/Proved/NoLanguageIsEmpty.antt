@@ -10,14 +10,14 @@ use Rattle.daide_grammar.specs.declared.symbol.Sym.TheVariants.{PressGroup, Arra
 use Rattle.daide_grammar.specs.declared.symbol.Sym.TheVariants.{RequestGroup, SendGroup, Request, Client, SendTail}
 use Rattle.daide_grammar.specs.declared.symbol.Sym.TheVariants.{SendFirst, Send, MaybeSendGroup, Server, Press}
 use Rattle.daide_grammar.specs.declared.symbol.Sym.TheVariants.{Arrangement, Operand, Operands, Fact}
-use Rattle.daide_grammar.specs.Classes.{class_number}
+use Rattle.daide_grammar.specs.Classes.{class_number, own_classes}
 use Rattle.daide_grammar.specs.Forms.{Kind, is, any_word, accepts, Form, Dialect}
 use Rattle.daide_grammar.specs.Matches.{MatchAll}
-use Rattle.daide_grammar.specs.Symbols.{form_of, Entry, entries, entry_at, this_or, forms, may_end_of, slot_of}
-use Rattle.daide_grammar.specs.SideMessages.{SymbolMatchesIn}
-use Rattle.daide_grammar.specs.Proved.Alternatives.{both-pass, MatchAll-split}
-use Rattle.daide_grammar.specs.Proved.MovesAgree.{Proper, IsStandard, standard-no-word, AllMatchIn, entry-law}
-use Rattle.daide_grammar.specs.Proved.MovesAgree.{may_end-law}
+use Rattle.daide_grammar.specs.Table.Symbols.{form_of, Entry, entries, entry_at, this_or, forms, may_end_of, slot_of}
+use Rattle.daide_grammar.specs.Table.Languages.{SymbolMatchesIn}
+use Rattle.daide_grammar.specs.Table.Proved.Alternatives.{both-pass, MatchAll-split}
+use Rattle.daide_grammar.specs.Table.Proved.MovesAgree.{Proper, IsStandard, standard-no-word, AllMatchIn, entry-law}
+use Rattle.daide_grammar.specs.Table.Proved.MovesAgree.{may_end-law}
 
 -- the class of a token of the kind
 abbrev pub sample : Kind → Class
@@ -35,7 +35,7 @@ ends_in (suc n) (s ∷ ss) =
       | false ↦ elim (entries s) [
         | [] ↦ false
         | e ∷ es ↦ nat_lt (class_number
-            (sample e.kind)) 79 && ends_in n (e.rest ++ ss)
+            (sample e.kind)) own_classes && ends_in n (e.rest ++ ss)
       ]
     ]
 
@@ -81,8 +81,8 @@ takes-sample any_word = refl
 first-found : (c : Class) (e : Entry) (es : List Entry) → accepts e.kind c ≡ true → entry_at c (e ∷ es) ≡ Some e
 first-found c e es h = ap (λ b. this_or b e (entry_at c es)) h
 
--- the classes with a number below 79 are those of the protocol's own tokens
-standard-below : (c : Class) → class_number c < 79 → IsStandard c
+-- the classes with a number below that of any word are those of the protocol's own tokens
+standard-below : (c : Class) → class_number c < own_classes → IsStandard c
 standard-below c h k e = omega (arith, ap class_number e)
 
 -- a symbol that may be empty leaves the list of those below
@@ -91,7 +91,7 @@ skipped d s ss m h = (h.0, ([], h.0, m, h.1, refl))
 
 -- a token of the first entry's kind, and a list of its rest
 taken : (d : Dialect) (ok : Proper d) (s : Sym) (ss : List Sym) (e : Entry) (es : List Entry) → entries s ≡ e ∷ es →
-    class_number (sample e.kind) < 79 → Inhabited d (e.rest ++ ss) → Inhabited d (s ∷ ss)
+    class_number (sample e.kind) < own_classes → Inhabited d (e.rest ++ ss) → Inhabited d (s ∷ ss)
 taken d ok s ss e es q h i =
     let tk = ok.token_of (sample e.kind) h in
     let k = MatchAll-split d (forms e.rest) (forms ss) i.0 (subst (λ (fs : List Form). MatchAll d fs i.0)
@@ -116,15 +116,15 @@ inhabited d ok (suc n) (s ∷ ss) h = step (λ ss k. inhabited d ok n ss k) (may
           | false ↦ elim es as (λ _. Bool) [
             | [] ↦ false
             | e ∷ es ↦ nat_lt
-                (class_number (sample e.kind)) 79 && ends_in n (e.rest ++ ss)
+                (class_number (sample e.kind)) own_classes && ends_in n (e.rest ++ ss)
           ]
         ] ≡ true →
         Inhabited d (s ∷ ss)
     step go true es p q e = skipped d s ss ((may_end-law d ok s).0 p) (go ss e)
     step go false [] p q e = cc
     step go false (x ∷ es) p q e =
-        let r = both-pass (nat_lt (class_number (sample x.kind)) 79) (ends_in n
-        (x.rest ++ ss)) e in taken d ok s ss x es q (ltb-true (class_number (sample x.kind)) 79 r.0) (go
+        let r = both-pass (nat_lt (class_number (sample x.kind)) own_classes) (ends_in n
+        (x.rest ++ ss)) e in taken d ok s ss x es q (ltb-true (class_number (sample x.kind)) own_classes r.0) (go
         (x.rest ++ ss) r.1)
 
 -- every symbol has a list

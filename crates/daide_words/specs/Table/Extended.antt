@@ -1,6 +1,6 @@
 -- What a table with an operator's words holds. (own)
 use Rattle.std.specs.Prelude.{ℕ}
-use Rattle.daide_grammar.specs.AnswersGiven.{look_ups}
+use Rattle.daide_grammar.specs.Table.AnswersGiven.{look_ups}
 use Rattle.daide_grammar.specs.Words.{Words}
 use Rattle.daide_words.specs.declared.extended.Extended.{Extended}
 use Rattle.daide_words.specs.Word.{grammar_words}

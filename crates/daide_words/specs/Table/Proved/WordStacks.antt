@@ -10,15 +10,15 @@ use Rattle.daide_grammar.specs.declared.symbol.Sym.{Sym}
 use Rattle.daide_grammar.specs.declared.symbol.Sym.TheVariants.{Closing}
 use Rattle.daide_grammar.specs.Classes.{class_number, same_class}
 use Rattle.daide_grammar.specs.Forms.{is, Slot, Press_slot, Arrangement_slot, Flat_slot}
-use Rattle.daide_grammar.specs.Symbols.{may_end_of, slot_of, table_answer}
-use Rattle.daide_grammar.specs.Answers.{Take, Skip, Stop}
-use Rattle.daide_grammar.specs.Shapes.{is_last, shape, shapes}
+use Rattle.daide_grammar.specs.Table.Symbols.{may_end_of, slot_of, table_answer}
+use Rattle.daide_grammar.specs.Table.Answers.{Take, Skip, Stop}
+use Rattle.daide_grammar.specs.Table.Shapes.{is_last, shape, shapes}
 use Rattle.daide_grammar.specs.Words.{AddedWord, Words, WordOperand, one_power, some_powers, some_provinces, an_order}
 use Rattle.daide_grammar.specs.Words.{an_arrangement, a_press}
-use Rattle.daide_grammar.specs.Proved.Sizes.{fits}
-use Rattle.daide_grammar.specs.Proved.StacksInOrder.{tidy, sized, sized_by, GoodTake, GoodMoves, table-take, skip-ends}
-use Rattle.daide_grammar.specs.Proved.StacksInOrder.{table-moves}
-use Rattle.daide_words.specs.OverWords.{operand_symbol, stands, word_from, if_stands, word_answer, answer_over}
+use Rattle.daide_grammar.specs.Table.Proved.Sizes.{fits}
+use Rattle.daide_grammar.specs.Table.Proved.StacksInOrder.{tidy, sized, sized_by, GoodTake, GoodMoves, table-take, skip-ends}
+use Rattle.daide_grammar.specs.Table.Proved.StacksInOrder.{table-moves}
+use Rattle.daide_words.specs.Table.OverWords.{operand_symbol, stands, word_from, if_stands, word_answer, answer_over}
 
 -- an operand's symbol is one entry, and needn't stand last
 operand-size : (o : WordOperand) (s : Slot) (l : Level) → shapes (operand_symbol o s l ∷ []) ≡ 1 ∷ []

@@ -15,8 +15,8 @@ use Rattle.daide_grammar.specs.Classes.{same_class}
 use Rattle.daide_grammar.specs.Forms.{Slot, Press_slot, Arrangement_slot, Flat_slot, Dialect}
 use Rattle.daide_grammar.specs.Words.{AddedWord, Words, WordSlot, press_word, arrangement_word, WordOperand, one_power}
 use Rattle.daide_grammar.specs.Words.{some_powers, some_provinces, an_order, an_arrangement, a_press}
-use Rattle.daide_grammar.specs.Answers.{Answer, Take}
-use Rattle.daide_grammar.specs.Symbols.{slot_of, table_answer}
+use Rattle.daide_grammar.specs.Table.Answers.{Answer, Take}
+use Rattle.daide_grammar.specs.Table.Symbols.{slot_of, table_answer}
 use Rattle.daide_grammar.specs.SideMessages.{dialect_of}
 
 -- the symbol of a word's operand in its brackets, where the word stands in a slot; an operand of AND and ORR is flat

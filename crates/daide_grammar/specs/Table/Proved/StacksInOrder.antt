@@ -13,19 +13,19 @@ use Rattle.daide_grammar.specs.declared.symbol.Sym.TheVariants.{SendTail, SendFi
 use Rattle.daide_grammar.specs.declared.symbol.Sym.TheVariants.{Press, Arrangement, Operand, Operands, Fact}
 use Rattle.daide_grammar.specs.Classes.{class_number, same_class}
 use Rattle.daide_grammar.specs.Forms.{Kind, is, any_word, accepts}
-use Rattle.daide_grammar.specs.Symbols.{Entry, entries, may_end_of, entry_at, table_answer, answer_by, this_or, on}
-use Rattle.daide_grammar.specs.Symbols.{opening_of}
-use Rattle.daide_grammar.specs.Answers.{Answer, Take, Skip, Stop}
-use Rattle.daide_grammar.specs.Shapes.{is_last, shape, join, shapes}
+use Rattle.daide_grammar.specs.Table.Symbols.{Entry, entries, may_end_of, entry_at, table_answer, answer_by, this_or, on}
+use Rattle.daide_grammar.specs.Table.Symbols.{opening_of}
+use Rattle.daide_grammar.specs.Table.Answers.{Answer, Take, Skip, Stop}
+use Rattle.daide_grammar.specs.Table.Shapes.{is_last, shape, join, shapes}
 use Rattle.daide_grammar.specs.declared.level.Level.{Level}
 use Rattle.daide_grammar.specs.declared.side.Side2.{Side2}
 use Rattle.daide_grammar.specs.declared.side.Side2.TheVariants.{Client as ClientSide, ServerEnd as ServerSide}
-use Rattle.daide_grammar.specs.LawfulStack.{IsLawful, opening, word, bra, ket, skip}
-use Rattle.daide_grammar.specs.Proved.Sizes.{fits, fits_below, fits_tail, is_single, begins_positive, Fits, Fits-test}
-use Rattle.daide_grammar.specs.Proved.Sizes.{Fits_trans, Fits_refl, join-mono, IsCons, shapes-cons, shapes-append, caps}
-use Rattle.daide_grammar.specs.Proved.Sizes.{sizes-opened, sizes-closed, sizes-skipped}
-use Rattle.daide_grammar.specs.Proved.Alternatives.{both-pass}
-use Rattle.daide_grammar.specs.Proved.MovesAgree.{find-passes, find-takes, take-entry, skip-entry}
+use Rattle.daide_grammar.specs.Table.LawfulStack.{IsLawful, opening, word, bra, ket, skip}
+use Rattle.daide_grammar.specs.Table.Proved.Sizes.{fits, fits_below, fits_tail, is_single, begins_positive, Fits, Fits-test}
+use Rattle.daide_grammar.specs.Table.Proved.Sizes.{Fits_trans, Fits_refl, join-mono, IsCons, shapes-cons, shapes-append, caps}
+use Rattle.daide_grammar.specs.Table.Proved.Sizes.{sizes-opened, sizes-closed, sizes-skipped}
+use Rattle.daide_grammar.specs.Table.Proved.Alternatives.{both-pass}
+use Rattle.daide_grammar.specs.Table.Proved.MovesAgree.{find-passes, find-takes, take-entry, skip-entry}
 
 -- whether the symbol is a closing bracket
 abbrev pub is_closing : Sym → Bool

@@ -37,7 +37,7 @@ use Rattle.daide_grammar.specs.declared.symbol.Sym.TheVariants.{OneStand, StandT
 use Rattle.daide_grammar.specs.declared.symbol.Sym.TheVariants.{NoteGroup, OutcomesGroup, Outcomes, OneOutcome}
 use Rattle.daide_grammar.specs.declared.symbol.Sym.TheVariants.{CivilDisorderGroup, CivilDisorder, Players, OnePlayer}
 use Rattle.daide_grammar.specs.Level.{level_number}
-use Rattle.daide_grammar.specs.Answers.{Answer, Take, Skip, Stop}
+use Rattle.daide_grammar.specs.Table.Answers.{Answer, Take, Skip, Stop}
 use Rattle.daide_grammar.specs.Forms.{Slot, Press_slot, Arrangement_slot, Flat_slot, Kind, is, any_word, accepts}
 use Rattle.daide_grammar.specs.Forms.{Form, empty, ◌·◌, ◌∣◌, many, tok, group, some, maybe, from}
 use Rattle.daide_grammar.specs.Message.Lists.{power, province, turn, text, words, any}

@@ -1,14 +1,9 @@
 -- The numbers of symbols and classes, by which the constant table is looked up. (own)
 use Rattle.std.specs.Prelude.{ℕ, ◌+◌, Bool, true, false, List, [], ◌∷◌, ◌++◌, slice_index_or, Option, Some, None}
 use Rattle.daide_token.specs.declared.class.Class.{Class}
-use Rattle.daide_token.specs.declared.class.Class.TheVariants.{Bra, Ket, Num, Power, Note, Outcome, Coast, Season, Text}
-use Rattle.daide_token.specs.declared.class.Class.TheVariants.{Province, Amy, Flt, Cto, Cvy, Hld, Mto, Sup, Via, Dsb}
-use Rattle.daide_token.specs.declared.class.Class.TheVariants.{Rto, Bld, Rem, Wve, Ccd, Drw, Frm, Gof, Hlo, Hst, Huh}
-use Rattle.daide_token.specs.declared.class.Class.TheVariants.{Iam, Lod, Map, Mdf, Mis, Nme, Not, Now, Obs, Off, Ord}
-use Rattle.daide_token.specs.declared.class.Class.TheVariants.{Out, Prn, Rej, Sco, Slo, Snd, Sub, Sve, Thx, Tme, Yes}
-use Rattle.daide_token.specs.declared.class.Class.TheVariants.{Adm, Smr, Aly, And, Bwx, Dmz, Fct, Idk, Ins, Occ, Orr}
-use Rattle.daide_token.specs.declared.class.Class.TheVariants.{Pce, Prp, Qry, Scd, Sry, Sug, Thk, Try, Vss, Xdo, Lvl}
-use Rattle.daide_token.specs.declared.class.Class.TheVariants.{Mrt, Uno, Param, Other, Alien, Word}
+use Rattle.daide_token.specs.declared.class.Class.TheVariants.{Bra, Ket, Num, Word}
+use Rattle.daide_token.specs.ClassNumbers.{classes_in_order, own_classes}
+use Rattle.daide_grammar.specs.Words.{most_words}
 use Rattle.daide_grammar.specs.declared.level.Level.{Level}
 use Rattle.daide_grammar.specs.declared.level.Level.TheVariants.{L0, L10, L20, L30, L40, L50, L60}
 use Rattle.daide_grammar.specs.declared.symbol.Sym.{Sym}
@@ -170,15 +165,19 @@ symbol_number (RequestGroup l) = 181 + level_place l
 symbol_number (Request l) = 188 + level_place l
 symbol_number (Server l) = 195 + level_place l
 
--- the classes in the order of their numbers; of an operator's words there are sixteen
+-- how many symbols there are
+abbrev pub all_symbols : ℕ
+all_symbols = 202
+
+-- how many classes there are with those of an operator's words
+abbrev pub all_classes : ℕ
+all_classes = own_classes + most_words
+
+-- the classes in the order of their numbers, an operator's words last
 abbrev pub classes : List Class
 classes =
-    Bra ∷ Ket ∷ Num ∷ Power ∷ Note ∷ Outcome ∷ Coast ∷ Season ∷ Text ∷ Province ∷ Amy ∷ Flt ∷ Cto ∷ Cvy ∷ Hld ∷
-    Mto ∷ Sup ∷ Via ∷ Dsb ∷ Rto ∷ Bld ∷ Rem ∷ Wve ∷ Ccd ∷ Drw ∷ Frm ∷ Gof ∷ Hlo ∷ Hst ∷ Huh ∷ Iam ∷ Lod ∷ Map ∷
-    Mdf ∷ Mis ∷ Nme ∷ Not ∷ Now ∷ Obs ∷ Off ∷ Ord ∷ Out ∷ Prn ∷ Rej ∷ Sco ∷ Slo ∷ Snd ∷ Sub ∷ Sve ∷ Thx ∷ Tme ∷
-    Yes ∷ Adm ∷ Smr ∷ Aly ∷ And ∷ Bwx ∷ Dmz ∷ Fct ∷ Idk ∷ Ins ∷ Occ ∷ Orr ∷ Pce ∷ Prp ∷ Qry ∷ Scd ∷ Sry ∷ Sug ∷
-    Thk ∷ Try ∷ Vss ∷ Xdo ∷ Lvl ∷ Mrt ∷ Uno ∷ Param ∷ Other ∷ Alien ∷ Word 0 ∷ Word 1 ∷ Word 2 ∷ Word 3 ∷ Word 4 ∷
-    Word 5 ∷ Word 6 ∷ Word 7 ∷ Word 8 ∷ Word 9 ∷ Word 10 ∷ Word 11 ∷ Word 12 ∷ Word 13 ∷ Word 14 ∷ Word 15 ∷ []
+    classes_in_order ++ (Word 0 ∷ Word 1 ∷ Word 2 ∷ Word 3 ∷ Word 4 ∷ Word 5 ∷ Word 6 ∷ Word 7 ∷ Word 8 ∷ Word 9 ∷
+    Word 10 ∷ Word 11 ∷ Word 12 ∷ Word 13 ∷ Word 14 ∷ Word 15 ∷ [])
 
 -- what a token of the class adds to a count of open brackets of sixteen bits, which wraps
 abbrev pub bracket_step : Class → ℕ

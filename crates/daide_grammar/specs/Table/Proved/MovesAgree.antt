@@ -8,29 +8,29 @@ use Rattle.daide_grammar.specs.declared.symbol.Sym.{Sym}
 use Rattle.daide_token.specs.declared.class.Class.{Class}
 use Rattle.daide_token.specs.declared.class.Class.TheVariants.{Word}
 use Rattle.daide_grammar.specs.declared.level.Level.{Level}
-use Rattle.daide_grammar.specs.Classes.{class_number, same_class}
+use Rattle.daide_grammar.specs.Classes.{class_number, own_classes, same_class}
 use Rattle.daide_grammar.specs.Forms.{Kind, is, any_word, accepts, Slot, Press_slot, Arrangement_slot, Flat_slot, Name}
 use Rattle.daide_grammar.specs.Forms.{Added, Form, named, Dialect}
 use Rattle.daide_grammar.specs.Matches.{rule, Matches, by_name, MatchAll}
-use Rattle.daide_grammar.specs.Symbols.{form_of, Entry, entries, this_or, entry_at, forms, may_end_of, slot_of}
-use Rattle.daide_grammar.specs.Symbols.{answer_by, table_answer}
-use Rattle.daide_grammar.specs.Answers.{Take, Skip, Stop}
-use Rattle.daide_grammar.specs.SideMessages.{SymbolMatchesIn}
-use Rattle.daide_grammar.specs.Proved.Reading.{Reads, Head, starts, ends, unopened, HeadReads, heads, heads-cover}
-use Rattle.daide_grammar.specs.Proved.Reading.{heads-sound, Some-of, Some-first, Some-second, Some-split}
-use Rattle.daide_grammar.specs.Proved.Reading.{MatchAll_from_Reads, Reads_from_MatchAll}
-use Rattle.daide_grammar.specs.Proved.Alternatives.{same_level, same_level-means, same_kind, same_kind-sound, parts_all}
-use Rattle.daide_grammar.specs.Proved.Alternatives.{parts_all-cover, parts_all-sound, covers, covers-sound, both-pass}
-use Rattle.daide_grammar.specs.Proved.Alternatives.{either-passes, alone, unalone}
-use Rattle.daide_grammar.specs.Proved.RightEntries.{after, apart, all_apart, is_added, same_slot, added_right, if_same}
-use Rattle.daide_grammar.specs.Proved.RightEntries.{known, entry_right, is_end, right_by, right, all_right}
+use Rattle.daide_grammar.specs.Table.Symbols.{form_of, Entry, entries, this_or, entry_at, forms, may_end_of, slot_of}
+use Rattle.daide_grammar.specs.Table.Symbols.{answer_by, table_answer}
+use Rattle.daide_grammar.specs.Table.Answers.{Take, Skip, Stop}
+use Rattle.daide_grammar.specs.Table.Languages.{SymbolMatchesIn}
+use Rattle.daide_grammar.specs.Table.Proved.Reading.{Reads, Head, starts, ends, unopened, HeadReads, heads, heads-cover}
+use Rattle.daide_grammar.specs.Table.Proved.Reading.{heads-sound, Some-of, Some-first, Some-second, Some-split}
+use Rattle.daide_grammar.specs.Table.Proved.Reading.{MatchAll_from_Reads, Reads_from_MatchAll}
+use Rattle.daide_grammar.specs.Table.Proved.Alternatives.{same_level, same_level-means, same_kind, same_kind-sound, parts_all}
+use Rattle.daide_grammar.specs.Table.Proved.Alternatives.{parts_all-cover, parts_all-sound, covers, covers-sound, both-pass}
+use Rattle.daide_grammar.specs.Table.Proved.Alternatives.{either-passes, alone, unalone}
+use Rattle.daide_grammar.specs.Table.Proved.RightEntries.{after, apart, all_apart, is_added, same_slot, added_right, if_same}
+use Rattle.daide_grammar.specs.Table.Proved.RightEntries.{known, entry_right, is_end, right_by, right, all_right}
 
 -- Added forms are not empty, and begin with added words.
 pub record Proper (d : Dialect) : Type 0 where
   pub not_empty : (s : Slot) (l : Level) → Matches d (d.added s l) [] → ⊥
   pub by_word : (s : Slot) (l : Level) (t : ℕ) (w : List ℕ) → Matches d (d.added s l) (t ∷ w) →
       (k : ℕ) × (d.class_of t ≡ Word k)
-  pub token_of : (c : Class) → class_number c < 79 → (t : ℕ) × (d.class_of t ≡ c)
+  pub token_of : (c : Class) → class_number c < own_classes → (t : ℕ) × (d.class_of t ≡ c)
 
 -- no word that may be added at the place begins with the token
 abbrev pub NoWord : Dialect → Option (Slot × Level) → ℕ → Type 0

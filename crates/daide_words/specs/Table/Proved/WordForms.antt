@@ -10,23 +10,24 @@ use Rattle.daide_token.specs.declared.class.Class.TheVariants.{Word}
 use Rattle.daide_grammar.specs.declared.level.Level.{Level}
 use Rattle.daide_grammar.specs.declared.symbol.Sym.{Sym}
 use Rattle.daide_grammar.specs.Level.{level_number}
-use Rattle.daide_grammar.specs.Classes.{class_number}
+use Rattle.daide_grammar.specs.Classes.{class_number, own_classes}
 use Rattle.daide_grammar.specs.Forms.{Kind, is, any_word, accepts, Slot, Press_slot, Arrangement_slot, Flat_slot, Added}
 use Rattle.daide_grammar.specs.Forms.{Form}
 use Rattle.daide_grammar.specs.Forms.{one, never, ◌·◌, tok, group, named, Dialect}
 use Rattle.daide_grammar.specs.Matches.{Matches, token, both, first, second, by_name}
-use Rattle.daide_grammar.specs.Symbols.{form_of, Entry, entries, slot_of}
-use Rattle.daide_grammar.specs.SideMessages.{dialect_from, SymbolMatchesIn}
+use Rattle.daide_grammar.specs.Table.Symbols.{form_of, Entry, entries, slot_of}
+use Rattle.daide_grammar.specs.SideMessages.{dialect_from}
+use Rattle.daide_grammar.specs.Table.Languages.{SymbolMatchesIn}
 use Rattle.daide_grammar.specs.Words.{AddedWord, Words, WordSlot, press_word, arrangement_word, operand_in, stands_in}
 use Rattle.daide_grammar.specs.Words.{word_form}
-use Rattle.daide_grammar.specs.Proved.Reading.{Reads, take, open', Head, starts, ends, unopened, HeadReads, heads}
-use Rattle.daide_grammar.specs.Proved.Reading.{Some-of}
-use Rattle.daide_grammar.specs.Proved.Reading.{MatchAll_from_Reads, Reads_from_MatchAll}
-use Rattle.daide_grammar.specs.Proved.Alternatives.{same_level, same_level-means, same_kind, same_kind-sound, both-pass}
-use Rattle.daide_grammar.specs.Proved.Alternatives.{either-passes, alone, unalone}
-use Rattle.daide_grammar.specs.Proved.RightEntries.{is_added, same_slot, known, is_unopened, is_plain, added_right}
-use Rattle.daide_grammar.specs.Proved.MovesAgree.{right_parts, to_heads, from_heads, added-reads, same_slot-means}
-use Rattle.daide_words.specs.OverWords.{makes, stands, this_word, word_from}
+use Rattle.daide_grammar.specs.Table.Proved.Reading.{Reads, take, open', Head, starts, ends, unopened, HeadReads, heads}
+use Rattle.daide_grammar.specs.Table.Proved.Reading.{Some-of}
+use Rattle.daide_grammar.specs.Table.Proved.Reading.{MatchAll_from_Reads, Reads_from_MatchAll}
+use Rattle.daide_grammar.specs.Table.Proved.Alternatives.{same_level, same_level-means, same_kind, same_kind-sound, both-pass}
+use Rattle.daide_grammar.specs.Table.Proved.Alternatives.{either-passes, alone, unalone}
+use Rattle.daide_grammar.specs.Table.Proved.RightEntries.{is_added, same_slot, known, is_unopened, is_plain, added_right}
+use Rattle.daide_grammar.specs.Table.Proved.MovesAgree.{right_parts, to_heads, from_heads, added-reads, same_slot-means}
+use Rattle.daide_words.specs.Table.OverWords.{makes, stands, this_word, word_from}
 
 -- ---- a word and its operand
 
@@ -45,7 +46,7 @@ pub word-then : (d : Dialect) (j k : ℕ) (f : Form) (t : ℕ) (w : List ℕ) �
 word-then d j k f t w e m =
     let form = tok (Word j) · f in
     let h = token-then d (is (Word j)) f t w (Reads_from_MatchAll d (form ∷ []) (t ∷ w) (alone d form (t ∷ w) m)) in
-    let q = eqb-true (79 + j) (79 + k) (subst (λ (c : Class). accepts (is (Word j)) c ≡ true) e h.0) in
+    let q = eqb-true (own_classes + j) (own_classes + k) (subst (λ (c : Class). accepts (is (Word j)) c ≡ true) e h.0) in
     (omega (arith, q), h.1)
 
 word-matches : (d : Dialect) (j k : ℕ) (f : Form) (t : ℕ) (w : List ℕ) → d.class_of t ≡ Word k → j ≡ k →
@@ -53,7 +54,7 @@ word-matches : (d : Dialect) (j k : ℕ) (f : Form) (t : ℕ) (w : List ℕ) →
 word-matches d j k f t w e q m =
     both {u = t ∷ []} {v = w}
     (token (subst (λ (c : Class). accepts (is (Word j)) c ≡ true) (sym e)
-    (eq-eqb (79 + j) (79 + k) (ap (λ n. 79 + n) q)))) m
+    (eq-eqb (own_classes + j) (own_classes + k) (ap (λ n. own_classes + n) q)))) m
 
 -- a form that stands from a level on
 from-passes : (d : Dialect) (b : Bool) (f : Form) (w : List ℕ) → Matches d (elim b [ true ↦ f | false ↦ never ]) w →
@@ -157,7 +158,7 @@ words-from d k j (y ∷ words) s l t w x e f h m =
 -- no plain kind takes a word
 pub plain-no-word : (k : Kind) (c : Class) (i : ℕ) → is_plain k ≡ true → c ≡ Word i → accepts k c ≡ true → ⊥
 plain-no-word (is a) c i p e h =
-    omega (arith, ltb-true (class_number a) 79 p, eqb-true (class_number a) (class_number c) h, ap class_number e)
+    omega (arith, ltb-true (class_number a) own_classes p, eqb-true (class_number a) (class_number c) h, ap class_number e)
 plain-no-word any_word c i p e h = cc
 
 plain-entries : (m : Kind) (c : Class) (i : ℕ) (es : List Entry) → list_all (λ e. is_plain e.kind) es ≡ true →

@@ -5,8 +5,8 @@ use Rattle.daide_token.specs.declared.class.Class.TheVariants.{Bra, Ket}
 use Rattle.daide_grammar.specs.declared.level.Level.{Level}
 use Rattle.daide_grammar.specs.declared.side.Side2.{Side2}
 use Rattle.daide_grammar.specs.declared.symbol.Sym.{Sym}
-use Rattle.daide_grammar.specs.Answers.{Answer, Take, Skip}
-use Rattle.daide_grammar.specs.Symbols.{opening_of}
+use Rattle.daide_grammar.specs.Table.Answers.{Answer, Take, Skip}
+use Rattle.daide_grammar.specs.Table.Symbols.{opening_of}
 
 -- The stacks, each with its number of open brackets: an opening symbol alone with none, and what an answer of the
 -- table makes of one. A token that is taken leaves its rest in the symbol's place; a skipped symbol is dropped.

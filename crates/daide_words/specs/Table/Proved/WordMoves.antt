@@ -9,17 +9,18 @@ use Rattle.daide_grammar.specs.declared.symbol.Sym.{Sym}
 use Rattle.daide_grammar.specs.declared.symbol.Sym.TheVariants.{Press, Arrangement, Fact, Operand}
 use Rattle.daide_grammar.specs.Forms.{Slot, Press_slot, Arrangement_slot, Flat_slot, Form, group, Dialect}
 use Rattle.daide_grammar.specs.Matches.{Matches}
-use Rattle.daide_grammar.specs.Answers.{Answer, Take, Skip, Stop}
-use Rattle.daide_grammar.specs.Symbols.{form_of, slot_of, table_answer}
-use Rattle.daide_grammar.specs.SideMessages.{dialect_of, SymbolMatchesIn}
+use Rattle.daide_grammar.specs.Table.Answers.{Answer, Take, Skip, Stop}
+use Rattle.daide_grammar.specs.Table.Symbols.{form_of, slot_of, table_answer}
+use Rattle.daide_grammar.specs.SideMessages.{dialect_of}
+use Rattle.daide_grammar.specs.Table.Languages.{SymbolMatchesIn}
 use Rattle.daide_grammar.specs.Words.{AddedWord, Words, WordOperand, one_power, some_powers, some_provinces, an_order}
 use Rattle.daide_grammar.specs.Words.{an_arrangement, a_press, operand_in}
-use Rattle.daide_grammar.specs.Proved.Alternatives.{alone, unalone}
-use Rattle.daide_grammar.specs.Proved.MovesAgree.{Proper, NoWord, IsStandard, standard-no-word, AllMatchIn, take-law}
-use Rattle.daide_grammar.specs.Proved.MovesAgree.{skip-law}
-use Rattle.daide_grammar.specs.Proved.MovesAgree.{stop-law, no-yes}
-use Rattle.daide_words.specs.OverWords.{operand_symbol, stands, word_from, if_stands, word_answer, answer_over}
-use Rattle.daide_words.specs.Proved.WordForms.{words-to, words-from, slot-law}
+use Rattle.daide_grammar.specs.Table.Proved.Alternatives.{alone, unalone}
+use Rattle.daide_grammar.specs.Table.Proved.MovesAgree.{Proper, NoWord, IsStandard, standard-no-word, AllMatchIn, take-law}
+use Rattle.daide_grammar.specs.Table.Proved.MovesAgree.{skip-law}
+use Rattle.daide_grammar.specs.Table.Proved.MovesAgree.{stop-law, no-yes}
+use Rattle.daide_words.specs.Table.OverWords.{operand_symbol, stands, word_from, if_stands, word_answer, answer_over}
+use Rattle.daide_words.specs.Table.Proved.WordForms.{words-to, words-from, slot-law}
 
 -- the symbol of an operand stands for the operand in its brackets, at each symbol that has a slot
 abbrev pub HasOperands : Option (Slot × Level) → Type 0

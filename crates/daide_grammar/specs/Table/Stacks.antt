@@ -2,7 +2,7 @@
 use Rattle.std.specs.Prelude.{◌≡◌, ℕ, ◌+◌, Bool, List, [], ◌∷◌, ◌++◌, Option, None, Some, if◌then◌else◌}
 use Rattle.daide_token.specs.declared.class.Class.{Class}
 use Rattle.daide_grammar.specs.declared.symbol.Sym.{Sym}
-use Rattle.daide_grammar.specs.Answers.{Answer, Take, Skip, Stop}
+use Rattle.daide_grammar.specs.Table.Answers.{Answer, Take, Skip, Stop}
 
 -- the list is one of the first symbol's, then one of the second's, and so on
 abbrev pub StackMatches : (Sym → List ℕ → Type 0) → List Sym → List ℕ → Type 0

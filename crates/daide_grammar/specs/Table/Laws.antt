@@ -4,8 +4,8 @@ use Rattle.daide_token.specs.declared.class.Class.{Class}
 use Rattle.daide_token.specs.declared.class.Class.TheVariants.{Bra, Ket}
 use Rattle.daide_token.specs.Token.{bra, ket}
 use Rattle.daide_grammar.specs.declared.symbol.Sym.{Sym}
-use Rattle.daide_grammar.specs.Answers.{Answer, Take, Skip, Stop}
-use Rattle.daide_grammar.specs.Stacks.{StackMatches, stack_after, skips_before, ends_asked}
+use Rattle.daide_grammar.specs.Table.Answers.{Answer, Take, Skip, Stop}
+use Rattle.daide_grammar.specs.Table.Stacks.{StackMatches, stack_after, skips_before, ends_asked}
 
 -- The laws of prediction. That two alternatives of a symbol never begin with the same class is said by `moves` being a
 -- function.

@@ -3,8 +3,8 @@ use Rattle.std.proofs.Common.{◌≡◌, ℕ, zero, suc, ◌+◌, ◌*◌, ◌�
 use Rattle.std.proofs.Common.{refl, sym, ◌∙◌, ap, subst, arith}
 use Rattle.std.proofs.lemmas.Bool.{leb-true}
 use Rattle.daide_grammar.specs.declared.symbol.Sym.{Sym}
-use Rattle.daide_grammar.specs.Shapes.{shape, join, shapes}
-use Rattle.daide_grammar.specs.Proved.Alternatives.{both-pass}
+use Rattle.daide_grammar.specs.Table.Shapes.{shape, join, shapes}
+use Rattle.daide_grammar.specs.Table.Proved.Alternatives.{both-pass}
 
 -- as many sizes, each at most the other's
 unfoldable pub fits : List ℕ → List ℕ → Bool
