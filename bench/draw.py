@@ -3,9 +3,10 @@
 
     bench/draw.py
 
-Each file there gives the picture of its name. `layers`, `session-machine` and `message` are diagrams; any other file is a
-table of figures, of which bars are drawn, so a new one needs no code. Lines that begin with `#` are the picture's title and
-where its figures come from. The same data give the same bytes. The pictures go by the reader's choice of light or dark.
+Each file there gives the picture of its name. `layers`, `session-machine` and `message` are diagrams; any other file is
+a table of figures, of which bars are drawn, so a new one needs no code. Lines that begin with `#` are the picture's
+title and where its figures come from. The same data give the same bytes. The pictures go by the reader's choice of
+light or dark.
 """
 
 import csv

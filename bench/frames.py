@@ -5,8 +5,8 @@
     frames.py log TRAFFIC       a log for `daide-gate check`: the frames behind an opening, on lines of 2,048 digits
     frames.py orders            the longest frame that holds orders alone, in hexadecimal digits, for `daide-gate show`
     frames.py gof               the longest frame, each of whose tokens is GOF
-    frames.py alike N           messages of orders alone, each of N tokens or a few less, in the form of traffic.py; standard
-                                error tells how many messages and tokens they are, 32,760 tokens or more
+    frames.py alike N           messages of orders alone, each of N tokens or a few less, in the form of traffic.py;
+                                how many messages and tokens they are goes to standard error, 32,760 tokens or more
 """
 import sys
 
