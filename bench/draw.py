@@ -3,9 +3,10 @@
 
     bench/draw.py
 
-Each file there gives the picture of its name. `layers`, `session-machine` and `message` are diagrams; any other file is a
-table of figures, of which bars are drawn, so a new one needs no code. Lines that begin with `#` are the picture's title and
-where its figures come from. The same data give the same bytes. The pictures go by the reader's choice of light or dark.
+Each file there gives the picture of its name. `layers`, `session-machine` and `message` are diagrams; any other file is
+a table of figures, of which bars are drawn, so a new one needs no code. Lines that begin with `#` are the picture's
+title and where its figures come from. The same data give the same bytes. The pictures go by the reader's choice of
+light or dark.
 """
 
 import csv
@@ -103,7 +104,7 @@ def bars(notes, columns, rows):
     picture = Picture(notes)
     names, y = columns[1:], picture.top + 8
     longest = max(float(figure) for row in rows for figure in row[1:])
-    are_groups = len(names) > 1
+    are_groups, has_gateway = len(names) > 1, any("gateway" in row[0] for row in rows)
     left = 140 if are_groups else 260
     for row in rows:
         if are_groups:
@@ -111,7 +112,7 @@ def bars(notes, columns, rows):
             y += 20
         for place, figure in enumerate(row[1:]):
             label = names[place] if are_groups else row[0]
-            kind = SERIES[place] if are_groups else SERIES[0 if "gateway" in label else 1]
+            kind = SERIES[place if are_groups else int(has_gateway and "gateway" not in label)]
             width = max(1.5, float(figure) / longest * (WIDTH - left - 110))
             picture.text(left - 8, y + 13, label, anchor="end")
             picture.bar(left, y, width, 18, kind)

@@ -5,6 +5,8 @@
     frames.py log TRAFFIC       a log for `daide-gate check`: the frames behind an opening, on lines of 2,048 digits
     frames.py orders            the longest frame that holds orders alone, in hexadecimal digits, for `daide-gate show`
     frames.py gof               the longest frame, each of whose tokens is GOF
+    frames.py alike N           messages of orders alone, each of N tokens or a few less, in the form of traffic.py;
+                                how many messages and tokens they are goes to standard error, 32,760 tokens or more
 """
 import sys
 
@@ -46,14 +48,27 @@ def write_log(path):
             print(name, digits[at : at + DIGITS])
 
 
-def write_orders():
-    source, tokens = traffic.Traffic(7), [traffic.NAMES["SUB"]]
+def orders(source, most):
+    """SUB and as many orders as there is room for in so many tokens."""
+    tokens = [traffic.NAMES["SUB"]]
     while True:
         order = [source.code(word) for word in f"( {source.order()} )".split()]
-        if 2 * (len(tokens) + len(order)) > LONGEST:
-            break
+        if len(tokens) + len(order) > most:
+            return tokens
         tokens += order
-    print(frame(bytes_of(tokens)).hex())
+
+
+def write_orders():
+    print(frame(bytes_of(orders(traffic.Traffic(7), LONGEST // 2))).hex())
+
+
+def write_alike(most):
+    source, written, messages = traffic.Traffic(7), 0, 0
+    while written < 32760:
+        tokens = orders(source, int(most))
+        sys.stdout.buffer.write(b"\0" + (2 * len(tokens)).to_bytes(2, "big") + bytes_of(tokens))
+        written, messages = written + len(tokens), messages + 1
+    print(f"{messages} messages, {written} tokens", file=sys.stderr)
 
 
 def write_gof():
@@ -61,7 +76,7 @@ def write_gof():
 
 
 def main():
-    writes = {"frames": write_frames, "log": write_log, "orders": write_orders, "gof": write_gof}
+    writes = {"frames": write_frames, "log": write_log, "orders": write_orders, "gof": write_gof, "alike": write_alike}
     writes[sys.argv[1]](*sys.argv[2:])
 
 

@@ -3,8 +3,8 @@
 
     python3 examples/stub_bot.py [--port PORT] [--bots N] [--bracket N] [--word N]
 
-Bot N of --bracket says `GOF (`, whose bracket never closes, and bot N of --word `OBS GOF`, a word too many. The bots wait
-until somebody listens at the port of 127.0.0.1.
+Bot N of --bracket says `GOF (`, whose bracket never closes, and bot N of --word `OBS GOF`, a word too many. The bots
+wait until somebody listens at the port of 127.0.0.1.
 """
 
 import argparse

@@ -1,5 +1,5 @@
 #!/usr/bin/env python3
-"""Stands in for a DAIDE server: it answers a bot's first frame with RM and OBS with YES ( OBS ), and prints each message.
+"""Stands in for a DAIDE server: it answers a bot's IM with RM and OBS with YES ( OBS ), and prints each message.
 
     python3 examples/stub_server.py [--port PORT] [--sessions N]
 
