@@ -1,6 +1,9 @@
-//! Laws of what sessions send: functions with no parameters and an empty body, whose contracts are the laws.
+//! Laws of what sessions send: functions without a body of their own, whose contracts are the laws.
 
-ghost use Rattle.daide_session.specs.InARow.{TwoGatewaysInARow};
+ghost use Rattle.daide_session.specs.InARow.{InARowOver, TwoGatewaysInARow};
+ghost use Rattle.daide_words.specs.Words.{words_of};
+
+use daide_words::words::Words;
 
 /// Of two gateways in a row with the same limits and words, the next passes on each message that the one sends toward
 /// it, and the one's own answers PRN and HUH too. It answers one itself only where its level for it is lower than the
@@ -9,3 +12,11 @@ ghost use Rattle.daide_session.specs.InARow.{TwoGatewaysInARow};
 pub fn two_gateways_in_a_row()
     ensures { TwoGatewaysInARow }
 {}
+
+/// So it is with the words of who holds `Words`, which are accepted.
+pub fn two_gateways_in_a_row_over(words: &Words)
+    ensures { InARowOver (words_of words.now) }
+{
+    words.are_accepted();
+    two_gateways_in_a_row();
+}

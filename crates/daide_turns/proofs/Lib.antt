@@ -8,3 +8,4 @@ pub mod HubLemmas
 mod BoundFacts
 pub mod ApartLemmas
 pub mod DueLemmas
+pub mod FramesGone

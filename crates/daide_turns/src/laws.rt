@@ -3,7 +3,7 @@
 ghost use Rattle.daide_turns.specs.Laws.{RelaysJoin, NewSessionsStand, HeadlinesJoin};
 ghost use Rattle.daide_turns.specs.HubRuns.{SessionsAreApart, PortsComeBackApart, EachHasItsHeadline};
 ghost use Rattle.daide_turns.specs.HubRuns.{OpenedSessionsStand};
-ghost use Rattle.daide_turns.specs.Due.{DueBytesGo};
+ghost use Rattle.daide_turns.specs.Due.{DueBytesGo, FramesGo};
 
 use crate::ports::Ports;
 
@@ -39,4 +39,10 @@ pub fn sessions_are_apart<P: Ports>()
 /// waited before them, whatever else the turns bring: so n waiting bytes are gone after n turns.
 pub fn due_bytes_go()
     ensures { DueBytesGo }
+{}
+
+/// While a wire takes all that it is handed, a frame of which nothing is gone yet is gone after six turns at most,
+/// whatever else the turns bring.
+pub fn frames_go()
+    ensures { FramesGo }
 {}
