@@ -1,2 +1,1 @@
-pub mod WordedRuns
 pub mod RelayLemmas

@@ -20,7 +20,7 @@ use Rattle.daide_session.specs.Due.{AreTurns, TakesSome, EachTakesSome, EachTurn
 
 -- ---- answers in a row
 
-taken-append : (side : Side) (a b : List PortAnswer) → taken side (a ++ b) ≡ taken side a ++ taken side b
+pub taken-append : (side : Side) (a b : List PortAnswer) → taken side (a ++ b) ≡ taken side a ++ taken side b
 taken-append side [] b = refl
 taken-append side (x ∷ a) b =
     ap (λ (t : List ℕ). took side x ++ t) (taken-append side a b) ∙ sym (append_assoc (took side x) (taken side a)
@@ -119,11 +119,11 @@ put_beside side old answers new (inr h) =
 abbrev Gains : Side → Gateway → List PortAnswer → Gateway → Type 0
 Gains side old answers new = 0 < due old side → 0 < length (taken side answers)
 
-same_self : (side : Side) → same_side side side ≡ true
+pub same_self : (side : Side) → same_side side side ≡ true
 same_self Bot = refl
 same_self Server = refl
 
-own_taken : (side : Side) (bytes : List ℕ) (n : ℕ) → n ≤ length bytes →
+pub own_taken : (side : Side) (bytes : List ℕ) (n : ℕ) → n ≤ length bytes →
     length (taken side (Offered side bytes (Took n) ∷ [])) ≡ n
 own_taken side bytes n h =
     rw (same_self side) (omega (arith, length-append (take n bytes) [], length-take n bytes, h))

@@ -19,3 +19,5 @@ mod BoundFacts
 pub mod ApartLemmas
 pub mod InARowLemmas
 pub mod DueLemmas
+pub mod FramesGone
+pub mod WordedRuns

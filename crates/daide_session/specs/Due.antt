@@ -1,7 +1,8 @@
--- That bytes which wait for a wire go, while the wire takes some.
+-- That bytes which wait for a wire go, while the wire takes some; and frames, while it takes all that it is handed.
 use Rattle.std.specs.Prelude.{◌≡◌, ℕ, ◌<◌, ◌≤◌, min, true, List, [], ◌∷◌, ◌++◌, length}
 use Rattle.daide_frame.specs.declared.side.Side.{Side}
-use Rattle.daide_machine.specs.Wires.{Gateway, waiting, same_side, bytes_of}
+use Rattle.daide_machine.specs.Wires.{Gateway, waiting, same_side, bytes_of, first_len, parts_of}
+use Rattle.daide_traffic.specs.Fronts.{AreFresh}
 use Rattle.daide_session.specs.declared.ports.Put.TheVariants.{Took, Failed}
 use Rattle.daide_session.specs.Record.{PortAnswer, Clock, Pulled, Offered, taken}
 use Rattle.daide_session.specs.Turn.{Turn}
@@ -39,3 +40,25 @@ abbrev pub DueBytesGo : Type 0
 DueBytesGo = (side : Side) (turns : List (List PortAnswer)) (old new : Gateway) → AreTurns old turns new →
     EachTurnTakesSome side turns →
     min (length turns) (length (bytes_of (waiting old side))) ≤ length (taken_in side turns)
+
+-- a put to the wire toward a side takes all that it hands over
+abbrev pub TakesAll : Side → PortAnswer → Type 0
+TakesAll side (Clock popped) = Unit {0}
+TakesAll side (Pulled from buffer pull bytes) = Unit {0}
+TakesAll side (Offered to bytes (Took n)) = same_side side to ≡ true → n ≡ length bytes
+TakesAll side (Offered to bytes Failed) = same_side side to ≡ true → ⊥
+
+abbrev pub EachTakesAll : Side → List PortAnswer → Type 0
+EachTakesAll side [] = Unit {0}
+EachTakesAll side (answer ∷ answers) = TakesAll side answer × EachTakesAll side answers
+
+abbrev pub EachTurnTakesAll : Side → List (List PortAnswer) → Type 0
+EachTurnTakesAll side [] = Unit {0}
+EachTurnTakesAll side (answers ∷ turns) = EachTakesAll side answers × EachTurnTakesAll side turns
+
+-- While a wire takes all that it is handed, a frame of which nothing is gone yet is gone after six turns, whatever else
+-- the turns bring: an answer is handed over in six parts at most.
+abbrev pub FramesGo : Type 0
+FramesGo = (side : Side) (turns : List (List PortAnswer)) (old new : Gateway) → AreTurns old turns new →
+    EachTurnTakesAll side turns → AreFresh (parts_of old side) (waiting old side) → 6 ≤ length turns →
+    first_len (waiting old side) ≤ length (taken_in side turns)

@@ -33,13 +33,17 @@ pub data IsVerdictOfNext (limits : Limits) (came : List Came) (to : Side) (level
       limits.max_depth < depth_of (tokens_of own) + 1 → verdict ≡ Huh at →
       IsVerdictOfNext limits came to level body verdict
 
--- Of two gateways with the same limits and words, over any run of the one: each message that it sends toward the next,
--- its own answers too, has at the next such a verdict, by whatever level is noted for it there.
-abbrev pub TwoGatewaysInARow : Type 0
-TwoGatewaysInARow = (words : List Word) (limits : Limits) (events : List Event) (effects : List Effect)
+-- Of two gateways with the same limits and these words, over any run of the one: each message that it sends toward the
+-- next, its own answers too, has at the next such a verdict, by whatever level is noted for it there.
+abbrev pub InARowOver : List Word → Type 0
+InARowOver words = (limits : Limits) (events : List Event) (effects : List Effect)
     (new : SessionState) (run : Runs (opening limits) events effects new) →
-    are_accepted words ≡ true → limits.words ≡ grammar_words words → limits.cap ≤ longest_body → (to : Side) →
+    limits.words ≡ grammar_words words → limits.cap ≤ longest_body → (to : Side) →
     All (λ (sent : Sent). (body : List ℕ) (level : Level) (verdict : Verdict) → IsFrame Dm body sent.bytes →
     IsJudged limits (other to) level body verdict →
     IsVerdictOfNext limits (came_in (opening limits) events effects new run) to level body verdict)
     (sent_to to effects)
+
+-- So it is with all words that are accepted one after the other.
+abbrev pub TwoGatewaysInARow : Type 0
+TwoGatewaysInARow = (words : List Word) → are_accepted words ≡ true → InARowOver words

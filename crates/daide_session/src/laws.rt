@@ -3,10 +3,12 @@
 ghost use Rattle.daide_session.specs.Laws.{RelaysJoin, NewSessionsStand, HeadlinesJoin};
 ghost use Rattle.daide_session.specs.HubRuns.{SessionsAreApart, PortsComeBackApart, EachHasItsHeadline};
 ghost use Rattle.daide_session.specs.HubRuns.{OpenedSessionsStand};
-ghost use Rattle.daide_session.specs.Due.{DueBytesGo};
-ghost use Rattle.daide_session.specs.InARow.{TwoGatewaysInARow};
+ghost use Rattle.daide_session.specs.Due.{DueBytesGo, FramesGo};
+ghost use Rattle.daide_session.specs.InARow.{InARowOver, TwoGatewaysInARow};
+ghost use Rattle.daide_words.specs.Words.{words_of};
 
 use crate::ports::Ports;
+use daide_words::words::Words;
 
 /// What ports answered in two calls, one after the other, moves a session as if it were answered in one.
 pub fn relays_join()
@@ -44,8 +46,22 @@ pub fn two_gateways_in_a_row()
     ensures { TwoGatewaysInARow }
 {}
 
+/// So it is with the words of who holds `Words`, which are accepted.
+pub fn two_gateways_in_a_row_over(words: &Words)
+    ensures { InARowOver (words_of words.now) }
+{
+    words.are_accepted();
+    two_gateways_in_a_row();
+}
+
 /// While a wire takes one byte a put at least, as many bytes are gone after n turns as there were turns, or all that
 /// waited before them, whatever else the turns bring: so n waiting bytes are gone after n turns.
 pub fn due_bytes_go()
     ensures { DueBytesGo }
+{}
+
+/// While a wire takes all that it is handed, a frame of which nothing is gone yet is gone after six turns at most,
+/// whatever else the turns bring.
+pub fn frames_go()
+    ensures { FramesGo }
 {}

@@ -1,6 +1,6 @@
 use Rattle.daide_words.specs.Word.{grammar_words}
 use Rattle.daide_words.proofs.AcceptedCodes.{accepted_free}
-use Rattle.daide_gate.proofs.WordedRuns.{run_over}
+use Rattle.daide_session.proofs.WordedRuns.{run_over}
 use Rattle.daide_gate.proofs.laws.events_have_a_run_with_words.Goals as goal
 
 pub returns : goal.returns

@@ -8,7 +8,7 @@ use Rattle.daide_session.proofs.InARowLemmas.{all_next}
 use Rattle.daide_session.proofs.laws.two_gateways_in_a_row.Goals as goal
 
 pub returns : goal.returns
-returns c = λ words limits events effects new run accepted same small to.
+returns c = λ words accepted limits events effects new run same small to.
     all_next (grammar_words words) (accepted_free words accepted) limits same
     (came_in (opening limits) events effects new run) to (sent_to to effects)
     (only_messages limits events effects new run small to)
