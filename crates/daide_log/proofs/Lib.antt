@@ -9,5 +9,7 @@ pub mod HeadLemmas
 pub mod EventLemmas
 pub mod StepLemmas
 pub mod AloneLemmas
+pub mod OneReport
+pub mod SomeReport
 pub mod MatchLogFacts
 pub mod SevenLinesFacts
