@@ -2,15 +2,16 @@
 use Rattle.std.proofs.Common.{◌≡◌, ℕ, zero, suc, ◌+◌, ◌-◌, ◌<◌, ◌≤◌, Bool, true, false, List, [], ◌∷◌, ◌++◌, length, take, drop}
 use Rattle.std.proofs.Common.{Option, Some, None, Result, Ok, Err, refl, sym, ap, ◌∙◌, subst, arith, ◌⊎◌, inl, inr, append-nil, append_assoc}
 use Rattle.std.proofs.Common.{◌==◌, length-append, length-drop, length-take, get_or, add-one}
-use Rattle.std.proofs.lemmas.List.{drop-take, drop-drop, take-append-drop, length-take-le}
+use Rattle.std.proofs.lemmas.List.{drop-take, drop-drop, take-append-drop, take-take, length-take-le}
 use Rattle.std.proofs.lemmas.Bool.{eqb-true}
+use Rattle.std.specs.Prelude.{IfSome}
 use Rattle.std.proofs.Math.Seq.{take-append-add, take-length}
 use Rattle.std.specs.Io.KnownBytes.{Consumes, Keeps}
 use Rattle.daide_lines.specs.LogLine.{IsUnbroken, longest_line, most_lines, without_cr}
 use Rattle.daide_lines.specs.declared.fault.LogFault.{LogFault}
 use Rattle.daide_lines.specs.declared.fault.LogFault.TheVariants as Faults
 use Rattle.daide_lines.specs.declared.lines.Found.TheVariants.{Line, Last, End}
-use Rattle.daide_lines.specs.Lines.{Reads, Scans, HasMore, IsFound, block_size}
+use Rattle.daide_lines.specs.Lines.{Reads, Scans, HasMore, IsFound, IsHeldLine, IsLineEnd, block_size}
 
 pub unbroken_append : (a b : List ℕ) → IsUnbroken a → IsUnbroken b → IsUnbroken (a ++ b)
 unbroken_append [] b h k = k
@@ -323,3 +324,31 @@ part_scanned held text k rest after fits room unbroken left grown few = (
         let some = ap length e ∙ length-drop k held in
         let whole = room (omega arith) in
         omega (arith, some, whole)
+
+-- ---- a line that is held whole
+
+pub held_whole : (held : List ℕ) (k count : ℕ) (end : Option ℕ) → k ≤ length held → k ≤ 2101 → count < most_lines →
+    IsLineEnd (take k held) end → IfSome end (IsHeldLine held count)
+unfolding line_scanned
+held_whole held k count None fits few fewer e = tt
+held_whole held k count (Some n) fits few fewer e =
+    let s = line_scanned held [] k n (drop (n + 1) held) (take n (take k held)) fits (omega arith) e.0 e.1 e.2 refl refl in
+    let size : length (take k held) ≡ k = length-take-le k held fits in
+    let same : take n (take k held) ≡ take n held = take-take n k held (omega (arith, e.0, size)) in (
+      omega (arith, e.0, size),
+      subst IsUnbroken same e.1,
+      s.1 ∙ ap (λ (l : List ℕ). l ++ 10 ∷ drop (n + 1) held) same,
+      omega (arith, e.0, size),
+      fewer,
+    )
+
+pub found_held : (old : Option (List ℕ)) (held : List ℕ) (count n : ℕ) → IsHeldLine held count n →
+    IsFound old held count (Ok Line) (without_cr (take n held)) old (drop (n + 1) held)
+found_held old held count n h = (
+  take n held,
+  ([], consumes_none old, append-nil held ∙ h.2 ∙ sym (append_assoc (take n held) (10 ∷ []) (drop (n + 1) held))),
+  h.1,
+  omega (arith, h.0, h.3, length-take-le n held (omega (arith, h.0))),
+  h.4,
+  refl,
+)

@@ -65,6 +65,12 @@ IsLineEnd bytes None = IsUnbroken bytes
 IsLineEnd bytes (Some n) =
     (n < length bytes) × IsUnbroken (take n bytes) × (bytes ≡ take n bytes ++ 10 ∷ drop (n + 1) bytes)
 
+-- The next line, behind so many, lies whole in what is held: it has so many bytes, and then its line feed.
+abbrev pub IsHeldLine : List ℕ → ℕ → ℕ → Type 0
+IsHeldLine held count n =
+    (n < length held) × IsUnbroken (take n held) × (held ≡ take n held ++ 10 ∷ drop (n + 1) held) × (n ≤ longest_line)
+    × (count < most_lines)
+
 -- What was held of a line went behind the text: all up to its line feed, or all that was held, or as much as makes the
 -- text too long; less than a block is then left, as a byte of a line that was short went.
 abbrev pub Scans : List ℕ → List ℕ → Bool → List ℕ → List ℕ → Type 0

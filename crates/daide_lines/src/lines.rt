@@ -1,9 +1,9 @@
 //! The lines of a log, one after the other.
 
-ghost use Rattle.std.specs.Prelude.{◌≡◌, ◌≢◌, ◌+◌, ◌≤◌, [], drop, length, take, true, OnOk, IfErr};
+ghost use Rattle.std.specs.Prelude.{◌≡◌, ◌≢◌, ◌+◌, ◌≤◌, [], drop, length, take, true, OnOk, IfErr, IfSome};
 ghost use Rattle.std.specs.Io.KnownBytes.{Keeps, append_known};
-ghost use Rattle.daide_lines.specs.LogLine.{IsUnbroken, most_lines, without_cr};
-ghost use Rattle.daide_lines.specs.Lines.{IsFound, IsLineEnd, Scans, HasMore, Reads};
+ghost use Rattle.daide_lines.specs.LogLine.{IsUnbroken, most_lines, without_cr as left_of_cr};
+ghost use Rattle.daide_lines.specs.Lines.{IsFound, IsHeldLine, IsLineEnd, Scans, HasMore, Reads};
 
 use crate::block::Block;
 use crate::fault::LogFault;
@@ -15,7 +15,7 @@ use std::io::{Read, Write};
 const MOST_LINES: u32 = 1_000_000;
 
 /// How many bytes are looked at together.
-const TOGETHER: usize = 32;
+const TOGETHER: usize = 64;
 
 /// What stands next in a log.
 #[derive(Clone, Copy)]
@@ -82,7 +82,8 @@ fn unbroken_front(bytes: &[u8]) -> usize
     ensures unbroken { IsUnbroken (take result bytes.now) }
 {
     let blocks = unbroken_blocks(bytes);
-    let sixteen = past_unbroken(bytes, blocks, 16);
+    let thirty_two = past_unbroken(bytes, blocks, 32);
+    let sixteen = past_unbroken(bytes, thirty_two, 16);
     let eight = past_unbroken(bytes, sixteen, 8);
     past_unbroken(bytes, eight, 4)
 }
@@ -97,6 +98,28 @@ fn line_end(bytes: &[u8]) -> Option<usize>
         }
     }
     None
+}
+
+/// Where the next line ends, behind so many lines, if all of it is held: it is judged where it lies.
+pub fn held_line(block: &Block, count: u32) -> Option<usize>
+    requires { count ≤ most_lines }
+    ensures { IfSome result (IsHeldLine block.now count) }
+{
+    if count == MOST_LINES {
+        return None;
+    }
+    let held = block.as_slice();
+    line_end(&held[..held.len().min(TOO_LONG)])
+}
+
+/// A line without the carriage return at its end.
+pub fn without_cr(line: &[u8]) -> &[u8]
+    ensures { result.now ≡ left_of_cr line.now }
+{
+    match line.strip_suffix(b"\r") {
+        Some(front) => front,
+        None => line,
+    }
 }
 
 /// Takes what is held of a line: up to its line feed, or all, or as much as makes it too long. Answers whether its
@@ -124,7 +147,7 @@ fn scan(block: &mut Block, text: &mut Text) -> bool
 
 /// Drops a carriage return from the end of a line.
 fn drop_cr(text: &mut Text)
-    ensures { text.new.items ≡ without_cr text.old.items }
+    ensures { text.new.items ≡ left_of_cr text.old.items }
 {
     if text.as_slice().strip_suffix(b"\r").is_some() {
         text.pop();

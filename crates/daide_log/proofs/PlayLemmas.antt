@@ -22,31 +22,6 @@ use Rattle.daide_log.specs.Report.{Entry, move_line, entries_of, lines_of, count
 use Rattle.daide_log.specs.Told.{HasRoom, IsMoreBy, IsIdle, IsOneMove, Moves, Tells, told_lines}
 use Rattle.daide_log.proofs.OneMove.{one_move_a_piece, one_move_a_timer}
 
--- ---- the answers
-
--- what waits for a wire is being taken: its first frame has so many bytes, and nothing else changed
-pub record IsTaking (old : Gateway) (side : Side) (new : Gateway) (count : ℕ) : Type 0 where
-  pub state : new.state ≡ old.state
-  pub other_wire : waiting new (other side) ≡ waiting old (other side)
-  pub counted : count ≡ first_len (waiting new side)
-  pub none : count ≡ 0 → waiting new side ≡ []
-
-first_fits : (frames : List Sent) → first_len frames ≤ length (bytes_of frames)
-first_fits [] = omega arith
-first_fits (frame ∷ frames) = omega (arith, length-append frame.bytes (bytes_of frames))
-
-pub taking_fits : (old new : Gateway) (side : Side) (count : ℕ) → IsTaking old side new count →
-    count ≤ first_len (waiting new side)
-taking_fits old new side count t = omega (arith, t.counted)
-
-pub taking_fits_all : (old new : Gateway) (side : Side) (count : ℕ) → IsTaking old side new count →
-    count ≤ length (bytes_of (waiting new side))
-taking_fits_all old new side count t = omega (arith, t.counted, first_fits (waiting new side))
-
-pub all_taken : (old new : Gateway) (side : Side) (count : ℕ) → IsTaking old side new count → count ≡ 0 →
-    waiting new side ≡ []
-all_taken old new side count t e = t.none e
-
 -- ---- one piece
 
 pub room_is_missing : (g : Gateway) (side : Side) (n : ℕ) → n ≤ room_of g side →

@@ -21,7 +21,7 @@ use crate::report::Summary;
 use daide_lines::block::Block;
 use daide_lines::event_line::MOST;
 use daide_lines::fault::LogFault;
-use daide_lines::lines::{Found, next_line};
+use daide_lines::lines::{Found, held_line, next_line, without_cr};
 use daide_lines::page::{Page, hand_over};
 use daide_lines::text::Text;
 use daide_session::Session;
@@ -90,6 +90,24 @@ fn play<A: Allocator, R: Read, W: Write>(
     let mut bytes = [0; MOST];
     let mut count = lines;
     'lines: loop {
+        if let Some(end) = held_line(block, count) {
+            let line = without_cr(&block.as_slice()[..end]);
+            count += 1;
+            if let Err(fault) = judge_line(
+                version,
+                sessions,
+                line,
+                count,
+                &mut bytes,
+                &mut summary,
+                page,
+                writer,
+            ) {
+                return Err(fault);
+            }
+            block.skip(end + 1);
+            continue;
+        }
         let found = match next_line(block, text, count, page, reader, writer) {
             Ok(found) => found,
             Err(fault) => return Err(fault),

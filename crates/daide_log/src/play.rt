@@ -1,11 +1,11 @@
 //! A session of a log, by the lines behind the head.
 
-ghost use Rattle.std.specs.Prelude.{◌≡◌, ◌≤◌, ℕ, List, [], ◌∷◌, length, OnOk, IfErr};
+ghost use Rattle.std.specs.Prelude.{◌≡◌, ◌≤◌, List, ◌∷◌, [], length, OnOk, IfErr};
 ghost use Rattle.std.specs.Io.KnownBytes.{Appends, append_known};
 ghost use Rattle.daide_frame.specs.declared.side.Side.{Side};
-ghost use Rattle.daide_machine.specs.Events.{Event, Ends, Pops, bytes_come, other as opposite};
+ghost use Rattle.daide_machine.specs.Events.{Event, Ends, Pops, bytes_come};
 ghost use Rattle.daide_machine.specs.Machine.{Effect, Runs};
-ghost use Rattle.daide_machine.specs.Wires.{waiting, room_of};
+ghost use Rattle.daide_machine.specs.Wires.{room_of};
 ghost use Rattle.daide_log.specs.Report.{counted};
 ghost use Rattle.daide_log.specs.Told.{HasRoom, IsMoreBy, IsIdle, Moves, Tells, told_lines};
 
@@ -18,26 +18,13 @@ use daide_session::Session;
 use std::alloc::Allocator;
 use std::io::Write;
 
-/// Takes all that waits for a wire, by whole frames.
-fn take_waiting<A: Allocator>(session: &mut Session<A>, side: Side)
-    ensures state { session.new.state ≡ session.old.state }
-    ensures gone { waiting session.new side ≡ [] }
-    ensures other_wire { waiting session.new (opposite side) ≡ waiting session.old (opposite side) }
-{
-    let mut taken = session.first_len(side);
-    while taken > 0 {
-        session.wrote(side, taken);
-        taken = session.first_len(side);
-    }
-}
-
-/// Takes all that waits for both wires.
+/// Drops all that waits for both wires.
 fn take_answers<A: Allocator>(session: &mut Session<A>)
     ensures state { session.new.state ≡ session.old.state }
     ensures idle { IsIdle session.new }
 {
-    take_waiting(session, Side::Bot);
-    take_waiting(session, Side::Server);
+    session.drop_waiting(Side::Bot);
+    session.drop_waiting(Side::Server);
 }
 
 /// Feeds a side's next bytes, for which there is room, and takes the answers. Where nothing is told, nothing was

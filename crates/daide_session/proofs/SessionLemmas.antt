@@ -26,7 +26,7 @@ use Rattle.daide_words.specs.Word.{grammar_words}
 use Rattle.daide_traffic.specs.Inbound.{Rules}
 use Rattle.daide_traffic.specs.Traffic.{Traffic, IsQuiet, is_end, has_end}
 use Rattle.daide_machine.specs.Config.{limits_with}
-use Rattle.daide_session.specs.Session.{IsStanding, state_of, gateway_of}
+use Rattle.daide_session.specs.Session.{IsStanding, state_of, gateway_of, Dropped}
 use Rattle.daide_session.specs.Reaction.{Moves, stopped}
 use Rattle.daide_session.proofs.MovesLemmas.{waiting_at}
 use Rattle.daide_session.proofs.OpenRuns.{run_sends, has_end-append}
@@ -130,6 +130,23 @@ standing_wrote g n side k w standing = record {
     by_wire Bot Server e f h = rw f (h Server)
     by_wire Server Bot e f h = rw f (h Bot)
     by_wire Server Server e f h = rw e (has_end-without k (waiting g Server) (h Server))
+
+pub standing_dropped : (g n : Gateway) (side : Side) → Dropped g side n → IsStanding g → IsStanding n
+standing_dropped g n side d standing = record {
+  wanted = λ live. rw d.same_state (standing.wanted (before live));
+  no_end = λ live wire. by_wire side wire d.dropped d.other_wire (standing.no_end (before live));
+}
+  where
+    before : is_over n.state.phase ≡ false → is_over g.state.phase ≡ false
+    before live = ap (λ (s : SessionState). is_over s.phase) (sym d.same_state) ∙ live
+
+    by_wire : (side wire : Side) → waiting n side ≡ [] →
+        waiting n (other side) ≡ waiting g (other side) → ((one : Side) → has_end (waiting g one) ≡ false) →
+        has_end (waiting n wire) ≡ false
+    by_wire Bot Bot e f h = rw e refl
+    by_wire Bot Server e f h = rw f (h Server)
+    by_wire Server Bot e f h = rw f (h Bot)
+    by_wire Server Server e f h = rw e refl
 
 -- ---- a new session
 

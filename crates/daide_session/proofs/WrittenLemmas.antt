@@ -15,7 +15,7 @@ use Rattle.daide_traffic.specs.Both.{Both, at, put}
 use Rattle.daide_traffic.specs.Traffic.{Traffic, Arrival}
 use Rattle.daide_traffic.specs.Traffic.{LetsGo as LetsTrafficGo}
 use Rattle.daide_traffic.proofs.BothLemmas.{at_put, put_there}
-use Rattle.daide_session.specs.Session.{state_of, gateway_of}
+use Rattle.daide_session.specs.Session.{state_of, gateway_of, Dropped}
 use Rattle.daide_session.specs.Work.{HoldsNoMore}
 use Rattle.daide_session.specs.Reaction.{Moves, KeepsSides, stopped}
 use Rattle.daide_session.proofs.MovesLemmas.{waiting_at}
@@ -121,6 +121,18 @@ wrote_of t v s side n l wait bytes = record {
   other_wire = waiting_at v s (other side)
       ∙ (ap (λ (w : Both (List Sent)). at w (other side)) wait
       ∙ (put_there t.waiting side (without n (at t.waiting side)) ∙ sym (waiting_at t s (other side))));
+  held = lets_go t t v s s (λ one. refl) refl l;
+}
+
+pub dropped_of : (t v : Traffic) (s : Stage) (side : Side) → LetsTrafficGo t v → v.waiting ≡ put t.waiting side [] →
+    Dropped (gateway_of t s) side (gateway_of v s)
+dropped_of t v s side l wait = record {
+  same_state = gone_state t v s l;
+  dropped = waiting_at v s side
+      ∙ (ap (λ (w : Both (List Sent)). at w side) wait ∙ at_put t.waiting side []);
+  other_wire = waiting_at v s (other side)
+      ∙ (ap (λ (w : Both (List Sent)). at w (other side)) wait
+      ∙ (put_there t.waiting side [] ∙ sym (waiting_at t s (other side))));
   held = lets_go t t v s s (λ one. refl) refl l;
 }
 

@@ -7,7 +7,8 @@ use Rattle.daide_grammar.specs.declared.level.Level.TheVariants.{L0}
 use Rattle.daide_machine.specs.declared.phase.Phase.{Phase}
 use Rattle.daide_machine.specs.declared.phase.Phase.TheVariants.{WaitIm, WaitRm, Open, Over}
 use Rattle.daide_machine.specs.Machine.{SessionState, coming, is_over}
-use Rattle.daide_machine.specs.Wires.{Gateway, waiting}
+use Rattle.daide_machine.specs.Events.{other}
+use Rattle.daide_machine.specs.Wires.{Gateway, waiting, LetsGo}
 use Rattle.daide_machine.specs.declared.config.Config.{Config}
 use Rattle.daide_session.specs.declared.session.SessionError.{SessionError}
 use Rattle.daide_session.specs.declared.session.SessionError.TheVariants as Errors
@@ -59,6 +60,15 @@ pub record IsStanding (g : Gateway) : Type 0 where
   pub wanted : is_over g.state.phase ≡ false → (side : Side) →
       0 < missing g.state.limits.cap (coming g.state side).pending
   pub no_end : is_over g.state.phase ≡ false → (wire : Side) → has_end (waiting g wire) ≡ false
+
+-- ---- what is dropped
+
+-- nothing waits for a wire any more, and nothing else changed of the state and the wires
+pub record Dropped (old : Gateway) (side : Side) (new : Gateway) : Type 0 where
+  pub same_state : new.state ≡ old.state
+  pub dropped : waiting new side ≡ []
+  pub other_wire : waiting new (other side) ≡ waiting old (other side)
+  pub held : LetsGo old new
 
 -- ---- refusals
 

@@ -8,6 +8,6 @@ loop-i-preserved c =
     let v = c.args.bytes.now in
     let i = c.loop-i.i in (
       omega (arith, c.loop-i-test.true),
-      subst (λ (l : List ℕ). IsUnbroken l) (sym (take-further v i 32 c.loop-i.invariant.0))
-          (unbroken_append (take i v) (take 32 (drop i v)) c.loop-i.invariant.1 (c.are_unbroken.ensures c.if-not-are_unbroken.false)),
+      subst (λ (l : List ℕ). IsUnbroken l) (sym (take-further v i 64 c.loop-i.invariant.0))
+          (unbroken_append (take i v) (take 64 (drop i v)) c.loop-i.invariant.1 (c.are_unbroken.ensures c.if-not-are_unbroken.false)),
     )
