@@ -1,5 +1,5 @@
 -- How a session's parts stand for its value, and what holds of it between calls.
-use Rattle.std.specs.Prelude.{◌≡◌, ◌<◌, false, Ok, Err}
+use Rattle.std.specs.Prelude.{◌≡◌, ◌<◌, [], false, Ok, Err}
 use Rattle.daide_frame.specs.declared.side.Side.{Side}
 use Rattle.daide_frame.specs.Frames.{missing}
 use Rattle.daide_grammar.specs.declared.level.Level.{Level}
