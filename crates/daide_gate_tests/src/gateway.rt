@@ -465,43 +465,6 @@ fn second_address_is_listened_on(rt: HostRuntime) -> Result<(), Fail> {
     holds(brought_both(&rt, &server)?, "both frames")
 }
 
-/// A frame of a type that there is none of, and more than a socket holds.
-const UNKNOWN: &[u8] = &[5; 20_000];
-
-/// The run ends once the last socket is closed in its stages: what its last bot sent and nobody read resets nothing.
-#[test]
-fn run_ends_without_a_reset(rt: HostRuntime) -> Result<(), Fail> {
-    let server = TcpListener::bind(&rt, any_port())?;
-    let to = server.local_addr()?.to_string(rt.alloc())?;
-    let at = TcpListener::bind(&rt, any_port())?
-        .local_addr()?
-        .to_string(rt.alloc())?;
-    let (listen, to) = (at.as_str(), to.as_str());
-    let settings = format!(in rt.alloc(); "listen = '{listen}'\nserver = '{to}'")?;
-    let mut output = Announced {
-        rt: &rt,
-        gate: listen,
-        says: UNKNOWN,
-        text: Vec::new(rt.alloc()),
-        bot: None,
-    };
-    let mut errors = Vec::new(rt.alloc());
-    holds(
-        run_text(&rt, settings.as_str(), &mut output, &mut errors) == Ok(()),
-        "the run",
-    )?;
-    let Some(mut bot) = output.bot.take() else {
-        return Err(Fail::new("no bot"));
-    };
-    let mut heard = Vec::new(rt.alloc());
-    bot.read_to_end(&mut heard)?;
-    let is_alone = bot.take_error()?.is_none();
-    holds(
-        heard.as_slice() == EM_08 && is_alone,
-        "its EM, the end, and no reset",
-    )
-}
-
 /// Nothing can be listened on there, and nothing is printed.
 fn cannot_listen(rt: &HostRuntime, listen: &str) -> Result<(), Fail> {
     let settings = format!(in rt.alloc(); "listen = '{listen}'\nserver = '127.0.0.1:1'")?;

@@ -1,12 +1,11 @@
-//! Sockets over streams in memory that take what a row lets them: what is written when, when one that closes is closed,
-//! and after how many turns the system is asked.
+//! Sockets over streams in memory that take what a row lets them: what is written when, and after how many turns
+//! the system is asked.
 
 ghost use Rattle.std.specs.Prelude.{◌≤◌, IfOk};
 
 use crate::stage::any_port;
 use crate::wires::Step::{Idles, Puts, Turns};
 use daide_frame::side::Side;
-use daide_sockets::closing::Closings;
 use daide_sockets::ports::{Socket, SocketPorts};
 use daide_sockets::watch::{Flags, Place, Watch};
 use daide_sockets::{Interest, TcpListener};
@@ -90,27 +89,6 @@ impl Duplex for End<'_> {
 
     fn end_writing(&mut self) {
         self.0.is_ended.set(true);
-    }
-}
-
-/// A clock that a row sets, in milliseconds from some moment on.
-#[derive(Drop)]
-struct Set<'a> {
-    rt: &'a HostRuntime,
-    begun: Duration,
-    millis: Cell<u64>,
-}
-
-impl Clock for Set<'_> {
-    fn monotonic(&self) -> io::Result<Duration> {
-        Ok(
-            self.begun
-                .saturating_add(Duration::from_millis(self.millis.get())),
-        )
-    }
-
-    fn since_1970(&self) -> io::Result<Duration> {
-        self.rt.since_1970()
     }
 }
 
@@ -319,135 +297,6 @@ fn failed_flush_is_told_by_the_next_put(rt: HostRuntime) -> Result<(), Fail> {
     socket.flush();
     holds(!socket.stream.is_behind(), "nothing may be written")?;
     same(&socket.put(b"d"), &Put::Failed, &"the failure")
-}
-
-/// A step of a socket that closes: so many milliseconds pass, it takes so many bytes more, and is gone on with; how many
-/// bytes it took then; whether its writing is ended, whether it may go on at once, and whether it is closed.
-type Closes = (u64, usize, usize, (bool, bool, bool));
-
-/// Three bytes are held: they are waited for, and then a second for the peer's end.
-const CLOSES: &[Closes] = &[
-    (0, 0, 0, (false, false, false)),
-    (2_000, 0, 0, (false, false, false)),
-    (2_000, 2, 2, (false, false, false)),
-    (2_000, 1, 3, (true, true, false)),
-    (900, 0, 3, (true, false, false)),
-    (200, 0, 3, (true, false, true)),
-];
-
-/// Steps of one, with the flags of its row.
-fn closes<'w>(
-    (watch, clock): (&Watch<&Set<'_>>, &Set<'_>),
-    closings: &mut Closings<'w, End<'_>>,
-    (wire, flags): (&Wire, &Flags),
-) -> Result<(), Fail> {
-    for (row, (millis, room, took, (is_ended, is_ready, is_closed))) in CLOSES.iter().enumerate() {
-        clock.millis.set(clock.millis.get().saturating_add(*millis));
-        watch.wait();
-        wire.room.set(*room);
-        flags.note(true, true);
-        closings.advance(watch);
-        same(
-            &(wire.took.get(), wire.is_ended.get()),
-            &(*took, *is_ended),
-            &row,
-        )?;
-        let goes_on = (closings.is_ready(), closings.is_empty());
-        same(&goes_on, &(*is_ready, *is_closed), &row)?;
-        same(&flags.due.get().is_some(), is_ended, &row)?;
-    }
-    Ok(())
-}
-
-/// A socket over this wire that holds three bytes, and that waited for a moment that is long over.
-fn holding<'w, 'a>(
-    watch: &'w Watch<&Set<'_>>,
-    wire: &'a Wire,
-    place: Place<'w>,
-) -> Socket<'w, End<'a>> {
-    place.flags.due.set(watch.after(Duration::ZERO));
-    let mut socket = Socket::over(watch, End(wire), place);
-    let _ = socket.put(b"abc");
-    socket
-}
-
-/// What a socket holds is waited for, and its end for a second; until it is written, no moment is.
-#[test]
-fn closing_socket_writes_what_it_holds(rt: HostRuntime) -> Result<(), Fail> {
-    let clock = Set {
-        rt: &rt,
-        begun: rt.monotonic()?,
-        millis: Cell::new(0),
-    };
-    let mut doors = (
-        TcpListener::bind(&rt, any_port())?,
-        TcpListener::bind(&rt, any_port())?,
-    );
-    let watch = Watch::new(rt.alloc(), &clock, &rt, 2)?;
-    let place = row_for(&watch, &mut doors.0)?;
-    // A moment that is over makes each wait a look.
-    let over = row_for(&watch, &mut doors.1)?;
-    over.flags.due.set(watch.after(Duration::ZERO));
-    let wire = Wire::new(0);
-    let flags = place.flags;
-    let mut closings = Closings::new(rt.alloc())?;
-    closings.begin(&watch, holding(&watch, &wire, place));
-    holds(flags.due.get().is_none(), "no moment is waited for")?;
-    closes((&watch, &clock), &mut closings, (&wire, flags))
-}
-
-/// Two sockets close; the second's writing fails, and it is closed at its end. The first goes on.
-#[test]
-fn one_closes_before_another(rt: HostRuntime) -> Result<(), Fail> {
-    let mut doors = (
-        TcpListener::bind(&rt, any_port())?,
-        TcpListener::bind(&rt, any_port())?,
-    );
-    let clock = Set {
-        rt: &rt,
-        begun: rt.monotonic()?,
-        millis: Cell::new(0),
-    };
-    let watch = Watch::new(rt.alloc(), &clock, &rt, 3)?;
-    let places = (
-        row_for(&watch, &mut doors.0)?,
-        row_for(&watch, &mut doors.1)?,
-    );
-    let flags = (places.0.flags, places.1.flags);
-    let wires = (Wire::new(0), Wire::new(0));
-    wires.1.fails.set(true);
-    let mut closings = Closings::new(rt.alloc())?;
-    closings.begin(&watch, holding(&watch, &wires.0, places.0));
-    closings.begin(&watch, holding(&watch, &wires.1, places.1));
-    closes_second((&watch, &clock), &mut closings, (&wires.0, flags))
-}
-
-/// Goes on with both for two seconds, and then lets the first write what it holds.
-fn closes_second(
-    (watch, clock): (&Watch<&Set<'_>>, &Set<'_>),
-    closings: &mut Closings<'_, End<'_>>,
-    (wire, flags): (&Wire, (&Flags, &Flags)),
-) -> Result<(), Fail> {
-    for millis in 0..4 {
-        clock.millis.set(millis * 1_000);
-        flags.0.due.set(watch.after(Duration::ZERO));
-        watch.wait();
-        flags.0.due.set(None);
-        flags.1.note(true, true);
-        closings.advance(watch);
-    }
-    holds(
-        !closings.is_ready() && !closings.is_empty(),
-        "the second is closed alone",
-    )?;
-    wire.room.set(3);
-    flags.0.note(true, true);
-    closings.advance(watch);
-    same(
-        &(wire.took.get(), wire.is_ended.get()),
-        &(3, true),
-        &"the first",
-    )
 }
 
 /// A row that is taken anew knows nothing of the socket before.
