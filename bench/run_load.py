@@ -1,13 +1,13 @@
 #!/usr/bin/env python3
 """Measures a gateway at work over loopback, beside socat and haproxy in the same run:
 
-    bench/run_load.py PROGRAM [--before PROGRAM] [calls] [round-trip] [bulk] [memory] [busy] [hostile]
+    bench/run_load.py PROGRAM [--before PROGRAM] [calls] [round-trip] [bulk] [recorded] [memory] [busy] [hostile]
 
-PROGRAM is the built program, bin/daide-gate; one named with --before is measured beside it. Without further words all six
-are measured: calls of the system a frame; round trips; bulk at three sizes; memory of idle sessions and of used ones, and
-the processor of 256 idle ones; calm sessions beside 64 and 200 busy ones, and beside as many hostile ones. socat and
-haproxy are measured where they are installed, and calls where strace is. All bots and the server are played here; nothing
-leaves the machine.
+PROGRAM is the built program, bin/daide-gate; one named with --before is measured beside it. Without further words all
+seven are measured: calls of the system a frame; round trips; bulk at three sizes; bulk of 256 sessions at once, with a
+record of each and without; memory of idle sessions and of used ones, and the processor of 256 idle ones; calm sessions
+beside 64 and 200 busy ones, and beside as many hostile ones. socat and haproxy are measured where they are installed,
+calls where strace is, and records of PROGRAM alone. All bots and the server are played here; nothing leaves the machine.
 """
 
 import argparse
@@ -128,16 +128,17 @@ class Between:
 
 
 class Gateway(Between):
-    """A gateway, perhaps under a program that watches it."""
+    """A gateway, perhaps under a program that watches it, and perhaps with a record of each session."""
 
-    def __init__(self, program, watcher=()):
+    def __init__(self, program, watcher=(), is_recorded=False):
         super().__init__()
         path = self.written(
             "settings.toml",
             f'listen = "127.0.0.1:{self.port}"\nserver = "127.0.0.1:{self.server}"\n'
             "max_sessions = 256\nsessions = 1000000\nim_seconds = 3600\nturns = 1000000000000\n",
         )
-        self.begin([*watcher, program, "run", path], stdout=subprocess.PIPE)
+        words = ["--record", self.folder.name] if is_recorded else []
+        self.begin([*watcher, program, "run", *words, path], stdout=subprocess.PIPE)
         self.process.stdout.readline()
 
 
@@ -300,6 +301,60 @@ def measure_bulk(programs):
             return [transfer(bot, server, message, 64 << 20)]
 
         tell_beside(f"bulk, bodies of {size} bytes", medians(programs, speed), "MB/s")
+
+
+def send_to_all(bots, piece, size):
+    """Sends so many bytes to each of these, as each takes them."""
+    selector = selectors.DefaultSelector()
+    for bot in bots:
+        bot.setblocking(False)
+        selector.register(bot, selectors.EVENT_WRITE, [0])
+    while selector.get_map():
+        for key, _ in selector.select():
+            sent = key.data[0]
+            key.data[0] += key.fileobj.send(piece[sent % len(piece):][: size - sent])
+            if key.data[0] == size:
+                selector.unregister(key.fileobj)
+
+
+def transfer_at_once(between, message, size):
+    """Megabytes a second that 256 sessions pass on together, so many bytes each."""
+    held = [between.session() for _ in range(256)]
+    size -= size % len(message)
+    sender = os.fork()
+    if sender == 0:
+        send_to_all([bot for bot, _ in held], message * (size // len(message)), size)
+        os._exit(0)
+    began = time.perf_counter()
+    selector, buffer = selectors.DefaultSelector(), bytearray(1 << 18)
+    for _, server in held:
+        selector.register(server, selectors.EVENT_READ, [size])
+    while selector.get_map():
+        for key, _ in selector.select():
+            key.data[0] -= key.fileobj.recv_into(buffer)
+            if key.data[0] == 0:
+                selector.unregister(key.fileobj)
+    took = time.perf_counter() - began
+    os.waitpid(sender, 0)
+    for stream in (stream for ends in held for stream in ends):
+        stream.close()
+    return 256 * size / took / 1e6
+
+
+def measure_recorded(programs):
+    program = next(iter(programs.values()))
+    for size in (32, 4096):
+        message, found = frame(name_message(size)), {False: [], True: []}
+        for _ in range(5):
+            for is_recorded, speeds in found.items():
+                with Gateway(program, is_recorded=is_recorded) as gateway:
+                    speeds.append(transfer_at_once(gateway, message, 128 << 10))
+        plain, recorded = (statistics.median(found[key]) for key in (False, True))
+        print(
+            f"bulk of 256 sessions, bodies of {size} bytes: {plain:.4g} MB/s, recorded {recorded:.4g} MB/s,"
+            f" {recorded / plain:.2f} of it",
+            flush=True,
+        )
 
 
 def measure_memory(programs):
@@ -509,6 +564,7 @@ MEASURES = {
     "calls": measure_calls,
     "round-trip": measure_round_trip,
     "bulk": measure_bulk,
+    "recorded": measure_recorded,
     "memory": measure_memory,
     "busy": measure_busy,
     "hostile": measure_hostile,

@@ -80,6 +80,11 @@ const LINES: &[Row] = &[
     ("turns = 1000000000001", "turns out of range"),
     ("turns = 9223372036854775807", "turns out of range"),
     ("turns = {}", "wrong type for turns"),
+    ("idle_seconds = 0", ""),
+    ("idle_seconds = 86400", ""),
+    ("idle_seconds = 86401", "idle_seconds out of range"),
+    ("idle_seconds = -1", "idle_seconds out of range"),
+    ("idle_seconds = 0.5", "wrong type for idle_seconds"),
     ("top_level = 0x3C", ""),
     ("max_depth = 6_2", ""),
     ("turns = -1", "turns out of range"),
@@ -128,6 +133,10 @@ const WORDS: &[Row] = &[
 /// Whole lines with words, and their fault: words come last of all keys.
 const BESIDE_WORDS: &[Row] = &[
     ("turns = 0\nwords = 1", "turns out of range"),
+    (
+        "words = 1\nidle_seconds = 86401",
+        "idle_seconds out of range",
+    ),
     (
         "words = [ { name = \"XYZ\" } ]\nturns = 0",
         "turns out of range",
@@ -221,13 +230,18 @@ fn assert_settings(
     settings: &Settings,
     addresses: (&str, &str),
     limits: (Config, u32),
-    run: (usize, u32, u64),
+    run: (usize, u32, u64, u32),
     words: usize,
 ) -> Result<(), Fail> {
     let are_there = (settings.listen.as_str(), settings.server.as_str());
     same(&are_there, &addresses, &"addresses")?;
     same(&(settings.config, settings.im_seconds), &limits, &"limits")?;
-    let of_run = (settings.max_sessions, settings.sessions, settings.turns);
+    let of_run = (
+        settings.max_sessions,
+        settings.sessions,
+        settings.turns,
+        settings.idle_seconds,
+    );
     same(&of_run, &run, &"run")?;
     same(&settings.words.names().len(), &words, &"words")
 }
@@ -243,14 +257,14 @@ const DEFAULTS: Config = Config {
 fn two_addresses_give_the_defaults(rt: HostRuntime) -> Result<(), Fail> {
     let settings = read_settings(rt.alloc(), ADDRESSES)?;
     let addresses = ("127.0.0.1:16713", "127.0.0.1:16714");
-    let run = (16, 1, 1_000_000_000);
+    let run = (16, 1, 1_000_000_000, 0);
     assert_settings(&settings, addresses, (DEFAULTS, 30), run, 0)
 }
 
 /// Each key with a value of its own, the last one first.
 const EACH_KEY: &str =
     "words = [ { name = \"XYZ\", code = 0x4A40, slot = \"press\", level = 20, operand = \"power\" } ]\n\
-    turns = 7\nsessions = 6\nmax_sessions = 5\nim_seconds = 4\nmax_depth = 13\nmax_body = 1024\n\
+    idle_seconds = 8\nturns = 7\nsessions = 6\nmax_sessions = 5\nim_seconds = 4\nmax_depth = 13\nmax_body = 1024\n\
     top_level = 20\nserver = \"s\"\nlisten = \"l\"\n";
 
 /// The limits of a session there.
@@ -263,7 +277,7 @@ const OWN_LIMITS: Config = Config {
 #[test]
 fn each_key_sets_its_own_field(rt: HostRuntime) -> Result<(), Fail> {
     let settings = read_settings(rt.alloc(), EACH_KEY)?;
-    assert_settings(&settings, ("l", "s"), (OWN_LIMITS, 4), (5, 6, 7), 1)?;
+    assert_settings(&settings, ("l", "s"), (OWN_LIMITS, 4), (5, 6, 7, 8), 1)?;
     let word = Word {
         name: *b"XYZ",
         code: Token::from_code(0x4A40),

@@ -20,17 +20,18 @@ pub use daide_words::{Extended, Operand, Slot, Word, WordError, Words};
 pub use daide_reader::{Reader, Verdict};
 
 // A session, and what turns it.
-pub use daide_machine::{Config, ConfigError, Deed, Note, Phase};
+pub use daide_machine::{Config, ConfigError, Deed, Ending, Note, Phase};
 pub use daide_session::{Session, SessionError};
 pub use daide_turns::{
-    AddFault, Hub, HubError, Ports, Pull, Put, RelayEnd, exchange, hub, ports, relay, relaying,
-    turn,
+    AddFault, Hub, HubError, Ports, Pull, Put, RelayEnd, Removed, exchange, hub, ports, relay,
+    relaying, turn,
 };
 
 // What the program does with its input.
-pub use daide_log::{LogFault, Summary, check_log};
+pub use daide_log::{LogFault, Record, RecordEnd, Recording, Summary, check_log, record};
 pub use daide_service::{
-    Connect, Notice, ServeFault, Service, System, metered, serve, serving, system,
+    Cause, Connect, Notice, ServeFault, Service, SessionEnd, System, metered, serve, serving,
+    system,
 };
 pub use daide_settings::{Address, Key, Settings, SettingsError, read_settings, settings};
 pub use daide_show::{ShowFault, frame_view, show, show_with};

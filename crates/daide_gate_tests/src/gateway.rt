@@ -11,6 +11,7 @@ use daide_sockets::admission::Door;
 use daide_sockets::gateway::GatewayFault;
 use daide_sockets::watch::Watch;
 use daide_tests::rows::holds;
+use std::alloc::Global;
 use std::io;
 use std::io::{ErrorKind, Read, Write};
 use std::net::{Net, SocketAddr, TcpListener, TcpStream};
@@ -360,12 +361,13 @@ fn failed_accept_is_made_again(rt: HostRuntime) -> Result<(), Fail> {
 /// The initial and the final message.
 const IM_FM: &[u8] = b"\x00\x00\x00\x04\x00\x01\xda\x10\x03\x00\x00\x00";
 
-/// An output at whose first line a bot comes, which sends this and stays.
+/// An output at whose first line a bot comes, which sends this so many times and stays.
 #[derive(Drop)]
 struct Announced<'a, R: Net> {
     rt: &'a R,
     gate: &'a str,
     says: &'static [u8],
+    times: usize,
     text: Vec<u8>,
     bot: Option<R::Stream>,
 }
@@ -375,7 +377,9 @@ impl<R: Net> Write for Announced<'_, R> {
         self.text.extend_from_slice(bytes)?;
         if self.text.as_slice() == b"listening\n".as_slice() {
             let mut bot = TcpStream::connect(self.rt, self.gate)?;
-            bot.write_all(self.says)?;
+            for _ in 0..self.times {
+                bot.write_all(self.says)?;
+            }
             self.bot = Some(bot);
         }
         Ok(bytes.len())
@@ -386,27 +390,53 @@ impl<R: Net> Write for Announced<'_, R> {
     }
 }
 
-/// A run with a bot that comes once it listens: what it prints is one line, and nothing is told.
-fn serves_one<R: AllocGlobal + Clock + Net>(
+impl<R: Net> Announced<'_, R> {
+    /// The bot, if it came.
+    fn into_bot(self) -> Option<R::Stream> {
+        let Announced {
+            rt: _,
+            gate: _,
+            says: _,
+            times: _,
+            text: _,
+            bot,
+        } = self;
+        bot
+    }
+}
+
+/// A run with a bot that comes once it listens, and sends this so many times: what it prints is one line, and nothing is
+/// told. The bot is left.
+fn bot_of<R: AllocGlobal + Clock + Net>(
     rt: &R,
     (listen, at): (&str, &str),
     to: &str,
-) -> Result<(), Fail> {
+    (says, times): (&'static [u8], usize),
+) -> Result<Option<R::Stream>, Fail> {
     let settings = format!(in rt.alloc(); "listen = '{listen}'\nserver = '{to}'")?;
     let mut output = Announced {
         rt,
         gate: at,
-        says: IM_FM,
+        says,
+        times,
         text: Vec::new(rt.alloc()),
         bot: None,
     };
     let mut errors = Vec::new(rt.alloc());
-    let ended = run_text(rt, settings.as_str(), &mut output, &mut errors);
+    let ended = run_text(rt, settings.as_str(), false, &mut output, &mut errors);
     let is_quiet = errors.is_empty() && output.text.as_slice() == b"listening\n".as_slice();
-    holds(
-        ended == Ok(()) && is_quiet && output.bot.is_some(),
-        "the run",
-    )
+    holds(ended == Ok(()) && is_quiet, "the run")?;
+    Ok(output.into_bot())
+}
+
+/// The same of a bot that opens and ends its session.
+fn serves_one<R: AllocGlobal + Clock + Net>(
+    rt: &R,
+    listen: (&str, &str),
+    to: &str,
+) -> Result<(), Fail> {
+    let bot = bot_of(rt, listen, to, (IM_FM, 1))?;
+    holds(bot.is_some(), "the bot")
 }
 
 /// Whether a connection that waits at the server brought an IM and an FM.
@@ -465,12 +495,41 @@ fn second_address_is_listened_on(rt: HostRuntime) -> Result<(), Fail> {
     holds(brought_both(&rt, &server)?, "both frames")
 }
 
+/// Bytes of a type that there is none of.
+const UNKNOWN: &[u8] = &[5; 1024];
+
+/// What a bot hears until the end is its EM, and no reset comes.
+fn hears_its_em_alone(alloc: Global, bot: TcpStream) -> Result<(), Fail> {
+    let mut bot = bot;
+    bot.set_read_timeout(Some(Duration::from_secs(5)))?;
+    let mut heard = Vec::new(alloc);
+    bot.read_to_end(&mut heard)?;
+    let is_alone = bot.take_error()?.is_none();
+    holds(
+        heard.as_slice() == EM_08 && is_alone,
+        "its EM, the end, and no reset",
+    )
+}
+
+/// The run ends once the last socket is closed in its stages: what its last bot sent and nobody read resets nothing.
+#[test]
+fn run_ends_without_a_reset(rt: HostRuntime) -> Result<(), Fail> {
+    let server = TcpListener::bind(&rt, any_port())?;
+    let to = server.local_addr()?.to_string(rt.alloc())?;
+    let free = TcpListener::bind(&rt, any_port())?.local_addr()?;
+    let at = free.to_string(rt.alloc())?;
+    match bot_of(&rt, (at.as_str(), at.as_str()), to.as_str(), (UNKNOWN, 20))? {
+        Some(bot) => hears_its_em_alone(rt.alloc(), bot),
+        None => Err(Fail::new("no bot")),
+    }
+}
+
 /// Nothing can be listened on there, and nothing is printed.
 fn cannot_listen(rt: &HostRuntime, listen: &str) -> Result<(), Fail> {
     let settings = format!(in rt.alloc(); "listen = '{listen}'\nserver = '127.0.0.1:1'")?;
     let mut output = Vec::new(rt.alloc());
     let mut errors = Vec::new(rt.alloc());
-    let ended = run_text(rt, settings.as_str(), &mut output, &mut errors);
+    let ended = run_text(rt, settings.as_str(), false, &mut output, &mut errors);
     let is_silent = output.is_empty() && errors.is_empty();
     holds(
         ended == Err(RunFault::Gateway(GatewayFault::Listen)) && is_silent,

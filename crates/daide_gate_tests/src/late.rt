@@ -1,6 +1,6 @@
 //! A server that accepts late, and small writes.
 
-use crate::gateway::{EM_01, IM, check};
+use crate::gateway::{EM_01, FM, IM, check};
 use crate::stage::Act::{Comes, Empties, Hears, HearsEnd, Meets, Passes, Says};
 use crate::stage::Who::{Bot, Server};
 use crate::stage::{Act, any_port, run_towards};
@@ -48,6 +48,28 @@ fn late_server_leaves_the_im_no_more_time(rt: HostRuntime) -> Result<(), Fail> {
     let server = full_listener(&rt)?;
     let report = run_towards(&rt, "im_seconds = 1", IS_MET_LATE, (server, 15_000))?;
     check(&report, "")
+}
+
+/// The server's queue is full until the first of two bots was told that it is given up, and then takes the second.
+const FIRST_IS_GIVEN_UP: &[Act] = &[
+    Comes,
+    Passes(800),
+    Comes,
+    HearsEnd(Bot(0)),
+    Empties,
+    Meets,
+    Says(Bot(1), IM),
+    Hears(Server(0), IM),
+    Says(Bot(1), FM),
+    Hears(Server(0), FM),
+];
+
+/// Each bot's connect has its own time: one that is given up doesn't wait for those that came later.
+#[test]
+fn each_connect_has_its_own_time(rt: HostRuntime) -> Result<(), Fail> {
+    let server = full_listener(&rt)?;
+    let report = run_towards(&rt, "sessions = 2", FIRST_IS_GIVEN_UP, (server, 1_500))?;
+    check(&report, "daide-gate: cannot reach the server\n")
 }
 
 /// The most waits until a bot is joined with the server.

@@ -22,7 +22,11 @@ mod runs;
 #[cfg(test)]
 mod runtimes;
 #[cfg(test)]
+mod session_lines;
+#[cfg(test)]
 mod settings;
+#[cfg(test)]
+mod silence;
 #[cfg(test)]
 mod stage;
 #[cfg(test)]

@@ -20,6 +20,7 @@ use std::{fs, io};
 const FAULTS: &[(RunFault, &str)] = &[
     (RunFault::Unreadable, "settings could not be read"),
     (RunFault::Memory, "out of memory"),
+    (RunFault::Record, "record could not be written"),
     (RunFault::Settings(SettingsError::Memory), "out of memory"),
     (RunFault::Gateway(GatewayFault::Listen), "cannot listen"),
     (RunFault::Gateway(GatewayFault::Memory), "out of memory"),
@@ -48,6 +49,9 @@ const RUNS: &str = "\
 run settings-without-port | | | cannot listen | 1
 run settings-with-a-typo | | | unknown key | 1
 run no-such-file | | | settings could not be read | 1
+run --record no-such-folder no-such-file | | | settings could not be read | 1
+run --record no-such-folder settings-without-port | | | record could not be written | 1
+run --verbose --record . settings-without-port | | | cannot listen | 1
 ";
 
 #[test]

@@ -227,10 +227,13 @@ show --help | The exit status is 0 where the frame would be relayed and 3 where 
 check --help | Usage: daide-gate check | 0
 help check | The exit status is 0 where no message got PRN or HUH and there was no fault, and else 3. | 0
 check log | error: unexpected argument 'log' found | 2
-run --help | Usage: daide-gate run <SETTINGS> | 0
+run --help | Usage: daide-gate run [OPTIONS] <SETTINGS> | 0
+run --help | --verbose          Tell where each session begins, and how it ended, on standard error | 0
+run --help | --record <FOLDER>  The folder in which a log of each session is kept | 0
 help run | The exit status is 0 once all bots were served, and 1 where no bot can be. | 0
 run | error: the following required arguments were not provided: | 2
 run a b | error: unexpected argument 'b' found | 2
+run --record | error: a value is required for '--record <FOLDER>' but none was supplied | 2
 tell | error: unrecognized subcommand 'tell' | 2
 --side bot | error: unexpected argument '--side' found | 2
 show more | error: unexpected argument 'more' found | 2

@@ -1,11 +1,15 @@
-//! Sockets over streams in memory that take what a row lets them: what is written when, and after how many turns
-//! the system is asked.
+//! Sockets over streams in memory that take what a row lets them: what is written when, when one that closes is closed,
+//! and after how many turns the system is asked.
+//!
+//! All have rows of one small table that reads a clock of its own, and a stream is owned by its socket: what is seen of a
+//! socket that closes are the flags of its row.
 
-ghost use Rattle.std.specs.Prelude.{◌≤◌, IfOk};
+ghost use Rattle.std.specs.Prelude.{◌≡◌, IfOk};
 
 use crate::stage::any_port;
 use crate::wires::Step::{Idles, Puts, Turns};
 use daide_frame::side::Side;
+use daide_sockets::closing::Closings;
 use daide_sockets::ports::{Socket, SocketPorts};
 use daide_sockets::watch::{Flags, Place, Watch};
 use daide_sockets::{Interest, TcpListener};
@@ -13,58 +17,70 @@ use daide_streams::duplex::Duplex;
 use daide_streams::readiness::Readiness;
 use daide_tests::rows::{holds, same};
 use daide_turns::ports::{Ports, Pull, Put};
-use std::alloc::Global;
 use std::cell::Cell;
 use std::io;
 use std::io::ErrorKind;
-use std::net::{Net, TcpStream};
+use std::net::{SocketAddr, TcpStream};
 use std::rt::Clock;
 use std::test::Fail;
 use std::time::Duration;
 
-/// What a stream in memory takes and gives, as a row sets it, and what was done with it.
+/// A clock by which so many milliseconds pass between two looks at it.
+const STEP: u64 = 400;
+
+/// A clock that counts how often it was read.
+#[derive(Drop)]
+struct Steps(Cell<u64>);
+
+impl Clock for Steps {
+    fn monotonic(&self) -> io::Result<Duration> {
+        let step = self.0.get();
+        self.0.set(step.saturating_add(1));
+        Ok(Duration::from_millis(step.saturating_mul(STEP)))
+    }
+
+    fn since_1970(&self) -> io::Result<Duration> {
+        self.monotonic()
+    }
+}
+
+/// A stream in memory.
 #[derive(Drop)]
 struct Wire {
-    /// How many bytes it still takes; at none a write would wait.
-    room: Cell<usize>,
+    /// How many bytes each write takes at most, one after another; at none, and behind the last, it would wait.
+    takes: &'static [usize],
     /// How many bytes it still gives; at none a read would wait.
-    gives: Cell<usize>,
-    took: Cell<usize>,
-    /// Whether its writing was ended.
-    is_ended: Cell<bool>,
+    gives: usize,
+    writes: usize,
+    took: usize,
     /// Whether a write fails.
-    fails: Cell<bool>,
+    fails: bool,
 }
 
 impl Wire {
-    fn new(room: usize) -> Wire {
+    /// A stream whose writes take so much, and that gives so many bytes.
+    fn new(takes: &'static [usize], gives: usize) -> Wire {
         Wire {
-            room: Cell::new(room),
-            gives: Cell::new(0),
-            took: Cell::new(0),
-            is_ended: Cell::new(false),
-            fails: Cell::new(false),
+            takes,
+            gives,
+            writes: 0,
+            took: 0,
+            fails: false,
         }
     }
 }
 
-/// One end of it.
-#[derive(Drop)]
-struct End<'a>(&'a Wire);
-
-/// Takes of a count what there is of so many; none at all would wait.
-fn moved(left: &Cell<usize>, most: usize) -> io::Result<usize>
-    ensures within { IfOk result (λ count. count ≤ most) }
+/// So many bytes; none at all would wait.
+fn some(count: usize) -> io::Result<usize>
+    ensures same { IfOk result (λ moved. moved ≡ count) }
 {
-    let count = left.get().min(most);
     if count == 0 {
         return Err(ErrorKind::WouldBlock.into());
     }
-    left.set(left.get().saturating_sub(count));
     Ok(count)
 }
 
-impl Duplex for End<'_> {
+impl Duplex for Wire {
     ghost use Rattle.std.specs.Prelude.{None};
 
     ghost to_give = { λ _. None };
@@ -74,23 +90,27 @@ impl Duplex for End<'_> {
     ghost calls = { λ _. None };
 
     fn read(&mut self, buffer: &mut [u8]) -> io::Result<usize> {
-        let count = moved(&self.0.gives, buffer.len())?;
-        Ok(count.min(buffer.len()))
+        let count = self.gives.min(buffer.len());
+        self.gives = self.gives.saturating_sub(count);
+        some(count)
     }
 
     fn write(&mut self, bytes: &[u8]) -> io::Result<usize> {
-        if self.0.fails.get() {
+        if self.fails {
             return Err(ErrorKind::BrokenPipe.into());
         }
-        let count = moved(&self.0.room, bytes.len())?;
-        self.0.took.set(self.0.took.get().saturating_add(count));
-        Ok(count)
+        let next = self.takes.get(self.writes).copied().unwrap_or(0);
+        self.writes = self.writes.saturating_add(1);
+        let count = next.min(bytes.len());
+        self.took = self.took.saturating_add(count);
+        some(count)
     }
 
-    fn end_writing(&mut self) {
-        self.0.is_ended.set(true);
-    }
+    fn end_writing(&mut self) {}
 }
+
+/// The ports of a session over two of them.
+type WirePorts<'w> = SocketPorts<'w, Steps, Wire>;
 
 /// A row of the table for a stream in memory: a listener's, since the system must know what it follows.
 pub fn row_for<'w, R: Clock>(
@@ -101,6 +121,27 @@ pub fn row_for<'w, R: Clock>(
         Some(place) => Ok(place),
         None => Err(Fail::new("no row")),
     }
+}
+
+/// What is known of the sockets in the next two rows of a table, which stay free.
+fn two_rows<'w>(rt: &HostRuntime, watch: &'w Watch<Steps>) -> Result<(&'w Flags, &'w Flags), Fail> {
+    let mut doors = (
+        TcpListener::bind(rt, any_port())?,
+        TcpListener::bind(rt, any_port())?,
+    );
+    let first = row_for(watch, &mut doors.0)?;
+    let second = row_for(watch, &mut doors.1)?;
+    Ok((first.flags, second.flags))
+}
+
+/// A table of three sockets.
+fn table(rt: &HostRuntime) -> Result<Watch<Steps>, Fail> {
+    Ok(Watch::new(rt.alloc(), Steps(Cell::new(0)), rt, 3)?)
+}
+
+/// A socket over this stream, in this row.
+fn socket_over<'w>(watch: &'w Watch<Steps>, wire: Wire, flags: &'w Flags) -> Socket<'w, Wire> {
+    Socket::over(watch, wire, Place { flags })
 }
 
 /// What is done with a session's ports.
@@ -114,59 +155,77 @@ enum Step {
     Turns(usize),
 }
 
-/// What the bot's and the server's streams take; what is done; what they took then.
-type Written = (usize, usize, &'static [Step], (usize, usize));
+/// What writes of the bot's and the server's streams take; what is done; what they took then.
+type Written = (
+    &'static [usize],
+    &'static [usize],
+    &'static [Step],
+    (usize, usize),
+);
+
+/// Takes all that is written.
+const ALL: &[usize] = &[9_999, 9_999, 9_999, 9_999];
 
 /// A few bytes are held until their session has nothing more to do, there is no room, or 16 turns began; many are not.
 const WRITTEN: &[Written] = &[
-    (99, 99, &[Puts(Side::Server, 3)], (0, 0)),
-    (99, 99, &[Puts(Side::Server, 3), Idles(Side::Bot)], (0, 3)),
-    (99, 99, &[Puts(Side::Bot, 3), Idles(Side::Server)], (3, 0)),
+    (ALL, ALL, &[Puts(Side::Server, 3)], (0, 0)),
+    (ALL, ALL, &[Puts(Side::Server, 3), Idles(Side::Bot)], (0, 3)),
+    (ALL, ALL, &[Puts(Side::Bot, 3), Idles(Side::Server)], (3, 0)),
     (
-        99,
-        99,
+        ALL,
+        ALL,
         &[Puts(Side::Server, 3), Idles(Side::Server)],
         (0, 0),
     ),
     // A wire that takes nothing may be all that its session waits for, so what is for the other is written.
     (
-        0,
-        99,
+        &[],
+        ALL,
         &[Puts(Side::Server, 3), Puts(Side::Bot, 5_000)],
         (0, 3),
     ),
     (
-        99,
-        0,
+        ALL,
+        &[],
         &[Puts(Side::Bot, 3), Puts(Side::Server, 5_000)],
         (3, 0),
     ),
-    (99, 99, &[Puts(Side::Server, 3), Puts(Side::Bot, 3)], (0, 0)),
-    (99, 99, &[Puts(Side::Bot, 3), Puts(Side::Bot, 3)], (0, 0)),
-    (99, 99, &[Puts(Side::Server, 3), Turns(15)], (0, 0)),
-    (99, 99, &[Puts(Side::Server, 3), Turns(16)], (0, 3)),
-    (99, 99, &[Puts(Side::Bot, 3), Turns(16)], (3, 0)),
     (
-        99,
-        99,
+        ALL,
+        ALL,
+        &[Puts(Side::Server, 3), Puts(Side::Bot, 3)],
+        (0, 0),
+    ),
+    (ALL, ALL, &[Puts(Side::Bot, 3), Puts(Side::Bot, 3)], (0, 0)),
+    (ALL, ALL, &[Puts(Side::Server, 3), Turns(15)], (0, 0)),
+    (ALL, ALL, &[Puts(Side::Server, 3), Turns(16)], (0, 3)),
+    (ALL, ALL, &[Puts(Side::Bot, 3), Turns(16)], (3, 0)),
+    (
+        ALL,
+        ALL,
         &[Turns(10), Puts(Side::Server, 3), Turns(10)],
         (0, 0),
     ),
     (
-        9_999,
-        9_999,
+        ALL,
+        ALL,
         &[Puts(Side::Server, 3_000), Puts(Side::Server, 3_000)],
         (0, 3_000),
     ),
-    (9_999, 9_999, &[Puts(Side::Server, 5_000)], (0, 5_000)),
-    (9_999, 2, &[Puts(Side::Server, 3), Idles(Side::Bot)], (0, 2)),
+    (ALL, ALL, &[Puts(Side::Server, 5_000)], (0, 5_000)),
+    (
+        ALL,
+        &[2],
+        &[Puts(Side::Server, 3), Idles(Side::Bot)],
+        (0, 2),
+    ),
 ];
 
 /// Many bytes.
 const BYTES: &[u8] = &[7; 5_000];
 
 /// Does it; whether a pull was of nothing.
-fn does<R: Clock>(ports: &mut SocketPorts<'_, R, End<'_>>, step: Step) -> bool {
+fn does(ports: &mut WirePorts<'_>, step: Step) -> bool {
     match step {
         Puts(side, count) => ports.put(side, &BYTES[..count.min(BYTES.len())]) != Put::Failed,
         Idles(side) => ports.pull(side, &mut [0; 8]) == Pull::Idle,
@@ -180,11 +239,7 @@ fn does<R: Clock>(ports: &mut SocketPorts<'_, R, End<'_>>, step: Step) -> bool {
 }
 
 /// Does all of a row, where a call of any stream may do something before each step.
-fn does_all<R: Clock>(
-    ports: &mut SocketPorts<'_, R, End<'_>>,
-    flags: (&Flags, &Flags),
-    steps: &[Step],
-) -> bool {
+fn does_all(ports: &mut WirePorts<'_>, flags: (&Flags, &Flags), steps: &[Step]) -> bool {
     let mut are_right = true;
     for step in steps.iter() {
         flags.0.note(true, true);
@@ -194,33 +249,35 @@ fn does_all<R: Clock>(
     are_right
 }
 
-/// A row, over two streams in memory.
-fn writes(rt: &HostRuntime, row: usize, written: &Written) -> Result<(), Fail> {
-    let (bot_room, server_room, steps, took) = *written;
-    let mut doors = (
-        TcpListener::bind(rt, any_port())?,
-        TcpListener::bind(rt, any_port())?,
-    );
-    let watch = Watch::new(rt.alloc(), rt, rt, 2)?;
-    let bot = row_for(&watch, &mut doors.0)?;
-    let server = row_for(&watch, &mut doors.1)?;
-    let flags = (bot.flags, server.flags);
-    let wires = (Wire::new(bot_room), Wire::new(server_room));
-    let mut ports = SocketPorts::new(
-        &watch,
-        Socket::over(&watch, End(&wires.0), bot),
-        Socket::over(&watch, End(&wires.1), server),
-    );
-    holds(does_all(&mut ports, flags, steps), "each call")?;
-    same(&(wires.0.took.get(), wires.1.took.get()), &took, &row)
+/// What the streams of a row took, where each call did what it should.
+fn took_of<'w>(
+    watch: &'w Watch<Steps>,
+    flags: (&'w Flags, &'w Flags),
+    written: &Written,
+) -> Option<(usize, usize)> {
+    let (bot_takes, server_takes, steps, _) = *written;
+    let bot = socket_over(watch, Wire::new(bot_takes, 0), flags.0);
+    let server = socket_over(watch, Wire::new(server_takes, 0), flags.1);
+    let mut ports = SocketPorts::new(watch, bot, server);
+    let are_right = does_all(&mut ports, flags, steps);
+    let (bot, server) = ports.into_sockets();
+    let took = (bot.connection().took, server.connection().took);
+    if are_right { Some(took) } else { None }
+}
+
+/// Each row holds, in the rows of this table.
+fn are_written(rt: &HostRuntime, watch: &Watch<Steps>) -> Result<(), Fail> {
+    let flags = two_rows(rt, watch)?;
+    for (row, written) in WRITTEN.iter().enumerate() {
+        same(&took_of(watch, flags, written), &Some(written.3), &row)?;
+    }
+    Ok(())
 }
 
 #[test]
 fn bytes_are_held_and_written_by_rows(rt: HostRuntime) -> Result<(), Fail> {
-    for (row, written) in WRITTEN.iter().enumerate() {
-        writes(&rt, row, written)?;
-    }
-    Ok(())
+    let watch = table(&rt)?;
+    are_written(&rt, &watch)
 }
 
 /// What is done with one socket: bytes are put, it is flushed, or it is pulled from.
@@ -231,23 +288,23 @@ enum Call {
     Pull,
 }
 
-/// What a stream takes and gives; what is done; whether a read, and a write, may do something then.
-type Flagged = (usize, usize, &'static [Call], (bool, bool));
+/// What writes of a stream take, and what it gives; what is done; whether a read, and a write, may do something then.
+type Flagged = (&'static [usize], usize, &'static [Call], (bool, bool));
 
 /// A call that found nothing, or less than it had room for, is the last of its kind until the system tells more.
 const FLAGGED: &[Flagged] = &[
-    (0, 0, &[Call::Pull], (false, true)),
-    (0, 8, &[Call::Pull], (false, true)),
-    (0, 5_000, &[Call::Pull], (true, true)),
-    (0, 0, &[Call::Put(5_000)], (true, false)),
-    (99, 0, &[Call::Put(5_000)], (true, false)),
-    (5_000, 0, &[Call::Put(5_000)], (true, true)),
-    (0, 0, &[Call::Put(3), Call::Flush], (true, false)),
-    (3, 0, &[Call::Put(3), Call::Flush], (true, true)),
+    (&[], 0, &[Call::Pull], (false, true)),
+    (&[], 8, &[Call::Pull], (false, true)),
+    (&[], 5_000, &[Call::Pull], (true, true)),
+    (&[], 0, &[Call::Put(5_000)], (true, false)),
+    (&[99], 0, &[Call::Put(5_000)], (true, false)),
+    (&[5_000], 0, &[Call::Put(5_000)], (true, true)),
+    (&[], 0, &[Call::Put(3), Call::Flush], (true, false)),
+    (&[3], 0, &[Call::Put(3), Call::Flush], (true, true)),
 ];
 
 /// Makes a call of a socket.
-fn calls(socket: &mut Socket<'_, End<'_>>, call: Call) {
+fn calls(socket: &mut Socket<'_, Wire>, call: Call) {
     match call {
         Call::Put(count) => {
             socket.put(&BYTES[..count.min(BYTES.len())]);
@@ -259,65 +316,226 @@ fn calls(socket: &mut Socket<'_, End<'_>>, call: Call) {
     }
 }
 
-/// A row, over a stream in memory.
-fn flags(rt: &HostRuntime, row: usize, flagged: &Flagged) -> Result<(), Fail> {
-    let (room, gives, done, known) = *flagged;
-    let mut door = TcpListener::bind(rt, any_port())?;
-    let watch = Watch::new(rt.alloc(), rt, rt, 1)?;
-    let wire = Wire::new(room);
-    wire.gives.set(gives);
-    let mut socket = Socket::over(&watch, End(&wire), row_for(&watch, &mut door)?);
-    socket.place.flags.note(true, true);
+/// What is known behind the calls of a row.
+fn known_of<'w>(watch: &'w Watch<Steps>, flags: &'w Flags, flagged: &Flagged) -> (bool, bool) {
+    let (takes, gives, done, _) = *flagged;
+    let mut socket = socket_over(watch, Wire::new(takes, gives), flags);
+    flags.readiness.set(Readiness::UNKNOWN);
+    flags.note(true, true);
     for call in done.iter() {
         calls(&mut socket, *call);
     }
-    let readiness = socket.place.flags.readiness.get();
-    same(&(readiness.may_read, readiness.may_write), &known, &row)
+    let readiness = flags.readiness.get();
+    (readiness.may_read, readiness.may_write)
+}
+
+/// Each row holds, in the rows of this table.
+fn are_flagged(rt: &HostRuntime, watch: &Watch<Steps>) -> Result<(), Fail> {
+    let (flags, _) = two_rows(rt, watch)?;
+    for (row, flagged) in FLAGGED.iter().enumerate() {
+        same(&known_of(watch, flags, flagged), &flagged.3, &row)?;
+    }
+    Ok(())
 }
 
 #[test]
 fn flags_by_rows(rt: HostRuntime) -> Result<(), Fail> {
-    for (row, flagged) in FLAGGED.iter().enumerate() {
-        flags(&rt, row, flagged)?;
-    }
-    Ok(())
+    let watch = table(&rt)?;
+    are_flagged(&rt, &watch)
+}
+
+/// A stream whose writes fail.
+fn broken() -> Wire {
+    let mut wire = Wire::new(ALL, 0);
+    wire.fails = true;
+    wire
+}
+
+/// What a put, a flush and a put behind it tell of a socket: of each put its answer, and whether something may be written
+/// then.
+fn puts_of(socket: &mut Socket<'_, Wire>) -> ((Put, bool), (Put, bool)) {
+    let first = (socket.put(b"abc"), socket.stream.is_behind());
+    socket.flush();
+    let is_behind = socket.stream.is_behind();
+    (first, (socket.put(b"d"), is_behind))
+}
+
+/// The same of a stream whose writes fail.
+fn failing_puts(
+    rt: &HostRuntime,
+    watch: &Watch<Steps>,
+) -> Result<((Put, bool), (Put, bool)), Fail> {
+    let (flags, _) = two_rows(rt, watch)?;
+    flags.note(true, true);
+    Ok(puts_of(&mut socket_over(watch, broken(), flags)))
 }
 
 /// A write that fails is told by the next put, and what it left is no reason to write again.
 #[test]
 fn failed_flush_is_told_by_the_next_put(rt: HostRuntime) -> Result<(), Fail> {
-    let mut door = TcpListener::bind(&rt, any_port())?;
-    let watch = Watch::new(rt.alloc(), &rt, &rt, 1)?;
-    let wire = Wire::new(99);
-    let mut socket = Socket::over(&watch, End(&wire), row_for(&watch, &mut door)?);
-    socket.place.flags.note(true, true);
-    same(&socket.put(b"abc"), &Put::Took(3), &"held")?;
-    holds(socket.stream.is_behind(), "it may be written")?;
-    wire.fails.set(true);
-    socket.flush();
-    holds(!socket.stream.is_behind(), "nothing may be written")?;
-    same(&socket.put(b"d"), &Put::Failed, &"the failure")
+    let watch = table(&rt)?;
+    let told = failing_puts(&rt, &watch)?;
+    let wanted = ((Put::Took(3), true), (Put::Failed, false));
+    holds(told == wanted, "held and may be written, then the failure")
 }
 
-/// A row that is taken anew knows nothing of the socket before.
+/// Whether a row that is taken anew knows nothing of the socket before.
+fn is_taken_anew(watch: &Watch<Steps>, doors: &mut (TcpListener, TcpListener)) -> bool {
+    let Some(first) = watch.follow(&mut doors.0, Interest::READABLE) else {
+        return false;
+    };
+    first.flags.note(true, true);
+    first.flags.due.set(watch.after(Duration::ZERO));
+    drop(first);
+    let Some(second) = watch.follow(&mut doors.1, Interest::READABLE) else {
+        return false;
+    };
+    second.flags.readiness.get() == Readiness::UNKNOWN && second.flags.due.get().is_none()
+}
+
 #[test]
 fn row_of_the_table_is_taken_anew(rt: HostRuntime) -> Result<(), Fail> {
     let mut doors = (
         TcpListener::bind(&rt, any_port())?,
         TcpListener::bind(&rt, any_port())?,
     );
-    let watch = Watch::new(rt.alloc(), &rt, &rt, 1)?;
-    let first = row_for(&watch, &mut doors.0)?;
-    first.flags.note(true, true);
-    first.flags.due.set(watch.after(Duration::ZERO));
-    drop(first);
-    let second = row_for(&watch, &mut doors.1)?;
-    same(
-        &second.flags.readiness.get(),
-        &Readiness::UNKNOWN,
-        &"what is known",
-    )?;
-    holds(second.flags.due.get().is_none(), "no moment is waited for")
+    let watch = table(&rt)?;
+    holds(
+        is_taken_anew(&watch, &mut doors),
+        "no flag and no moment is left",
+    )
+}
+
+/// A step of a socket that closes: whether its end is waited for, whether it may go on at once, and whether it is closed.
+type Closes = (bool, bool, bool);
+
+/// What its writes take, the first of them at once, the next a step each.
+const TAKES: &[usize] = &[0, 0, 0, 0, 0, 2, 1];
+
+/// Three bytes are held: they are waited for, and then a second for the peer's end.
+const CLOSES: &[Closes] = &[
+    (false, false, false),
+    (false, false, false),
+    (false, false, false),
+    (false, false, false),
+    (false, false, false),
+    (true, true, false),
+    (true, false, false),
+    (true, false, false),
+    (true, false, true),
+];
+
+/// Goes on with what closes, where a call of the socket in this row may do something.
+fn goes_on(watch: &Watch<Steps>, closings: &mut Closings<'_, Wire>, flags: &Flags) -> Closes {
+    watch.wait();
+    flags.note(true, true);
+    closings.advance(watch);
+    (
+        flags.due.get().is_some(),
+        closings.is_ready(),
+        closings.is_empty(),
+    )
+}
+
+/// The first step that comes to something else, if there is one.
+fn wrong_step(
+    watch: &Watch<Steps>,
+    closings: &mut Closings<'_, Wire>,
+    flags: &Flags,
+) -> Option<usize> {
+    for (row, closes) in CLOSES.iter().enumerate() {
+        if goes_on(watch, closings, flags) != *closes {
+            return Some(row);
+        }
+    }
+    None
+}
+
+/// A socket that holds three bytes, and that waited for a moment that is long over.
+fn holding<'w>(watch: &'w Watch<Steps>, wire: Wire, flags: &'w Flags) -> Socket<'w, Wire> {
+    flags.due.set(watch.after(Duration::ZERO));
+    flags.note(true, true);
+    let mut socket = socket_over(watch, wire, flags);
+    socket.put(b"abc");
+    socket
+}
+
+/// Takes a row whose moment is over, so that each wait is a look.
+fn hurries<'w>(watch: &'w Watch<Steps>, door: &mut TcpListener) -> Result<Place<'w>, Fail> {
+    let place = row_for(watch, door)?;
+    place.flags.due.set(watch.after(Duration::ZERO));
+    Ok(place)
+}
+
+/// One socket closes, step by step.
+fn closes_one(rt: &HostRuntime, watch: &Watch<Steps>) -> Result<(), Fail> {
+    let (flags, _) = two_rows(rt, watch)?;
+    let mut closings = Closings::new(rt.alloc())?;
+    closings.begin(watch, holding(watch, Wire::new(TAKES, 0), flags));
+    same(&wrong_step(watch, &mut closings, flags), &None, &"a step")
+}
+
+/// The same in a table that never waits.
+fn closes_one_beside(
+    rt: &HostRuntime,
+    watch: &Watch<Steps>,
+    door: &mut TcpListener,
+) -> Result<(), Fail> {
+    let _place = hurries(watch, door)?;
+    closes_one(rt, watch)
+}
+
+/// What a socket holds is waited for, and its end for a second; until it is written, no moment is.
+#[test]
+fn closing_socket_writes_what_it_holds(rt: HostRuntime) -> Result<(), Fail> {
+    let mut door = TcpListener::bind(&rt, any_port())?;
+    let watch = table(&rt)?;
+    closes_one_beside(&rt, &watch, &mut door)
+}
+
+/// What writes of the first of two take: all that is held, once the second is closed.
+const LATE: &[usize] = &[0, 0, 0, 0, 0, 3];
+
+/// Whether of two the second alone is closed after so many steps, and whether the first's end is waited for a step later.
+fn closes_second(
+    watch: &Watch<Steps>,
+    closings: &mut Closings<'_, Wire>,
+    (first, second): (&Flags, &Flags),
+) -> (bool, bool) {
+    for _ in 0..4 {
+        first.note(true, true);
+        goes_on(watch, closings, second);
+    }
+    let is_alone = !closings.is_ready() && !closings.is_empty() && first.due.get().is_none();
+    (is_alone, goes_on(watch, closings, first).0)
+}
+
+/// Two sockets close, of which the second's writing fails.
+fn closes_two(rt: &HostRuntime, watch: &Watch<Steps>) -> Result<(), Fail> {
+    let flags = two_rows(rt, watch)?;
+    let mut closings = Closings::new(rt.alloc())?;
+    closings.begin(watch, holding(watch, Wire::new(LATE, 0), flags.0));
+    closings.begin(watch, holding(watch, broken(), flags.1));
+    let told = closes_second(watch, &mut closings, flags);
+    holds(told == (true, true), "the second, then the first")
+}
+
+/// The same in a table that never waits.
+fn closes_two_beside(
+    rt: &HostRuntime,
+    watch: &Watch<Steps>,
+    door: &mut TcpListener,
+) -> Result<(), Fail> {
+    let _place = hurries(watch, door)?;
+    closes_two(rt, watch)
+}
+
+/// Two sockets close; the second's writing fails, and it is closed at its end. The first goes on.
+#[test]
+fn one_closes_before_another(rt: HostRuntime) -> Result<(), Fail> {
+    let mut door = TcpListener::bind(&rt, any_port())?;
+    let watch = table(&rt)?;
+    closes_two_beside(&rt, &watch, &mut door)
 }
 
 /// So many sessions take turns; at which of these turns, counted from 1, it is known that somebody is at the door, and at
@@ -326,39 +544,19 @@ type Asked = (usize, usize, usize);
 
 const ASKED: &[Asked] = &[(1, 33, 65), (2, 33, 65), (3, 34, 67), (40, 41, 81)];
 
-/// So many sessions over streams in memory that all have one row of the table.
-fn sessions_of<'w, 'a>(
-    alloc: Global,
-    watch: &'w Watch<&'w HostRuntime>,
-    (wire, flags): (&'a Wire, &'w Flags),
-    count: usize,
-) -> Result<Vec<SocketPorts<'w, &'w HostRuntime, End<'a>>>, Fail> {
-    let mut sessions = Vec::new(alloc);
-    for _ in 0..count {
-        sessions.push(SocketPorts::new(
-            watch,
-            Socket::over(watch, End(wire), Place { flags }),
-            Socket::over(watch, End(wire), Place { flags }),
-        ))?;
-    }
-    Ok(sessions)
-}
-
-/// At which turn it is known that somebody is at the door, behind so many. A round begins where all had a turn.
+/// At which turn it is known that somebody is at the door, behind so many. A round begins where all of so many had a turn.
 fn turn_that_knows(
-    watch: &Watch<&HostRuntime>,
-    sessions: &mut Vec<SocketPorts<'_, &HostRuntime, End<'_>>>,
+    ports: &mut WirePorts<'_>,
+    watch: &Watch<Steps>,
     door: &Flags,
-    behind: usize,
+    (count, behind): (usize, usize),
 ) -> usize {
-    let count = sessions.len().max(1);
+    let count = count.max(1);
     for turn in behind..199 {
         if turn % count == 0 {
             watch.look_by_turns();
         }
-        if let Some(ports) = sessions.get_mut(turn % count) {
-            ports.clock_popped();
-        }
+        ports.clock_popped();
         if door.readiness.get().may_read {
             return turn.saturating_add(1);
         }
@@ -366,32 +564,60 @@ fn turn_that_knows(
     199
 }
 
-/// A row: one is at the door before the first turn, and another once that is known.
-fn asks(rt: &HostRuntime, asked: &Asked) -> Result<(), Fail> {
-    let (count, first, second) = *asked;
-    let mut doors = (
-        TcpListener::bind(rt, any_port())?,
-        TcpListener::bind(rt, any_port())?,
-    );
-    let watch = Watch::new(rt.alloc(), rt, rt, 2)?;
-    let door = row_for(&watch, &mut doors.0)?;
-    let place = row_for(&watch, &mut doors.1)?;
-    let wire = Wire::new(0);
-    let mut sessions = sessions_of(rt.alloc(), &watch, (&wire, place.flags), count)?;
-    let _caller = TcpStream::connect(rt, doors.0.local_addr()?)?;
-    let known = turn_that_knows(&watch, &mut sessions, door.flags, 0);
-    same(&known, &first, &count)?;
-    door.flags.readiness.set(Readiness::UNKNOWN);
-    let _other = TcpStream::connect(rt, doors.0.local_addr()?)?;
-    let known = turn_that_knows(&watch, &mut sessions, door.flags, known);
-    same(&known, &second, &count)
+/// At which turn it is known that one came to the door, and at which that another came once that was known.
+fn knowing_turns(
+    rt: &HostRuntime,
+    ports: &mut WirePorts<'_>,
+    watch: &Watch<Steps>,
+    (door, at): (&Flags, SocketAddr),
+    count: usize,
+) -> Result<(usize, usize), Fail> {
+    watch.wait();
+    door.readiness.set(Readiness::UNKNOWN);
+    let _caller = TcpStream::connect(rt, at)?;
+    let first = turn_that_knows(ports, watch, door, (count, 0));
+    door.readiness.set(Readiness::UNKNOWN);
+    let _other = TcpStream::connect(rt, at)?;
+    Ok((first, turn_that_knows(ports, watch, door, (count, first))))
+}
+
+/// The ports of a session in two rows, that has nothing to do.
+fn idle_ports<'w>(watch: &'w Watch<Steps>, flags: (&'w Flags, &'w Flags)) -> WirePorts<'w> {
+    let bot = socket_over(watch, Wire::new(&[], 0), flags.0);
+    let server = socket_over(watch, Wire::new(&[], 0), flags.1);
+    SocketPorts::new(watch, bot, server)
+}
+
+/// Each row holds at this door.
+fn are_known(
+    rt: &HostRuntime,
+    ports: &mut WirePorts<'_>,
+    watch: &Watch<Steps>,
+    door: (&Flags, SocketAddr),
+) -> Result<(), Fail> {
+    for (count, first, second) in ASKED.iter() {
+        let known = knowing_turns(rt, ports, watch, door, *count)?;
+        same(&known, &(*first, *second), count)?;
+    }
+    Ok(())
+}
+
+/// The same of a door in the first row of a table.
+fn are_known_at(
+    rt: &HostRuntime,
+    watch: &Watch<Steps>,
+    (door, at): (&mut TcpListener, SocketAddr),
+) -> Result<(), Fail> {
+    let place = hurries(watch, door)?;
+    let flags = two_rows(rt, watch)?;
+    are_known(rt, &mut idle_ports(watch, flags), watch, (place.flags, at))
 }
 
 /// The system is asked after 32 turns, though all of them move something, and at the next round where that is later.
 #[test]
 fn system_is_asked_after_32_turns(rt: HostRuntime) -> Result<(), Fail> {
-    for asked in ASKED.iter() {
-        asks(&rt, asked)?;
-    }
-    Ok(())
+    let mut door = TcpListener::bind(&rt, any_port())?;
+    let at = door.local_addr()?;
+    let watch = table(&rt)?;
+    are_known_at(&rt, &watch, (&mut door, at))
 }

@@ -4,13 +4,15 @@ use Rattle.std.proofs.Common.{Option, Some, None, Result, Ok, Err, refl, sym, ap
 use Rattle.std.proofs.Common.{◌==◌, length-append, length-drop, length-take, get_or, add-one}
 use Rattle.std.proofs.lemmas.List.{drop-take, drop-drop, take-append-drop, take-take, length-take-le}
 use Rattle.std.proofs.lemmas.Bool.{eqb-true}
-use Rattle.std.specs.Prelude.{IfSome}
+use Rattle.std.specs.Prelude.{IfSome, IfOk}
 use Rattle.std.proofs.Math.Seq.{take-append-add, take-length}
 use Rattle.std.specs.Io.KnownBytes.{Consumes, Keeps}
 use Rattle.daide_lines.specs.LogLine.{IsUnbroken, longest_line, most_lines, without_cr}
 use Rattle.daide_lines.specs.declared.fault.LogFault.{LogFault}
 use Rattle.daide_lines.specs.declared.fault.LogFault.TheVariants as Faults
-use Rattle.daide_lines.specs.declared.lines.Found.TheVariants.{Line, Last, End}
+use Rattle.daide_lines.specs.declared.lines.Found.{Found}
+use Rattle.daide_lines.specs.declared.lines.Found.TheVariants.{Held, Line, Last, End}
+use Rattle.daide_lines.specs.Input.{IsCopied, LiesIn, line_in, rest_in}
 use Rattle.daide_lines.specs.Lines.{Reads, Scans, HasMore, IsFound, IsHeldLine, IsLineEnd, block_size}
 
 pub unbroken_append : (a b : List ℕ) → IsUnbroken a → IsUnbroken b → IsUnbroken (a ++ b)
@@ -131,6 +133,7 @@ found_line old held now text block after rest line turn count h s fits same = (
   s.4,
   fits,
   same,
+  s.5,
 )
 
 -- the line has a byte too many
@@ -232,24 +235,6 @@ more_read old new held block (Err Faults.Memory) e r = absurd r
 more_read old new held block (Err Faults.Read) e r =
     (([], keeps_consumes old new r.0, ap (λ (l : List ℕ). l ++ []) e ∙ sym r.1), r.1)
 
--- ---- a line feed
-
-pub unbroken_one : (bytes : List ℕ) (n : ℕ) → n < length bytes → IsUnbroken (take n bytes) → (get_or bytes n 0 ≡ 10 → ⊥) →
-    IsUnbroken (take (n + 1) bytes)
-unbroken_one [] n l h k = absurd (omega arith)
-unbroken_one (x ∷ bytes) zero l h k = (k, tt)
-unbroken_one (x ∷ bytes) (suc n) l h k = rw add-one (h.0, let g = unbroken_one bytes n (omega arith) h.1 k in rw add-one at g)
-
-pub end_here : (bytes : List ℕ) (n : ℕ) → n < length bytes → get_or bytes n 0 ≡ 10 →
-    bytes ≡ take n bytes ++ 10 ∷ drop (n + 1) bytes
-end_here [] n l e = absurd (omega arith)
-end_here (x ∷ bytes) zero l e = ap (λ (y : ℕ). y ∷ bytes) e
-end_here (x ∷ bytes) (suc n) l e =
-    ap (λ (t : List ℕ). x ∷ t) (end_here bytes n (omega arith) e) ∙ rw (add-one, add-one) refl
-
-pub unbroken_all : (bytes : List ℕ) → IsUnbroken (take (length bytes) bytes) → IsUnbroken bytes
-unbroken_all bytes h = subst IsUnbroken (take-length bytes) h
-
 -- ---- a block
 
 front_few : (n : ℕ) (l : List ℕ) → length (take n l) ≤ n
@@ -276,8 +261,8 @@ drop_in_front (x ∷ a) b (suc n) h = drop_in_front a b n (omega arith)
 pub line_scanned : (held text : List ℕ) (k n : ℕ) (rest after : List ℕ) → k ≤ length held → k + length text ≤ 2101 →
     n < length (take k held) → IsUnbroken (take n (take k held)) →
     take k held ≡ take n (take k held) ++ 10 ∷ drop (n + 1) (take k held) → rest ≡ drop (n + 1) held →
-    after ≡ text ++ take n (take k held) → Scans held text true rest after
-line_scanned held text k n rest after fits room here unbroken split left grown =
+    after ≡ text ++ take n (take k held) → length held ≤ block_size → Scans held text true rest after
+line_scanned held text k n rest after fits room here unbroken split left grown block =
     let front : List ℕ = take k held in
     let tail : List ℕ = drop k held in
     let size : length front ≡ k = length-take-le k held fits in
@@ -291,6 +276,7 @@ line_scanned held text k n rest after fits room here unbroken split left grown =
       unbroken,
       grown,
       omega (arith, ap length grown, length-append text (take n front)),
+      omega (arith, ap length left, length-drop (n + 1) held, here, size, block),
     )
 
 pub part_scanned : (held text : List ℕ) (k : ℕ) (rest after : List ℕ) → k ≤ length held →
@@ -328,11 +314,11 @@ part_scanned held text k rest after fits room unbroken left grown few = (
 -- ---- a line that is held whole
 
 pub held_whole : (held : List ℕ) (k count : ℕ) (end : Option ℕ) → k ≤ length held → k ≤ 2101 → count < most_lines →
-    IsLineEnd (take k held) end → IfSome end (IsHeldLine held count)
+    length held ≤ block_size → IsLineEnd (take k held) end → IfSome end (IsHeldLine held count)
 unfolding line_scanned
-held_whole held k count None fits few fewer e = tt
-held_whole held k count (Some n) fits few fewer e =
-    let s = line_scanned held [] k n (drop (n + 1) held) (take n (take k held)) fits (omega arith) e.0 e.1 e.2 refl refl in
+held_whole held k count None fits few fewer block e = tt
+held_whole held k count (Some n) fits few fewer block e =
+    let s = line_scanned held [] k n (drop (n + 1) held) (take n (take k held)) fits (omega arith) e.0 e.1 e.2 refl refl block in
     let size : length (take k held) ≡ k = length-take-le k held fits in
     let same : take n (take k held) ≡ take n held = take-take n k held (omega (arith, e.0, size)) in (
       omega (arith, e.0, size),
@@ -340,10 +326,11 @@ held_whole held k count (Some n) fits few fewer e =
       s.1 ∙ ap (λ (l : List ℕ). l ++ 10 ∷ drop (n + 1) held) same,
       omega (arith, e.0, size),
       fewer,
+      block,
     )
 
 pub found_held : (old : Option (List ℕ)) (held : List ℕ) (count n : ℕ) → IsHeldLine held count n →
-    IsFound old held count (Ok Line) (without_cr (take n held)) old (drop (n + 1) held)
+    IsFound old held count (Ok (Held n)) (without_cr (take n held)) old (drop (n + 1) held)
 found_held old held count n h = (
   take n held,
   ([], consumes_none old, append-nil held ∙ h.2 ∙ sym (append_assoc (take n held) (10 ∷ []) (drop (n + 1) held))),
@@ -351,4 +338,23 @@ found_held old held count n h = (
   omega (arith, h.0, h.3, length-take-le n held (omega (arith, h.0))),
   h.4,
   refl,
+  omega (arith, length-drop (n + 1) held, h.0, h.5),
 )
+
+-- a line that was copied is where the text is
+pub found_copied : (old new : Option (List ℕ)) (held block text : List ℕ) (count : ℕ) (result : Result Found LogFault) →
+    IfOk result IsCopied → IsFound old held count result text new block →
+    IsFound old held count result (line_in result block text) new (rest_in result block)
+found_copied old new held block text count (Ok (Held n)) c f = absurd c
+found_copied old new held block text count (Ok Line) c f = f
+found_copied old new held block text count (Ok Last) c f = f
+found_copied old new held block text count (Ok End) c f = f
+found_copied old new held block text count (Err fault) c f = f
+
+pub lies_copied : (block : List ℕ) (result : Result Found LogFault) → IfOk result IsCopied →
+    IfOk result (λ found. LiesIn found block)
+lies_copied block (Ok (Held n)) c = absurd c
+lies_copied block (Ok Line) c = tt
+lies_copied block (Ok Last) c = tt
+lies_copied block (Ok End) c = tt
+lies_copied block (Err fault) c = tt

@@ -2,13 +2,6 @@
 use Rattle.std.proofs.Common.{◌≡◌, ℕ, List, [], ◌++◌, Option, Some, None, refl, sym, ap, ◌∙◌, append-nil, append_assoc}
 use Rattle.std.specs.Io.KnownBytes.{Appends, Keeps, append_known}
 
--- a page that was handed over
-pub handed_over : (old new : Option (List ℕ)) (page : List ℕ) → Appends old new page →
-    Keeps (append_known old page) (append_known new [])
-handed_over None new page h = tt
-handed_over (Some x) None page h = absurd h
-handed_over (Some x) (Some y) page h = append-nil y ∙ h
-
 pub keeps_all : (a : Option (List ℕ)) → Keeps a a
 keeps_all None = tt
 keeps_all (Some x) = refl
@@ -30,12 +23,6 @@ appends_and_keeps None b c text h k = tt
 appends_and_keeps (Some x) None c text h k = absurd h
 appends_and_keeps (Some x) (Some y) None text h k = absurd k
 appends_and_keeps (Some x) (Some y) (Some z) text h k = k ∙ h
-
--- a line that was written behind what is held
-pub held_more : (known : Option (List ℕ)) (page new text : List ℕ) → new ≡ page ++ text →
-    Appends (append_known known page) (append_known known new) text
-held_more None page new text h = tt
-held_more (Some x) page new text h = ap (λ (l : List ℕ). x ++ l) h ∙ sym (append_assoc x page text)
 
 -- nothing is held back
 pub none_held : (known : Option (List ℕ)) → append_known known [] ≡ known

@@ -6,9 +6,6 @@ use Rattle.std.proofs.Math.Seq.{take-length}
 use Rattle.std.proofs.lemmas.Bool.Decides.{eqb_tells}
 use Rattle.daide_lines.specs.LogLine.{Parted, with_first, parted_at_space}
 
-Spaceless : List ℕ → ℕ → Type 0
-Spaceless xs n = (k : ℕ) → k < n → get_or xs k 0 ≡ 32 → ⊥
-
 parted_first : (c : ℕ) (cs : List ℕ) → (c ≡ 32 → ⊥) → parted_at_space (c ∷ cs) ≡ with_first c (parted_at_space cs)
 unfolding parted_at_space
 parted_first c cs h = go (eqb_tells c 32)

@@ -3,5 +3,7 @@ pub mod Digits
 pub mod MatchLine
 pub mod WordLine
 pub mod Lines
+pub mod Input
+pub mod Output
 pub mod Told
 pub mod MatchTold

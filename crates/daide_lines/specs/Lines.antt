@@ -3,7 +3,7 @@ use Rattle.std.specs.Prelude.{⊤, ◌≡◌, ℕ, ◌+◌, ◌<◌, ◌≤◌, 
 use Rattle.std.specs.Prelude.{Option, Some, None, Result, Ok, Err}
 use Rattle.std.specs.Io.KnownBytes.{Consumes, Keeps, IsAtEnd}
 use Rattle.daide_lines.specs.declared.lines.Found.{Found}
-use Rattle.daide_lines.specs.declared.lines.Found.TheVariants.{Line, Last, End}
+use Rattle.daide_lines.specs.declared.lines.Found.TheVariants.{Held, Line, Last, End}
 use Rattle.daide_lines.specs.declared.fault.LogFault.{LogFault}
 use Rattle.daide_lines.specs.declared.fault.LogFault.TheVariants as Faults
 use Rattle.daide_lines.specs.LogLine.{most_lines, longest_line, IsUnbroken, without_cr}
@@ -28,11 +28,17 @@ abbrev pub LooksAt : Option (List ℕ) → List ℕ → List ℕ → Option (Lis
 LooksAt old held bytes new rest =
     (given : List ℕ) × Consumes old new given × (held ++ given ≡ bytes ++ rest)
 
--- A line with its line feed, or the last one without, or none; and whether it may be the next in number.
-abbrev pub IsFound : Option (List ℕ) → List ℕ → ℕ → Result Found LogFault → List ℕ → Option (List ℕ) → List ℕ → Type 0
-IsFound old held count (Ok Line) text new rest =
+-- A line with its line feed, which may be the next in number; behind it less than a block is held.
+abbrev pub IsWhole : Option (List ℕ) → List ℕ → ℕ → List ℕ → Option (List ℕ) → List ℕ → Type 0
+IsWhole old held count text new rest =
     (line : List ℕ) × LooksAt old held (line ++ 10 ∷ []) new rest × IsUnbroken line × (length line ≤ longest_line)
-    × (count < most_lines) × (text ≡ without_cr line)
+    × (count < most_lines) × (text ≡ without_cr line) × (length rest < block_size)
+
+-- A line with its line feed, which lies in what was held or was copied, or the last one without, or none; and whether it
+-- may be the next in number.
+abbrev pub IsFound : Option (List ℕ) → List ℕ → ℕ → Result Found LogFault → List ℕ → Option (List ℕ) → List ℕ → Type 0
+IsFound old held count (Ok (Held n)) text new rest = IsWhole old held count text new rest
+IsFound old held count (Ok Line) text new rest = IsWhole old held count text new rest
 IsFound old held count (Ok Last) text new rest =
     LooksAt old held text new rest × (rest ≡ []) × IsAtEnd new × IsUnbroken text × (length text ≤ longest_line)
     × (0 < length text) × (count < most_lines)
@@ -51,11 +57,13 @@ IsFound old held count (Err Faults.Memory) text new rest = ⊥
 -- whether the log ended, and whether its last line came
 abbrev pub is_end : Found → Bool
 is_end End = true
+is_end (Held n) = false
 is_end Line = false
 is_end Last = false
 
 abbrev pub is_last : Found → Bool
 is_last Last = true
+is_last (Held n) = false
 is_last Line = false
 is_last End = false
 
@@ -65,18 +73,19 @@ IsLineEnd bytes None = IsUnbroken bytes
 IsLineEnd bytes (Some n) =
     (n < length bytes) × IsUnbroken (take n bytes) × (bytes ≡ take n bytes ++ 10 ∷ drop (n + 1) bytes)
 
--- The next line, behind so many, lies whole in what is held: it has so many bytes, and then its line feed.
+-- The next line, behind so many, lies whole in what is held, which is a block at most: it has so many bytes, and then
+-- its line feed.
 abbrev pub IsHeldLine : List ℕ → ℕ → ℕ → Type 0
 IsHeldLine held count n =
     (n < length held) × IsUnbroken (take n held) × (held ≡ take n held ++ 10 ∷ drop (n + 1) held) × (n ≤ longest_line)
-    × (count < most_lines)
+    × (count < most_lines) × (length held ≤ block_size)
 
 -- What was held of a line went behind the text: all up to its line feed, or all that was held, or as much as makes the
--- text too long; less than a block is then left, as a byte of a line that was short went.
+-- text too long; less than a block is then left, as its line feed went, or a byte of a line that was short.
 abbrev pub Scans : List ℕ → List ℕ → Bool → List ℕ → List ℕ → Type 0
 Scans held before true rest after =
     (front : List ℕ) × (held ≡ front ++ 10 ∷ rest) × IsUnbroken front × (after ≡ before ++ front)
-    × (length after ≤ longest_line)
+    × (length after ≤ longest_line) × (length rest < block_size)
 Scans held before false rest after =
     (front : List ℕ) × (held ≡ front ++ rest) × IsUnbroken front × (after ≡ before ++ front)
     × ((rest ≡ []) ⊎ (longest_line < length after)) × (length before ≤ longest_line → length rest < block_size)

@@ -1,13 +1,16 @@
 //! The lines of a log, one after the other.
 
-ghost use Rattle.std.specs.Prelude.{◌≡◌, ◌≢◌, ◌+◌, ◌≤◌, [], drop, length, take, true, OnOk, IfErr, IfSome};
-ghost use Rattle.std.specs.Io.KnownBytes.{Keeps, append_known};
+ghost use Rattle.std.specs.Prelude.{◌≡◌, ◌≢◌, ◌+◌, ◌≤◌, [], drop, length, take, true, OnOk, IfErr, IfOk, IfSome};
+ghost use Rattle.std.specs.Io.KnownBytes.{Keeps};
 ghost use Rattle.daide_lines.specs.LogLine.{IsUnbroken, most_lines, without_cr as left_of_cr};
 ghost use Rattle.daide_lines.specs.Lines.{IsFound, IsHeldLine, IsLineEnd, Scans, HasMore, Reads};
+ghost use Rattle.daide_lines.specs.Input.{IsCopied, IsSameReader, LiesIn, line_in, rest_at, rest_in};
+ghost use Rattle.daide_lines.specs.Output.{IsSameWriter, all_of};
 
 use crate::block::Block;
 use crate::fault::LogFault;
-use crate::page::{Page, hand_over};
+use crate::input::Input;
+use crate::output::Output;
 use crate::text::{TOO_LONG, Text};
 use std::io::{Read, Write};
 
@@ -20,9 +23,11 @@ const TOGETHER: usize = 64;
 /// What stands next in a log.
 #[derive(Clone, Copy)]
 pub enum Found {
-    /// A line, which a line feed ended.
+    /// A line that lies in what is held, with so many bytes before its line feed.
+    Held(usize),
+    /// A line that was copied, which a line feed ended.
     Line,
-    /// The last line, which the end of the log ended.
+    /// The last line, which was copied and which the end of the log ended.
     Last,
     /// The end of the log.
     End,
@@ -101,7 +106,7 @@ fn line_end(bytes: &[u8]) -> Option<usize>
 }
 
 /// Where the next line ends, behind so many lines, if all of it is held: it is judged where it lies.
-pub fn held_line(block: &Block, count: u32) -> Option<usize>
+fn held_line(block: &Block, count: u32) -> Option<usize>
     requires { count ≤ most_lines }
     ensures { IfSome result (IsHeldLine block.now count) }
 {
@@ -157,20 +162,18 @@ fn drop_cr(text: &mut Text)
 /// Hands over what is held back of the report, and reads more.
 fn read_on<R: Read, W: Write>(
     block: &mut Block,
-    page: &mut Page,
     reader: &mut R,
-    writer: &mut W,
+    output: &mut Output<'_, W>,
 ) -> Result<bool, LogFault>
     requires { block.old ≡ [] }
     ensures read { Reads (R.remaining reader.old) (R.remaining reader.new) block.new result }
-    ensures kept { OnOk result (Keeps (append_known (W.contents writer.old) page.old.items)
-        (append_known (W.contents writer.new) page.new.items)) }
+    ensures kept { OnOk result (Keeps (all_of W.contents output.old) (all_of W.contents output.new)) }
     ensures kept_at_fault { IfErr result (λ fault. fault ≢ LogFault.Write →
-        Keeps (append_known (W.contents writer.old) page.old.items)
-        (append_known (W.contents writer.new) page.new.items)) }
+        Keeps (all_of W.contents output.old) (all_of W.contents output.new)) }
+    ensures same_writer { IsSameWriter output.old output.new }
 {
-    match hand_over(page, writer) {
-        Ok(()) => block.refill(reader, page),
+    match output.hand_over() {
+        Ok(()) => block.refill(reader, &output.page),
         Err(_) => Err(LogFault::Write),
     }
 }
@@ -178,65 +181,96 @@ fn read_on<R: Read, W: Write>(
 /// Whether any byte of a log is left, of which a first one is read if none is held.
 fn has_more<R: Read, W: Write>(
     block: &mut Block,
-    page: &mut Page,
     reader: &mut R,
-    writer: &mut W,
+    output: &mut Output<'_, W>,
 ) -> Result<bool, LogFault>
     ensures more { HasMore (R.remaining reader.old) block.old result (R.remaining reader.new) block.new }
-    ensures kept { OnOk result (Keeps (append_known (W.contents writer.old) page.old.items)
-        (append_known (W.contents writer.new) page.new.items)) }
+    ensures kept { OnOk result (Keeps (all_of W.contents output.old) (all_of W.contents output.new)) }
     ensures kept_at_fault { IfErr result (λ fault. fault ≢ LogFault.Write →
-        Keeps (append_known (W.contents writer.old) page.old.items)
-        (append_known (W.contents writer.new) page.new.items)) }
+        Keeps (all_of W.contents output.old) (all_of W.contents output.new)) }
+    ensures same_writer { IsSameWriter output.old output.new }
 {
     if !block.as_slice().is_empty() {
         return Ok(true);
     }
-    read_on(block, page, reader, writer)
+    read_on(block, reader, output)
 }
 
-/// Takes the next line of a log, behind so many lines. A line that is too long is told at the byte by which it is, and
-/// one line too many at its first byte, with nothing read further. What is held back of the report is handed over
-/// before each read.
+/// Takes the next line of a log, behind so many lines, and copies it. A line that is too long is told at the byte by
+/// which it is, and one line too many at its first byte, with nothing read further. What is held back of the report is
+/// handed over before each read.
 pub fn next_line<R: Read, W: Write>(
-    block: &mut Block,
-    text: &mut Text,
+    input: &mut Input<'_, R>,
     count: u32,
-    page: &mut Page,
-    reader: &mut R,
-    writer: &mut W,
+    output: &mut Output<'_, W>,
 ) -> Result<Found, LogFault>
     requires { count ≤ most_lines }
-    ensures found { IsFound (R.remaining reader.old) block.old count result text.new.items
-        (R.remaining reader.new) block.new }
-    ensures kept { OnOk result (Keeps (append_known (W.contents writer.old) page.old.items)
-        (append_known (W.contents writer.new) page.new.items)) }
+    ensures found { IsFound (R.remaining input.old.reader.now) input.old.block count result input.new.text.items
+        (R.remaining input.new.reader.now) input.new.block }
+    ensures copied { IfOk result IsCopied }
+    ensures kept { OnOk result (Keeps (all_of W.contents output.old) (all_of W.contents output.new)) }
     ensures kept_at_fault { IfErr result (λ fault. fault ≢ LogFault.Write →
-        Keeps (append_known (W.contents writer.old) page.old.items)
-        (append_known (W.contents writer.new) page.new.items)) }
+        Keeps (all_of W.contents output.old) (all_of W.contents output.new)) }
+    ensures same_reader { IsSameReader input.old input.new }
+    ensures same_writer { IsSameWriter output.old output.new }
 {
-    text.clear();
+    input.text.clear();
     if count == MOST_LINES {
-        return match has_more(block, page, reader, writer) {
+        return match has_more(&mut input.block, input.reader, output) {
             Ok(true) => Err(LogFault::TooManyLines),
             Ok(false) => Ok(Found::End),
             Err(fault) => Err(fault),
         };
     }
     for _turn in 0..=TOO_LONG {
-        if scan(block, text) {
-            drop_cr(text);
+        if scan(&mut input.block, &mut input.text) {
+            drop_cr(&mut input.text);
             return Ok(Found::Line);
         }
-        if text.len() == TOO_LONG {
+        if input.text.len() == TOO_LONG {
             return Err(LogFault::LineTooLong(count + 1));
         }
-        match read_on(block, page, reader, writer) {
+        match read_on(&mut input.block, input.reader, output) {
             Ok(true) => {}
-            Ok(false) if text.is_empty() => return Ok(Found::End),
+            Ok(false) if input.text.is_empty() => return Ok(Found::End),
             Ok(false) => return Ok(Found::Last),
             Err(fault) => return Err(fault),
         }
     }
     unreachable!()
+}
+
+/// Finds the next line of a log, behind so many lines, where it lies if all of it is held.
+#[inline(always)]
+pub fn find_line<R: Read, W: Write>(
+    input: &mut Input<'_, R>,
+    count: u32,
+    output: &mut Output<'_, W>,
+) -> Result<Found, LogFault>
+    requires { count ≤ most_lines }
+    ensures found { IsFound (R.remaining input.old.reader.now) input.old.block count result
+        (line_in result input.new.block input.new.text.items) (R.remaining input.new.reader.now)
+        (rest_in result input.new.block) }
+    ensures lies { IfOk result (λ found. LiesIn found input.new.block) }
+    ensures kept { OnOk result (Keeps (all_of W.contents output.old) (all_of W.contents output.new)) }
+    ensures kept_at_fault { IfErr result (λ fault. fault ≢ LogFault.Write →
+        Keeps (all_of W.contents output.old) (all_of W.contents output.new)) }
+    ensures same_reader { IsSameReader input.old input.new }
+    ensures same_writer { IsSameWriter output.old output.new }
+{
+    match held_line(&input.block, count) {
+        Some(end) => Ok(Found::Held(end)),
+        None => next_line(input, count, output),
+    }
+}
+
+/// Leaves out a line that was found in what is held, and its line feed.
+#[inline(always)]
+pub fn pass_line(block: &mut Block, found: Found)
+    requires { LiesIn found block.old }
+    ensures { block.new ≡ rest_at found block.old }
+{
+    if let Found::Held(end) = found {
+        block.skip(end + 1);
+    }
 }

@@ -16,7 +16,7 @@ use Rattle.daide_lines.specs.declared.fault.LogFault.{LogFault}
 use Rattle.daide_log.specs.declared.heading.Version.{Version}
 use Rattle.daide_log.specs.declared.heading.Version.TheVariants.{Single, Match}
 use Rattle.daide_log.specs.declared.config_line.MatchConfig.{MatchConfig}
-use Rattle.daide_log.specs.declared.report.Summary.{Summary}
+use Rattle.daide_machine.specs.declared.summary.Summary.{Summary}
 use Rattle.daide_lines.specs.LogLine.{LogEvent, Traffic, EndOf, TimeOver, Silence, Parted, is_comment, event_of_line}
 use Rattle.daide_lines.specs.LogLine.{plain_number, parted_at_space}
 use Rattle.daide_log.specs.ConfigLine.{config_of_line}
@@ -24,7 +24,8 @@ use Rattle.daide_lines.specs.MatchLine.{MatchEvent, Of, Quiet, loud, within, eve
 use Rattle.daide_lines.specs.MatchLine.{match_event_of_line}
 use Rattle.daide_log.specs.ConfigLine.{match_config_of_line}
 use Rattle.daide_log.specs.Heading.{Head, Heading, Unnamed, Named, Headed, alone, heading_after}
-use Rattle.daide_log.specs.Report.{Entry, events_of, side_of, entries_of, lines_of, counted_all, nothing_counted, summary_line}
+use Rattle.daide_machine.specs.Summary.{nothing_counted}
+use Rattle.daide_log.specs.Report.{Entry, events_of, side_of, entries_of, lines_of, counted_all, summary_line}
 use Rattle.daide_log.specs.Log.{Stage, Opening, Playing, begun, stage_at, source_in, IsPlayed, GoesOn, Reports, ReportsAll, IsReport}
 use Rattle.daide_log.specs.Laws.{is_number, own_of, own_line, unnumbered, own_told, SessionsAreAlone}
 use Rattle.daide_log.proofs.StepLemmas.{Steps, all_read, all_written}

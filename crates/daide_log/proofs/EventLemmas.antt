@@ -12,18 +12,20 @@ use Rattle.daide_machine.specs.Machine.{Limits, SessionState, opening}
 use Rattle.daide_machine.specs.Wires.{Gateway, IsNew}
 use Rattle.daide_log.specs.declared.heading.Version.{Version}
 use Rattle.daide_log.specs.declared.report.Source.{Source}
-use Rattle.daide_log.specs.declared.report.Summary.{Summary}
+use Rattle.daide_machine.specs.declared.summary.Summary.{Summary}
 use Rattle.daide_lines.specs.declared.lines.Found.{Found}
-use Rattle.daide_lines.specs.declared.lines.Found.TheVariants.{Line, Last, End}
+use Rattle.daide_lines.specs.declared.lines.Found.TheVariants.{Held, Line, Last, End}
 use Rattle.daide_lines.specs.declared.fault.LogFault.{LogFault}
 use Rattle.daide_lines.specs.declared.fault.LogFault.TheVariants as Faults
 use Rattle.daide_lines.specs.LogLine.{LogEvent}
 use Rattle.daide_lines.specs.MatchLine.{Of, Quiet}
-use Rattle.daide_log.specs.Report.{Entry, events_of, side_of, entries_of, lines_of, counted_all, nothing_counted, summary_line}
+use Rattle.daide_machine.specs.Summary.{nothing_counted}
+use Rattle.daide_log.specs.Report.{Entry, events_of, side_of, entries_of, lines_of, counted_all, summary_line}
 use Rattle.daide_lines.specs.LogLine.{most_lines}
 use Rattle.daide_log.specs.Log.{Playing, event_in, source_in}
 use Rattle.daide_lines.specs.Lines.{IsFound, is_end, is_last}
-use Rattle.daide_log.specs.Told.{HasRoom, IsMoreBy, IsIdle, Tells}
+use Rattle.daide_machine.specs.Summary.{HasRoom, IsMoreBy}
+use Rattle.daide_log.specs.Told.{IsIdle, Tells}
 use Rattle.daide_log.specs.Progress.{HasRead, IsFaultOf, IsFaultAfter, Reported, IsPlaying, Judges, states_of}
 use Rattle.daide_lines.proofs.PageLemmas.{appends_and_keeps}
 use Rattle.daide_log.proofs.PlayLemmas.{appends_more, appends_none, lines_of-append, counted_all-append}
@@ -166,9 +168,6 @@ plays_kept start now held n version sessions count s a b c p k = record {
   };
 }
 
-pub has_room : (n : ℕ) (s : Summary) → n ≤ most_lines → IsMoreBy (1024 * n) nothing_counted s → HasRoom 1024 s
-has_room n s h few = record { relayed = omega arith; prn = omega arith; huh = omega arith; faults = omega arith }
-
 more_few : (n : ℕ) (s t : Summary) → IsMoreBy (1024 * n) nothing_counted s → IsMoreBy 1024 s t →
     IsMoreBy (1024 * (n + 1)) nothing_counted t
 more_few n s t h k = record { relayed = omega arith; prn = omega arith; huh = omega arith; faults = omega arith }
@@ -206,19 +205,24 @@ plays_more start now new held rest line n version sessions next count s t a b c 
 -- ---- what was found
 
 pub at_end : (found : Found) → is_end found ≡ true → found ≡ End
+at_end (Held n) e = absurd (cc)
 at_end Line e = absurd (cc)
 at_end Last e = absurd (cc)
 at_end End e = refl
 
 pub at_last_line : (found : Found) → is_last found ≡ true → found ≡ Last
+at_last_line (Held n) e = absurd (cc)
 at_last_line Line e = absurd (cc)
 at_last_line Last e = refl
 at_last_line End e = absurd (cc)
 
-pub at_line : (found : Found) → is_end found ≡ false → is_last found ≡ false → found ≡ Line
-at_line Line e k = refl
-at_line Last e k = absurd (cc)
-at_line End e k = absurd (cc)
+-- any other that was found is a line with its line feed
+pub as_line : (now new : Option (List ℕ)) (held rest line : List ℕ) (n : ℕ) (found : Found) → is_end found ≡ false →
+    is_last found ≡ false → IsFound now held n (Ok found) line new rest → IsFound now held n (Ok Line) line new rest
+as_line now new held rest line n (Held k) e l f = f
+as_line now new held rest line n Line e l f = f
+as_line now new held rest line n Last e l f = absurd (cc)
+as_line now new held rest line n End e l f = absurd (cc)
 
 -- ---- the end
 
@@ -280,6 +284,8 @@ bad_in_play start now new held rest line n version sessions count s a b c found 
 
     is_fault : (found : Found) → IsFound now held n (Ok found) line new rest → is_end found ≡ false →
         IsFaultOf origin new q.told (Faults.BadLine (n + 1))
+    is_fault (Held k) f other =
+        bad_line origin now new held rest line n q.told (Playing version (states_of sessions)) q.has_read f is_bad
     is_fault Line f other =
         bad_line origin now new held rest line n q.told (Playing version (states_of sessions)) q.has_read f is_bad
     is_fault Last f other =

@@ -7,7 +7,7 @@ use Rattle.daide_machine.specs.Machine.{SessionState}
 use Rattle.daide_machine.specs.Wires.{Gateway}
 use Rattle.std.proofs.lemmas.Option.{same_Some}
 use Rattle.daide_lines.specs.declared.lines.Found.{Found}
-use Rattle.daide_lines.specs.declared.lines.Found.TheVariants.{Line, Last, End}
+use Rattle.daide_lines.specs.declared.lines.Found.TheVariants.{Held, Line, Last, End}
 use Rattle.daide_lines.specs.declared.fault.LogFault.{LogFault}
 use Rattle.daide_lines.specs.declared.fault.LogFault.TheVariants as Faults
 use Rattle.daide_log.specs.declared.opening.Opened.{Opened}
@@ -49,16 +49,6 @@ whole_begun (Variants.Headed held) head e = go (is_whole (head_of held)) e
     go true e = ap (λ (h : heads.Head). begun (head_of h)) (same_Some held head e)
     go false e = absurd (cc)
 
-pub whole_held : (heading : headings.Heading) (head : heads.Head) → IsHeld heading → whole heading ≡ Some head →
-    HasSessions head.limits
-whole_held Variants.Unnamed head h e = absurd (cc)
-whole_held (Variants.Named version) head h e = absurd (cc)
-whole_held (Variants.Headed held) head h e = go (is_whole (head_of held)) e
-  where
-    go : (b : Bool) → cond b (Some held) None ≡ Some head → HasSessions head.limits
-    go true e = subst (λ (k : heads.Head). HasSessions k.limits) (same_Some held head e) h
-    go false e = absurd (cc)
-
 -- so many lines of the head were read, and nothing was written
 pub record IsReading (old now : Option (List ℕ)) (held : List ℕ) (number : ℕ) (heading : headings.Heading)
     (before after : Option (List ℕ)) : Type 0 where
@@ -80,16 +70,18 @@ pub fault_keeps : (found : Result Found LogFault) (next : Option headings.Headin
 fault_keeps (Err f) next n fault P e h k other = k (λ w. other (cc))
 fault_keeps (Ok found) next n fault P e h k other = h
 
+next_of : (next heading : headings.Heading) (n : ℕ) (o : Option heads.Head) →
+    ◌≡◌ {A = Result Step LogFault} (Ok (further next (n + 1) o)) (Ok (More heading)) → Some next ≡ Some heading
+next_of next heading n None w = cc
+next_of next heading n (Some head) w = absurd (cc)
+
 pub next_is : (found : Result Found LogFault) (next : Option headings.Heading) (n : ℕ) (heading : headings.Heading) →
     after_line found next n ≡ Ok (More heading) → next ≡ Some heading
 next_is (Err fault) next n heading e = absurd (cc)
+next_is (Ok (Held k)) None n heading e = absurd (cc)
+next_is (Ok (Held k)) (Some next) n heading e = next_of next heading n (whole next) e
 next_is (Ok Line) None n heading e = absurd (cc)
-next_is (Ok Line) (Some next) n heading e = go (whole next) e
-  where
-    go : (o : Option heads.Head) → ◌≡◌ {A = Result Step LogFault} (Ok (further next (n + 1) o)) (Ok (More heading)) →
-        Some next ≡ Some heading
-    go None w = cc
-    go (Some head) w = absurd (cc)
+next_is (Ok Line) (Some next) n heading e = next_of next heading n (whole next) e
 next_is (Ok Last) None n heading e = absurd (cc)
 next_is (Ok Last) (Some next) n heading e = go (whole next) e
   where
@@ -138,16 +130,14 @@ as_many (session ∷ sessions) (suc n) state e =
 
 -- ---- a line
 
--- one line of the head more
-pub head_judged : (old now new : Option (List ℕ)) (held line rest : List ℕ) (n : ℕ) (found : Result Found LogFault)
-    (heading : headings.Heading) (next : Option headings.Heading) →
-    HasRead old now held n [] (Opening (heading_of heading)) → IsFound now held n found line new rest →
-    option_map heading_of next ≡ heading_after (heading_of heading) line → IsStep old new rest n (after_line found next n)
-head_judged old now new held line rest n (Err fault) heading next h f e =
-    fault_found old now new held rest line n [] (Opening (heading_of heading)) fault h f
-head_judged old now new held line rest n (Ok Line) heading None h f e =
+-- a line with its line feed
+line_judged : (old now new : Option (List ℕ)) (held line rest : List ℕ) (n : ℕ) (heading : headings.Heading)
+    (next : Option headings.Heading) → HasRead old now held n [] (Opening (heading_of heading)) →
+    IsFound now held n (Ok Line) line new rest → option_map heading_of next ≡ heading_after (heading_of heading) line →
+    IsStep old new rest n (after_line (Ok Line) next n)
+line_judged old now new held line rest n heading None h f e =
     bad_line old now new held rest line n [] (Opening (heading_of heading)) h f (sym e)
-head_judged old now new held line rest n (Ok Line) heading (Some next) h f e = go (whole next) refl
+line_judged old now new held line rest n heading (Some next) h f e = go (whole next) refl
   where
     read : HasRead old new rest (n + 1) [] (stage_at (heading_of next))
     read = line_read old now new held rest line n [] [] (Opening (heading_of heading)) (stage_at (heading_of next)) h f
@@ -156,6 +146,20 @@ head_judged old now new held line rest n (Ok Line) heading (Some next) h f e = g
     go : (o : Option heads.Head) → whole next ≡ o → IsStep old new rest n (Ok (further next (n + 1) o))
     go None w = (subst (HasRead old new rest (n + 1) []) (more_to_come next w) read, f.4)
     go (Some head) w = (subst (HasRead old new rest (n + 1) []) (whole_begun next head w) read, omega (arith, f.4))
+
+-- one line of the head more
+pub head_judged : (old now new : Option (List ℕ)) (held line rest : List ℕ) (n : ℕ) (found : Result Found LogFault)
+    (heading : headings.Heading) (next : Option headings.Heading) →
+    HasRead old now held n [] (Opening (heading_of heading)) → IsFound now held n found line new rest →
+    option_map heading_of next ≡ heading_after (heading_of heading) line → IsStep old new rest n (after_line found next n)
+head_judged old now new held line rest n (Err fault) heading next h f e =
+    fault_found old now new held rest line n [] (Opening (heading_of heading)) fault h f
+head_judged old now new held line rest n (Ok (Held k)) heading None h f e =
+    line_judged old now new held line rest n heading None h f e
+head_judged old now new held line rest n (Ok (Held k)) heading (Some next) h f e =
+    line_judged old now new held line rest n heading (Some next) h f e
+head_judged old now new held line rest n (Ok Line) heading next h f e =
+    line_judged old now new held line rest n heading next h f e
 head_judged old now new held line rest n (Ok Last) heading None h f e =
     bad_last old now new held rest line n [] (Opening (heading_of heading)) h f (sym e)
 head_judged old now new held line rest n (Ok Last) heading (Some next) h f e = go (whole next) refl

@@ -13,3 +13,8 @@ pub mod OneReport
 pub mod SomeReport
 pub mod MatchLogFacts
 pub mod SevenLinesFacts
+pub mod RecordLines
+pub mod RecordHead
+pub mod RecordCounts
+pub mod RecordReported
+pub mod RecordedPorts

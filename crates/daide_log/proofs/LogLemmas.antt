@@ -1,15 +1,16 @@
 -- From line to line of a log.
 use Rattle.std.proofs.Common.{◌≡◌, ℕ, ◌+◌, ◌<◌, ◌≤◌, List, [], ◌∷◌, ◌++◌, length, Option, Some, None, Result, Ok, Err}
-use Rattle.std.proofs.Common.{refl, sym, ap, ◌∙◌, subst, arith, append-nil, append_assoc, length-append, ◌≢◌, IfSome, IfOk, IfErr}
+use Rattle.std.proofs.Common.{refl, sym, ap, ◌∙◌, subst, arith, append-nil, append_assoc, length-append, ◌≢◌, IfSome, IfOk, IfErr, inl, inr}
 use Rattle.std.specs.Io.KnownBytes.{Consumes, Keeps, Appends, IsAtEnd, append_known}
 use Rattle.daide_machine.specs.Machine.{SessionState}
 use Rattle.daide_log.specs.declared.heading.Version.{Version}
-use Rattle.daide_log.specs.declared.report.Summary.{Summary}
+use Rattle.daide_machine.specs.declared.summary.Summary.{Summary}
 use Rattle.daide_lines.specs.declared.lines.Found.TheVariants.{Line, Last, End}
 use Rattle.daide_lines.specs.declared.fault.LogFault.{LogFault}
 use Rattle.daide_lines.specs.declared.fault.LogFault.TheVariants as Faults
 use Rattle.daide_log.specs.Heading.{Unnamed}
-use Rattle.daide_log.specs.Report.{Entry, lines_of, counted_all, nothing_counted, summary_line}
+use Rattle.daide_machine.specs.Summary.{nothing_counted}
+use Rattle.daide_log.specs.Report.{Entry, lines_of, counted_all, summary_line}
 use Rattle.daide_lines.specs.LogLine.{longest_line}
 use Rattle.daide_log.specs.Log.{Stage, Opening, Playing, GoesOn, IsBad, IsOpening, Reports, ReportsAll, IsReport}
 use Rattle.daide_lines.specs.Lines.{LooksAt, IsFound, block_size}
@@ -100,37 +101,6 @@ end_read old now new held rest line n told stage h f = record {
 
 -- ---- a fault
 
-pub bad_line : (old now new : Option (List ℕ)) (held rest line : List ℕ) (n : ℕ) (told : List Entry)
-    (stage : Stage) → HasRead old now held n told stage →
-    IsFound now held n (Ok Line) line new rest → IsBad stage line → IsFaultOf old new told (Faults.BadLine (n + 1))
-bad_line old now new held rest line n told stage h f wrong =
-    of_log (λ log. IsReport log (lines_of told) (Err (Faults.BadLine (n + 1)))) old new (h.given ++ f.1.0)
-    (all_given old now new held (f.0 ++ 10 ∷ []) rest n told stage h f.1)
-    (λ more. subst (λ (log : List ℕ). IsReport log (lines_of told) (Err (Faults.BadLine (n + 1)))) (same more)
-    (IsReport.bad h.bytes n told stage h.reports f.0 (rest ++ more) f.4 f.2 f.3
-    (subst (IsBad stage) f.5 wrong)))
-  where
-    same : (more : List ℕ) → h.bytes ++ f.0 ++ 10 ∷ (rest ++ more) ≡ (h.given ++ f.1.0) ++ more
-    same more = sym (ap (λ (l : List ℕ). l ++ more) (looked old now new held (f.0 ++ 10 ∷ []) rest n told stage h f.1)
-        ∙ simp append_assoc)
-
-pub bad_last : (old now new : Option (List ℕ)) (held rest line : List ℕ) (n : ℕ) (told : List Entry)
-    (stage : Stage) → HasRead old now held n told stage →
-    IsFound now held n (Ok Last) line new rest → IsBad stage line → IsFaultOf old new told (Faults.BadLine (n + 1))
-bad_last old now new held rest line n told stage h f wrong =
-    of_ended_log (λ log. IsReport log (lines_of told) (Err (Faults.BadLine (n + 1)))) old new (h.bytes ++ line)
-    (subst (Consumes old new)
-    (looked old now new held line rest n told stage h f.0 ∙ ap (λ (l : List ℕ). (h.bytes ++ line) ++ l) f.1
-    ∙ append-nil (h.bytes ++ line))
-    (all_given old now new held line rest n told stage h f.0)) f.2
-    (IsReport.bad_last h.bytes n told stage h.reports line f.6 f.5 f.3 f.4 wrong)
-
-pub ends_early : (old new : Option (List ℕ)) (n : ℕ) (told : List Entry) (stage : Stage) →
-    HasReadAll old new n told stage → IsOpening stage → IsFaultOf old new told (Faults.BadLine (n + 1))
-ends_early old new n told stage h is_opening =
-    of_ended_log (λ log. IsReport log (lines_of told) (Err (Faults.BadLine (n + 1)))) old new h.given h.consumed h.ended
-    (IsReport.cut_short h.given n told stage h.reports is_opening)
-
 stops : (old now new : Option (List ℕ)) (held start beyond : List ℕ) (n : ℕ) (told : List Entry)
     (stage : Stage) (count : ℕ) (h : HasRead old now held n told stage) → LooksAt now held start new beyond →
     length start ≡ count → length beyond < block_size → StopsBehind old new told n count
@@ -154,6 +124,49 @@ stops_at_first : (old now new : Option (List ℕ)) (held rest : List ℕ) (n : �
 stops_at_first old now new held [] n told stage h k some few = absurd (omega arith)
 stops_at_first old now new held (x ∷ rest) n told stage h k some few =
     stops old now new held (x ∷ []) rest n told stage 1 h (k.0, k.1, k.2) refl (omega arith)
+
+pub bad_line : (old now new : Option (List ℕ)) (held rest line : List ℕ) (n : ℕ) (told : List Entry)
+    (stage : Stage) → HasRead old now held n told stage →
+    IsFound now held n (Ok Line) line new rest → IsBad stage line → IsFaultOf old new told (Faults.BadLine (n + 1))
+bad_line old now new held rest line n told stage h f wrong = (
+  of_log (λ log. IsReport log (lines_of told) (Err (Faults.BadLine (n + 1)))) old new (h.given ++ f.1.0)
+      (all_given old now new held (f.0 ++ 10 ∷ []) rest n told stage h f.1)
+      (λ more. subst (λ (log : List ℕ). IsReport log (lines_of told) (Err (Faults.BadLine (n + 1)))) (same more)
+      (IsReport.bad h.bytes n told stage h.reports f.0 (rest ++ more) f.4 f.2 f.3
+      (subst (IsBad stage) f.5 wrong))),
+  inr (
+    n,
+    length f.0 + 1,
+    refl,
+    omega (arith, f.3),
+    stops old now new held (f.0 ++ 10 ∷ []) rest n told stage (length f.0 + 1) h f.1 (length-append f.0 (10 ∷ [])) f.6,
+  ),
+)
+  where
+    same : (more : List ℕ) → h.bytes ++ f.0 ++ 10 ∷ (rest ++ more) ≡ (h.given ++ f.1.0) ++ more
+    same more = sym (ap (λ (l : List ℕ). l ++ more) (looked old now new held (f.0 ++ 10 ∷ []) rest n told stage h f.1)
+        ∙ simp append_assoc)
+
+pub bad_last : (old now new : Option (List ℕ)) (held rest line : List ℕ) (n : ℕ) (told : List Entry)
+    (stage : Stage) → HasRead old now held n told stage →
+    IsFound now held n (Ok Last) line new rest → IsBad stage line → IsFaultOf old new told (Faults.BadLine (n + 1))
+bad_last old now new held rest line n told stage h f wrong = (
+  of_ended_log (λ log. IsReport log (lines_of told) (Err (Faults.BadLine (n + 1)))) old new (h.bytes ++ line)
+      (subst (Consumes old new)
+      (looked old now new held line rest n told stage h f.0 ∙ ap (λ (l : List ℕ). (h.bytes ++ line) ++ l) f.1
+      ∙ append-nil (h.bytes ++ line))
+      (all_given old now new held line rest n told stage h f.0)) f.2
+      (IsReport.bad_last h.bytes n told stage h.reports line f.6 f.5 f.3 f.4 wrong),
+  inl f.2,
+)
+
+pub ends_early : (old new : Option (List ℕ)) (n : ℕ) (told : List Entry) (stage : Stage) →
+    HasReadAll old new n told stage → IsOpening stage → IsFaultOf old new told (Faults.BadLine (n + 1))
+ends_early old new n told stage h is_opening = (
+  of_ended_log (λ log. IsReport log (lines_of told) (Err (Faults.BadLine (n + 1)))) old new h.given h.consumed h.ended
+      (IsReport.cut_short h.given n told stage h.reports is_opening),
+  inl h.ended,
+)
 
 pub fault_found : (old now new : Option (List ℕ)) (held rest line : List ℕ) (n : ℕ) (told : List Entry) (stage : Stage)
     (fault : LogFault) → HasRead old now held n told stage →
@@ -239,12 +252,6 @@ fault_after old new told a b Faults.Memory h w = absurd h
 
 -- ---- what is held back
 
-pub reported_kept : (old a b c : Option (List ℕ)) (answer : Result Summary LogFault) →
-    IfOk answer (λ summary. Reported old a b summary) → Keeps b c → IfOk answer (λ summary. Reported old a c summary)
-reported_kept old a b c (Err fault) h k = tt
-reported_kept None a b c (Ok summary) h k = tt
-reported_kept (Some log) a b c (Ok summary) h k = (h.0, h.1, appends_and_keeps a b c h.0 h.2 k)
-
 pub reported_from : (old a b c : Option (List ℕ)) (answer : Result Summary LogFault) → Keeps a b →
     IfOk answer (λ summary. Reported old b c summary) → IfOk answer (λ summary. Reported old a c summary)
 reported_from old a b c (Err fault) k h = tt
@@ -301,3 +308,13 @@ pub write_failed : (old new a b : Option (List ℕ)) (answer : Result Summary Lo
     IfErr answer (λ fault. fault ≡ Faults.Write) → IfErr answer (λ fault. IsFaultAfter old new a b fault)
 write_failed old new a b (Ok summary) e = tt
 write_failed old new a b (Err fault) e = subst (IsFaultAfter old new a b) (sym e) tt
+
+-- of the same bytes the same is said
+pub refused_alike : (old new a b old2 new2 a2 b2 : Option (List ℕ)) (answer : Result Summary LogFault) →
+    IfErr answer (λ fault. IsFaultAfter old2 new2 a2 b2 fault) → old2 ≡ old → new2 ≡ new → a2 ≡ a → b2 ≡ b →
+    IfErr answer (λ fault. IsFaultAfter old new a b fault)
+refused_alike old new a b old2 new2 a2 b2 answer h e f k l =
+    subst (λ (x : Option (List ℕ)). IfErr answer (λ fault. IsFaultAfter old new a x fault)) l
+    (subst (λ (x : Option (List ℕ)). IfErr answer (λ fault. IsFaultAfter old new x b2 fault)) k
+    (subst (λ (x : Option (List ℕ)). IfErr answer (λ fault. IsFaultAfter old x a2 b2 fault)) f
+    (subst (λ (x : Option (List ℕ)). IfErr answer (λ fault. IsFaultAfter x new2 a2 b2 fault)) e h)))

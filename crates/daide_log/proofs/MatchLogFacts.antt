@@ -14,8 +14,10 @@ use Rattle.daide_frame.specs.declared.code.Code.TheVariants.{ImTimeout}
 use Rattle.daide_machine.specs.declared.note.Deed.TheVariants.{Relayed}
 use Rattle.daide_machine.specs.declared.note.Note.TheVariants.{Frame, Fault}
 use Rattle.daide_machine.specs.declared.phase.Phase.{Phase}
-use Rattle.daide_machine.specs.declared.phase.Phase.TheVariants.{WaitIm, WaitRm, Over}
-use Rattle.daide_machine.specs.Machine.{SessionState}
+use Rattle.daide_machine.specs.declared.ending.Ending.{Ending}
+use Rattle.daide_machine.specs.declared.ending.Ending.TheVariants as Endings
+use Rattle.daide_machine.specs.declared.phase.Phase.TheVariants.{WaitIm, WaitRm}
+use Rattle.daide_machine.specs.Machine.{SessionState, over}
 use Rattle.daide_machine.specs.Config.{limits_with}
 use Rattle.daide_words.specs.declared.word.Word.{Word}
 use Rattle.daide_lines.specs.declared.fault.LogFault.TheVariants.{BadLine}
@@ -50,6 +52,10 @@ head_with words = record {
 -- a session of these limits, with the word, in a phase
 abbrev session_in : Phase → SessionState
 session_in phase = state_at (limits_with limits (xyz ∷ [])) phase
+
+-- the session of these limits, ended by this
+abbrev session_ended : Ending → SessionState
+session_ended ending = over ending (session_in WaitIm)
 
 named : Reports (codes "daide-log 2" ++ 10 ∷ []) 1 [] (Opening (Named Match))
 unfolding has_no_feed
@@ -107,8 +113,8 @@ two_sessions : IsReport (after_im ++ codes "2 timer" ++ 10 ∷ [])
 unfolding im_told im_passes match_event_of_line parted_at_space plain_number event_of_line move_line source_text
     told_text summary_line digits encode_with entries_by played verdict_on has_no_feed
 two_sessions =
-    let late : Played = record { state = session_in Over; told = Fault ImTimeout ∷ [] } in
-    let states : List SessionState = session_in WaitRm ∷ session_in Over ∷ [] in
+    let late : Played = record { state = session_ended (Endings.Fault Bot ImTimeout); told = Fault ImTimeout ∷ [] } in
+    let states : List SessionState = session_in WaitRm ∷ session_ended (Endings.Fault Bot ImTimeout) ∷ [] in
     let told : List Entry = im_told ++ entries_by (source_in Match 5 2) Bot late.told in
     IsReport.whole (after_im ++ codes "2 timer" ++ 10 ∷ []) 5 told Match states
     (ReportsAll.ended (after_im ++ codes "2 timer" ++ 10 ∷ []) 5 told (Playing Match states)

@@ -10,9 +10,10 @@ use Rattle.daide_lines.specs.declared.fault.LogFault.TheVariants.{BadLine, LineT
 use Rattle.daide_lines.specs.LogLine.{IsUnbroken, longest_line, most_lines, without_cr}
 use Rattle.daide_lines.specs.MatchLine.{MatchEvent, Of, Quiet}
 use Rattle.daide_log.specs.declared.heading.Version.{Version}
-use Rattle.daide_log.specs.declared.report.Summary.{Summary}
+use Rattle.daide_machine.specs.declared.summary.Summary.{Summary}
 use Rattle.daide_log.specs.Heading.{Heading, Unnamed}
-use Rattle.daide_log.specs.Report.{Entry, events_of, side_of, entries_of, lines_of, counted_all, nothing_counted, summary_line}
+use Rattle.daide_machine.specs.Summary.{nothing_counted}
+use Rattle.daide_log.specs.Report.{Entry, events_of, side_of, entries_of, lines_of, counted_all, summary_line}
 use Rattle.daide_log.specs.Log.{Stage, Opening, Playing, stage_at, source_in, IsPlayed, GoesOn, IsBad, IsOpening}
 use Rattle.daide_log.specs.Log.{Reports, ReportsAll, IsReport}
 use Rattle.daide_log.proofs.StepLemmas.{no_feed, one_end}

@@ -17,9 +17,11 @@ use Rattle.daide_machine.proofs.OneRun.{runs_join}
 use Rattle.daide_machine.proofs.PieceRuns.{over_stays}
 use Rattle.daide_machine.proofs.WireLemmas.{bytes_come-append}
 use Rattle.daide_log.specs.declared.report.Source.{Source}
-use Rattle.daide_log.specs.declared.report.Summary.{Summary}
-use Rattle.daide_log.specs.Report.{Entry, move_line, entries_of, lines_of, counted, counted_all}
-use Rattle.daide_log.specs.Told.{HasRoom, IsMoreBy, IsIdle, IsOneMove, Moves, Tells, told_lines}
+use Rattle.daide_machine.specs.declared.summary.Summary.{Summary}
+use Rattle.daide_machine.specs.Summary.{counted}
+use Rattle.daide_log.specs.Report.{Entry, move_line, entries_of, lines_of, counted_all}
+use Rattle.daide_machine.specs.Summary.{HasRoom, IsMoreBy}
+use Rattle.daide_log.specs.Told.{IsIdle, IsOneMove, Moves, Tells, told_lines}
 use Rattle.daide_log.proofs.OneMove.{one_move_a_piece, one_move_a_timer}
 
 -- ---- one piece
@@ -128,11 +130,6 @@ appends_more (Some p) None c x y h k = absurd h
 appends_more (Some p) (Some q) None x y h k = absurd k
 appends_more (Some p) (Some q) (Some r) x y h k = k ∙ ap (λ (t : List ℕ). t ++ y) h ∙ append_assoc p x y
 
-pub appends_then : {A E : Type 0} (r : Result A E) (a b c : Option (List ℕ)) (x y : List ℕ) → Appends a b x →
-    OnOk r (Appends b c y) → OnOk r (Appends a c (x ++ y))
-appends_then (Ok done) a b c x y h k = appends_more a b c x y h k
-appends_then (Err e) a b c x y h k = tt
-
 pub appends_none : (a : Option (List ℕ)) → Appends a a []
 appends_none None = tt
 appends_none (Some p) = sym (append-nil p)
@@ -197,13 +194,6 @@ piece_fed source side bytes rest piece more old mid new r s t a b c told h split
           (tells_more source side old mid.state new.state (bytes_come side h.done) (bytes_come side piece) r s t a b c h.told
           (tells_moves source side mid.state (bytes_come side piece) new.state told s t b c moves counts text));
     }
-
-pub few_in_all : (source : Source) (side : Side) (bytes rest : List ℕ) (old : SessionState) (new : Gateway) (r s : Summary)
-    (a b : Option (List ℕ)) → HasFed source side bytes rest old new r s a b → IsMoreBy (length bytes) r s
-few_in_all source side bytes rest old new r s a b h =
-    let few = h.few in
-    let size = ap length (sym h.whole) ∙ length-append h.done rest in
-    record { relayed = omega arith; prn = omega arith; huh = omega arith; faults = omega arith }
 
 -- all was fed, or the session is over, and what is left changes nothing
 pub all_fed : (source : Source) (side : Side) (bytes rest : List ℕ) (old : SessionState) (new : Gateway) (r s : Summary)

@@ -31,6 +31,7 @@ state_at limits phase = record {
   limits = limits;
   phase = phase;
   level = L0;
+  ending = None;
   bot = record { pending = []; noted = L0 };
   server = record { pending = []; noted = L0 };
 }

@@ -13,13 +13,15 @@ use Rattle.daide_grammar.specs.Table.Symbols.{entries, may_end_of, slot_of, tabl
 use Rattle.daide_machine.specs.declared.note.Deed.TheVariants.{Relayed, Prn}
 use Rattle.daide_machine.specs.declared.note.Note.{Note}
 use Rattle.daide_machine.specs.declared.note.Note.TheVariants.{Frame}
-use Rattle.daide_machine.specs.declared.phase.Phase.TheVariants.{WaitIm, WaitRm, Open, Over}
+use Rattle.daide_machine.specs.declared.ending.Ending.TheVariants as Endings
+use Rattle.daide_machine.specs.declared.phase.Phase.TheVariants.{WaitIm, WaitRm, Open}
 use Rattle.daide_lines.specs.LogLine.{LogEvent, Traffic, event_of_line}
 use Rattle.daide_log.specs.declared.heading.Version.TheVariants.{Single}
 use Rattle.daide_log.specs.Report.{Entry, source_text, told_text, move_line, summary_line, events_of}
 use Rattle.daide_log.specs.Log.{Playing, source_in, Reports, ReportsAll, IsReport}
 use Rattle.daide_log.proofs.Played.{Played, played, verdict_on, entries_by, has_no_feed}
-use Rattle.daide_log.proofs.StandardFacts.{limits, session_in, opening_lines, opened, next_line, im, im_passes}
+use Rattle.daide_log.proofs.StandardFacts.{limits, session_in, session_ended, opening_lines, opened, next_line, im}
+use Rattle.daide_log.proofs.StandardFacts.{im_passes}
 use Rattle.daide_log.proofs.StandardFacts.{im_played}
 
 -- ---- the messages, and what becomes of each
@@ -46,7 +48,8 @@ unclosed_gets_prn : Played
 unclosed_gets_prn = record { state = session_in Open; told = Frame (record { kind = Dm; len = 4 }) Prn ∷ [] }
 
 fm_passes : Played
-fm_passes = record { state = session_in Over; told = Frame (record { kind = Fm; len = 0 }) Relayed ∷ [] }
+fm_passes =
+    record { state = session_ended (Endings.Final Server); told = Frame (record { kind = Fm; len = 0 }) Relayed ∷ [] }
 
 rm_played : played (events_of rm) (session_in WaitRm) ≡ Some rm_passes
 unfolding rm rm_passes limits played verdict_on last_items first_items head_of is_alien
@@ -96,7 +99,7 @@ told_by : ℕ → Side → Played → List Entry
 told_by number side p = entries_by (source_in Single number 1) side p.told
 
 log_read : Reports (to_unclosed ++ codes "server 03000000" ++ 10 ∷ []) 7 log_told
-    (Playing Single (session_in Over ∷ []))
+    (Playing Single (session_ended (Endings.Final Server) ∷ []))
 unfolding im rm gof unclosed fm im_passes rm_passes gof_passes unclosed_gets_prn fm_passes to_im to_rm to_gof
     to_unclosed move_at log_told told_by entries_by event_of_line decode_pairs has_no_feed
 log_read =
@@ -122,6 +125,7 @@ seven_lines : IsReport (to_unclosed ++ codes "server 03000000" ++ 10 ∷ [])
     (Ok (record { relayed = 4; prn = 1; huh = 0; faults = 0 }))
 unfolding log_told move_at move_line source_text told_text summary_line digits
 seven_lines =
-    IsReport.whole (to_unclosed ++ codes "server 03000000" ++ 10 ∷ []) 7 log_told Single (session_in Over ∷ [])
+    IsReport.whole (to_unclosed ++ codes "server 03000000" ++ 10 ∷ []) 7 log_told Single
+    (session_ended (Endings.Final Server) ∷ [])
     (ReportsAll.ended (to_unclosed ++ codes "server 03000000" ++ 10 ∷ []) 7 log_told
-    (Playing Single (session_in Over ∷ [])) log_read)
+    (Playing Single (session_ended (Endings.Final Server) ∷ [])) log_read)

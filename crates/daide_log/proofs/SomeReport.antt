@@ -26,7 +26,7 @@ use Rattle.daide_lines.specs.WordLine.{word_of_line}
 use Rattle.daide_log.specs.declared.heading.Version.{Version}
 use Rattle.daide_log.specs.declared.heading.Version.TheVariants.{Single, Match}
 use Rattle.daide_log.specs.declared.config_line.MatchConfig.{MatchConfig}
-use Rattle.daide_log.specs.declared.report.Summary.{Summary}
+use Rattle.daide_machine.specs.declared.summary.Summary.{Summary}
 use Rattle.daide_log.specs.ConfigLine.{config_of_line, config_of_numbers, match_config_of_line, match_config_of_rest}
 use Rattle.daide_log.specs.ConfigLine.{match_config_of_level, match_config_of_body, match_config_of_depth}
 use Rattle.daide_log.specs.ConfigLine.{match_config_of_counts, match_config_of_numbers}

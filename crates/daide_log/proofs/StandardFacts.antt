@@ -14,8 +14,10 @@ use Rattle.daide_frame.specs.Frames.{is_alien, first_items, last_items}
 use Rattle.daide_machine.specs.declared.note.Deed.TheVariants.{Relayed, Dropped, Prn, Huh}
 use Rattle.daide_machine.specs.declared.note.Note.TheVariants.{Nothing, Frame, Fault}
 use Rattle.daide_machine.specs.declared.phase.Phase.{Phase}
-use Rattle.daide_machine.specs.declared.phase.Phase.TheVariants.{WaitIm, WaitRm, Over}
-use Rattle.daide_machine.specs.Machine.{SessionState}
+use Rattle.daide_machine.specs.declared.ending.Ending.{Ending}
+use Rattle.daide_machine.specs.declared.ending.Ending.TheVariants as Endings
+use Rattle.daide_machine.specs.declared.phase.Phase.TheVariants.{WaitIm, WaitRm}
+use Rattle.daide_machine.specs.Machine.{SessionState, over}
 use Rattle.daide_machine.specs.declared.config.Config.{Config}
 use Rattle.daide_machine.specs.Config.{limits_of}
 use Rattle.daide_lines.specs.declared.fault.LogFault.TheVariants.{BadLine}
@@ -27,7 +29,8 @@ use Rattle.daide_log.specs.declared.report.Source.{Source}
 use Rattle.daide_log.specs.ConfigLine.{config_of_line}
 use Rattle.daide_log.specs.Heading.{Unnamed, Named, Headed, alone}
 use Rattle.daide_log.specs.Report.{Entry, source_text, told_text, move_line, summary_line, lines_of, events_of, side_of}
-use Rattle.daide_log.specs.Report.{counted_all, nothing_counted}
+use Rattle.daide_machine.specs.Summary.{nothing_counted}
+use Rattle.daide_log.specs.Report.{counted_all}
 use Rattle.daide_log.specs.Log.{Opening, Playing, source_in, Reports, ReportsAll, IsReport}
 use Rattle.daide_log.proofs.Played.{Played, state_at, played, verdict_on, entries_by}
 use Rattle.daide_log.proofs.Played.{has_no_feed, unbroken, line_played}
@@ -72,6 +75,10 @@ opening_lines = (codes "daide-log 1" ++ 10 ∷ []) ++ codes "config 60 1024 16" 
 -- the session of these limits in a phase
 abbrev pub session_in : Phase → SessionState
 session_in phase = state_at (limits_of limits) phase
+
+-- the session of these limits, ended by this
+abbrev pub session_ended : Ending → SessionState
+session_ended ending = over ending (session_in WaitIm)
 
 named : Reports (codes "daide-log 1" ++ 10 ∷ []) 1 [] (Opening (Named Single))
 unfolding has_no_feed
@@ -123,7 +130,8 @@ timer_alone : IsReport (opening_lines ++ codes "timer" ++ 10 ∷ [])
 unfolding event_of_line move_line source_text told_text summary_line digits encode_with entries_by played verdict_on
     has_no_feed
 timer_alone =
-    one_line (codes "timer") TimeOver (record { state = session_in Over; told = Fault ImTimeout ∷ [] }) refl (omega arith)
+    one_line (codes "timer") TimeOver
+    (record { state = session_ended (Endings.Fault Bot ImTimeout); told = Fault ImTimeout ∷ [] }) refl (omega arith)
     refl refl
 
 -- the end of the server ends the session
@@ -132,7 +140,8 @@ server_ends : IsReport (opening_lines ++ codes "end server" ++ 10 ∷ [])
     (Ok (record { relayed = 0; prn = 0; huh = 0; faults = 0 }))
 unfolding event_of_line move_line source_text told_text summary_line digits entries_by played verdict_on has_no_feed
 server_ends =
-    one_line (codes "end server") (EndOf Server) (record { state = session_in Over; told = Nothing ∷ [] }) refl (omega arith)
+    one_line (codes "end server") (EndOf Server)
+    (record { state = session_ended (Endings.Ended Server); told = Nothing ∷ [] }) refl (omega arith)
     refl refl
 
 unfoldable pub im : LogEvent
@@ -158,7 +167,8 @@ fm : LogEvent
 fm = Traffic Bot (3 ∷ 0 ∷ 0 ∷ 0 ∷ [])
 
 fm_drops : Played
-fm_drops = record { state = session_in Over; told = Frame (record { kind = Fm; len = 0 }) Dropped ∷ [] }
+fm_drops =
+    record { state = session_ended (Endings.Final Bot); told = Frame (record { kind = Fm; len = 0 }) Dropped ∷ [] }
 
 fm_played : played (events_of fm) (session_in WaitIm) ≡ Some fm_drops
 unfolding fm fm_drops limits played verdict_on last_items first_items head_of is_alien
@@ -205,8 +215,9 @@ unfolding fm fm_drops event_of_line move_line source_text told_text summary_line
 fm_then_timer =
     let ended : List Entry = entries_by (source_in Single 3 1) Bot fm_drops.told in
     ends_here ((opening_lines ++ codes "bot 03000000" ++ 10 ∷ []) ++ codes "timer" ++ 10 ∷ []) 4 (ended ++ [])
-    (session_in Over ∷ [])
-    (next_line (opening_lines ++ codes "bot 03000000" ++ 10 ∷ []) 3 ended (session_in Over)
+    (session_ended (Endings.Final Bot) ∷ [])
+    (next_line (opening_lines ++ codes "bot 03000000" ++ 10 ∷ []) 3 ended (session_ended (Endings.Final Bot))
     (next_line opening_lines 2 [] (session_in WaitIm) opened (codes "bot 03000000") fm fm_drops refl (omega arith)
     (omega arith) refl fm_played)
-    (codes "timer") TimeOver (record { state = session_in Over; told = [] }) refl (omega arith) (omega arith) refl refl)
+    (codes "timer") TimeOver (record { state = session_ended (Endings.Final Bot); told = [] })
+    refl (omega arith) (omega arith) refl refl)

@@ -4,7 +4,7 @@ use Rattle.daide_words.specs.Words.{words_of}
 use Rattle.daide_lines.specs.declared.fault.LogFault.{LogFault}
 use Rattle.daide_lines.specs.declared.fault.LogFault.TheVariants.{BadLine}
 use Rattle.daide_lines.specs.declared.lines.Found.{Found}
-use Rattle.daide_lines.specs.declared.lines.Found.TheVariants.{Line, Last, End}
+use Rattle.daide_lines.specs.declared.lines.Found.TheVariants.{Held, Line, Last, End}
 use Rattle.daide_log.specs.declared.heading.Head as heads
 use Rattle.daide_log.specs.declared.heading.Heading as headings
 use Rattle.daide_log.specs.declared.heading.Heading.TheVariants as Variants
@@ -47,6 +47,8 @@ abbrev pub after_line : Result Found LogFault → Option headings.Heading → �
 after_line (Err fault) heading count = Err fault
 after_line (Ok Line) (Some heading) count = Ok (further heading (count + 1) (whole heading))
 after_line (Ok Line) None count = Err (BadLine (count + 1))
+after_line (Ok (Held n)) (Some heading) count = Ok (further heading (count + 1) (whole heading))
+after_line (Ok (Held n)) None count = Err (BadLine (count + 1))
 after_line (Ok Last) (Some heading) count = at_last (count + 1) (whole heading)
 after_line (Ok Last) None count = Err (BadLine (count + 1))
 after_line (Ok End) heading count = Err (BadLine (count + 1))

@@ -2,11 +2,12 @@
 use Rattle.std.specs.Prelude.{◌≡◌, ◌⊎◌, ℕ, ◌<◌, ◌≤◌, ◌==◌, Bool, false, if◌then◌else◌, List, [], ◌∷◌, ◌++◌, length}
 use Rattle.std.specs.Prelude.{map, codes, Option, Some, None, Ok}
 use Rattle.daide_log.specs.declared.config_line.MatchConfig.{MatchConfig}
-use Rattle.daide_log.specs.declared.report.Summary.{Summary}
+use Rattle.daide_machine.specs.declared.summary.Summary.{Summary}
 use Rattle.daide_lines.specs.LogLine.{IsUnbroken, longest_line, Parted, is_comment, parted_at_space, plain_number}
 use Rattle.daide_lines.specs.LogLine.{without_cr}
 use Rattle.daide_log.specs.ConfigLine.{config_of_line, match_config_of_line}
-use Rattle.daide_log.specs.Report.{Entry, lines_of, counted_all, nothing_counted, summary_line}
+use Rattle.daide_machine.specs.Summary.{nothing_counted}
+use Rattle.daide_log.specs.Report.{Entry, lines_of, counted_all, summary_line}
 use Rattle.daide_log.specs.Log.{IsReport}
 
 -- ---- the lines of a log

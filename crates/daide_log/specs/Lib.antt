@@ -6,3 +6,6 @@ pub mod Told
 pub mod Log
 pub mod Progress
 pub mod Laws
+pub mod RecordText
+pub mod Recording
+pub mod RecordLaw

@@ -7,14 +7,15 @@ use Rattle.daide_machine.specs.Config.{limits_with}
 use Rattle.daide_log.specs.declared.heading.Version.{Version}
 use Rattle.daide_log.specs.declared.heading.Version.TheVariants.{Single, Match}
 use Rattle.daide_log.specs.declared.report.Source.{Source}
-use Rattle.daide_log.specs.declared.report.Summary.{Summary}
+use Rattle.daide_machine.specs.declared.summary.Summary.{Summary}
 use Rattle.daide_lines.specs.declared.fault.LogFault.{LogFault}
 use Rattle.daide_lines.specs.declared.fault.LogFault.TheVariants.{BadLine, LineTooLong, TooManyLines}
 use Rattle.daide_lines.specs.LogLine.{IsUnbroken, most_lines, longest_line, event_of_line, without_cr}
 use Rattle.daide_lines.specs.MatchLine.{MatchEvent, Of, Quiet, match_event_of_line}
 use Rattle.daide_log.specs.Heading.{Head, Heading, Unnamed, Named, Headed, heading_after, is_whole}
 use Rattle.daide_log.specs.Report.{Entry, events_of, side_of, entries_of, lines_of}
-use Rattle.daide_log.specs.Report.{counted_all, nothing_counted, summary_line}
+use Rattle.daide_machine.specs.Summary.{nothing_counted}
+use Rattle.daide_log.specs.Report.{counted_all, summary_line}
 
 -- ---- events
 

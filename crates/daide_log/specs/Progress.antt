@@ -1,10 +1,10 @@
 -- How far a log was read and reported, and what a fault leaves.
-use Rattle.std.specs.Prelude.{◌≡◌, ⊤, ℕ, ◌+◌, ◌<◌, ◌≤◌, Bool, true, false, List, [], ◌++◌, length, map}
+use Rattle.std.specs.Prelude.{◌≡◌, ⊤, ℕ, ◌+◌, ◌<◌, ◌≤◌, ◌⊎◌, Bool, true, false, List, [], ◌++◌, length, map}
 use Rattle.std.specs.Prelude.{Option, IfSome, Result, Ok, Err}
 use Rattle.std.specs.Io.KnownBytes.{Consumes, Keeps, Appends, IsAtEnd}
 use Rattle.daide_machine.specs.Machine.{SessionState}
 use Rattle.daide_machine.specs.Wires.{Gateway}
-use Rattle.daide_log.specs.declared.report.Summary.{Summary}
+use Rattle.daide_machine.specs.declared.summary.Summary.{Summary}
 use Rattle.daide_lines.specs.declared.fault.LogFault.{LogFault}
 use Rattle.daide_lines.specs.declared.fault.LogFault.TheVariants.{BadLine, LineTooLong, TooManyLines}
 use Rattle.daide_lines.specs.declared.fault.LogFault.TheVariants.{Read, Write, Memory}
@@ -14,7 +14,8 @@ use Rattle.daide_log.specs.declared.opening.Step.{Step}
 use Rattle.daide_log.specs.declared.opening.Step.TheVariants as Steps
 use Rattle.daide_log.specs.Heading.{Head}
 use Rattle.daide_log.specs.Held.{head_of, heading_of}
-use Rattle.daide_log.specs.Report.{Entry, lines_of, counted_all, nothing_counted}
+use Rattle.daide_machine.specs.Summary.{nothing_counted}
+use Rattle.daide_log.specs.Report.{Entry, lines_of, counted_all}
 use Rattle.daide_log.specs.Log.{Stage, Opening, Playing, begun, GoesOn, Reports, ReportsAll, IsReport}
 use Rattle.daide_lines.specs.LogLine.{IsUnbroken, longest_line, most_lines}
 use Rattle.daide_lines.specs.Lines.{block_size}
@@ -60,10 +61,17 @@ pub record StopsBehind (old new : Option (List ℕ)) (told : List Entry) (number
   pub stage : Stage
   pub reports : Reports bytes number told stage
 
--- The log has this fault, with these moves told before it; behind the byte that makes a line too long, or one line too
--- many, a reader is asked for no more.
+-- The log ended, or less than a block was read behind the line of this number.
+abbrev pub StopsAtLine : Option (List ℕ) → Option (List ℕ) → List Entry → ℕ → Type 0
+StopsAtLine old new told n =
+    IsAtEnd new
+    ⊎ ((number : ℕ) × (count : ℕ) × (n ≡ number + 1) × (count ≤ longest_line + 1) × StopsBehind old new told number count)
+
+-- The log has this fault, with these moves told before it; behind the line of another form, the byte that makes a line
+-- too long, or one line too many, a reader is asked for no more.
 abbrev pub IsFaultOf : Option (List ℕ) → Option (List ℕ) → List Entry → LogFault → Type 0
-IsFaultOf old new told (BadLine n) = IfSome old (λ log. IsReport log (lines_of told) (Err (BadLine n)))
+IsFaultOf old new told (BadLine n) =
+    IfSome old (λ log. IsReport log (lines_of told) (Err (BadLine n))) × StopsAtLine old new told n
 IsFaultOf old new told (LineTooLong n) =
     IfSome old (λ log. IsReport log (lines_of told) (Err (LineTooLong n))) × (number : ℕ) × (n ≡ number + 1)
     × StopsBehind old new told number (longest_line + 1)

@@ -13,8 +13,9 @@ use Rattle.daide_machine.specs.declared.note.Note.{Note}
 use Rattle.daide_machine.specs.declared.note.Note.TheVariants.{Nothing, Frame, Fault}
 use Rattle.daide_machine.specs.Events.{Event, Ends, Pops, bytes_come}
 use Rattle.daide_machine.specs.Machine.{Effect}
+use Rattle.daide_machine.specs.Summary.{counted}
 use Rattle.daide_log.specs.declared.report.Source.{Source}
-use Rattle.daide_log.specs.declared.report.Summary.{Summary}
+use Rattle.daide_machine.specs.declared.summary.Summary.{Summary}
 use Rattle.daide_lines.specs.LogLine.{LogEvent, Traffic, EndOf, TimeOver, Silence}
 
 -- ---- what a line of the log tells the session
@@ -89,24 +90,10 @@ lines_of (entry ∷ entries) = move_line entry.source entry.side entry.told ++ l
 
 -- ---- the last line
 
--- the counts with one move more; frames that went nowhere and ends are counted nowhere
-abbrev pub counted : Note → Summary → Summary
-counted Nothing s = s
-counted (Frame head Relayed) s =
-    record { relayed = s.relayed + 1; prn = s.prn; huh = s.huh; faults = s.faults }
-counted (Frame head Dropped) s = s
-counted (Frame head Prn) s = record { relayed = s.relayed; prn = s.prn + 1; huh = s.huh; faults = s.faults }
-counted (Frame head (Huh place)) s =
-    record { relayed = s.relayed; prn = s.prn; huh = s.huh + 1; faults = s.faults }
-counted (Fault code) s = record { relayed = s.relayed; prn = s.prn; huh = s.huh; faults = s.faults + 1 }
-
--- with all of these
+-- the counts with all of these
 abbrev pub counted_all : List Entry → Summary → Summary
 counted_all [] s = s
 counted_all (entry ∷ entries) s = counted_all entries (counted entry.told s)
-
-abbrev pub nothing_counted : Summary
-nothing_counted = record { relayed = 0; prn = 0; huh = 0; faults = 0 }
 
 unfoldable pub summary_line : Summary → List ℕ
 summary_line s =

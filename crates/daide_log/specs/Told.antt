@@ -8,24 +8,8 @@ use Rattle.daide_machine.specs.Events.{Event}
 use Rattle.daide_machine.specs.Machine.{SessionState, Effect, Runs}
 use Rattle.daide_machine.specs.Wires.{Gateway}
 use Rattle.daide_log.specs.declared.report.Source.{Source}
-use Rattle.daide_log.specs.declared.report.Summary.{Summary}
+use Rattle.daide_machine.specs.declared.summary.Summary.{Summary}
 use Rattle.daide_log.specs.Report.{move_line, entries_of, lines_of, counted_all}
-
--- ---- counts
-
--- each count can grow by so many
-pub record HasRoom (n : ℕ) (s : Summary) : Type 0 where
-  pub relayed : s.relayed + n < 2 ^ 64
-  pub prn : s.prn + n < 2 ^ 64
-  pub huh : s.huh + n < 2 ^ 64
-  pub faults : s.faults + n < 2 ^ 64
-
--- each count grew by so many at most
-pub record IsMoreBy (n : ℕ) (old new : Summary) : Type 0 where
-  pub relayed : new.relayed ≤ old.relayed + n
-  pub prn : new.prn ≤ old.prn + n
-  pub huh : new.huh ≤ old.huh + n
-  pub faults : new.faults ≤ old.faults + n
 
 -- ---- moves of a session
 

@@ -5,37 +5,43 @@
 //! No memory is taken but the sessions', once the head has said how much.
 
 ghost use Rattle.std.specs.Prelude.{◌≡◌, ◌≤◌, [], All, length, List, ℕ, Option, IfOk, IfErr};
-ghost use Rattle.std.specs.Io.KnownBytes.{Appends, append_known};
-ghost use Rattle.daide_log.specs.Report.{summary_line};
-ghost use Rattle.daide_lines.specs.Lines.{is_end, is_last};
+ghost use Rattle.std.specs.Io.KnownBytes.{Appends};
+ghost use Rattle.daide_lines.specs.Input.{IsSameReader};
 ghost use Rattle.daide_lines.specs.LogLine.{most_lines};
+ghost use Rattle.daide_lines.specs.Lines.{is_end, is_last};
+ghost use Rattle.daide_lines.specs.Output.{IsSameWriter, all_of};
 ghost use Rattle.daide_log.specs.Log.{Playing};
+ghost use Rattle.daide_log.specs.Report.{summary_line};
+ghost use Rattle.daide_machine.specs.Summary.{nothing_counted};
 ghost use Rattle.daide_log.specs.Told.{IsIdle};
 ghost use Rattle.daide_log.specs.Progress.{HasRead, IsFaultAfter, Reported, states_of};
 
+use crate::account::Account;
 use crate::heading::Version;
-use crate::judge::judge_line;
+use crate::judge::{Origin, judge_line};
 use crate::opening::{open_sessions, read_head};
 use crate::page::put_summary;
 use crate::report::Summary;
 use daide_lines::block::Block;
 use daide_lines::event_line::MOST;
 use daide_lines::fault::LogFault;
-use daide_lines::lines::{Found, held_line, next_line, without_cr};
-use daide_lines::page::{Page, hand_over};
+use daide_lines::input::Input;
+use daide_lines::lines::{Found, find_line, pass_line};
+use daide_lines::output::Output;
+use daide_lines::page::Page;
 use daide_lines::text::Text;
 use daide_session::Session;
 use std::alloc::Allocator;
 use std::io::{Read, Write};
 
 /// Writes the last line of a report.
-fn finish<W: Write>(summary: Summary, page: &mut Page, writer: &mut W) -> Result<Summary, LogFault>
+fn finish<W: Write>(summary: Summary, output: &mut Output<'_, W>) -> Result<Summary, LogFault>
     ensures written { IfOk result (λ answer. (answer ≡ summary)
-        × Appends (append_known (W.contents writer.old) page.old.items)
-        (append_known (W.contents writer.new) page.new.items) (summary_line summary)) }
+        × Appends (all_of W.contents output.old) (all_of W.contents output.new) (summary_line summary)) }
     ensures refused { IfErr result (λ fault. fault ≡ LogFault.Write) }
+    ensures same_writer { IsSameWriter output.old output.new }
 {
-    match put_summary(summary, page, writer) {
+    match put_summary(summary, output) {
         Ok(()) => Ok(summary),
         Err(_) => Err(LogFault::Write),
     }
@@ -47,7 +53,7 @@ fn is_end(found: Found) -> bool
 {
     match found {
         Found::End => true,
-        Found::Line | Found::Last => false,
+        Found::Held(_) | Found::Line | Found::Last => false,
     }
 }
 
@@ -57,7 +63,7 @@ fn is_last(found: Found) -> bool
 {
     match found {
         Found::Last => true,
-        Found::Line | Found::End => false,
+        Found::Held(_) | Found::Line | Found::End => false,
     }
 }
 
@@ -66,91 +72,69 @@ fn play<A: Allocator, R: Read, W: Write>(
     version: Version,
     sessions: &mut Vec<Session<A>, A>,
     lines: u32,
-    block: &mut Block,
-    text: &mut Text,
-    page: &mut Page,
-    reader: &mut R,
-    writer: &mut W,
+    input: &mut Input<'_, R>,
+    account: &mut Account<'_, W>,
 ) -> Result<Summary, LogFault>
     requires some { 1 ≤ length sessions.old.items }
     requires few { length sessions.old.items ≤ 256 }
     requires idle { All IsIdle sessions.old.items }
     requires lines { lines ≤ most_lines }
+    requires nothing { account.old.summary ≡ nothing_counted }
     ensures report { (origin : Option (List ℕ)) →
-        HasRead origin (R.remaining reader.old) block.old lines [] (Playing version (states_of sessions.old.items)) →
-        IfOk result (λ summary. Reported origin (append_known (W.contents writer.old) page.old.items)
-        (append_known (W.contents writer.new) page.new.items) summary) }
+        HasRead origin (R.remaining input.old.reader.now) input.old.block lines []
+        (Playing version (states_of sessions.old.items)) →
+        IfOk result (λ summary. Reported origin (all_of W.contents account.old.output)
+        (all_of W.contents account.new.output) summary) }
     ensures refused { (origin : Option (List ℕ)) →
-        HasRead origin (R.remaining reader.old) block.old lines [] (Playing version (states_of sessions.old.items)) →
-        IfErr result (λ fault. IsFaultAfter origin (R.remaining reader.new)
-        (append_known (W.contents writer.old) page.old.items)
-        (append_known (W.contents writer.new) page.new.items) fault) }
+        HasRead origin (R.remaining input.old.reader.now) input.old.block lines []
+        (Playing version (states_of sessions.old.items)) →
+        IfErr result (λ fault. IsFaultAfter origin (R.remaining input.new.reader.now)
+        (all_of W.contents account.old.output) (all_of W.contents account.new.output) fault) }
+    ensures same_reader { IsSameReader input.old input.new }
+    ensures same_writer { IsSameWriter account.old.output account.new.output }
 {
-    let mut summary = Summary::new();
     let mut bytes = [0; MOST];
     let mut count = lines;
     'lines: loop {
-        if let Some(end) = held_line(block, count) {
-            let line = without_cr(&block.as_slice()[..end]);
-            count += 1;
-            if let Err(fault) = judge_line(
-                version,
-                sessions,
-                line,
-                count,
-                &mut bytes,
-                &mut summary,
-                page,
-                writer,
-            ) {
-                return Err(fault);
-            }
-            block.skip(end + 1);
-            continue;
-        }
-        let found = match next_line(block, text, count, page, reader, writer) {
+        let found = match find_line(input, count, &mut account.output) {
             Ok(found) => found,
             Err(fault) => return Err(fault),
         };
         if is_end(found) {
-            return finish(summary, page, writer);
+            return finish(account.summary, &mut account.output);
         }
         count += 1;
-        if let Err(fault) = judge_line(
+        let origin = Origin {
             version,
-            sessions,
-            text.as_slice(),
-            count,
-            &mut bytes,
-            &mut summary,
-            page,
-            writer,
-        ) {
+            line: count,
+        };
+        if let Err(fault) = judge_line(sessions, input.line(found), origin, &mut bytes, account) {
             return Err(fault);
         }
         if is_last(found) {
-            return finish(summary, page, writer);
+            return finish(account.summary, &mut account.output);
         }
+        pass_line(&mut input.block, found);
     }
 }
 
 /// Reports a log, with the end of the report held back.
 fn report<A: Allocator + Copy, R: Read, W: Write>(
     alloc: A,
-    page: &mut Page,
-    reader: &mut R,
-    writer: &mut W,
+    input: &mut Input<'_, R>,
+    account: &mut Account<'_, W>,
 ) -> Result<Summary, LogFault>
-    ensures report { IfOk result (λ summary. Reported (R.remaining reader.old)
-        (append_known (W.contents writer.old) page.old.items)
-        (append_known (W.contents writer.new) page.new.items) summary) }
-    ensures refused { IfErr result (λ fault. IsFaultAfter (R.remaining reader.old) (R.remaining reader.new)
-        (append_known (W.contents writer.old) page.old.items)
-        (append_known (W.contents writer.new) page.new.items) fault) }
+    requires unread { input.old.block ≡ [] }
+    requires nothing { account.old.summary ≡ nothing_counted }
+    ensures report { IfOk result (λ summary. Reported (R.remaining input.old.reader.now)
+        (all_of W.contents account.old.output) (all_of W.contents account.new.output) summary) }
+    ensures refused { IfErr result (λ fault. IsFaultAfter (R.remaining input.old.reader.now)
+        (R.remaining input.new.reader.now) (all_of W.contents account.old.output)
+        (all_of W.contents account.new.output) fault) }
+    ensures same_reader { IsSameReader input.old input.new }
+    ensures same_writer { IsSameWriter account.old.output account.new.output }
 {
-    let mut block = Block::new();
-    let mut text = Text::new();
-    let opened = match read_head(&mut block, &mut text, page, reader, writer) {
+    let opened = match read_head(input, &mut account.output) {
         Ok(opened) => opened,
         Err(fault) => return Err(fault),
     };
@@ -160,24 +144,44 @@ fn report<A: Allocator + Copy, R: Read, W: Write>(
         Err(fault) => return Err(fault),
     };
     if !opened.is_ended {
-        return finish(Summary::new(), page, writer);
+        return finish(account.summary, &mut account.output);
     }
-    play(
-        head.version,
-        &mut sessions,
-        opened.lines,
-        &mut block,
-        &mut text,
-        page,
-        reader,
-        writer,
-    )
+    play(head.version, &mut sessions, opened.lines, input, account)
+}
+
+/// Reports a log, and hands over all that was held back, whether it has a fault or not.
+fn report_whole<A: Allocator + Copy, R: Read, W: Write>(
+    alloc: A,
+    input: &mut Input<'_, R>,
+    account: &mut Account<'_, W>,
+) -> Result<Summary, LogFault>
+    requires unread { input.old.block ≡ [] }
+    requires nothing { account.old.summary ≡ nothing_counted }
+    requires none_held { account.old.output.page.items ≡ [] }
+    ensures report { IfOk result (λ summary. Reported (R.remaining input.old.reader.now)
+        (W.contents account.old.output.writer.now) (W.contents account.new.output.writer.now) summary) }
+    ensures refused { IfErr result (λ fault. IsFaultAfter (R.remaining input.old.reader.now)
+        (R.remaining input.new.reader.now) (W.contents account.old.output.writer.now)
+        (W.contents account.new.output.writer.now) fault) }
+    ensures same_reader { IsSameReader input.old input.new }
+    ensures same_writer { IsSameWriter account.old.output account.new.output }
+{
+    let answer = report(alloc, input, account);
+    if answer == Err(LogFault::Write) {
+        return answer;
+    }
+    match account.output.hand_over() {
+        Ok(()) => answer,
+        Err(_) => Err(LogFault::Write),
+    }
 }
 
 /// Reads a log, and writes its report: a line for each frame that became whole, each fault and each end, and the counts
-/// last. A fault of the log is told after the report of all lines before it; `Read` after that of the lines before the
-/// one that was being read. `Memory` comes at the sessions' growths, with nothing written, and no other memory is
-/// taken. After `Write` nothing is said of how much of the report went out.
+/// last. A fault of the log is told after the report of all lines before it, with less than a block read behind the line
+/// that has it; `Read` after that of the lines before the one that was being read. `Memory` comes at the sessions'
+/// growths, with nothing written, and no other memory is taken. After `Write` nothing is said of how much of the report
+/// went out.
+#[tactic(auto, using(crate::proofs::LogLemmas::refused_alike))]
 pub fn check_log<A: Allocator + Copy, R: Read, W: Write>(
     alloc: A,
     reader: &mut R,
@@ -188,13 +192,17 @@ pub fn check_log<A: Allocator + Copy, R: Read, W: Write>(
     ensures refused { IfErr result (λ fault. IsFaultAfter (R.remaining reader.old) (R.remaining reader.new)
         (W.contents writer.old) (W.contents writer.new) fault) }
 {
-    let mut page = Page::new();
-    let answer = report(alloc, &mut page, reader, writer);
-    if answer == Err(LogFault::Write) {
-        return answer;
-    }
-    match hand_over(&mut page, writer) {
-        Ok(()) => answer,
-        Err(_) => Err(LogFault::Write),
-    }
+    let mut input = Input {
+        block: Block::new(),
+        text: Text::new(),
+        reader,
+    };
+    let mut account = Account {
+        summary: Summary::new(),
+        output: Output {
+            page: Page::new(),
+            writer,
+        },
+    };
+    report_whole(alloc, &mut input, &mut account)
 }

@@ -1,22 +1,23 @@
 //! One line of a log behind its head, judged by its session.
 
 ghost use Rattle.std.specs.Prelude.{◌≡◌, ◌⊎◌, ◌≤◌, All, length, Ok, Err, None, IfSome, OnOk, IfErr, MatchResult, option_map};
-ghost use Rattle.std.specs.Io.KnownBytes.{append_known};
+ghost use Rattle.daide_lines.specs.Output.{IsSameWriter, all_of};
 ghost use Rattle.daide_log.specs.Report.{events_of, side_of};
 ghost use Rattle.daide_log.specs.Log.{event_in, source_in};
 ghost use Rattle.daide_lines.specs.Told.{IsWithin, event_told};
-ghost use Rattle.daide_log.specs.Told.{HasRoom, IsMoreBy, IsIdle, Tells};
+ghost use Rattle.daide_machine.specs.Summary.{HasRoom, IsMoreBy};
+ghost use Rattle.daide_log.specs.Told.{IsIdle, Tells};
 ghost use Rattle.daide_lines.specs.MatchTold.{IsMatchWithin, match_event_told};
 ghost use Rattle.daide_log.specs.Progress.{Judges, states_of};
 
+use crate::account::Account;
 use crate::heading::Version;
 use crate::page::Unwritten;
 use crate::play::{end, feed_all, time_out};
-use crate::report::{Source, Summary};
+use crate::report::Source;
 use daide_lines::event_line::{MOST, Told, read_event};
 use daide_lines::fault::LogFault;
 use daide_lines::match_line::{MatchTold, read_match_event};
-use daide_lines::page::Page;
 use daide_session::Session;
 use std::alloc::Allocator;
 use std::io::Write;
@@ -38,35 +39,26 @@ pub fn judge<A: Allocator, W: Write>(
     told: Told,
     source: Source,
     bytes: &[u8; MOST],
-    summary: &mut Summary,
-    page: &mut Page,
-    writer: &mut W,
+    account: &mut Account<'_, W>,
 ) -> Result<(), LogFault>
     requires idle { IsIdle session.old }
     requires within { IsWithin told }
-    requires room { HasRoom 1024 summary.old }
+    requires room { HasRoom 1024 account.old.summary }
     ensures idle { IsIdle session.new }
-    ensures few { IsMoreBy 1024 summary.old summary.new }
+    ensures few { IsMoreBy 1024 account.old.summary account.new.summary }
     ensures judged { OnOk result (Tells source (side_of (event_told bytes.now told)) session.old.state
         (events_of (event_told bytes.now told)) session.new.state
-        summary.old summary.new (append_known (W.contents writer.old) page.old.items)
-        (append_known (W.contents writer.new) page.new.items)) }
+        account.old.summary account.new.summary (all_of W.contents account.old.output)
+        (all_of W.contents account.new.output)) }
     ensures refused { IfErr result (λ fault. fault ≡ LogFault.Write) }
+    ensures same_writer { IsSameWriter account.old.output account.new.output }
 {
     match told {
         Told::Traffic(side, count) => {
-            or_write(feed_all(
-                session,
-                side,
-                &bytes[..count],
-                source,
-                summary,
-                page,
-                writer,
-            ))
+            or_write(feed_all(session, side, &bytes[..count], source, account))
         }
-        Told::EndOf(side) => or_write(end(session, side, source, summary, page, writer)),
-        Told::TimeOver => or_write(time_out(session, source, summary, page, writer)),
+        Told::EndOf(side) => or_write(end(session, side, source, account)),
+        Told::TimeOver => or_write(time_out(session, source, account)),
         Told::Silence => Ok(()),
     }
 }
@@ -88,60 +80,63 @@ fn read_told(
     }
 }
 
-/// What the report names of a session's moves by a line.
-fn source_in(version: Version, line: u32, session: u16) -> Source
-    ensures { result ≡ source_in version line session }
-{
-    let session = match version {
-        Version::Single => None,
-        Version::Match => Some(session),
-    };
-    Source { line, session }
+/// A line that is judged.
+#[derive(Clone, Copy)]
+pub struct Origin {
+    /// Of what the log is.
+    pub version: Version,
+    /// The number of the line, counted from 1.
+    pub line: u32,
+}
+
+impl Origin {
+    /// What the report names of a session's moves by the line.
+    fn source(self, session: u16) -> Source
+        ensures { result ≡ source_in self.version self.line session }
+    {
+        let session = match self.version {
+            Version::Single => None,
+            Version::Match => Some(session),
+        };
+        Source {
+            line: self.line,
+            session,
+        }
+    }
 }
 
 /// Judges a line by the session that it names. The bytes of traffic are decoded into the buffer.
 pub fn judge_line<A: Allocator, W: Write>(
-    version: Version,
     sessions: &mut Vec<Session<A>, A>,
     line: &[u8],
-    number: u32,
+    origin: Origin,
     bytes: &mut [u8; MOST],
-    summary: &mut Summary,
-    page: &mut Page,
-    writer: &mut W,
+    account: &mut Account<'_, W>,
 ) -> Result<(), LogFault>
     requires some { 1 ≤ length sessions.old.items }
     requires few { length sessions.old.items ≤ 256 }
     requires idle { All IsIdle sessions.old.items }
-    requires room { HasRoom 1024 summary.old }
+    requires room { HasRoom 1024 account.old.summary }
     ensures same { length sessions.new.items ≡ length sessions.old.items }
     ensures idle { All IsIdle sessions.new.items }
-    ensures few { IsMoreBy 1024 summary.old summary.new }
-    ensures judged { OnOk result (Judges version number (states_of sessions.old.items) line.now
-        (states_of sessions.new.items) summary.old summary.new
-        (append_known (W.contents writer.old) page.old.items)
-        (append_known (W.contents writer.new) page.new.items)) }
-    ensures refused { IfErr result (λ fault. (fault ≡ LogFault.Write) ⊎ ((fault ≡ LogFault.BadLine number)
-        × (event_in version (length sessions.old.items) line.now ≡ None)
-        × (append_known (W.contents writer.new) page.new.items
-        ≡ append_known (W.contents writer.old) page.old.items))) }
+    ensures few { IsMoreBy 1024 account.old.summary account.new.summary }
+    ensures judged { OnOk result (Judges origin.version origin.line (states_of sessions.old.items) line.now
+        (states_of sessions.new.items) account.old.summary account.new.summary
+        (all_of W.contents account.old.output)
+        (all_of W.contents account.new.output)) }
+    ensures refused { IfErr result (λ fault. (fault ≡ LogFault.Write) ⊎ ((fault ≡ LogFault.BadLine origin.line)
+        × (event_in origin.version (length sessions.old.items) line.now ≡ None)
+        × (all_of W.contents account.new.output ≡ all_of W.contents account.old.output))) }
+    ensures same_writer { IsSameWriter account.old.output account.new.output }
 {
     let count = sessions.len() as u16;
-    match read_told(version, line, count, bytes) {
-        None => Err(LogFault::BadLine(number)),
+    match read_told(origin.version, line, count, bytes) {
+        None => Err(LogFault::BadLine(origin.line)),
         Some(MatchTold::Quiet) => Ok(()),
         Some(MatchTold::Of(session, told)) => {
             let place = session as usize - 1;
-            let source = source_in(version, number, session);
-            judge(
-                &mut sessions[place],
-                told,
-                source,
-                bytes,
-                summary,
-                page,
-                writer,
-            )
+            let source = origin.source(session);
+            judge(&mut sessions[place], told, source, bytes, account)
         }
     }
 }

@@ -2,19 +2,35 @@
 
 ghost use Rattle.std.specs.Prelude.{◌≡◌, ℕ, List, Result};
 ghost use Rattle.daide_lines.specs.declared.fault.LogFault.{LogFault};
-ghost use Rattle.daide_log.specs.declared.report.Summary.{Summary};
+ghost use Rattle.daide_machine.specs.declared.summary.Summary.{Summary};
 ghost use Rattle.daide_log.specs.Laws.{SessionsAreAlone};
 ghost use Rattle.daide_log.specs.Log.{IsReport};
+ghost use Rattle.daide_log.specs.RecordLaw.{RecordsAreReported, PortsAreRecorded};
+
+use daide_turns::Ports;
 
 /// What the log of a match without words tells of a session is what the session's own log tells, but for its number.
 pub fn sessions_are_alone()
     ensures { SessionsAreAlone }
 {}
 
-/// Each log has a report and an answer, whatever its bytes, and no other: so the clauses of `check_log` leave it no
-/// choice.
+/// Each log has a report and an answer, whatever its bytes, and no other: so where `check_log` answers with counts or with
+/// a fault of the log, its clauses leave it no choice. `Read`, `Write` and `Memory`, which no log has, are answers by
+/// clauses of their own.
 pub fn log_has_one_report()
     ensures some { (log : List ℕ) → (text : List ℕ) × (answer : Result Summary LogFault) × IsReport log text answer }
     ensures one { (log text other : List ℕ) (answer another : Result Summary LogFault) →
         IsReport log text answer → IsReport log other another → (text ≡ other) × (answer ≡ another) }
+{}
+
+/// The log that is written of what a session's ports answered reports that session: its moves, each once and in their
+/// order, under the number of the line that tells what made it, and then their counts.
+pub fn records_are_reported()
+    ensures { RecordsAreReported }
+{}
+
+/// Ports with a record, however they were asked: unless its writer failed, the record has a front of their answers, and
+/// all of them unless it is full.
+pub fn ports_are_recorded<P: Ports>()
+    ensures { PortsAreRecorded P.becomes }
 {}

@@ -5,6 +5,7 @@
 //! read, and the session's answers are taken at once.
 #![tactic(auto)]
 
+pub mod account;
 pub mod check;
 pub mod config_line;
 pub mod heading;
@@ -13,8 +14,13 @@ pub mod laws;
 pub mod opening;
 pub mod page;
 pub mod play;
+pub mod record;
+mod record_text;
+pub mod recording;
 pub mod report;
 
 pub use check::check_log;
 pub use daide_lines::LogFault;
+pub use record::{Record, RecordEnd};
+pub use recording::Recording;
 pub use report::Summary;

@@ -1,7 +1,9 @@
 //! The opening of a log: its head is read, and then its sessions are made.
 
 ghost use Rattle.std.specs.Prelude.{◌≡◌, ◌≢◌, ◌+◌, ◌≤◌, [], All, replicate, IfOk, IfErr, OnOk};
-ghost use Rattle.std.specs.Io.KnownBytes.{Keeps, append_known};
+ghost use Rattle.std.specs.Io.KnownBytes.{Keeps};
+ghost use Rattle.daide_lines.specs.Input.{IsSameReader};
+ghost use Rattle.daide_lines.specs.Output.{IsSameWriter, all_of};
 ghost use Rattle.daide_machine.specs.Machine.{opening};
 ghost use Rattle.daide_machine.specs.Config.{limits_with};
 ghost use Rattle.daide_words.specs.Words.{words_of};
@@ -12,11 +14,10 @@ ghost use Rattle.daide_log.specs.Progress.{AreOpened, states_of};
 ghost use Rattle.daide_log.specs.Told.{IsIdle};
 
 use crate::heading::{Head, Heading};
-use daide_lines::block::Block;
 use daide_lines::fault::LogFault;
+use daide_lines::input::Input;
 use daide_lines::lines::{Found, next_line};
-use daide_lines::page::Page;
-use daide_lines::text::Text;
+use daide_lines::output::Output;
 use daide_session::Session;
 use std::alloc::Allocator;
 use std::io::{Read, Write};
@@ -81,7 +82,7 @@ fn after_line(
 {
     match (found, heading) {
         (Err(fault), _) => Err(fault),
-        (Ok(Found::Line), Some(heading)) => Ok(further(heading, count + 1)),
+        (Ok(Found::Held(_) | Found::Line), Some(heading)) => Ok(further(heading, count + 1)),
         (Ok(Found::Last), Some(heading)) => at_last(heading, count + 1),
         (Ok(_), _) => Err(LogFault::BadLine(count + 1)),
     }
@@ -89,26 +90,24 @@ fn after_line(
 
 /// Reads the head of a log, line by line.
 pub fn read_head<R: Read, W: Write>(
-    block: &mut Block,
-    text: &mut Text,
-    page: &mut Page,
-    reader: &mut R,
-    writer: &mut W,
+    input: &mut Input<'_, R>,
+    output: &mut Output<'_, W>,
 ) -> Result<Opened, LogFault>
-    requires { block.old ≡ [] }
+    requires { input.old.block ≡ [] }
     ensures within { IfOk result (λ opened. HasSessions opened.head.limits) }
-    ensures opened { AreOpened (R.remaining reader.old) (R.remaining reader.new) block.new result }
-    ensures kept { OnOk result (Keeps (append_known (W.contents writer.old) page.old.items)
-        (append_known (W.contents writer.new) page.new.items)) }
+    ensures opened { AreOpened (R.remaining input.old.reader.now) (R.remaining input.new.reader.now) input.new.block
+        result }
+    ensures kept { OnOk result (Keeps (all_of W.contents output.old) (all_of W.contents output.new)) }
     ensures kept_at_fault { IfErr result (λ fault. fault ≢ LogFault.Write →
-        Keeps (append_known (W.contents writer.old) page.old.items)
-        (append_known (W.contents writer.new) page.new.items)) }
+        Keeps (all_of W.contents output.old) (all_of W.contents output.new)) }
+    ensures same_reader { IsSameReader input.old input.new }
+    ensures same_writer { IsSameWriter output.old output.new }
 {
     let mut heading = Heading::Unnamed;
     let mut count = 0;
     'lines: loop {
-        let found = next_line(block, text, count, page, reader, writer);
-        let more = heading.with_line(text.as_slice());
+        let found = next_line(input, count, output);
+        let more = heading.with_line(input.text.as_slice());
         match after_line(found, more, count) {
             Err(fault) => return Err(fault),
             Ok(Step::Done(opened)) => return Ok(opened),

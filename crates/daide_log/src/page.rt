@@ -1,12 +1,13 @@
 //! Lines of a report, put behind what is held back of it.
 
 ghost use Rattle.std.specs.Prelude.{◌≡◌, ◌≤◌, length, OnOk};
-ghost use Rattle.std.specs.Io.KnownBytes.{Appends, Keeps, append_known};
+ghost use Rattle.std.specs.Io.KnownBytes.{Appends, Keeps};
+ghost use Rattle.daide_lines.specs.Output.{IsSameWriter, all_of};
 ghost use Rattle.daide_log.specs.Report.{move_line, summary_line};
 
 use crate::report::{LINE, Source, Summary, write_move, write_summary};
 use daide_frame::Side;
-use daide_lines::page::{Page, hand_over};
+use daide_lines::output::Output;
 use daide_machine::Note;
 use std::io::Write;
 
@@ -16,15 +17,15 @@ pub struct Unwritten;
 
 /// Hands what is held to the writer where a line more might not find room.
 #[inline(always)]
-fn make_room<W: Write>(page: &mut Page, writer: &mut W) -> Result<(), Unwritten>
-    ensures kept { OnOk result (Keeps (append_known (W.contents writer.old) page.old.items)
-        (append_known (W.contents writer.new) page.new.items)) }
-    ensures room { OnOk result (length page.new.items ≤ 8064) }
+fn make_room<W: Write>(output: &mut Output<'_, W>) -> Result<(), Unwritten>
+    ensures kept { OnOk result (Keeps (all_of W.contents output.old) (all_of W.contents output.new)) }
+    ensures room { OnOk result (length output.new.page.items ≤ 8064) }
+    ensures same_writer { IsSameWriter output.old output.new }
 {
-    if page.remaining_capacity() >= LINE {
+    if output.page.remaining_capacity() >= LINE {
         return Ok(());
     }
-    match hand_over(page, writer) {
+    match output.hand_over() {
         Ok(()) => Ok(()),
         Err(_) => Err(Unwritten),
     }
@@ -35,27 +36,24 @@ pub fn put_move<W: Write>(
     source: Source,
     side: Side,
     told: Note,
-    page: &mut Page,
-    writer: &mut W,
+    output: &mut Output<'_, W>,
 ) -> Result<(), Unwritten>
-    ensures { OnOk result (Appends (append_known (W.contents writer.old) page.old.items)
-        (append_known (W.contents writer.new) page.new.items) (move_line source side told)) }
+    ensures text { OnOk result (Appends (all_of W.contents output.old) (all_of W.contents output.new)
+        (move_line source side told)) }
+    ensures same_writer { IsSameWriter output.old output.new }
 {
-    make_room(page, writer)?;
-    write_move(source, side, told, page);
+    make_room(output)?;
+    write_move(source, side, told, &mut output.page);
     Ok(())
 }
 
 /// Writes the last line of a report behind what is held.
-pub fn put_summary<W: Write>(
-    summary: Summary,
-    page: &mut Page,
-    writer: &mut W,
-) -> Result<(), Unwritten>
-    ensures { OnOk result (Appends (append_known (W.contents writer.old) page.old.items)
-        (append_known (W.contents writer.new) page.new.items) (summary_line summary)) }
+pub fn put_summary<W: Write>(summary: Summary, output: &mut Output<'_, W>) -> Result<(), Unwritten>
+    ensures text { OnOk result (Appends (all_of W.contents output.old) (all_of W.contents output.new)
+        (summary_line summary)) }
+    ensures same_writer { IsSameWriter output.old output.new }
 {
-    make_room(page, writer)?;
-    write_summary(summary, page);
+    make_room(output)?;
+    write_summary(summary, &mut output.page);
     Ok(())
 }

@@ -1,18 +1,20 @@
 //! A session of a log, by the lines behind the head.
 
 ghost use Rattle.std.specs.Prelude.{◌≡◌, ◌≤◌, List, ◌∷◌, [], length, OnOk, IfErr};
-ghost use Rattle.std.specs.Io.KnownBytes.{Appends, append_known};
+ghost use Rattle.std.specs.Io.KnownBytes.{Appends};
 ghost use Rattle.daide_frame.specs.declared.side.Side.{Side};
+ghost use Rattle.daide_lines.specs.Output.{IsSameWriter, all_of};
 ghost use Rattle.daide_machine.specs.Events.{Event, Ends, Pops, bytes_come};
 ghost use Rattle.daide_machine.specs.Machine.{Effect, Runs};
 ghost use Rattle.daide_machine.specs.Wires.{room_of};
-ghost use Rattle.daide_log.specs.Report.{counted};
-ghost use Rattle.daide_log.specs.Told.{HasRoom, IsMoreBy, IsIdle, Moves, Tells, told_lines};
+ghost use Rattle.daide_machine.specs.Summary.{counted};
+ghost use Rattle.daide_machine.specs.Summary.{HasRoom, IsMoreBy};
+ghost use Rattle.daide_log.specs.Told.{IsIdle, Moves, Tells, told_lines};
 
+use crate::account::Account;
 use crate::page::{Unwritten, put_move};
-use crate::report::{Source, Summary};
+use crate::report::Source;
 use daide_frame::Side;
-use daide_lines::page::Page;
 use daide_machine::Note;
 use daide_session::Session;
 use std::alloc::Allocator;
@@ -48,20 +50,19 @@ fn tell<W: Write>(
     source: Source,
     side: Side,
     told: Note,
-    summary: &mut Summary,
-    page: &mut Page,
-    writer: &mut W,
+    account: &mut Account<'_, W>,
 ) -> Result<(), Unwritten>
-    requires { HasRoom 1 summary.old }
-    ensures counted { summary.new ≡ counted told summary.old }
-    ensures few { IsMoreBy 1 summary.old summary.new }
-    ensures text { OnOk result (Appends (append_known (W.contents writer.old) page.old.items)
-        (append_known (W.contents writer.new) page.new.items) (told_lines source side told)) }
+    requires { HasRoom 1 account.old.summary }
+    ensures counted { account.new.summary ≡ counted told account.old.summary }
+    ensures few { IsMoreBy 1 account.old.summary account.new.summary }
+    ensures text { OnOk result (Appends (all_of W.contents account.old.output)
+        (all_of W.contents account.new.output) (told_lines source side told)) }
+    ensures same_writer { IsSameWriter account.old.output account.new.output }
 {
-    summary.count(told);
+    account.summary.count(told);
     match told {
         Note::Nothing => Ok(()),
-        Note::Frame(..) | Note::Fault(_) => put_move(source, side, told, page, writer),
+        Note::Frame(..) | Note::Fault(_) => put_move(source, side, told, &mut account.output),
     }
 }
 
@@ -71,23 +72,22 @@ pub fn feed_all<A: Allocator, W: Write>(
     side: Side,
     bytes: &[u8],
     source: Source,
-    summary: &mut Summary,
-    page: &mut Page,
-    writer: &mut W,
+    account: &mut Account<'_, W>,
 ) -> Result<(), Unwritten>
     requires idle { IsIdle session.old }
-    requires room { HasRoom (length bytes.now) summary.old }
+    requires room { HasRoom (length bytes.now) account.old.summary }
     ensures idle { IsIdle session.new }
-    ensures few { IsMoreBy (length bytes.now) summary.old summary.new }
+    ensures few { IsMoreBy (length bytes.now) account.old.summary account.new.summary }
     ensures told { OnOk result (Tells source side session.old.state (bytes_come side bytes.now) session.new.state
-        summary.old summary.new (append_known (W.contents writer.old) page.old.items)
-        (append_known (W.contents writer.new) page.new.items)) }
+        account.old.summary account.new.summary (all_of W.contents account.old.output)
+        (all_of W.contents account.new.output)) }
+    ensures same_writer { IsSameWriter account.old.output account.new.output }
 {
     let mut rest = bytes;
     while !rest.is_empty() && !session.is_over() {
         let (piece, more) = rest.split_at(rest.len().min(session.room(side)));
         let told = feed_piece(session, side, piece);
-        tell(source, side, told, summary, page, writer)?;
+        tell(source, side, told, account)?;
         rest = more;
     }
     Ok(())
@@ -98,22 +98,21 @@ pub fn end<A: Allocator, W: Write>(
     session: &mut Session<A>,
     side: Side,
     source: Source,
-    summary: &mut Summary,
-    page: &mut Page,
-    writer: &mut W,
+    account: &mut Account<'_, W>,
 ) -> Result<(), Unwritten>
-    requires room { HasRoom 1 summary.old }
+    requires room { HasRoom 1 account.old.summary }
     ensures idle { IsIdle session.new }
-    ensures few { IsMoreBy 1 summary.old summary.new }
+    ensures few { IsMoreBy 1 account.old.summary account.new.summary }
     ensures told { OnOk result (Tells source side session.old.state (Ends side ∷ []) session.new.state
-        summary.old summary.new (append_known (W.contents writer.old) page.old.items)
-        (append_known (W.contents writer.new) page.new.items)) }
+        account.old.summary account.new.summary (all_of W.contents account.old.output)
+        (all_of W.contents account.new.output)) }
+    ensures same_writer { IsSameWriter account.old.output account.new.output }
 {
     let ended = session.ended(side);
     take_answers(session);
     if ended {
-        summary.count(Note::Nothing);
-        return put_move(source, side, Note::Nothing, page, writer);
+        account.summary.count(Note::Nothing);
+        return put_move(source, side, Note::Nothing, &mut account.output);
     }
     Ok(())
 }
@@ -122,18 +121,17 @@ pub fn end<A: Allocator, W: Write>(
 pub fn time_out<A: Allocator, W: Write>(
     session: &mut Session<A>,
     source: Source,
-    summary: &mut Summary,
-    page: &mut Page,
-    writer: &mut W,
+    account: &mut Account<'_, W>,
 ) -> Result<(), Unwritten>
-    requires room { HasRoom 1 summary.old }
+    requires room { HasRoom 1 account.old.summary }
     ensures idle { IsIdle session.new }
-    ensures few { IsMoreBy 1 summary.old summary.new }
+    ensures few { IsMoreBy 1 account.old.summary account.new.summary }
     ensures told { OnOk result (Tells source Side.Bot session.old.state (Pops ∷ []) session.new.state
-        summary.old summary.new (append_known (W.contents writer.old) page.old.items)
-        (append_known (W.contents writer.new) page.new.items)) }
+        account.old.summary account.new.summary (all_of W.contents account.old.output)
+        (all_of W.contents account.new.output)) }
+    ensures same_writer { IsSameWriter account.old.output account.new.output }
 {
     let told = session.im_timeout();
     take_answers(session);
-    tell(source, Side::Bot, told, summary, page, writer)
+    tell(source, Side::Bot, told, account)
 }

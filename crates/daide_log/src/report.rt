@@ -5,12 +5,11 @@ ghost use Rattle.std.specs.Fmt.{decimal};
 ghost use Rattle.hex.specs.Hex.{encode_upper};
 ghost use Rattle.daide_frame.specs.Code.{code_number};
 ghost use Rattle.daide_log.specs.Report.{name_of_side, move_text, source_text, told_text, move_line};
-ghost use Rattle.daide_log.specs.Report.{counted, nothing_counted};
 ghost use Rattle.daide_log.specs.Report.{summary_line as last_line};
-ghost use Rattle.daide_log.specs.Told.{HasRoom, IsMoreBy};
 
 use daide_frame::{Code, Head, Side};
 use daide_lines::page::Page;
+pub use daide_machine::Summary;
 use daide_machine::{Deed, Note};
 
 /// More bytes than any line of a report has.
@@ -25,22 +24,9 @@ pub struct Source {
     pub session: Option<u16>,
 }
 
-/// How many frames were passed on, how many answered by PRN and by HUH, and how many faults there were.
-#[derive(Clone, Copy, Debug, PartialEq, Eq)]
-pub struct Summary {
-    /// Frames that were passed on to the other side.
-    pub relayed: u64,
-    /// Messages that were answered by PRN.
-    pub prn: u64,
-    /// Messages that were answered by HUH.
-    pub huh: u64,
-    /// Faults, each of which ended the session.
-    pub faults: u64,
-}
-
 /// Puts text behind a line.
 #[inline(always)]
-fn put(text: &[u8], line: &mut Page)
+pub(crate) fn put(text: &[u8], line: &mut Page)
     requires { length line.old.items + length text.now ≤ 8192 }
     ensures text { line.new.items ≡ line.old.items ++ text.now }
     ensures length { length line.new.items ≡ length line.old.items + length text.now }
@@ -120,7 +106,7 @@ fn put_four(number: u16, line: &mut Page)
 }
 
 /// Puts a number behind a line, which has twenty digits at most, and mostly four or fewer: those need no calls.
-fn put_number(number: u64, line: &mut Page)
+pub(crate) fn put_number(number: u64, line: &mut Page)
     requires { length line.old.items ≤ 8172 }
     ensures text { line.new.items ≡ line.old.items ++ decimal number }
     ensures few { length line.new.items ≤ length line.old.items + 20 }
@@ -151,7 +137,7 @@ fn put_source(source: Source, line: &mut Page)
 
 /// Puts a side, and a space behind it.
 #[inline(always)]
-fn put_side(side: Side, line: &mut Page)
+pub(crate) fn put_side(side: Side, line: &mut Page)
     requires { length line.old.items ≤ 8106 }
     ensures text { line.new.items ≡ line.old.items ++ name_of_side side ++ 32 ∷ [] }
     ensures few { length line.new.items ≤ length line.old.items + 7 }
@@ -226,7 +212,7 @@ fn put_told(side: Side, told: Note, line: &mut Page)
 
 /// Puts the line of a side's move, behind the numbers of what made it.
 #[tactic(auto, unfolding(crate::specs::Report::move_line))]
-pub fn write_move(source: Source, side: Side, told: Note, line: &mut Page)
+pub(crate) fn write_move(source: Source, side: Side, told: Note, line: &mut Page)
     requires { length line.old.items ≤ 8064 }
     ensures { line.new.items ≡ line.old.items ++ move_line source side told }
 {
@@ -234,38 +220,9 @@ pub fn write_move(source: Source, side: Side, told: Note, line: &mut Page)
     put_told(side, told, line);
 }
 
-impl Summary {
-    /// Nothing counted.
-    pub fn new() -> Summary
-        ensures { result ≡ nothing_counted }
-    {
-        Summary {
-            relayed: 0,
-            prn: 0,
-            huh: 0,
-            faults: 0,
-        }
-    }
-
-    /// Counts a move. Frames that went nowhere and ends are counted nowhere.
-    pub fn count(&mut self, told: Note)
-        requires { HasRoom 1 self.old }
-        ensures counted { self.new ≡ counted told self.old }
-        ensures few { IsMoreBy 1 self.old self.new }
-    {
-        match told {
-            Note::Frame(_, Deed::Relayed) => self.relayed += 1,
-            Note::Frame(_, Deed::Prn) => self.prn += 1,
-            Note::Frame(_, Deed::Huh(_)) => self.huh += 1,
-            Note::Fault(_) => self.faults += 1,
-            Note::Nothing | Note::Frame(_, Deed::Dropped) => {}
-        }
-    }
-}
-
 /// Puts the last line of a report.
 #[tactic(auto, unfolding(crate::specs::Report::summary_line))]
-pub fn write_summary(summary: Summary, line: &mut Page)
+pub(crate) fn write_summary(summary: Summary, line: &mut Page)
     requires { length line.old.items ≤ 8064 }
     ensures { line.new.items ≡ line.old.items ++ last_line summary }
 {

@@ -18,6 +18,8 @@ use Rattle.daide_machine.specs.Machine.{answered}
 use Rattle.daide_machine.specs.Machine.{im_answered, item_outcome, items_outcome, popped, event_outcome, nothing}
 use Rattle.daide_machine.specs.Machine.{question}
 use Rattle.daide_machine.specs.Machine.{end}
+use Rattle.daide_machine.specs.declared.ending.Ending.{Ending}
+use Rattle.daide_machine.specs.declared.ending.Ending.TheVariants.{Ended, Lost}
 use Rattle.daide_machine.specs.Wires.{same_side}
 
 -- ---- what is beside a side
@@ -120,18 +122,20 @@ timer_commutes side s c WaitRm = refl
 timer_commutes side s c Open = refl
 timer_commutes side s c Over = refl
 
-end_commutes : (side from : Side) (s : SessionState) (c : Coming) →
-    end (with_coming s side c) from ≡ put side c (end s from)
-end_commutes Bot from s c = refl
-end_commutes Server from s c = refl
+end_commutes : (side from : Side) (ending : Ending) (s : SessionState) (c : Coming) →
+    end (with_coming s side c) ending from ≡ put side c (end s ending from)
+end_commutes Bot from ending s c = refl
+end_commutes Server from ending s c = refl
 
-ends_commute : (side : Side) (s : SessionState) (c : Coming) (from : Side) (b : Bool) → is_over s.phase ≡ b →
-    (if is_over (with_coming s side c).phase then nothing (with_coming s side c) else end (with_coming s side c) from)
-    ≡ put side c (if is_over s.phase then nothing s else end s from)
-ends_commute Bot s c from true o = rw o refl
-ends_commute Bot s c from false o = rw o (end_commutes Bot from s c)
-ends_commute Server s c from true o = rw o refl
-ends_commute Server s c from false o = rw o (end_commutes Server from s c)
+ends_commute : (side : Side) (s : SessionState) (c : Coming) (ending : Ending) (from : Side) (b : Bool) →
+    is_over s.phase ≡ b →
+    (if is_over (with_coming s side c).phase then nothing (with_coming s side c)
+    else end (with_coming s side c) ending from)
+    ≡ put side c (if is_over s.phase then nothing s else end s ending from)
+ends_commute Bot s c ending from true o = rw o refl
+ends_commute Bot s c ending from false o = rw o (end_commutes Bot from ending s c)
+ends_commute Server s c ending from true o = rw o refl
+ends_commute Server s c ending from false o = rw o (end_commutes Server from ending s c)
 
 pub event_commutes : (side : Side) (s : SessionState) (c : Coming) (event : Event) (v : Verdict) →
     is_own side event ≡ false → event_outcome (with_coming s side c) event v ≡ put side c (event_outcome s event v)
@@ -151,8 +155,8 @@ event_commutes Server s c (Comes Bot x) v e = go (is_over s.phase) refl
     go true o = rw o refl
     go false o = rw o (byte_commutes Server s c (s.bot.pending ++ x ∷ [])
         (last_items s.limits.cap (s.bot.pending ++ x ∷ [])) v)
-event_commutes side s c (Ends from) v e = ends_commute side s c from (is_over s.phase) refl
-event_commutes side s c (Loses from) v e = ends_commute side s c from (is_over s.phase) refl
+event_commutes side s c (Ends from) v e = ends_commute side s c (Ended from) from (is_over s.phase) refl
+event_commutes side s c (Loses from) v e = ends_commute side s c (Lost from) from (is_over s.phase) refl
 event_commutes Bot s c Pops v e = timer_commutes Bot s c s.phase
 event_commutes Server s c Pops v e = timer_commutes Server s c s.phase
 

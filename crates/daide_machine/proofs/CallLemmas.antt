@@ -15,6 +15,8 @@ use Rattle.daide_machine.specs.Calls.{events_of, taken_by, fails, Delivers}
 use Rattle.daide_machine.proofs.OneRun.{one_run, runs_join}
 use Rattle.daide_machine.proofs.PieceRuns.{over_stays}
 use Rattle.daide_machine.proofs.WireLemmas.{sent_to-append, bytes_of-append}
+use Rattle.daide_machine.specs.Summary.{tallied}
+use Rattle.daide_machine.proofs.SummaryLemmas.{tallied_then}
 
 -- ---- what a wire takes
 
@@ -240,11 +242,12 @@ puts_on calls old mid new to bytes rest front wrote d side = go (same_side to si
 -- ---- all calls
 
 by_wires : (old : Gateway) (calls : List Call) (new : Gateway) (effects : List Effect) →
-    Runs old.state (events_of calls) effects new.state →
+    Runs old.state (events_of calls) effects new.state → new.summary ≡ tallied effects old.summary →
     ((side : Side) → IsTakenOf side calls new (waiting old side ++ sent_to side effects)) → Delivers old calls new
-by_wires old calls new effects run wires = record {
+by_wires old calls new effects run counts wires = record {
   effects = effects;
   run = run;
+  counts = counts;
   delivered = λ side. (wires side).0;
   cut_off = λ side. (wires side).1;
 }
@@ -261,28 +264,33 @@ first_call : (old mid new : Gateway) (call : Call) (calls : List Call) → IsCal
 first_call old mid new (Feeds from piece) calls (told, goes) are d =
     by_wires old (Feeds from piece ∷ calls) new (goes.effects ++ d.effects)
     (then_runs old mid (bytes_come from piece) told goes calls new d)
+    (tallied_then goes.effects d.effects old.summary mid.summary new.summary goes.counts d.counts)
     (goes_on calls old mid new (bytes_come from piece) told goes d)
 first_call old mid new (Stops from) calls (told, goes) are d =
     by_wires old (Stops from ∷ calls) new (goes.effects ++ d.effects)
     (then_runs old mid (Ends from ∷ []) told goes calls new d)
+    (tallied_then goes.effects d.effects old.summary mid.summary new.summary goes.counts d.counts)
     (goes_on calls old mid new (Ends from ∷ []) told goes d)
 first_call old mid new TimesOut calls (told, goes) are d =
     by_wires old (TimesOut ∷ calls) new (goes.effects ++ d.effects)
     (then_runs old mid (Pops ∷ []) told goes calls new d)
+    (tallied_then goes.effects d.effects old.summary mid.summary new.summary goes.counts d.counts)
     (goes_on calls old mid new (Pops ∷ []) told goes d)
 first_call old mid new (Fails to) calls lost are d =
     by_wires old (Fails to ∷ calls) new (lost.effects ++ d.effects)
     (runs_join (Loses to ∷ []) (events_of calls) old.state mid.state new.state lost.effects d.effects lost.run d.run)
+    (tallied_then lost.effects d.effects old.summary mid.summary new.summary lost.counts d.counts)
     (fails_on calls old mid new to lost d are)
 first_call old mid new (Puts to bytes) calls ((rest, front), wrote) are d =
     by_wires old (Puts to bytes ∷ calls) new d.effects
     (subst (λ (s : SessionState). Runs s (events_of calls) d.effects new.state) wrote.same_state d.run)
+    (d.counts ∙ ap (tallied d.effects) wrote.counts)
     (puts_on calls old mid new to bytes rest front wrote d)
 
 -- what each wire took, and what waits, are what waited and the frames of the run
 pub calls_deliver : (calls : List Call) (old new : Gateway) → AreCalls old calls new → Delivers old calls new
 calls_deliver [] old new same =
-    by_wires old [] new [] (refl, ap (λ (g : Gateway). g.state) same) (λ side. (
+    by_wires old [] new [] (refl, ap (λ (g : Gateway). g.state) same) (ap (λ (g : Gateway). g.summary) same) (λ side. (
       (λ live.
           ap (λ (g : Gateway). bytes_of (waiting g side)) same ∙ sym (ap bytes_of (append-nil (waiting old side)))),
       (λ failed. absurd cc),

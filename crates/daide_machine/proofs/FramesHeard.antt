@@ -13,6 +13,7 @@ use Rattle.daide_frame.proofs.FramesLemmas.{missing-short}
 use Rattle.daide_frame.proofs.OneByte.{ByteTells, byte_tells}
 use Rattle.daide_frame.proofs.CutsAgree.{by_byte-cut}
 use Rattle.daide_reader.specs.declared.verdict.Verdict.{Verdict}
+use Rattle.daide_machine.specs.declared.ending.Ending.TheVariants.{Ended, Lost}
 use Rattle.daide_machine.specs.declared.phase.Phase.{Phase}
 use Rattle.daide_machine.specs.declared.phase.Phase.TheVariants.{WaitIm, WaitRm, Open, Over}
 use Rattle.daide_machine.specs.Events.{Event, Comes, Ends, Loses, Pops, other}
@@ -425,13 +426,13 @@ pops s effects m t =
 pub ended : (s : SessionState) (side : Side) (effects : List Effect) (m : SessionState) → Step s (Ends side) effects m →
     is_over s.phase ≡ false → is_over m.phase ≡ true
 ended s side effects m t o =
-    let came : event_outcome s (Ends side) t.verdict ≡ end s side = rw o refl in
+    let came : event_outcome s (Ends side) t.verdict ≡ end s (Ended side) side = rw o refl in
     ap (λ (q : Outcome). is_over q.state.phase) (sym t.outcome ∙ came)
 
 pub lost : (s : SessionState) (side : Side) (effects : List Effect) (m : SessionState) → Step s (Loses side) effects m →
     is_over s.phase ≡ false → is_over m.phase ≡ true
 lost s side effects m t o =
-    let came : event_outcome s (Loses side) t.verdict ≡ end s side = rw o refl in
+    let came : event_outcome s (Loses side) t.verdict ≡ end s (Lost side) side = rw o refl in
     ap (λ (q : Outcome). is_over q.state.phase) (sym t.outcome ∙ came)
 
 is_heard : (side : Side) (k : ℕ) (s : SessionState) (events : List Event) (effects : List Effect) (new : SessionState)

@@ -13,6 +13,7 @@ use Rattle.daide_machine.specs.declared.phase.Phase.{Phase}
 use Rattle.daide_machine.specs.declared.phase.Phase.TheVariants.{Open, Over}
 use Rattle.daide_machine.specs.declared.note.Deed.TheVariants as Deeds
 use Rattle.daide_machine.specs.declared.note.Note.TheVariants as Notes
+use Rattle.daide_machine.specs.Summary.{nothing_counted}
 use Rattle.daide_machine.specs.Machine.{Limits, Sent, fm_bytes, in_phase, opening, with_pending}
 use Rattle.daide_machine.specs.Wires.{Gateway, Holding, waiting, room_of, is_awaited, is_closed, without, first_len}
 use Rattle.daide_machine.specs.Wires.{bytes_of, held_after, grown, counts_from, asked_at_most, looked_at_most}
@@ -41,6 +42,7 @@ holding_both limits from_bot from_server = record {
   server_parts = [];
   bot = holds from_bot;
   server = holds from_server;
+  summary = nothing_counted;
 }
 
 -- a frame for a wire, the answer to a side's
@@ -61,6 +63,7 @@ answering_bot phase frame to_bot to_server = record {
   server_parts = bytes_of to_server ∷ [];
   bot = holds frame;
   server = holds [];
+  summary = nothing_counted;
 }
 
 -- this frame of the server
@@ -73,6 +76,7 @@ answering_server phase frame to_bot to_server = record {
   server_parts = bytes_of to_server ∷ [];
   bot = holds [];
   server = holds frame;
+  summary = nothing_counted;
 }
 
 -- the header of a message of 250 bytes, and HUH ( (

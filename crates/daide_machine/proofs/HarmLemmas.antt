@@ -18,6 +18,7 @@ use Rattle.daide_reader.specs.declared.verdict.Verdict.{Verdict}
 use Rattle.daide_reader.specs.declared.verdict.Verdict.TheVariants.{Relay, Prn, Huh}
 use Rattle.daide_machine.specs.declared.note.Note.{Note}
 use Rattle.daide_machine.specs.declared.note.Note.TheVariants as Notes
+use Rattle.daide_machine.specs.declared.ending.Ending.TheVariants as Endings
 use Rattle.daide_machine.specs.Events.{Event, Comes, Ends, Loses, Pops, other}
 use Rattle.daide_machine.specs.Machine.{Coming, Limits, SessionState, Sent, Effect, Outcome, Question, Step, Runs}
 use Rattle.daide_machine.specs.Machine.{coming, with_coming, with_pending, with_noted, is_over, untimely}
@@ -410,10 +411,10 @@ early_too_bot t n items v (early_begun head rest) o = go (untimely t.phase Bot h
     go (Some code) e =
         let was : all ≡ fault t Bot code =
         rw (o, e) (ap (λ (q : Outcome). record { state = q.state; effects = (fault t Bot code).effects ++ q.effects })
-        (over_items (over t) Bot rest v refl)) in
+        (over_items (over (Endings.Fault Bot code) t) Bot rest v refl)) in
         let is : items_outcome (with_noted t Bot n) Bot (Begun head ∷ rest) v ≡ fault (with_noted t Bot n) Bot code =
         rw (o, e) (ap (λ (q : Outcome). record { state = q.state; effects = (fault t Bot code).effects ++ q.effects })
-        (over_items (over (with_noted t Bot n)) Bot rest v refl)) in (
+        (over_items (over (Endings.Fault Bot code) (with_noted t Bot n)) Bot rest v refl)) in (
           n,
           is ∙ ap (put_noted Bot n) (sym was),
           λ p l. absurd (let q : true ≡ false = sym (ap (λ (k : Outcome). is_over k.state.phase) was) ∙ p in cc),
@@ -497,7 +498,7 @@ early_too_server t n items v (early_begun head rest) o = go (untimely t.phase Se
           effects =
               (fault t Server code).effects ++ q.effects;
         })
-        (over_items (over t) Server rest v refl)) in
+        (over_items (over (Endings.Fault Server code) t) Server rest v refl)) in
         let is : items_outcome (with_noted t Server n) Server (Begun head ∷ rest) v ≡ fault
         (with_noted t Server n) Server code =
         rw (o, e) (ap (λ (q : Outcome). record {
@@ -505,7 +506,7 @@ early_too_server t n items v (early_begun head rest) o = go (untimely t.phase Se
           effects =
               (fault t Server code).effects ++ q.effects;
         })
-        (over_items (over (with_noted t Server n)) Server rest v refl)) in (
+        (over_items (over (Endings.Fault Server code) (with_noted t Server n)) Server rest v refl)) in (
           n,
           is ∙ ap (put_noted Server n) (sym was),
           λ p l. absurd (let q : true ≡ false = sym (ap (λ (k : Outcome). is_over k.state.phase) was) ∙ p in cc),

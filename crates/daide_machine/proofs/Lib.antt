@@ -3,6 +3,8 @@ pub mod OneRun
 pub mod SomeRun
 pub mod WireLemmas
 pub mod FramesHeard
+pub mod SummaryLemmas
+pub mod EndingLemmas
 pub mod CallLemmas
 pub mod HloLemmas
 pub mod LimitsKept
@@ -15,6 +17,7 @@ pub mod HarmLemmas
 pub mod StandardFacts
 pub mod GatewayFacts
 pub mod SessionFacts
+mod EndingFacts
 mod LevelRangeFacts
 pub mod WordedVerdicts
 pub mod WordedRuns

@@ -7,7 +7,7 @@ use Rattle.daide_frame.specs.declared.side.Side.TheVariants.{Bot, Server}
 use Rattle.daide_frame.specs.declared.head.Kind.{Kind}
 use Rattle.daide_frame.specs.declared.head.Kind.TheVariants.{Im, Rm, Dm, Fm, Em}
 use Rattle.daide_grammar.specs.declared.level.Level.TheVariants.{L0, L10, L20, L30, L60}
-use Rattle.daide_frame.specs.declared.code.Code.TheVariants.{WrongLength, InvalidToken}
+use Rattle.daide_frame.specs.declared.code.Code.TheVariants.{ImTimeout, WrongLength, InvalidToken}
 use Rattle.daide_frame.specs.Head.{head_bytes, head_of}
 use Rattle.daide_frame.specs.Frames.{is_alien, first_items, last_items}
 use Rattle.daide_frame.specs.InitialMessage.{im_of}
@@ -17,12 +17,14 @@ use Rattle.daide_machine.specs.declared.phase.Phase.{Phase}
 use Rattle.daide_machine.specs.declared.phase.Phase.TheVariants.{WaitIm, WaitRm, Open, Over}
 use Rattle.daide_machine.specs.declared.note.Deed.TheVariants as Deeds
 use Rattle.daide_machine.specs.declared.note.Note.TheVariants as Notes
+use Rattle.daide_machine.specs.declared.ending.Ending.TheVariants.{Ended, Final, Error, Fault}
 use Rattle.daide_machine.specs.Events.{Comes, Ends, Loses, Pops}
 use Rattle.daide_machine.specs.Answers.{prn_open, huh_open, err_word, close_word, answer_body, answer_bytes}
 use Rattle.daide_machine.specs.declared.hlo.Found.TheVariants.{NoToken, NoHlo, NoNumber, Number}
 use Rattle.daide_machine.specs.HloLevel.{first_level, found_in, level_told}
 use Rattle.daide_machine.specs.Machine.{Limits, SessionState, Outcome, coming, opening, in_phase, nothing, begun}
 use Rattle.daide_machine.specs.Machine.{with_coming, untimely, whole, fault, end, level_after, event_outcome, question}
+use Rattle.daide_machine.specs.Machine.{over, with_ending}
 use Rattle.daide_machine.specs.Wires.{sent_to, bytes_of, note_of}
 
 -- a session in a phase at level 0, of which nothing is held
@@ -167,12 +169,12 @@ module _ (limits : Limits) where
 
   -- an FM or EM of the bot before the IM is dropped, and the session is over
   bot_fm_first : (wire Server (frame limits WaitIm Bot Fm []) ≡ []) × (wire Bot (frame limits WaitIm Bot Fm []) ≡ [])
-      × ((frame limits WaitIm Bot Fm []).state ≡ standing limits Over)
+      × ((frame limits WaitIm Bot Fm []).state ≡ over (Final Bot) (opening limits))
   bot_fm_first = (refl, refl, refl)
 
   bot_em_first : (wire Server (frame limits WaitIm Bot Em (0x00 ∷ 0x01 ∷ [])) ≡ [])
       × (wire Bot (frame limits WaitIm Bot Em (0x00 ∷ 0x01 ∷ [])) ≡ [])
-      × ((frame limits WaitIm Bot Em (0x00 ∷ 0x01 ∷ [])).state ≡ standing limits Over)
+      × ((frame limits WaitIm Bot Em (0x00 ∷ 0x01 ∷ [])).state ≡ over (Error Bot) (opening limits))
   bot_em_first = (refl, refl, refl)
 
   -- every other FM or EM goes on to the other side, and the session is over. An EM's code is not looked at.
@@ -193,8 +195,8 @@ module _ (limits : Limits) where
   unfolding answer_bytes head_bytes
   em_ends = (refl, refl, refl, refl, refl, refl)
 
-  fm_and_em_leave_nothing : (side : Side) → ((frame limits Open side Fm []).state ≡ standing limits Over)
-      × ((frame limits Open side Em (0x00 ∷ 0x01 ∷ [])).state ≡ standing limits Over)
+  fm_and_em_leave_nothing : (side : Side) → ((frame limits Open side Fm []).state ≡ over (Final side) (opening limits))
+      × ((frame limits Open side Em (0x00 ∷ 0x01 ∷ [])).state ≡ over (Error side) (opening limits))
   fm_and_em_leave_nothing Bot = (refl, refl)
   fm_and_em_leave_nothing Server = (refl, refl)
 
@@ -207,29 +209,37 @@ module _ (limits : Limits) where
       × (wire Server (fault (standing limits WaitRm) Bot InvalidToken) ≡ fm)
       × (wire Server (fault (standing limits Open) Server InvalidToken) ≡ em 0x0E)
       × (wire Bot (fault (standing limits Open) Server InvalidToken) ≡ fm)
-      × ((fault (standing limits Open) Server InvalidToken).state ≡ standing limits Over)
+      × ((fault (standing limits Open) Server InvalidToken).state ≡ over (Fault Server InvalidToken) (opening limits))
   frame_faults = (refl, refl, refl, refl, refl, refl, refl, refl, refl)
 
   -- an end, or a wire that fails: an FM to the other side, but none to the server before the IM
-  bot_end_first : (wire Server (end (standing limits WaitIm) Bot) ≡ [])
-      × (wire Bot (end (standing limits WaitIm) Bot) ≡ [])
+  bot_end_first : (wire Server (end (standing limits WaitIm) (Ended Bot) Bot) ≡ [])
+      × (wire Bot (end (standing limits WaitIm) (Ended Bot) Bot) ≡ [])
   bot_end_first = (refl, refl)
 
-  server_end_first : (wire Bot (end (standing limits WaitIm) Server) ≡ fm)
-      × (wire Server (end (standing limits WaitIm) Server) ≡ [])
+  server_end_first : (wire Bot (end (standing limits WaitIm) (Ended Server) Server) ≡ fm)
+      × (wire Server (end (standing limits WaitIm) (Ended Server) Server) ≡ [])
   server_end_first = (refl, refl)
 
-  ends_later : (wire Server (end (standing limits WaitRm) Bot) ≡ fm)
-      × (wire Bot (end (standing limits WaitRm) Bot) ≡ [])
-      × (wire Bot (end (standing limits WaitRm) Server) ≡ fm) × (wire Server (end (standing limits WaitRm) Server) ≡ [])
-      × (wire Server (end (standing limits Open) Bot) ≡ fm) × (wire Bot (end (standing limits Open) Bot) ≡ [])
-      × (wire Bot (end (standing limits Open) Server) ≡ fm) × (wire Server (end (standing limits Open) Server) ≡ [])
+  ends_later : (wire Server (end (standing limits WaitRm) (Ended Bot) Bot) ≡ fm)
+      × (wire Bot (end (standing limits WaitRm) (Ended Bot) Bot) ≡ [])
+      × (wire Bot (end (standing limits WaitRm) (Ended Server) Server) ≡ fm)
+      × (wire Server (end (standing limits WaitRm) (Ended Server) Server) ≡ [])
+      × (wire Server (end (standing limits Open) (Ended Bot) Bot) ≡ fm)
+      × (wire Bot (end (standing limits Open) (Ended Bot) Bot) ≡ [])
+      × (wire Bot (end (standing limits Open) (Ended Server) Server) ≡ fm)
+      × (wire Server (end (standing limits Open) (Ended Server) Server) ≡ [])
   ends_later = (refl, refl, refl, refl, refl, refl, refl, refl)
 
-  -- a lost wire is an end; once over, neither does anything
+  -- a lost wire is an end, and told apart by what ended the session alone; once over, neither does anything
   lost_as_ended : (phase : Phase) (side : Side) →
-      event_outcome (standing limits phase) (Loses side) Relay ≡ event_outcome (standing limits phase) (Ends side) Relay
-  lost_as_ended phase side = refl
+      let lost = event_outcome (standing limits phase) (Loses side) Relay in
+      let ended = event_outcome (standing limits phase) (Ends side) Relay in
+      (lost.effects ≡ ended.effects) × (with_ending None lost.state ≡ with_ending None ended.state)
+  lost_as_ended WaitIm side = (refl, refl)
+  lost_as_ended WaitRm side = (refl, refl)
+  lost_as_ended Open side = (refl, refl)
+  lost_as_ended Over side = (refl, refl)
 
   ended_twice : (side : Side) → event_outcome (standing limits Over) (Ends side) Relay ≡ nothing (standing limits Over)
   ended_twice side = refl
@@ -237,7 +247,7 @@ module _ (limits : Limits) where
   -- the timer is the bot's fault before the IM, and nothing later
   im_timeout : (wire Bot (event_outcome (standing limits WaitIm) Pops Relay) ≡ em 0x01)
       × (wire Server (event_outcome (standing limits WaitIm) Pops Relay) ≡ [])
-      × ((event_outcome (standing limits WaitIm) Pops Relay).state ≡ standing limits Over)
+      × ((event_outcome (standing limits WaitIm) Pops Relay).state ≡ over (Fault Bot ImTimeout) (opening limits))
   im_timeout = (refl, refl, refl)
 
   im_timeout_later : (event_outcome (standing limits WaitRm) Pops Relay ≡ nothing (standing limits WaitRm))

@@ -5,6 +5,7 @@ use Rattle.daide_frame.specs.declared.side.Side.{Side}
 use Rattle.daide_machine.specs.declared.note.Note.{Note}
 use Rattle.daide_machine.specs.Events.{Event, Ends, Loses, Pops, bytes_come}
 use Rattle.daide_machine.specs.Machine.{Sent, Effect, Runs}
+use Rattle.daide_machine.specs.Summary.{tallied}
 use Rattle.daide_machine.specs.Wires.{Gateway, Goes, Lost, Wrote, waiting, same_side, sent_to, bytes_of}
 
 -- a call that changes a session
@@ -61,12 +62,13 @@ fails side (TimesOut ∷ calls) = fails side calls
 fails side (Fails to ∷ calls) = same_side to side || fails side calls
 fails side (Puts to bytes ∷ calls) = fails side calls
 
--- The session went by the machine, and each wire got what the machine sends it: what it took, and then what
--- waits, are what waited at first and the frames of the run. What a wire took that failed is a front of
+-- The session went by the machine, its moves are counted, and each wire got what the machine sends it: what it took,
+-- and then what waits, are what waited at first and the frames of the run. What a wire took that failed is a front of
 -- these, and nothing waits for it.
 pub record Delivers (old : Gateway) (calls : List Call) (new : Gateway) : Type 0 where
   pub effects : List Effect
   pub run : Runs old.state (events_of calls) effects new.state
+  pub counts : new.summary ≡ tallied effects old.summary
   pub delivered : (side : Side) → fails side calls ≡ false →
       taken_by side calls ++ bytes_of (waiting new side) ≡ bytes_of (waiting old side ++ sent_to side effects)
   pub cut_off : (side : Side) → fails side calls ≡ true → (waiting new side ≡ [])

@@ -4,6 +4,7 @@ pub mod Answers
 pub mod HloLevel
 pub mod Machine
 pub mod Config
+pub mod Summary
 pub mod Wires
 pub mod Weight
 pub mod Calls

@@ -32,6 +32,8 @@ use Rattle.daide_machine.specs.declared.note.Deed.{Deed}
 use Rattle.daide_machine.specs.declared.note.Deed.TheVariants as Deeds
 use Rattle.daide_machine.specs.declared.note.Note.{Note}
 use Rattle.daide_machine.specs.declared.note.Note.TheVariants as Notes
+use Rattle.daide_machine.specs.declared.ending.Ending.{Ending}
+use Rattle.daide_machine.specs.declared.ending.Ending.TheVariants as Endings
 use Rattle.daide_machine.specs.Events.{Event, Comes, Ends, Loses, Pops, other}
 use Rattle.daide_machine.specs.Answers.{answer_bytes}
 use Rattle.daide_machine.specs.HloLevel.{level_told}
@@ -57,6 +59,8 @@ pub record SessionState : Type 0 where
   pub phase : Phase
   -- the level of press in the phase Open, level 0 in every other phase
   pub level : Level
+  -- which event ended the session: none before the phase Over, and from then on that one
+  pub ending : Option Ending
   pub bot : Coming
   pub server : Coming
 
@@ -65,10 +69,22 @@ coming state Bot = state.bot
 coming state Server = state.server
 
 abbrev pub with_coming : SessionState → Side → Coming → SessionState
-with_coming state Bot c =
-    record { limits = state.limits; phase = state.phase; level = state.level; bot = c; server = state.server }
-with_coming state Server c =
-    record { limits = state.limits; phase = state.phase; level = state.level; bot = state.bot; server = c }
+with_coming state Bot c = record {
+  limits = state.limits;
+  phase = state.phase;
+  level = state.level;
+  ending = state.ending;
+  bot = c;
+  server = state.server;
+}
+with_coming state Server c = record {
+  limits = state.limits;
+  phase = state.phase;
+  level = state.level;
+  ending = state.ending;
+  bot = state.bot;
+  server = c;
+}
 
 -- the same with other bytes since the last whole frame
 abbrev pub with_pending : SessionState → Side → List ℕ → SessionState
@@ -79,11 +95,28 @@ abbrev pub with_noted : SessionState → Side → Level → SessionState
 with_noted state side level = with_coming state side (record { pending = (coming state side).pending; noted = level })
 
 abbrev pub in_phase : Phase → Level → SessionState → SessionState
-in_phase phase level state =
-    record { limits = state.limits; phase = phase; level = level; bot = state.bot; server = state.server }
+in_phase phase level state = record {
+  limits = state.limits;
+  phase = phase;
+  level = level;
+  ending = state.ending;
+  bot = state.bot;
+  server = state.server;
+}
 
-abbrev pub over : SessionState → SessionState
-over state = in_phase Over L0 state
+abbrev pub with_ending : Option Ending → SessionState → SessionState
+with_ending ending state = record {
+  limits = state.limits;
+  phase = state.phase;
+  level = state.level;
+  ending = ending;
+  bot = state.bot;
+  server = state.server;
+}
+
+-- ended by this
+abbrev pub over : Ending → SessionState → SessionState
+over ending state = in_phase Over L0 (with_ending (Some ending) state)
 
 abbrev pub is_over : Phase → Bool
 is_over WaitIm = false
@@ -97,6 +130,7 @@ opening limits = record {
   limits = limits;
   phase = WaitIm;
   level = L0;
+  ending = None;
   bot = record { pending = []; noted = L0 };
   server = record { pending = []; noted = L0 };
 }
@@ -152,11 +186,13 @@ one_move state told sent = record { state = state; effects = record { told = tol
 
 -- a side's fault: an EM to it, an FM to the other
 abbrev pub fault : SessionState → Side → Code → Outcome
-fault state side code = one_move (over state) (Notes.Fault code) (em_to side code ∷ fm_to state.phase (other side))
+fault state side code =
+    one_move (over (Endings.Fault side code) state) (Notes.Fault code)
+    (em_to side code ∷ fm_to state.phase (other side))
 
--- a side's end: an FM to the other; a frame that is not whole is dropped
-abbrev pub end : SessionState → Side → Outcome
-end state side = one_move (over state) Notes.Nothing (fm_to state.phase (other side))
+-- a side's end, by its stream or its wire: an FM to the other; a frame that is not whole is dropped
+abbrev pub end : SessionState → Ending → Side → Outcome
+end state ending side = one_move (over ending state) Notes.Nothing (fm_to state.phase (other side))
 
 -- ---- a header
 
@@ -232,6 +268,14 @@ phase_after Dm phase = phase
 phase_after Fm phase = Over
 phase_after Em phase = Over
 
+-- what ended the session after a side's frame of a kind was answered: an FM or an EM does
+abbrev pub ending_after : Kind → Side → Option Ending → Option Ending
+ending_after Im side ending = ending
+ending_after Rm side ending = ending
+ending_after Dm side ending = ending
+ending_after Fm side ending = Some (Endings.Final side)
+ending_after Em side ending = Some (Endings.Error side)
+
 -- the level after a side's frame of a kind was answered: a relayed HLO of the server sets it
 abbrev pub level_after : Level → Kind → Side → Verdict → List ℕ → Level → Level
 level_after top Im side verdict tokens level = L0
@@ -267,7 +311,8 @@ abbrev pub answered : SessionState → Side → Head → List ℕ → Verdict �
 answered state side head body verdict =
     let goes = is_sent state.phase head.kind (destination side verdict) in
     let level = level_after state.limits.top_level head.kind side verdict (tokens_of body) state.level in
-    one_move (in_phase (phase_after head.kind state.phase) level (with_pending state side []))
+    let ending = ending_after head.kind side state.ending in
+    one_move (in_phase (phase_after head.kind state.phase) level (with_ending ending (with_pending state side [])))
     (Notes.Frame head (deed_of goes verdict))
     (if goes then answer_to side head body verdict ∷ [] else [])
 
@@ -304,7 +349,8 @@ byte_outcome state side bytes verdict =
 
 -- the timer: in the phase WaitIm the bot's fault
 abbrev pub popped : Phase → SessionState → Outcome
-popped WaitIm state = one_move (over state) (Notes.Fault ImTimeout) (em_to Bot ImTimeout ∷ [])
+popped WaitIm state =
+    one_move (over (Endings.Fault Bot ImTimeout) state) (Notes.Fault ImTimeout) (em_to Bot ImTimeout ∷ [])
 popped WaitRm state = nothing state
 popped Open state = nothing state
 popped Over state = nothing state
@@ -313,8 +359,10 @@ abbrev pub event_outcome : SessionState → Event → Verdict → Outcome
 event_outcome state (Comes side byte) verdict =
     if is_over state.phase then nothing state
     else byte_outcome state side ((coming state side).pending ++ byte ∷ []) verdict
-event_outcome state (Ends side) verdict = if is_over state.phase then nothing state else end state side
-event_outcome state (Loses side) verdict = if is_over state.phase then nothing state else end state side
+event_outcome state (Ends side) verdict =
+    if is_over state.phase then nothing state else end state (Endings.Ended side) side
+event_outcome state (Loses side) verdict =
+    if is_over state.phase then nothing state else end state (Endings.Lost side) side
 event_outcome state Pops verdict = popped state.phase state
 
 -- ---- the verdict

@@ -11,6 +11,8 @@ use Rattle.daide_machine.specs.declared.note.Deed.TheVariants as Deeds
 use Rattle.daide_machine.specs.declared.note.Note.{Note}
 use Rattle.daide_machine.specs.declared.note.Note.TheVariants as Notes
 use Rattle.daide_machine.specs.Events.{Event, Loses, other}
+use Rattle.daide_machine.specs.declared.summary.Summary.{Summary}
+use Rattle.daide_machine.specs.Summary.{nothing_counted, tallied}
 use Rattle.daide_machine.specs.Machine.{Sent, Effect, SessionState, Limits, Runs, coming, is_dm, is_over, opening}
 
 abbrev pub same_side : Side → Side → Bool
@@ -69,6 +71,8 @@ pub record Gateway : Type 0 where
   pub server_parts : List (List ℕ)
   pub bot : Holding
   pub server : Holding
+  -- its moves counted, modulo 2^64
+  pub summary : Summary
 
 abbrev pub waiting : Gateway → Side → List Sent
 waiting g Bot = g.to_bot
@@ -145,7 +149,8 @@ IsFrontOf xs (frame ∷ frames) = (0 < length xs) × ((rest : List ℕ) × (fram
 
 -- ---- what a call does
 
--- a new session: nothing came, nothing is held, nothing waits, no table was asked and no token looked at
+-- a new session: nothing came, nothing is held, nothing waits, no table was asked, no token looked at and no move
+-- counted
 pub record IsNew (limits : Limits) (g : Gateway) : Type 0 where
   pub state : g.state ≡ opening limits
   pub to_bot : g.to_bot ≡ []
@@ -153,14 +158,16 @@ pub record IsNew (limits : Limits) (g : Gateway) : Type 0 where
   pub held : (g.bot.held ≡ []) × (g.server.held ≡ [])
   pub unasked : (g.bot.total ≡ 0) × (g.server.total ≡ 0)
   pub unlooked : (g.bot.looked_at ≡ 0) × (g.server.looked_at ≡ 0)
+  pub uncounted : g.summary ≡ nothing_counted
 
--- By these events the session goes from old to new with what the note tells, and what they cause waits
--- behind what waited.
+-- By these events the session goes from old to new with what the note tells, what they cause waits behind what
+-- waited, and their moves are counted.
 pub record Goes (old : Gateway) (events : List Event) (told : Note) (new : Gateway) : Type 0 where
   pub effects : List Effect
   pub run : Runs old.state events effects new.state
   pub kept : (side : Side) → waiting new side ≡ waiting old side ++ sent_to side effects
   pub note : told ≡ note_of effects
+  pub counts : new.summary ≡ tallied effects old.summary
 
 -- What is held of a side whose answer is gone: nothing; of any other, what was held. No table was asked.
 pub record LetsGo (old new : Gateway) : Type 0 where
@@ -176,6 +183,7 @@ pub record Lost (old : Gateway) (side : Side) (new : Gateway) : Type 0 where
   pub dropped : waiting new side ≡ []
   pub other_wire : waiting new (other side) ≡ waiting old (other side) ++ sent_to (other side) effects
   pub over : is_over new.state.phase ≡ true
+  pub counts : new.summary ≡ tallied effects old.summary
   pub held : LetsGo old new
 
 -- n bytes of what waited for a wire were taken, and nothing else changed of the state and the wires
@@ -184,6 +192,7 @@ pub record Wrote (old : Gateway) (side : Side) (n : ℕ) (new : Gateway) : Type 
   pub taken : waiting new side ≡ without n (waiting old side)
   pub front_bytes : bytes_of (waiting new side) ≡ drop n (bytes_of (waiting old side))
   pub other_wire : waiting new (other side) ≡ waiting old (other side)
+  pub counts : new.summary ≡ old.summary
   pub held : LetsGo old new
 
 -- ---- what is held after a call

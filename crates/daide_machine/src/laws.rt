@@ -21,6 +21,7 @@ ghost use Rattle.daide_machine.specs.Laws.{CallsDeliverTheAnswers, EachWireGetsT
 ghost use Rattle.daide_machine.specs.Fates.{EachMessageHasOneFate};
 ghost use Rattle.daide_machine.specs.Passing.{OnlyMessagesPass};
 ghost use Rattle.daide_machine.specs.Harm.{ASideHarmsItselfAlone};
+ghost use Rattle.daide_machine.specs.Laws.{EndingIsKnown, CountsAreTheMoves};
 ghost use Rattle.daide_machine.specs.Laws.{NothingAfterTheEnd, FramesAreThoseOfTheCut, EachSideIsWaitedFor};
 
 use crate::answers::{CLOSE_WORD, ERR_WORD, FM, HUH_OPEN, PRN_OPEN};
@@ -100,6 +101,17 @@ pub fn only_events_matter()
 /// Once over, a session sends nothing and stays as it is, whatever happens.
 pub fn nothing_after_the_end()
     ensures { NothingAfterTheEnd }
+{}
+
+/// What ended a session is known exactly once it is over, and it is the first event that ended it: once over, its state
+/// stays as it is.
+pub fn ending_is_known()
+    ensures { EndingIsKnown }
+{}
+
+/// What a session counts of its moves is each of them once, by what became of it, modulo 2^64.
+pub fn counts_are_the_moves()
+    ensures { CountsAreTheMoves }
 {}
 
 /// The frames by which a session goes are those that the cut of all of a side's bytes finds, in their

@@ -1,22 +1,26 @@
 //! What a session does, as definitions: a machine over events, and the frames that wait for the wires; and its
 //! tables in code.
 //!
-//! `specs/` has the definitions, in the order Bounds, Events, Answers, HloLevel, Machine, Wires, Weight, Calls,
-//! Heard, Fates, Passing, Harm, Laws. The code decides, and holds nothing but what is found of an HLO so far: `rules` and
-//! `hlo` answer what the machine's tables say, and `answers` has the words round an answer; so a session, and all that
-//! drives one, is proved over the same words.
+//! `specs/` has the definitions, in the order Bounds, Events, Answers, HloLevel, Machine, Summary, Wires, Weight,
+//! Calls, Heard, Fates, Passing, Harm, Laws. The code decides, and holds nothing but what is found of an HLO so far and
+//! the counts of moves: `rules` and `hlo` answer what the machine's tables say, and `answers` has the words round an
+//! answer; so a session, and all that drives one, is proved over the same words.
 #![tactic(auto)]
 
 pub mod answers;
 pub mod bounds;
 pub mod config;
+pub mod ending;
 pub mod hlo;
 pub mod laws;
 pub mod note;
 pub mod phase;
 pub mod rules;
+pub mod summary;
 
 pub use bounds::{MAX_BODY, MAX_DEPTH, STACK_ENTRIES};
 pub use config::{Config, ConfigError};
+pub use ending::Ending;
 pub use note::{Deed, Note};
 pub use phase::Phase;
+pub use summary::Summary;

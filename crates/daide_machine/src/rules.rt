@@ -7,8 +7,10 @@ ghost use Rattle.daide_machine.specs.HloLevel.{found_in};
 ghost use Rattle.daide_machine.specs.Machine.{untimely as untimely_code, may_reach as may_reach_side};
 ghost use Rattle.daide_machine.specs.Machine.{is_sent as is_sent_to, destination as destination_of, deed_of as deed_by};
 ghost use Rattle.daide_machine.specs.Machine.{phase_after as next_phase, level_after as next_level};
+ghost use Rattle.daide_machine.specs.Machine.{ending_after as next_ending};
 ghost use Rattle.daide_machine.specs.Machine.{side2_of as grammar_side};
 
+use crate::ending::Ending;
 use crate::hlo::{Found, level_told};
 use crate::note::Deed;
 use crate::phase::Phase;
@@ -140,6 +142,17 @@ pub fn phase_after(kind: Kind, phase: Phase) -> Phase
         Kind::Rm => Phase::Open,
         Kind::Dm => phase,
         Kind::Fm | Kind::Em => Phase::Over,
+    }
+}
+
+/// What ended the session after a side's frame of a kind was answered: an FM or an EM does.
+pub fn ending_after(kind: Kind, side: Side, ending: Option<Ending>) -> Option<Ending>
+    ensures { result ≡ next_ending kind side ending }
+{
+    match kind {
+        Kind::Im | Kind::Rm | Kind::Dm => ending,
+        Kind::Fm => Some(Ending::Final(side)),
+        Kind::Em => Some(Ending::Error(side)),
     }
 }
 

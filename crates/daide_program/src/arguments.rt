@@ -12,12 +12,23 @@ pub(crate) enum Order<'a> {
     Show(Side, Level, Option<&'a str>),
     /// Report a log.
     Check,
-    /// Serve with the settings of the file at this path.
-    Run(&'a str),
+    /// Serve.
+    Run(RunOrder<'a>),
     /// `--side` names no side.
     BadSide,
     /// `--level` names no level.
     BadLevel,
+}
+
+/// How to serve.
+#[derive(Clone, Copy, Debug, PartialEq, Eq)]
+pub(crate) struct RunOrder<'a> {
+    /// The path of the file of settings.
+    pub settings: &'a str,
+    /// Whether a line is told where a session begins, and one where it ends.
+    pub is_verbose: bool,
+    /// The folder in which a record of each session is kept, if any is.
+    pub record: Option<&'a str>,
 }
 
 /// What the program does without a command, and its exit statuses.
@@ -48,7 +59,9 @@ The exit status is 0 where no message got PRN or HUH and there was no fault, and
 /// What a run says, and what its exit status says of it.
 const RUN_NOTES: &str = "\
 It prints 'listening' once bots may come. What ends no run, as a server that can't be reached, is told in a
-line on standard error. The exit status is 0 once all bots were served, and 1 where no bot can be.";
+line on standard error. With '--record' the folder gets a log of each session, session-000001.log and so on,
+which 'daide-gate check' reads; it must be there, and no file in it is written over.
+The exit status is 0 once all bots were served, and 1 where no bot can be.";
 
 /// An option that takes any one word, so that a wrong one is told in the program's own words.
 fn option<'a>(alloc: Global, name: &'a str, value: &'a str, help: &'a str) -> Arg<'a> {
@@ -85,11 +98,18 @@ fn run_command<'a>(alloc: Global) -> Result<Command<'a>, AllocError> {
         .required(true)
         .action(ArgAction::Set)
         .help("The file of settings; docs/FORMATS.md and examples/settings.toml have its keys");
+    let verbose = Arg::new(alloc, "verbose")
+        .long("verbose")
+        .action(ArgAction::SetTrue)
+        .help("Tell where each session begins, and how it ended, on standard error");
+    let record = "The folder in which a log of each session is kept";
     let about =
         "Serves bots, each with a connection of its own to the server, until all were served";
     Command::new(alloc, "run")
         .about(about)
         .after_help(RUN_NOTES)
+        .arg(verbose)?
+        .arg(option(alloc, "record", "FOLDER", record))?
         .arg(settings)
 }
 
@@ -132,7 +152,13 @@ fn level_of(word: &str) -> Option<Level> {
 /// before a bad level.
 pub(crate) fn order_of<'a>(matches: &ArgMatches<'a>) -> Order<'a> {
     let (side, level, words) = match matches.subcommand() {
-        Some(("run", run)) => return Order::Run(run.get_str("SETTINGS").unwrap_or("")),
+        Some(("run", run)) => {
+            return Order::Run(RunOrder {
+                settings: run.get_str("SETTINGS").unwrap_or(""),
+                is_verbose: run.get_flag("verbose"),
+                record: run.get_str("record"),
+            });
+        }
         Some(("check", _)) => return Order::Check,
         Some((_, show)) => (
             show.get_str("side"),

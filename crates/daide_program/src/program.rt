@@ -87,7 +87,7 @@ fn carry_out<R: AllocGlobal + Files + Clock + Net, I: Read, O: Write, E: Write>(
     match order {
         Order::Show(side, level, path) => run_show(rt, (side, level, path), input, output, errors),
         Order::Check => run_check(rt, input, output, errors),
-        Order::Run(path) => run(rt, path, output, errors),
+        Order::Run(order) => run(rt, order, output, errors),
         Order::BadSide => tell(errors, "bad side", USAGE),
         Order::BadLevel => tell(errors, "bad level", USAGE),
     }

@@ -2,9 +2,12 @@
 
 ghost use Rattle.std.specs.Prelude.{◌≡◌, ◌≤◌, IfOk, IfSome, string_bytes};
 
+use crate::arguments::RunOrder;
 use crate::faults::{CLEAN, FAULT, tell};
+use crate::folder::Folder;
+use crate::recorded::RecordedSockets;
 use daide_gate::settings::{Settings, SettingsError, read_settings};
-use daide_sockets::gateway::{GatewayFault, serve_at};
+use daide_sockets::gateway::{GatewayFault, Ground, ground_of, serve_at, serve_with, sockets_on};
 use daide_streams::text::{TextFault, read_text};
 use std::alloc::Allocator;
 use std::io::{Read, Write};
@@ -25,6 +28,9 @@ pub enum RunFault {
     /// The memory of the file's text was refused.
     #[error("out of memory")]
     Memory,
+    /// No file can be made in the folder of the records.
+    #[error("record could not be written")]
+    Record,
     /// The gateway of the settings doesn't begin, or ends early.
     #[error("{0}")]
     Gateway(GatewayFault),
@@ -55,32 +61,73 @@ pub(crate) fn settings_at<R: AllocGlobal + Files>(
     read_settings(rt.alloc(), text.as_str()).map_err(RunFault::Settings)
 }
 
-/// Serves with the settings of a text. Whom it serves is the system's to say, of which no contract speaks.
+/// Serves with the settings of a text, and tells of its sessions where it `is_verbose`. Whom it serves is the system's to
+/// say, of which no contract speaks.
 pub fn run_text<R: AllocGlobal + Clock + Net, O: Write, E: Write>(
     rt: &R,
     text: &str,
+    is_verbose: bool,
     output: &mut O,
     errors: &mut E,
 ) -> Result<(), RunFault> {
     let settings = read_settings(rt.alloc(), text).map_err(RunFault::Settings)?;
-    serve_at(rt, &settings, output, errors).map_err(RunFault::Gateway)
+    serve_at(rt, &settings, is_verbose, output, errors).map_err(RunFault::Gateway)
+}
+
+/// Serves with the settings of a file, and keeps a record of each session in a folder.
+fn run_recorded<R: AllocGlobal + Files + Clock + Net, O: Write, E: Write>(
+    rt: &R,
+    path: &str,
+    (is_verbose, folder): (bool, &str),
+    output: &mut O,
+    errors: &mut E,
+) -> Result<(), RunFault> {
+    let settings = settings_at(rt, path)?;
+    let Some(folder) = Folder::at(rt, folder, &settings) else {
+        return Err(RunFault::Record);
+    };
+    let Ground {
+        listener,
+        servers,
+        watch,
+    } = ground_of(rt, &settings).map_err(RunFault::Gateway)?;
+    let at = (listener, servers.as_slice(), &watch);
+    let Some(mut sockets) = sockets_on(rt, &settings, at, errors) else {
+        return Err(RunFault::Memory);
+    };
+    sockets.set_verbose(is_verbose);
+    let mut system = RecordedSockets { sockets, folder };
+    let served = serve_with(rt.alloc(), &settings, &mut system, output);
+    system.finish();
+    served.map_err(|fault| RunFault::Gateway(GatewayFault::Serve(fault)))
+}
+
+/// Serves as it is ordered.
+fn run_ordered<R: AllocGlobal + Files + Clock + Net, O: Write, E: Write>(
+    rt: &R,
+    order: RunOrder<'_>,
+    output: &mut O,
+    errors: &mut E,
+) -> Result<(), RunFault> {
+    if let Some(folder) = order.record {
+        let kept = (order.is_verbose, folder);
+        return run_recorded(rt, order.settings, kept, output, errors);
+    }
+    let text = text_at(rt, order.settings)?;
+    run_text(rt, text.as_str(), order.is_verbose, output, errors)
 }
 
 /// Reads the settings of a file, listens, says so, and serves until all bots were served. Only a fault that could
 /// not be told is an error.
 pub(crate) fn run<R: AllocGlobal + Files + Clock + Net, O: Write, E: Write>(
     rt: &R,
-    path: &str,
+    order: RunOrder<'_>,
     output: &mut O,
     errors: &mut E,
 ) -> io::Result<u8>
     ensures { IfOk result (λ status. status ≤ FAULT) }
 {
-    let ended = match text_at(rt, path) {
-        Ok(text) => run_text(rt, text.as_str(), output, errors),
-        Err(fault) => Err(fault),
-    };
-    match ended {
+    match run_ordered(rt, order, output, errors) {
         Ok(()) => Ok(CLEAN),
         Err(fault) => tell(errors, fault, FAULT),
     }

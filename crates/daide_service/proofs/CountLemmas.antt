@@ -11,7 +11,7 @@ use Rattle.daide_service.specs.declared.tally.Tally.{Tally}
 use Rattle.daide_service.specs.Metered.{Meter}
 use Rattle.daide_service.specs.System.{SystemAnswer, Begins, Accepts, Connects, Retires, Notifies, Waits}
 use Rattle.daide_service.specs.Serving.{arrived, come, AdmitsWhere, MeetsWhere, MeetsBy, last_words, farewell_where}
-use Rattle.daide_service.specs.Serving.{farewell, farewells, wait_where}
+use Rattle.daide_service.specs.Serving.{end_of, farewell, farewells, wait_where}
 use Rattle.daide_service.specs.Served.{comes, connects, unreached, counted}
 
 -- one that is not none is one more than another
@@ -132,17 +132,17 @@ module _ {P : Type 0} where
   silent_words true = record { came = refl; joined = refl; failed = refl }
   silent_words false = nothing_said
 
-  silent_farewell : (b : Bool) (meter : Meter P) → Silent (farewell_where b meter)
-  silent_farewell true meter =
-      silent_then (last_words (is_none meter.left)) (Retires meter.ports ∷ []) (silent_words (is_none meter.left))
-      (record { came = refl; joined = refl; failed = refl })
-  silent_farewell false meter = nothing_said
+  silent_farewell : (b : Bool) (place : Gateway × Meter P) → Silent (farewell_where b place)
+  silent_farewell true place =
+      silent_then (last_words (is_none place.1.left)) (Retires place.1.ports (end_of place) ∷ [])
+      (silent_words (is_none place.1.left)) (record { came = refl; joined = refl; failed = refl })
+  silent_farewell false place = nothing_said
 
   silent_farewells : (places : List (Gateway × Meter P)) → Silent (farewells places)
   silent_farewells [] = nothing_said
   silent_farewells (place ∷ places) =
       silent_then (farewells places) (farewell place) (silent_farewells places)
-      (silent_farewell (is_closed place.0) place.1)
+      (silent_farewell (is_closed place.0) place)
 
   pub removal_counts : (places : List (Gateway × Meter P)) (tally : Tally) → Counts (farewells places) tally tally
   removal_counts places tally = silent_counts (farewells places) tally (silent_farewells places)

@@ -1,18 +1,23 @@
 -- What counts as a move in a turn, and in which order sessions are parted with. Worked out by hand, so that an answer
 -- taken for its neighbour does not check.
-use Rattle.std.proofs.Common.{◌≡◌, ℕ, true, false, List, [], ◌∷◌, map, replicate, Some, None, Option, refl}
+use Rattle.std.proofs.Common.{◌≡◌, ℕ, ◌+◌, true, false, List, [], ◌∷◌, map, replicate, Some, None, Option, refl}
 use Rattle.std.specs.List.{range_with_len}
 use Rattle.daide_frame.specs.declared.side.Side.{Side}
-use Rattle.daide_frame.specs.declared.side.Side.TheVariants.{Bot}
+use Rattle.daide_frame.specs.declared.side.Side.TheVariants.{Bot, Server}
+use Rattle.daide_frame.specs.declared.code.Code.TheVariants.{SecondRm}
+use Rattle.daide_machine.specs.declared.ending.Ending.{Ending}
+use Rattle.daide_machine.specs.declared.ending.Ending.TheVariants.{Ended, Lost, Final, Fault}
+use Rattle.daide_machine.specs.declared.summary.Summary.{Summary}
 use Rattle.daide_machine.specs.declared.phase.Phase.{Phase}
 use Rattle.daide_machine.specs.declared.phase.Phase.TheVariants.{Open, Over}
-use Rattle.daide_machine.specs.Machine.{Limits, Sent, fm_bytes, in_phase, opening}
+use Rattle.daide_machine.specs.Machine.{Limits, Sent, fm_bytes, in_phase, opening, with_ending}
 use Rattle.daide_machine.specs.Wires.{Gateway, bytes_of}
 use Rattle.daide_turns.specs.declared.ports.Pull.TheVariants.{Got, Idle, Ended}
 use Rattle.daide_turns.specs.declared.ports.Put.TheVariants.{Took, Failed}
 use Rattle.daide_turns.specs.Headline.{nothing_held}
 use Rattle.daide_turns.specs.Record.{Clock, Pulled, Offered}
 use Rattle.daide_service.specs.declared.system.Notice.TheVariants.{TurnsSpent}
+use Rattle.daide_service.specs.declared.system.Cause.TheVariants as Causes
 use Rattle.daide_service.specs.Metered.{Meter, left_after, moved_after, moved_by}
 use Rattle.daide_service.specs.Serving.{farewells, remaining}
 use Rattle.daide_service.specs.System.{Retires, Notifies}
@@ -49,21 +54,26 @@ turns_taken side = (refl, refl, refl, refl, refl, refl)
 
 -- ---- the order of farewells
 
--- a session in a phase, and what waits for its bot
-abbrev session : Limits → Phase → List Sent → Gateway
-session limits phase to_bot = record {
-  state = in_phase phase (opening limits).level (opening limits);
+-- counts of which each is another
+abbrev counts : ℕ → Summary
+counts n = record { relayed = n; prn = n + 1; huh = n + 2; faults = n + 3 }
+
+-- a session in a phase, what ended it, its counts, and what waits for its bot
+abbrev session : Limits → Phase → Option Ending → ℕ → List Sent → Gateway
+session limits phase ending n to_bot = record {
+  state = with_ending ending (in_phase phase (opening limits).level (opening limits));
   to_bot = to_bot;
   to_server = [];
   bot_parts = bytes_of to_bot ∷ [];
   server_parts = [];
   bot = nothing_held;
   server = nothing_held;
+  summary = counts n;
 }
 
 -- of the session an FM waits for its bot
 abbrev waiting : Limits → Gateway
-waiting limits = session limits Over (record { to = Bot; answers = None; bytes = fm_bytes } ∷ [])
+waiting limits = session limits Over (Some (Final Bot)) 20 (record { to = Bot; answers = None; bytes = fm_bytes } ∷ [])
 
 -- ports that go by a number, with so many turns left
 abbrev ports : ℕ → Option ℕ → Meter ℕ
@@ -72,15 +82,17 @@ ports number left = record { ports = number; left = left; moved = false }
 -- the first is over, the second waits, the third is open, the fourth has spent its turns, the fifth is over
 abbrev five : Limits → List (Gateway × Meter ℕ)
 five limits =
-    (session limits Over [], ports 1 (Some 9)) ∷ (waiting limits, ports 2 (Some 9))
-    ∷ (session limits Open [], ports 3 (Some 9)) ∷ (session limits Over [], ports 4 None)
-    ∷ (session limits Over [], ports 5 (Some 0)) ∷ []
+    (session limits Over (Some (Fault Server SecondRm)) 10 [], ports 1 (Some 9)) ∷ (waiting limits, ports 2 (Some 9))
+    ∷ (session limits Open None 30 [], ports 3 (Some 9)) ∷ (session limits Over (Some (Lost Bot)) 40 [], ports 4 None)
+    ∷ (session limits Over (Some (Ended Server)) 50 [], ports 5 (Some 0)) ∷ []
 
--- from the last place to the first, each that is over and of which nothing waits
+-- from the last place to the first, each that is over and of which nothing waits, with its own end and its own counts
 parted_from_the_last : (limits : Limits) →
-    farewells (five limits) ≡ Retires 5 ∷ Notifies TurnsSpent ∷ Retires 4 ∷ Retires 1 ∷ []
+    farewells (five limits) ≡ Retires 5 (record { cause = Causes.Session (Ended Server); summary = counts 50 })
+    ∷ Notifies TurnsSpent ∷ Retires 4 (record { cause = Causes.TurnsSpent; summary = counts 40 })
+    ∷ Retires 1 (record { cause = Causes.Session (Fault Server SecondRm); summary = counts 10 }) ∷ []
 parted_from_the_last limits = refl
 
 others_stay : (limits : Limits) →
-    remaining (five limits) ≡ (waiting limits, ports 2 (Some 9)) ∷ (session limits Open [], ports 3 (Some 9)) ∷ []
+    remaining (five limits) ≡ (waiting limits, ports 2 (Some 9)) ∷ (session limits Open None 30 [], ports 3 (Some 9)) ∷ []
 others_stay limits = refl

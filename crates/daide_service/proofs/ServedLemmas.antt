@@ -1,7 +1,8 @@
 -- The sessions of a run, step after step.
 use Rattle.std.proofs.Common.{◌≡◌, ℕ, zero, suc, ◌<◌, ◌≤◌, Bool, true, false, List, [], ◌∷◌, ◌++◌, length, take, set}
 use Rattle.std.proofs.Common.{◌+◌, refl, sym, ap, ◌∙◌, subst, arith, append-nil, length-append}
-use Rattle.std.specs.Prelude.{◌==◌, ◌&&◌, ◌||◌, nat_lt, Some, None, Contains, All, is_none, not}
+use Rattle.std.specs.Prelude.{◌==◌, ◌&&◌, ◌||◌, nat_lt, Option, Some, None, Contains, All, is_none, is_some, not}
+use Rattle.std.specs.Prelude.{unwrap_or}
 use Rattle.std.proofs.lemmas.Bool.{lt-ltb, le-ltb, ltb-true, ltb-false, eqb-true}
 use Rattle.std.proofs.lemmas.Bool.Decides.{nat_tests}
 use Rattle.std.proofs.lemmas.List.{take_all, length-set}
@@ -11,10 +12,14 @@ use Rattle.std.proofs.lemmas.List.Elements.{Contains-append_left, Contains-appen
 use Rattle.std.proofs.lemmas.Option.{slice_get_within, get_or_from_slice_get}
 use Rattle.std.proofs.Math.Dec.{eqb-suc-zero}
 use Rattle.std.proofs.Math.Seq.{take-suc-set}
-use Rattle.daide_machine.specs.Machine.{Limits}
+use Rattle.daide_frame.specs.declared.side.Side.TheVariants.{Bot}
+use Rattle.daide_machine.specs.declared.ending.Ending.{Ending}
+use Rattle.daide_machine.specs.declared.ending.Ending.TheVariants.{Ended}
+use Rattle.daide_machine.proofs.EndingLemmas.{runs_told}
+use Rattle.daide_machine.specs.Machine.{Limits, is_over}
 use Rattle.daide_machine.specs.Wires.{Gateway, IsNew, is_closed}
-use Rattle.daide_turns.specs.Record.{PortAnswer, Clock, Pulled, Offered, BecomesBy}
-use Rattle.daide_turns.specs.Headline.{Stands, IsBoundedAndExact}
+use Rattle.daide_turns.specs.Record.{PortAnswer, Clock, Pulled, Offered, BecomesBy, events_of}
+use Rattle.daide_turns.specs.Headline.{untouched, Stands, IsBoundedAndExact}
 use Rattle.daide_turns.specs.Hub.{Hosting, IsTurned, Changes}
 use Rattle.daide_turns.specs.HubRuns.{Turned, HubRuns}
 use Rattle.daide_turns.proofs.Stretches.{becomes_then}
@@ -29,8 +34,9 @@ use Rattle.daide_service.specs.Metered.{Meter, Meters, moved_by, one_less}
 use Rattle.daide_service.specs.System.{SystemAnswer, Begins, Accepts, Connects, Retires, Notifies, Waits}
 use Rattle.daide_service.specs.Serving.{Serving, fresh, opening, accepts, come, AdmitsWhere, MeetsWhere, turns_below}
 use Rattle.daide_service.specs.Serving.{TurnsAll, last_words, farewell, farewell_where, farewells, remaining, parting}
+use Rattle.daide_service.specs.Serving.{cause_by, end_of}
 use Rattle.daide_service.specs.Serving.{MeetsBy, wait_where, any_stirs, any_moved, Round, Rounds, is_done}
-use Rattle.daide_service.specs.Served.{run_limits, IsSessionOfRun, IsServed, LetsGo, connects, retires, counted}
+use Rattle.daide_service.specs.Served.{run_limits, IsSessionOfRun, IsServed, IsEndOf, LetsGo, connects, retires, counted}
 use Rattle.daide_service.specs.Served.{IsWholeRun, looks_in}
 use Rattle.daide_service.proofs.CountLemmas.{counted_append, Counts, counts_then, admission_counts, meeting_counts}
 use Rattle.daide_service.proofs.CountLemmas.{beginning_counts, removal_counts, wait_counts}
@@ -173,7 +179,7 @@ module _ {P : Type 0} where
       gone : is_closed place.0 ≡ true → remaining (place ∷ places) ≡ remaining places
       gone e = rw e refl
 
-      spoke : (b : Bool) → Passes (last_words b ++ Retires place.1.ports ∷ []) 0 1
+      spoke : (b : Bool) → Passes (last_words b ++ Retires place.1.ports (end_of place) ∷ []) 0 1
       spoke true = record { came = refl; went = refl }
       spoke false = record { came = refl; went = refl }
 
@@ -183,9 +189,9 @@ module _ {P : Type 0} where
           × (length (place ∷ places) ≡ length (remaining (place ∷ places)) + n)
       one true e h = (
         h.0 + 1,
-        passes_as (farewells (place ∷ places)) (farewells places ++ parting place.1) 0 (h.0 + 1)
-            (ap (λ (c : Bool). farewells places ++ farewell_where c place.1) e)
-            (passes_then (farewells places) (parting place.1) 0 h.0 0 1 h.1 (spoke (is_none place.1.left))),
+        passes_as (farewells (place ∷ places)) (farewells places ++ parting place.1 (end_of place)) 0 (h.0 + 1)
+            (ap (λ (c : Bool). farewells places ++ farewell_where c place) e)
+            (passes_then (farewells places) (parting place.1 (end_of place)) 0 h.0 0 1 h.1 (spoke (is_none place.1.left))),
         (let rest = h.2 in
             let same = ap length (gone e) in
             omega (arith, rest, same)),
@@ -193,7 +199,7 @@ module _ {P : Type 0} where
       one false e h = (
         h.0,
         passes_as (farewells (place ∷ places)) (farewells places) 0 h.0
-            (ap (λ (c : Bool). farewells places ++ farewell_where c place.1) e ∙ append-nil (farewells places)) h.1,
+            (ap (λ (c : Bool). farewells places ++ farewell_where c place) e ∙ append-nil (farewells places)) h.1,
         (let rest = h.2 in
             let same = ap length (kept e) in
             omega (arith, rest, same)),
@@ -218,7 +224,7 @@ module _ {P : Type 0} (becomes : P → PortAnswer → P → Type 0) (settings : 
 
   gone_later : (xs ys : List (SystemAnswer P)) (answer : SystemAnswer P) → LetsGo becomes settings xs answer →
       LetsGo becomes settings (xs ++ ys) answer
-  gone_later xs ys (Retires ports) h = (h.0, h.1, h.2, later IsBoundedAndExact xs ys h.0 h.3)
+  gone_later xs ys (Retires ports end) h = (h.0, h.1, h.2, later IsBoundedAndExact xs ys h.0 h.3, h.4)
   gone_later xs ys Begins h = tt
   gone_later xs ys (Accepts came) h = tt
   gone_later xs ys (Connects connect) h = tt
@@ -393,11 +399,33 @@ module _ {P : Type 0} (becomes : P → PortAnswer → P → Type 0) (settings : 
     spoken true = All-cons Gone (Notifies TurnsSpent) [] tt (All-nil Gone)
     spoken false = All-nil Gone
 
+    some_ending : (o : Option Ending) → is_some o ≡ true → (ending : Ending) × (o ≡ Some ending)
+    some_ending None e = absurd (cc)
+    some_ending (Some ending) e = (ending, refl)
+
+    closed_over : (over quiet : Bool) → (over && quiet) ≡ true → over ≡ true
+    closed_over true quiet e = refl
+    closed_over false quiet e = absurd (cc)
+
+    -- what is told of a session's end is its own
+    ended : (place : Gateway × Meter P) → is_closed place.0 ≡ true → Served place → IsEndOf place (end_of place)
+    ended place closed h =
+        let stands = h.stands.sends in
+        let told = runs_told (untouched (run_limits settings)).state (events_of h.history) stands.effects place.0.state
+        stands.run refl in
+        let over = closed_over (is_over place.0.state.phase) _ closed in
+        let own = some_ending place.0.state.ending (told ∙ over) in (
+          own.0,
+          own.1,
+          ap (λ (o : Option Ending). cause_by (is_none place.1.left) (unwrap_or o (Ended Bot))) own.1,
+          refl,
+        )
+
     parted : (b : Bool) (place : Gateway × Meter P) → is_closed place.0 ≡ b → Served place →
-        All Gone (farewell_where b place.1)
+        All Gone (farewell_where b place)
     parted true place e h =
-        All-push Gone (last_words (is_none place.1.left)) (Retires place.1.ports) (spoken (is_none place.1.left))
-        (place, refl, e, h)
+        All-push Gone (last_words (is_none place.1.left)) (Retires place.1.ports (end_of place))
+        (spoken (is_none place.1.left)) (place, refl, e, h, ended place e h)
     parted false place e h = All-nil Gone
 
     all_parted : (places : List (Gateway × Meter P)) → All Served places → All Gone (farewells places)

@@ -1,5 +1,7 @@
 -- What a run makes of each of its sessions: those that it holds, and those whose ports it lets go.
-use Rattle.std.specs.Prelude.{◌≡◌, ℕ, suc, ◌+◌, nat_lt, true, false, List, [], ◌∷◌, length, Contains, All, is_none}
+use Rattle.std.specs.Prelude.{◌≡◌, ℕ, suc, ◌+◌, nat_lt, true, false, List, [], ◌∷◌, length, Some, is_none}
+use Rattle.std.specs.Prelude.{Contains, All}
+use Rattle.daide_machine.specs.declared.ending.Ending.{Ending}
 use Rattle.daide_machine.specs.Machine.{Limits}
 use Rattle.daide_machine.specs.Wires.{Gateway, is_closed}
 use Rattle.daide_words.specs.Words.{words_of}
@@ -9,9 +11,10 @@ use Rattle.daide_turns.specs.Headline.{IsBoundedAndExact}
 use Rattle.daide_turns.specs.Hub.{IsTurned}
 use Rattle.daide_settings.specs.declared.settings.Settings.{Settings}
 use Rattle.daide_service.specs.declared.system.Connect.TheVariants.{Ready, Failed, Pending}
+use Rattle.daide_service.specs.declared.system.SessionEnd.{SessionEnd}
 use Rattle.daide_service.specs.Metered.{Meter, Meters, moved_by}
 use Rattle.daide_service.specs.System.{SystemAnswer, Begins, Accepts, Connects, Retires, Notifies, Waits}
-use Rattle.daide_service.specs.Serving.{Serving, fresh, opening, Rounds, Serves}
+use Rattle.daide_service.specs.Serving.{Serving, cause_by, fresh, opening, Rounds, Serves}
 
 -- the limits of a run's sessions
 abbrev pub run_limits : Settings → Limits
@@ -33,11 +36,18 @@ abbrev pub IsServed : {P : Type 0} → (P → PortAnswer → P → Type 0) → S
     Gateway × Meter P → Type 0
 IsServed becomes = IsSessionOfRun becomes IsBoundedAndExact
 
--- ports that are let go are those of a session that is closed, and was served
+-- how a session ended, by its turns or by the event that ended it, and its moves counted
+abbrev pub IsEndOf : {P : Type 0} → Gateway × Meter P → SessionEnd → Type 0
+IsEndOf place end =
+    (ending : Ending) × (place.0.state.ending ≡ Some ending) × (end.cause ≡ cause_by (is_none place.1.left) ending)
+    × (end.summary ≡ place.0.summary)
+
+-- ports that are let go are those of a session that is closed, and was served, and what is told of its end is its own
 abbrev pub LetsGo : {P : Type 0} → (P → PortAnswer → P → Type 0) → Settings → List (SystemAnswer P) →
     SystemAnswer P → Type 0
-LetsGo {P} becomes settings answers (Retires ports) =
-    (now : Gateway × Meter P) × (now.1.ports ≡ ports) × (is_closed now.0 ≡ true) × IsServed becomes settings answers now
+LetsGo {P} becomes settings answers (Retires ports end) =
+    (now : Gateway × Meter P) × (now.1.ports ≡ ports) × (is_closed now.0 ≡ true)
+    × IsServed becomes settings answers now × IsEndOf now end
 LetsGo becomes settings answers Begins = Unit {0}
 LetsGo becomes settings answers (Accepts came) = Unit {0}
 LetsGo becomes settings answers (Connects connect) = Unit {0}
@@ -51,12 +61,12 @@ connects (Connects Failed) = 0
 connects (Connects Pending) = 0
 connects Begins = 0
 connects (Accepts came) = 0
-connects (Retires ports) = 0
+connects (Retires ports end) = 0
 connects (Notifies notice) = 0
 connects (Waits more) = 0
 
 abbrev pub retires : {P : Type 0} → SystemAnswer P → ℕ
-retires (Retires ports) = 1
+retires (Retires ports end) = 1
 retires Begins = 0
 retires (Accepts came) = 0
 retires (Connects connect) = 0
@@ -69,7 +79,7 @@ comes (Accepts true) = 1
 comes (Accepts false) = 0
 comes Begins = 0
 comes (Connects connect) = 0
-comes (Retires ports) = 0
+comes (Retires ports end) = 0
 comes (Notifies notice) = 0
 comes (Waits more) = 0
 
@@ -79,7 +89,7 @@ unreached (Connects (Ready ports)) = 0
 unreached (Connects Pending) = 0
 unreached Begins = 0
 unreached (Accepts came) = 0
-unreached (Retires ports) = 0
+unreached (Retires ports end) = 0
 unreached (Notifies notice) = 0
 unreached (Waits more) = 0
 

@@ -1,8 +1,12 @@
 -- The loop of a run: what each step of a round asks of the system and does to the sessions, what a round is, and
 -- what a whole run is, to its end or broken off. A step is stated with what the system answered in it, told or not.
 use Rattle.std.specs.Prelude.{◌≡◌, ℕ, zero, suc, ◌+◌, ◌-◌, ◌≤◌, nat_lt, Bool, true, false, not, ◌&&◌, ◌||◌, ◌==◌, ◌⊎◌}
-use Rattle.std.specs.Prelude.{List, [], ◌∷◌, ◌++◌, length, filter, Some, is_none}
+use Rattle.std.specs.Prelude.{List, [], ◌∷◌, ◌++◌, length, filter, Some, is_none, unwrap_or}
 use Rattle.std.specs.List.{list_any}
+use Rattle.daide_frame.specs.declared.side.Side.TheVariants.{Bot}
+use Rattle.daide_machine.specs.declared.ending.Ending.{Ending}
+use Rattle.daide_machine.specs.declared.ending.Ending.TheVariants.{Ended}
+use Rattle.daide_machine.specs.declared.summary.Summary.{Summary}
 use Rattle.daide_machine.specs.Wires.{Gateway, is_closed}
 use Rattle.daide_turns.specs.declared.hub.HubError.{HubError}
 use Rattle.daide_turns.specs.declared.hub.HubError.TheVariants as HubErrors
@@ -18,6 +22,9 @@ use Rattle.daide_service.specs.declared.tally.Tally.{Tally}
 use Rattle.daide_service.specs.declared.system.Connect.{Connect}
 use Rattle.daide_service.specs.declared.system.Connect.TheVariants.{Ready, Failed, Pending}
 use Rattle.daide_service.specs.declared.system.Notice.TheVariants.{CannotReach, TurnsSpent}
+use Rattle.daide_service.specs.declared.system.Cause.{Cause}
+use Rattle.daide_service.specs.declared.system.Cause.TheVariants as Causes
+use Rattle.daide_service.specs.declared.system.SessionEnd.{SessionEnd}
 use Rattle.daide_service.specs.Metered.{Meter, Meters}
 use Rattle.daide_service.specs.System.{SystemAnswer, Begins, Accepts, Connects, Retires, Notifies, Waits}
 
@@ -117,17 +124,33 @@ abbrev pub last_words : {P : Type 0} → Bool → List (SystemAnswer P)
 last_words true = Notifies TurnsSpent ∷ []
 last_words false = []
 
--- that its turns are spent is told, if so, and its ports go
-abbrev pub parting : {P : Type 0} → Meter P → List (SystemAnswer P)
-parting meter = last_words (is_none meter.left) ++ Retires meter.ports ∷ []
+-- why a session ended: its turns were spent, or else by this event
+abbrev pub cause_by : Bool → Ending → Cause
+cause_by true ending = Causes.TurnsSpent
+cause_by false ending = Causes.Session ending
 
-abbrev pub farewell_where : {P : Type 0} → Bool → Meter P → List (SystemAnswer P)
-farewell_where true meter = parting meter
-farewell_where false meter = []
+abbrev pub end_by : Bool → Ending → Summary → SessionEnd
+end_by spent ending summary = record { cause = cause_by spent ending; summary = summary }
+
+-- the event that ended a session; one that is over has one, and it is asked of no other
+abbrev pub ending_of : Gateway → Ending
+ending_of session = unwrap_or session.state.ending (Ended Bot)
+
+-- how a session ended, and its moves counted
+abbrev pub end_of : {P : Type 0} → Gateway × Meter P → SessionEnd
+end_of place = end_by (is_none place.1.left) (ending_of place.0) place.0.summary
+
+-- that its turns are spent is told, if so, and its ports go, with how it ended
+abbrev pub parting : {P : Type 0} → Meter P → SessionEnd → List (SystemAnswer P)
+parting meter end = last_words (is_none meter.left) ++ Retires meter.ports end ∷ []
+
+abbrev pub farewell_where : {P : Type 0} → Bool → Gateway × Meter P → List (SystemAnswer P)
+farewell_where true place = parting place.1 (end_of place)
+farewell_where false place = []
 
 -- a session that is over and of which nothing waits is parted with
 abbrev pub farewell : {P : Type 0} → Gateway × Meter P → List (SystemAnswer P)
-farewell place = farewell_where (is_closed place.0) place.1
+farewell place = farewell_where (is_closed place.0) place
 
 -- from the last place to the first
 abbrev pub farewells : {P : Type 0} → List (Gateway × Meter P) → List (SystemAnswer P)
@@ -150,7 +173,7 @@ stirs (Accepts came) = came
 stirs (Connects (Ready ports)) = true
 stirs (Connects Failed) = true
 stirs (Connects Pending) = false
-stirs (Retires ports) = true
+stirs (Retires ports end) = true
 stirs (Notifies notice) = true
 stirs (Waits more) = false
 

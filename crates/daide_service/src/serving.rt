@@ -2,22 +2,25 @@
 //!
 //! It knows no socket. What the system gives is a parameter, so that whole runs can be driven in memory.
 
-ghost use Rattle.std.specs.Prelude.{◌≡◌, ◌+◌, ◌≤◌, ◌==◌, false, List, [], ◌∷◌, length, Ok, OnOk, OnErr, IfOk, IfErr};
+ghost use Rattle.std.specs.Prelude.{◌≡◌, ◌+◌, ◌≤◌, ◌==◌, false, List, [], ◌∷◌, length, is_none};
+ghost use Rattle.std.specs.Prelude.{Ok, OnOk, OnErr, IfOk, IfErr};
 ghost use Rattle.daide_machine.specs.Config.{config_fault};
 ghost use Rattle.daide_turns.specs.Hub.{IsHubSize};
 ghost use Rattle.daide_service.specs.System.{SystemAnswer, Connects};
 ghost use Rattle.daide_turns.specs.Record.{Tells};
 ghost use Rattle.daide_service.specs.Serving.{IsWithin, Admits, Meets, TurnsAll, any_moved, RemovesClosed, parting};
+ghost use Rattle.daide_service.specs.Serving.{cause_by, end_by};
 ghost use Rattle.daide_service.specs.Serving.{wait_where, any_stirs, Round, is_done, opening, fault_of};
 ghost use Rattle.daide_service.specs.Served.{IsWholeRun};
 ghost use Rattle.daide_service.specs.Serving.{IsServeCause, IsOpeningCause, IsOfSettings, BreaksOff, GivesUp, arrived};
 
 use crate::metered::Metered;
-use crate::system::{Connect, Notice, System};
+use crate::system::{Cause, Connect, Notice, SessionEnd, System};
 use crate::tally::Tally;
 use daide_machine::config::ConfigError;
+use daide_machine::ending::Ending;
 use daide_settings::settings::Settings;
-use daide_turns::hub::{AddFault, Hub, HubError};
+use daide_turns::hub::{AddFault, Hub, HubError, Removed};
 use daide_turns::ports::Ports;
 use std::alloc::{Allocator, Global};
 use std::marker::Model;
@@ -150,14 +153,36 @@ fn has_moved<P: Ports, A: Allocator + Copy>(hub: &Hub<Metered<P>, A>) -> bool
     moved
 }
 
-/// Lets ports go, and tells where their turns are spent.
-fn part_with<P: Ports, S: System<P>>(ports: Metered<P>, system: &mut S)
-    ensures { Tells (S.told system.old) (parting ports) (S.told system.new) }
+/// Why a session ended, whose turns are spent or not, by which event it did.
+fn cause_of(is_spent: bool, ending: Ending) -> Cause
+    ensures { result ≡ cause_by is_spent ending }
 {
-    if ports.is_spent() {
+    if is_spent {
+        Cause::TurnsSpent
+    } else {
+        Cause::Session(ending)
+    }
+}
+
+/// Lets ports go, with how their session ended, and tells where their turns are spent.
+fn part_with<P: Ports, S: System<P>>(removed: Removed<Metered<P>>, system: &mut S)
+    ensures { Tells (S.told system.old) (parting removed.ports
+        (end_by (is_none removed.ports.left) removed.ending removed.summary)) (S.told system.new) }
+{
+    let Removed {
+        ports,
+        summary,
+        ending,
+    } = removed;
+    let is_spent = ports.is_spent();
+    if is_spent {
         system.tell(Notice::TurnsSpent);
     }
-    system.retire(ports.into_ports());
+    let end = SessionEnd {
+        cause: cause_of(is_spent, ending),
+        summary,
+    };
+    system.retire(ports.into_ports(), end);
 }
 
 /// Takes out the sessions that are over and of which nothing waits, from the last place to the first. Answers
@@ -173,8 +198,8 @@ fn remove_closed<P: Ports, A: Allocator + Copy, S: System<P>>(
 {
     let mut removed = false;
     for i in (0..hub.count()).rev() {
-        if let Some(ports) = hub.remove_over(i) {
-            part_with(ports, system);
+        if let Some(session) = hub.remove_over(i) {
+            part_with(session, system);
             removed = true;
         }
     }

@@ -1,5 +1,5 @@
 -- What a piece of bytes makes of a session: a stretch of a run, and what is held after it.
-use Rattle.std.proofs.Common.{◌≡◌, ℕ, ◌+◌, ◌*◌, ◌<◌, Bool, true, false, cond, List, [], ◌∷◌, ◌++◌, length}
+use Rattle.std.proofs.Common.{◌≡◌, ℕ, ◌*◌, ◌<◌, Bool, true, false, cond, List, [], ◌∷◌, ◌++◌, length}
 use Rattle.std.proofs.Common.{drop}
 use Rattle.std.proofs.Common.{Option, Some, None, refl, sym, ap, ◌∙◌, subst, arith, ◌⊎◌, inl, inr, ⊎_elim}
 use Rattle.std.proofs.Common.{length-append, length-drop, append-nil}
@@ -20,6 +20,7 @@ use Rattle.daide_machine.specs.Events.{other, bytes_come}
 use Rattle.daide_machine.specs.Machine.{Sent, Outcome, SessionState, Coming, Runs, IsRight, coming}
 use Rattle.daide_machine.specs.Machine.{with_pending}
 use Rattle.daide_machine.specs.Machine.{is_over, items_outcome, asked_by}
+use Rattle.daide_machine.specs.Summary.{tallied}
 use Rattle.daide_machine.specs.Wires.{Gateway, Holding, waiting, holding, sent_to, note_of, held_after, counts_from}
 use Rattle.daide_machine.specs.Wires.{is_dm_head, asked_at_most, looked_at_most, Goes, Takes}
 use Rattle.daide_machine.proofs.PieceRuns.{piece_runs, piece_outcome, IsTaken}
@@ -72,10 +73,11 @@ asks_same s Server bytes items v h = h
 
 pub goes_piece : (g m n : Gateway) (side : Side) (piece : List ℕ) (note : Note) → is_over g.state.phase ≡ false →
     m.state ≡ with_pending g.state side (fed g.state.limits.cap (coming g.state side).pending piece) →
-    ((wire : Side) → waiting m wire ≡ waiting g wire) → ((v : Verdict) → IsTaken g.state side piece v) →
+    ((wire : Side) → waiting m wire ≡ waiting g wire) → m.summary ≡ g.summary →
+    ((v : Verdict) → IsTaken g.state side piece v) →
     Reacts m side (fed_items g.state.limits.cap (coming g.state side).pending piece) note n →
     Goes g (bytes_come side piece) note n
-goes_piece g m n side piece note live state wait taken r = record {
+goes_piece g m n side piece note live state wait counts taken r = record {
   effects = o.effects;
   run = subst (λ (s : SessionState). Runs g.state (bytes_come side piece) o.effects s)
       (sym (r.moves.state ∙ ap (λ (x : Outcome). x.state) same))
@@ -84,6 +86,9 @@ goes_piece g m n side piece note live state wait taken r = record {
       ∙ (ap (λ (x : List Sent). x ++ sent_to wire (items_outcome m.state side items r.verdict).effects) (wait wire)
       ∙ ap (λ (x : Outcome). waiting g wire ++ sent_to wire x.effects) same);
   note = r.note ∙ ap (λ (x : Outcome). note_of x.effects) same;
+  counts = r.moves.counts
+      ∙ (ap (tallied (items_outcome m.state side items r.verdict).effects) counts
+      ∙ ap (λ (x : Outcome). tallied x.effects g.summary) same);
 }
   where
     b : List ℕ
@@ -122,7 +127,7 @@ pub goes_fed : (t u v : Traffic) (s r : Stage) (side : Side) (piece : List ℕ) 
     Goes (gateway_of t s) (bytes_come side piece) note (gateway_of v r)
 goes_fed t u v s r side piece step note live keeps wait grown items whole h =
     goes_piece (gateway_of t s) (gateway_of u s) (gateway_of v r) side piece note live state
-    (λ wire. waits_same t u s s wire wait)
+    (λ wire. waits_same t u s s wire wait) refl
     (λ verdict. taken_or_over (state_of t s) side piece verdict step _ _ live here all)
     (subst (λ (x : List Item). Reacts (gateway_of u s) side x note (gateway_of v r)) (sym here) h)
   where
@@ -319,7 +324,13 @@ piece_worked t u v s r side piece items step note limits wanted keeps grown rais
 pub goes_nowhere : (g : Gateway) (side : Side) (piece : List ℕ) → length piece ≡ 0 →
     Goes g (bytes_come side piece) Notes.Nothing g
 goes_nowhere g side [] e =
-    record { effects = []; run = (refl, refl); kept = λ one. sym (append-nil (waiting g one)); note = refl }
+    record {
+      effects = [];
+      run = (refl, refl);
+      kept = λ one. sym (append-nil (waiting g one));
+      note = refl;
+      counts = refl;
+    }
 goes_nowhere g side (x ∷ piece) e = absurd (omega (arith, e))
 
 counts_same : (o : Option Head) (h : Holding) → counts_from o o h ≡ h.total_before

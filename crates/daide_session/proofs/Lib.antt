@@ -9,3 +9,4 @@ pub mod WeightLemmas
 pub mod WrittenLemmas
 pub mod WorkLemmas
 pub mod InARowLemmas
+pub mod JoinedRuns

@@ -5,7 +5,12 @@ use Rattle.daide_frame.specs.declared.side.Side.{Side}
 use Rattle.daide_frame.specs.declared.side.Side.TheVariants.{Bot, Server}
 use Rattle.daide_frame.specs.declared.code.Code.{Code}
 use Rattle.daide_grammar.specs.declared.level.Level.TheVariants.{L0}
+use Rattle.daide_machine.specs.declared.ending.Ending.{Ending}
+use Rattle.daide_machine.specs.declared.ending.Ending.TheVariants as Endings
+use Rattle.daide_machine.specs.declared.note.Note.TheVariants as Notes
 use Rattle.daide_machine.specs.declared.phase.Phase.TheVariants.{Over}
+use Rattle.daide_machine.specs.declared.summary.Summary.{Summary}
+use Rattle.daide_machine.specs.Summary.{counted_on}
 use Rattle.daide_machine.specs.Events.{other}
 use Rattle.daide_machine.specs.Machine.{Sent, Coming, fault, fm_to, em_to, coming, is_over}
 use Rattle.std.specs.Prelude.{◌==◌}
@@ -60,14 +65,35 @@ other_post w Server code = refl
 
 -- ---- the end
 
-pub failed : (old mid new : Traffic) (stage later : Stage) (side : Side) (code : Code) → KeepsSides old new →
-    mid.waiting ≡ posted old.waiting (end_to side (Some code)) →
-    later ≡ record { top_level = stage.top_level; phase = Over; level = L0 } →
+-- the same with other counts
+abbrev pub with_counts : Stage → Summary → Stage
+with_counts stage summary = record {
+  top_level = stage.top_level;
+  phase = stage.phase;
+  level = stage.level;
+  ending = stage.ending;
+  summary = summary;
+}
+
+-- ended by this
+abbrev pub ended_by : Ending → Stage → Stage
+ended_by ending stage = record {
+  top_level = stage.top_level;
+  phase = Over;
+  level = L0;
+  ending = Some ending;
+  summary = stage.summary;
+}
+
+pub failed : (old mid new : Traffic) (stage closed : Stage) (counts : Summary) (side : Side) (code : Code) →
+    KeepsSides old new → mid.waiting ≡ posted old.waiting (end_to side (Some code)) →
+    closed ≡ ended_by (Endings.Fault side code) stage → counts ≡ counted_on (Notes.Fault code) closed.summary →
     ((wire : Side) → at new.waiting wire ≡ at mid.waiting wire ++ frames_to wire (fm_to stage.phase (other side))) →
-    Moves (gateway_of old stage) (fault (state_of old stage) side code) (gateway_of new later)
-failed old mid new stage later side code keeps post end close = record {
+    Moves (gateway_of old stage) (fault (state_of old stage) side code) (gateway_of new (with_counts closed counts))
+failed old mid new stage closed counts side code keeps post end counted close = record {
   state = rw (keeps.cap, keeps.rules, keeps.sides, end) refl;
-  sent = λ wire. waiting_at new later wire
+  counts = counted ∙ ap (λ (s : Stage). counted_on (Notes.Fault code) s.summary) end;
+  sent = λ wire. waiting_at new (with_counts closed counts) wire
       ∙ (close wire
       ∙ (ap (λ (w : Both (List Sent)). at w wire ++ frames_to wire fm) post
       ∙ (ap (λ (x : List Sent). x ++ frames_to wire fm) (posted_at old.waiting em wire)

@@ -1,6 +1,6 @@
 -- What the items that end with a byte make of a session's value.
-use Rattle.std.proofs.Common.{◌≡◌, ℕ, false, List, [], ◌∷◌, ◌++◌, length, drop, Option}
-use Rattle.std.proofs.Common.{Some, None}
+use Rattle.std.proofs.Common.{◌≡◌, ℕ, true, false, List, [], ◌∷◌, ◌++◌, length, drop, Option}
+use Rattle.std.proofs.Common.{Some, None, Ok}
 use Rattle.std.proofs.Common.{refl, sym, ap, ◌∙◌, subst, append-nil, arith, inl, inr, ⊎_elim}
 use Rattle.daide_frame.specs.declared.side.Side.{Side}
 use Rattle.daide_frame.specs.declared.side.Side.TheVariants.{Bot, Server}
@@ -15,9 +15,10 @@ use Rattle.daide_frame.specs.Head.{is_im}
 use Rattle.daide_grammar.specs.declared.level.Level.{Level}
 use Rattle.daide_grammar.specs.declared.level.Level.TheVariants.{L0}
 use Rattle.daide_machine.specs.declared.note.Deed.TheVariants.{Dropped}
+use Rattle.daide_machine.specs.declared.ending.Ending.{Ending}
 use Rattle.daide_machine.specs.declared.phase.Phase.{Phase}
 use Rattle.daide_reader.specs.declared.verdict.Verdict.{Verdict}
-use Rattle.daide_reader.specs.declared.verdict.Verdict.TheVariants.{Relay}
+use Rattle.daide_reader.specs.declared.verdict.Verdict.TheVariants.{Relay, Prn, Huh}
 use Rattle.daide_reader.proofs.ReadingLemmas.{raised_none}
 use Rattle.daide_reader.specs.Reading.{IsRaised}
 use Rattle.daide_machine.specs.declared.note.Note.{Note}
@@ -25,18 +26,23 @@ use Rattle.daide_machine.specs.declared.note.Note.TheVariants as Notes
 use Rattle.daide_machine.specs.Events.{other}
 use Rattle.daide_machine.specs.Machine.{Sent, Effect, Outcome, SessionState, Coming, with_noted}
 use Rattle.daide_machine.specs.Machine.{is_over, is_dm, is_sent, level_after, phase_after, in_phase, with_pending}
-use Rattle.daide_machine.specs.Machine.{untimely, whole}
+use Rattle.daide_machine.specs.Machine.{untimely, whole, answered, im_answered, with_ending, ending_after}
+use Rattle.daide_machine.specs.Machine.{one_move, answer_to, destination, deed_of}
+use Rattle.daide_machine.specs.declared.summary.Summary.{Summary}
+use Rattle.daide_machine.specs.Summary.{tallied, counted_on}
+use Rattle.daide_grammar.specs.Words.{Words}
 use Rattle.daide_machine.specs.Machine.{items_outcome, IsRight}
 use Rattle.daide_machine.specs.Machine.{question_of}
 use Rattle.daide_machine.specs.Wires.{Holding, waiting, holding, sent_to, note_of, held_after}
-use Rattle.daide_machine.specs.Wires.{is_dm_head}
+use Rattle.daide_machine.specs.Weight.{tokens_held}
+use Rattle.daide_machine.specs.Wires.{is_dm_head, frames_to}
 use Rattle.daide_session.specs.declared.stage.Stage.{Stage}
-use Rattle.daide_traffic.specs.Both.{at}
+use Rattle.daide_traffic.specs.Both.{Both, at}
 use Rattle.daide_traffic.specs.Inbound.{Rules}
-use Rattle.daide_traffic.specs.Traffic.{Traffic, Arrival, IsCleared, Keeps, pending}
+use Rattle.daide_traffic.specs.Traffic.{Traffic, Arrival, IsAnswered, IsCleared, Keeps, pending, posted}
 use Rattle.daide_session.specs.Session.{state_of, gateway_of}
-use Rattle.daide_session.specs.Reaction.{IsUnread, Reacts, IsBegun, note_by}
-use Rattle.daide_session.proofs.MovesLemmas.{coming_at, waits_same}
+use Rattle.daide_session.specs.Reaction.{IsUnread, Reacts, IsBegun, note_by, check_of}
+use Rattle.daide_session.proofs.MovesLemmas.{coming_at, waiting_at, waits_same, posted_at}
 
 -- ---- outcomes
 
@@ -96,6 +102,7 @@ begun_alone t u s side head live timely bodiless tied b = record {
     state = rw (live, timely) (noted_state t u s side b.keeps b.started.coming);
     sent = λ wire. rw (live, timely)
         (waits_same t u s s wire b.waiting ∙ sym (append-nil (waiting (gateway_of t s) wire)));
+    counts = rw (live, timely) refl;
   };
   note = rw (live, timely) refl;
   held = rw (holding_at u s side, holding_at t s side) b.started.held;
@@ -129,6 +136,9 @@ begun_and_empty t u v s r q side head told live timely bodiless b h = record {
     sent = λ wire. h.moves.sent wire
         ∙ (ap (λ (x : List Sent). x ++ sent_to wire after.effects) (waited wire)
         ∙ ap (λ (o : Outcome). waiting (gateway_of t s) wire ++ sent_to wire o.effects) same);
+    counts = h.moves.counts
+        ∙ (ap (λ (x : Stage). tallied after.effects x.summary) b.stage_kept
+        ∙ ap (λ (o : Outcome). tallied o.effects s.summary) same);
   };
   note = h.note ∙ ap (λ (o : Outcome). note_of o.effects) same;
   held = h.held ∙ ap (held_after told) held;
@@ -202,26 +212,36 @@ last_of phase Dm to top side tokens level e = absurd (cc)
 last_of phase Fm to top side tokens level e = record { not_dm = refl; not_im = refl; ends = refl }
 last_of phase Em to top side tokens level e = record { not_dm = refl; not_im = refl; ends = refl }
 
-cleared_state : (t u : Traffic) (s : Stage) (side : Side) (phase : Phase) → Keeps side t u →
-    (at u.sides side).coming ≡ record { pending = []; noted = (at t.sides side).coming.noted } →
-    state_of u (record { top_level = s.top_level; phase = phase; level = L0 })
-    ≡ in_phase phase L0 (with_pending (state_of t s) side [])
-cleared_state t u s Bot phase keeps e = rw (keeps.cap, keeps.rules, keeps.other_side, e) refl
-cleared_state t u s Server phase keeps e = rw (keeps.cap, keeps.rules, keeps.other_side, e) refl
+-- a stage after a frame that was dropped
+abbrev dropped_stage : Stage → Phase → Option Ending → Stage
+dropped_stage s phase ending =
+    record { top_level = s.top_level; phase = phase; level = L0; ending = ending; summary = s.summary }
 
-pub dropped_whole : (t u : Traffic) (s : Stage) (side : Side) (head : Head) (body : List ℕ) (phase : Phase) →
+cleared_state : (t u : Traffic) (s : Stage) (side : Side) (phase : Phase) (ending : Option Ending) → Keeps side t u →
+    (at u.sides side).coming ≡ record { pending = []; noted = (at t.sides side).coming.noted } →
+    state_of u (dropped_stage s phase ending)
+    ≡ in_phase phase L0 (with_ending ending (with_pending (state_of t s) side []))
+cleared_state t u s Bot phase ending keeps e = rw (keeps.cap, keeps.rules, keeps.other_side, e) refl
+cleared_state t u s Server phase ending keeps e = rw (keeps.cap, keeps.rules, keeps.other_side, e) refl
+
+pub dropped_whole : (t u : Traffic) (s : Stage) (side : Side) (head : Head) (body : List ℕ) (phase : Phase)
+    (ending : Option Ending) →
     is_over s.phase ≡ false → is_sent s.phase head.kind (other side) ≡ false →
     (at t.sides side).holding.held ≡ pending t side → head_in t.cap (pending t side) ≡ Some head →
-    phase ≡ phase_after head.kind s.phase → Keeps side t u → u.waiting ≡ t.waiting →
+    phase ≡ phase_after head.kind s.phase → ending ≡ ending_after head.kind side s.ending → Keeps side t u →
+    u.waiting ≡ t.waiting →
     IsCleared (at t.sides side) (at u.sides side) →
     Reacts (gateway_of t s) side (Whole head body ∷ []) (Notes.Frame head Dropped)
-    (gateway_of u (record { top_level = s.top_level; phase = phase; level = L0 }))
-dropped_whole t u s side head body phase live unsent tied head_is now keeps waits cleared = record {
+    (gateway_of u (dropped_stage s phase ending))
+dropped_whole t u s side head body phase ending live unsent tied head_is now by keeps waits cleared = record {
   verdict = Relay;
   right = rw last.not_dm refl;
   moves = record {
-    state = rw (live, last.not_im, last.ends) (cleared_state t u s side phase keeps cleared.coming
-        ∙ ap (λ (p : Phase). in_phase p L0 (with_pending (state_of t s) side [])) now);
+    state = rw (live, last.not_im, last.ends) (cleared_state t u s side phase ending keeps cleared.coming
+        ∙ (ap (λ (p : Phase). in_phase p L0 (with_ending ending (with_pending (state_of t s) side []))) now
+        ∙ ap (λ (o : Option Ending). in_phase (phase_after head.kind s.phase) L0
+        (with_ending o (with_pending (state_of t s) side []))) by));
+    counts = rw (live, last.not_im, unsent) refl;
     sent = λ wire. rw (live, last.not_im, unsent)
         (waits_same t u s later wire waits ∙ sym (append-nil (waiting (gateway_of t s) wire)));
   };
@@ -245,7 +265,7 @@ dropped_whole t u s side head body phase live unsent tied head_is now keeps wait
     last = last_of s.phase head.kind (other side) s.top_level side (tokens_of body) s.level unsent
 
     later : Stage
-    later = record { top_level = s.top_level; phase = phase; level = L0 }
+    later = dropped_stage s phase ending
 
     total : (holding (gateway_of u later) side).total ≡ (holding (gateway_of t s) side).total
     total = rw (holding_at u later side, holding_at t s side) cleared.total
@@ -264,3 +284,144 @@ no_body head (x ∷ body) e z = absurd (omega (arith, e, z))
 pub no_code : (code : Option Code) → Notes.Nothing ≡ note_by code → code ≡ None
 no_code None e = refl
 no_code (Some code) e = absurd (cc)
+
+-- ---- a whole frame that is answered
+
+whole_good : (s : SessionState) (side : Side) (kind : Kind) (len : ℕ) (body : List ℕ) (v : Verdict) →
+    check_of kind body ≡ Ok tt →
+    whole s side (record { kind = kind; len = len }) body v ≡ answered s side (record { kind = kind; len = len }) body v
+whole_good s side Im len body v good =
+    let head : Head = record { kind = Im; len = len } in
+    ap (im_answered (answered s side head body v) s side) good
+whole_good s side Rm len body v good = refl
+whole_good s side Dm len body v good = refl
+whole_good s side Fm len body v good = refl
+whole_good s side Em len body v good = refl
+
+-- only a message may go back to its sender
+goes_out : (phase : Phase) (side : Side) (noted : Level) (kind : Kind) (len : ℕ) (body : List ℕ) (v : Verdict)
+    (words : Words) (depth : ℕ) →
+    IsRight words depth (question_of side noted (record { kind = kind; len = len }) body) v →
+    is_sent phase kind (other side) ≡ true → is_sent phase kind (destination side v) ≡ true
+goes_out phase side noted Im len body v words depth right sent = refl
+goes_out phase side noted Rm len body v words depth right sent = refl
+goes_out phase side noted Dm len body v words depth right sent = refl
+goes_out phase side noted Fm len body v words depth right sent = rw right sent
+goes_out phase side noted Em len body v words depth right sent = rw right sent
+
+held_on : (head : Head) (v : Verdict) (bytes : List ℕ) → held_after (Notes.Frame head (deed_of true v)) bytes ≡ bytes
+held_on head Relay bytes = refl
+held_on head Prn bytes = refl
+held_on head (Huh place) bytes = refl
+
+-- only of a message the tokens count
+level_of_held : (cap : ℕ) (held : List ℕ) (top : Level) (kind : Kind) (len : ℕ) (side : Side) (v : Verdict) (level : Level) →
+    head_in cap held ≡ Some (record { kind = kind; len = len }) →
+    level_after top kind side v (tokens_held cap held) level ≡ level_after top kind side v (tokens_of (drop 4 held)) level
+level_of_held cap held top Im len side v level e = refl
+level_of_held cap held top Rm len side v level e = refl
+level_of_held cap held top Dm len side v level e = rw e refl
+level_of_held cap held top Fm len side v level e = refl
+level_of_held cap held top Em len side v level e = refl
+
+pub level_held : (t u : Traffic) (side : Side) (top : Level) (head : Head) (v : Verdict) (level : Level) →
+    Keeps side t u → IsAnswered (at t.sides side) (at u.sides side) →
+    (at t.sides side).holding.held ≡ pending t side → head_in t.cap (pending t side) ≡ Some head →
+    level_after top head.kind side v (tokens_held u.cap (at u.sides side).holding.held) level
+    ≡ level_after top head.kind side v (tokens_of (drop 4 (pending t side))) level
+level_held t u side top head v level keeps answered_by tied head_is =
+    ap (λ (n : ℕ). level_after top head.kind side v (tokens_held n (at u.sides side).holding.held) level) keeps.cap
+    ∙ (ap (λ (b : List ℕ). level_after top head.kind side v (tokens_held t.cap b) level) (answered_by.held ∙ tied)
+    ∙ level_of_held t.cap (pending t side) top head.kind head.len side v level head_is)
+
+-- a stage after a frame that was answered
+abbrev answered_stage : Stage → Phase → Level → Option Ending → Summary → Stage
+answered_stage s phase level ending counts =
+    record { top_level = s.top_level; phase = phase; level = level; ending = ending; summary = counts }
+
+answered_state : (t u : Traffic) (s : Stage) (side : Side) (phase : Phase) (level : Level) (ending : Option Ending)
+    (counts : Summary) → Keeps side t u →
+    (at u.sides side).coming ≡ record { pending = []; noted = (at t.sides side).coming.noted } →
+    state_of u (answered_stage s phase level ending counts)
+    ≡ in_phase phase level (with_ending ending (with_pending (state_of t s) side []))
+answered_state t u s Bot phase level ending counts keeps e = rw (keeps.cap, keeps.rules, keeps.other_side, e) refl
+answered_state t u s Server phase level ending counts keeps e = rw (keeps.cap, keeps.rules, keeps.other_side, e) refl
+
+pub answered_whole : (t u : Traffic) (s : Stage) (side : Side) (head : Head) (body : List ℕ) (verdict : Verdict)
+    (phase : Phase) (level : Level) (ending : Option Ending) (counts : Summary) (told : Note) →
+    is_over s.phase ≡ false → is_sent s.phase head.kind (other side) ≡ true → check_of head.kind body ≡ Ok tt →
+    (at t.sides side).holding.held ≡ pending t side → head_in t.cap (pending t side) ≡ Some head →
+    IsRight t.rules.words t.rules.max_depth (question_of side (at t.sides side).coming.noted head body) verdict →
+    Keeps side t u → u.waiting ≡ posted t.waiting (answer_to side head body verdict) →
+    IsAnswered (at t.sides side) (at u.sides side) →
+    IsRaised 4 (at t.sides side).holding.total (at u.sides side).holding.total →
+    (is_dm head.kind ≡ false → (at u.sides side).holding.total ≡ (at t.sides side).holding.total) →
+    phase ≡ phase_after head.kind s.phase →
+    level ≡ level_after s.top_level head.kind side verdict (tokens_of body) s.level →
+    ending ≡ ending_after head.kind side s.ending → told ≡ Notes.Frame head (deed_of true verdict) →
+    counts ≡ counted_on told s.summary →
+    Reacts (gateway_of t s) side (Whole head body ∷ []) told (gateway_of u (answered_stage s phase level ending counts))
+answered_whole t u s side head body verdict phase level ending counts told live sent good tied head_is right keeps
+    waits answered_by raised no_message its_phase its_level its_ending its_note counted = record {
+      verdict = verdict;
+      right = subst (λ (c : Coming). IsRight t.rules.words t.rules.max_depth (question_of side c.noted head body) verdict)
+          (sym (coming_at t s side)) right;
+      moves = record {
+        state = answered_state t u s side phase level ending counts keeps answered_by.coming
+            ∙ (ap (λ (p : Phase). in_phase p level (with_ending ending (with_pending (state_of t s) side []))) its_phase
+            ∙ (ap (λ (l : Level). in_phase (phase_after head.kind s.phase) l
+            (with_ending ending (with_pending (state_of t s) side []))) its_level
+            ∙ (ap (λ (o : Option Ending). in_phase (phase_after head.kind s.phase)
+            (level_after s.top_level head.kind side verdict (tokens_of body) s.level)
+            (with_ending o (with_pending (state_of t s) side []))) its_ending
+            ∙ sym (ap (λ (o : Outcome). o.state) same))));
+        sent = λ wire. waiting_at u later wire
+            ∙ (ap (λ (w : Both (List Sent)). at w wire) waits
+            ∙ (posted_at t.waiting frame wire
+            ∙ (ap (λ (x : List Sent). at t.waiting wire ++ x) (sym (append-nil (frames_to wire (frame ∷ []))))
+            ∙ (ap (λ (x : List Sent). x ++ sent_to wire made.effects) (sym (waiting_at t s wire))
+            ∙ sym (ap (λ (o : Outcome). waiting (gateway_of t s) wire ++ sent_to wire o.effects) same)))));
+        counts = counted ∙ (ap (λ (n : Note). counted_on n s.summary) its_note
+            ∙ sym (ap (λ (o : Outcome). tallied o.effects s.summary) same));
+      };
+      note = its_note ∙ sym (ap (λ (o : Outcome). note_of o.effects) same);
+      held = ap (λ (h : Holding). h.held) (holding_at u later side)
+          ∙ (answered_by.held
+          ∙ (sym (held_on head verdict (at t.sides side).holding.held)
+          ∙ (ap (λ (n : Note). held_after n (at t.sides side).holding.held) (sym its_note)
+          ∙ ap (λ (h : Holding). held_after told h.held) (sym (holding_at t s side)))));
+      asks = record {
+        base = inl (rw (holding_at u later side, holding_at t s side) answered_by.base);
+        raised = rw (holding_at u later side, holding_at t s side) raised;
+        no_message = λ none. rw (holding_at u later side, holding_at t s side) (no_message (sym is_message ∙ none));
+        looked_at = rw (holding_at u later side, holding_at t s side) answered_by.looked_at;
+      };
+      other_side = holding_same t u s later (other side) keeps.other_side;
+    }
+  where
+    later : Stage
+    later = answered_stage s phase level ending counts
+
+    frame : Sent
+    frame = answer_to side head body verdict
+
+    made : Outcome
+    made = one_move (in_phase (phase_after head.kind s.phase)
+        (level_after s.top_level head.kind side verdict (tokens_of body) s.level)
+        (with_ending (ending_after head.kind side s.ending) (with_pending (state_of t s) side [])))
+        (Notes.Frame head (deed_of true verdict)) (frame ∷ [])
+
+    goes : is_sent s.phase head.kind (destination side verdict) ≡ true
+    goes = goes_out s.phase side (at t.sides side).coming.noted head.kind head.len body verdict t.rules.words
+        t.rules.max_depth right sent
+
+    made_so : answered (state_of t s) side head body verdict ≡ made
+    made_so = rw goes refl
+
+    same : items_outcome (state_of t s) side (Whole head body ∷ []) verdict ≡ made
+    same = whole_outcome (state_of t s) side head body verdict live
+        ∙ (whole_good (state_of t s) side head.kind head.len body verdict good ∙ made_so)
+
+    is_message : is_dm_head (head_in t.cap (holding (gateway_of t s) side).held) ≡ is_dm head.kind
+    is_message = ap (λ (h : Holding). is_dm_head (head_in t.cap h.held)) (holding_at t s side)
+        ∙ (ap (λ (b : List ℕ). is_dm_head (head_in t.cap b)) tied ∙ ap is_dm_head head_is)

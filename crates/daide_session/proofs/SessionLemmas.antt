@@ -20,6 +20,11 @@ use Rattle.daide_machine.specs.Machine.{Sent, Outcome, SessionState, Question, R
 use Rattle.daide_machine.specs.Machine.{is_over, fault, popped, event_outcome, opening}
 use Rattle.daide_machine.specs.Wires.{Gateway, waiting, sent_to, note_of, without, IsNew, Goes, Wrote}
 use Rattle.daide_machine.proofs.FramesHeard.{not_both, over_for_good, run_waits}
+use Rattle.daide_machine.proofs.EndingLemmas.{IsTold, runs_told}
+use Rattle.daide_machine.specs.declared.ending.Ending.{Ending}
+use Rattle.daide_machine.specs.declared.summary.Summary.{Summary}
+use Rattle.daide_machine.specs.Summary.{nothing_counted}
+use Rattle.daide_session.specs.declared.stage.Stage.{Stage}
 use Rattle.daide_machine.specs.declared.config.Config.{Config}
 use Rattle.daide_words.specs.declared.word.Word.{Word}
 use Rattle.daide_words.specs.Word.{grammar_words}
@@ -53,19 +58,22 @@ goes_event g n e o told q h m t = record {
   run = subst (λ (s : SessionState). Runs g.state (e ∷ []) o.effects s) (sym m.state) (one_event g.state e o q h);
   kept = m.sent;
   note = t;
+  counts = m.counts;
 }
 
-pub stop_note : (s : SessionState) (side : Side) → Notes.Nothing ≡ note_of (stopped s side).effects
-stop_note s side = go (is_over s.phase) refl
+pub stop_note : (s : SessionState) (ending : Ending) (side : Side) →
+    Notes.Nothing ≡ note_of (stopped s ending side).effects
+stop_note s ending side = go (is_over s.phase) refl
   where
-    go : (b : Bool) → is_over s.phase ≡ b → Notes.Nothing ≡ note_of (stopped s side).effects
+    go : (b : Bool) → is_over s.phase ≡ b → Notes.Nothing ≡ note_of (stopped s ending side).effects
     go true e = rw e refl
     go false e = rw e refl
 
-pub stopped_over : (s : SessionState) (side : Side) → is_over (stopped s side).state.phase ≡ true
-stopped_over s side = go (is_over s.phase) refl
+pub stopped_over : (s : SessionState) (ending : Ending) (side : Side) →
+    is_over (stopped s ending side).state.phase ≡ true
+stopped_over s ending side = go (is_over s.phase) refl
   where
-    go : (b : Bool) → is_over s.phase ≡ b → is_over (stopped s side).state.phase ≡ true
+    go : (b : Bool) → is_over s.phase ≡ b → is_over (stopped s ending side).state.phase ≡ true
     go true e = rw e e
     go false e = rw e refl
 
@@ -86,6 +94,7 @@ standing_on g n events told goes standing = record {
   wanted = λ live. run_waits g.state events goes.effects n.state goes.run live (standing.wanted (before live));
   no_end = λ live wire. rw (goes.kept wire) (has_end-append (waiting g wire) (sent_to wire goes.effects)
       (standing.no_end (before live) wire) (run_sends g.state events goes.effects n.state goes.run live wire));
+  ending = runs_told g.state events goes.effects n.state goes.run standing.ending;
 }
   where
     before : is_over n.state.phase ≡ false → is_over g.state.phase ≡ false
@@ -96,10 +105,11 @@ standing_on g n events told goes standing = record {
         go true e = absurd (not_both (is_over n.state.phase)
             (over_for_good g.state events goes.effects n.state goes.run e) live)
 
-pub standing_over : (g : Gateway) → is_over g.state.phase ≡ true → IsStanding g
-standing_over g over = record {
+pub standing_over : (g : Gateway) → is_over g.state.phase ≡ true → IsTold g.state → IsStanding g
+standing_over g over told = record {
   wanted = λ live. absurd (not_both (is_over g.state.phase) over live);
   no_end = λ live. absurd (not_both (is_over g.state.phase) over live);
+  ending = told;
 }
 
 has_end-without : (n : ℕ) (xs : List Sent) → has_end xs ≡ false → has_end (without n xs) ≡ false
@@ -118,6 +128,7 @@ pub standing_wrote : (g n : Gateway) (side : Side) (k : ℕ) → Wrote g side k 
 standing_wrote g n side k w standing = record {
   wanted = λ live. rw w.same_state (standing.wanted (before live));
   no_end = λ live wire. by_wire side wire w.taken w.other_wire (standing.no_end (before live));
+  ending = subst IsTold (sym w.same_state) standing.ending;
 }
   where
     before : is_over n.state.phase ≡ false → is_over g.state.phase ≡ false
@@ -135,6 +146,7 @@ pub standing_dropped : (g n : Gateway) (side : Side) → Dropped g side n → Is
 standing_dropped g n side d standing = record {
   wanted = λ live. rw d.same_state (standing.wanted (before live));
   no_end = λ live wire. by_wire side wire d.dropped d.other_wire (standing.no_end (before live));
+  ending = subst IsTold (sym d.same_state) standing.ending;
 }
   where
     before : is_over n.state.phase ≡ false → is_over g.state.phase ≡ false
@@ -150,20 +162,25 @@ standing_dropped g n side d standing = record {
 
 -- ---- a new session
 
-quiet_state : (cap : ℕ) (rules : Rules) (t : Traffic) (level : Level) → IsQuiet cap rules t →
-    state_of t (record { top_level = level; phase = WaitIm; level = L0 })
+-- nothing came, and nothing is counted
+abbrev new_stage : Level → Summary → Stage
+new_stage level counts =
+    record { top_level = level; phase = WaitIm; level = L0; ending = None; summary = counts }
+
+quiet_state : (cap : ℕ) (rules : Rules) (t : Traffic) (level : Level) (counts : Summary) → IsQuiet cap rules t →
+    state_of t (new_stage level counts)
     ≡ opening (record { cap = cap; top_level = level; max_depth = rules.max_depth; words = rules.words })
-quiet_state cap rules t level q = rw (q.cap_set, q.rules_set, q.coming Bot, q.coming Server) refl
+quiet_state cap rules t level counts q = rw (q.cap_set, q.rules_set, q.coming Bot, q.coming Server) refl
 
 -- by what a session of this configuration judges
 abbrev rules_with : Config → List Word → Rules
 rules_with config words = record { max_depth = config.max_depth; words = grammar_words words }
 
-pub new_of : (config : Config) (words : List Word) (t : Traffic) (level : Level) →
+pub new_of : (config : Config) (words : List Word) (t : Traffic) (level : Level) (counts : Summary) →
     IsQuiet config.max_body (rules_with config words) t → level ≡ unwrap_or (level_of_number config.top_level) L0 →
-    IsNew (limits_with config words) (gateway_of t (record { top_level = level; phase = WaitIm; level = L0 }))
-new_of config words t level q e = record {
-  state = quiet_state config.max_body (rules_with config words) t level q
+    counts ≡ nothing_counted → IsNew (limits_with config words) (gateway_of t (new_stage level counts))
+new_of config words t level counts q e none = record {
+  state = quiet_state config.max_body (rules_with config words) t level counts q
       ∙ ap (λ (l : Level). opening
       (record {
         cap = config.max_body;
@@ -176,15 +193,16 @@ new_of config words t level q e = record {
   held = (q.held Bot, q.held Server);
   unasked = (q.unasked Bot, q.unasked Server);
   unlooked = (q.unlooked Bot, q.unlooked Server);
+  uncounted = none;
 }
 
-pub standing_new : (cap : ℕ) (rules : Rules) (t : Traffic) (level : Level) → IsQuiet cap rules t →
-    IsStanding (gateway_of t (record { top_level = level; phase = WaitIm; level = L0 }))
-standing_new cap rules t level q = record {
+pub standing_new : (cap : ℕ) (rules : Rules) (t : Traffic) (level : Level) (counts : Summary) → IsQuiet cap rules t →
+    IsStanding (gateway_of t (new_stage level counts))
+standing_new cap rules t level counts q = record {
   wanted = λ live side. subst (λ (s : SessionState). 0 < missing s.limits.cap (coming s side).pending)
-      (sym (quiet_state cap rules t level q)) (by_side side);
-  no_end = λ live wire. ap has_end (waiting_at t (record { top_level = level; phase = WaitIm; level = L0 }) wire
-      ∙ q.waiting wire);
+      (sym (quiet_state cap rules t level counts q)) (by_side side);
+  no_end = λ live wire. ap has_end (waiting_at t (new_stage level counts) wire ∙ q.waiting wire);
+  ending = refl;
 }
   where
     by_side : (side : Side) → 0 < missing cap (coming (opening

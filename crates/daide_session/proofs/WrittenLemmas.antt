@@ -6,6 +6,8 @@ use Rattle.std.specs.Prelude.{◌||◌}
 use Rattle.daide_frame.specs.declared.side.Side.{Side}
 use Rattle.daide_frame.specs.declared.side.Side.TheVariants.{Bot, Server}
 use Rattle.daide_machine.specs.declared.note.Note.TheVariants as Notes
+use Rattle.daide_machine.specs.declared.ending.Ending.{Ending}
+use Rattle.daide_machine.specs.declared.ending.Ending.TheVariants as Endings
 use Rattle.daide_machine.specs.Events.{Loses, other}
 use Rattle.daide_machine.specs.Machine.{Sent, SessionState, Runs, is_over, fm_to, may_reach}
 use Rattle.daide_machine.specs.Wires.{Holding, holding, is_answer, has_answer, is_awaited, waiting, same_side}
@@ -29,9 +31,9 @@ has_answer-append : (side : Side) (a b : List Sent) → has_answer side b ≡ fa
 has_answer-append side [] b e = e
 has_answer-append side (x ∷ a) b e = ap (λ (k : Bool). is_answer side x.answers || k) (has_answer-append side a b e)
 
-end_quiet : (one wire : Side) (s : SessionState) (side : Side) →
-    has_answer one (sent_to wire (stopped s side).effects) ≡ false
-end_quiet one wire s side = go (is_over s.phase) refl
+end_quiet : (one wire : Side) (s : SessionState) (ending : Ending) (side : Side) →
+    has_answer one (sent_to wire (stopped s ending side).effects) ≡ false
+end_quiet one wire s ending side = go (is_over s.phase) refl
   where
     frame : Sent
     frame = record { to = other side; answers = None; bytes = 3 ∷ 0 ∷ 0 ∷ 0 ∷ [] }
@@ -45,18 +47,18 @@ end_quiet one wire s side = go (is_over s.phase) refl
     reached true e = rw e (for_wire (same_side (other side) wire))
     reached false e = rw e refl
 
-    go : (k : Bool) → is_over s.phase ≡ k → has_answer one (sent_to wire (stopped s side).effects) ≡ false
+    go : (k : Bool) → is_over s.phase ≡ k → has_answer one (sent_to wire (stopped s ending side).effects) ≡ false
     go true e = rw e refl
     go false e = rw e (reached (may_reach s.phase (other side)) refl)
 
 -- after a side's end the same sides wait for an answer
-stopped_awaited : (t u : Traffic) (s r : Stage) (side one : Side) →
-    Moves (gateway_of t s) (stopped (state_of t s) side) (gateway_of u r) →
+stopped_awaited : (t u : Traffic) (s r : Stage) (ending : Ending) (side one : Side) →
+    Moves (gateway_of t s) (stopped (state_of t s) ending side) (gateway_of u r) →
     is_awaited (waiting (gateway_of u r)) one ≡ is_awaited (waiting (gateway_of t s)) one
-stopped_awaited t u s r side one m = both
-    (ap (has_answer one) (m.sent Bot) ∙ has_answer-append one t.waiting.bot _ (end_quiet one Bot (state_of t s) side))
+stopped_awaited t u s r ending side one m = both
+    (ap (has_answer one) (m.sent Bot) ∙ has_answer-append one t.waiting.bot _ (end_quiet one Bot (state_of t s) ending side))
     (ap (has_answer one) (m.sent Server)
-    ∙ has_answer-append one t.waiting.server _ (end_quiet one Server (state_of t s) side))
+    ∙ has_answer-append one t.waiting.server _ (end_quiet one Server (state_of t s) ending side))
   where
     both : {a b c d : Bool} → a ≡ b → c ≡ d → (a || c) ≡ (b || d)
     both e f = rw (e, f) refl
@@ -113,6 +115,7 @@ pub wrote_of : (t v : Traffic) (s : Stage) (side : Side) (n : ℕ) → LetsTraff
     Wrote (gateway_of t s) side n (gateway_of v s)
 wrote_of t v s side n l wait bytes = record {
   same_state = gone_state t v s l;
+  counts = refl;
   taken = waiting_at v s side
       ∙ (ap (λ (w : Both (List Sent)). at w side) wait
       ∙ (at_put t.waiting side (without n (at t.waiting side)) ∙ ap (without n) (sym (waiting_at t s side))));
@@ -128,6 +131,7 @@ pub dropped_of : (t v : Traffic) (s : Stage) (side : Side) → LetsTrafficGo t v
     Dropped (gateway_of t s) side (gateway_of v s)
 dropped_of t v s side l wait = record {
   same_state = gone_state t v s l;
+  counts = refl;
   dropped = waiting_at v s side
       ∙ (ap (λ (w : Both (List Sent)). at w side) wait ∙ at_put t.waiting side []);
   other_wire = waiting_at v s (other side)
@@ -137,7 +141,8 @@ dropped_of t v s side l wait = record {
 }
 
 pub lost_of : (t u v : Traffic) (s r : Stage) (side : Side) →
-    Moves (gateway_of t s) (stopped (state_of t s) side) (gateway_of u r) → KeepsSides t u → LetsTrafficGo u v →
+    Moves (gateway_of t s) (stopped (state_of t s) (Endings.Lost side) side) (gateway_of u r) → KeepsSides t u →
+    LetsTrafficGo u v →
     v.waiting ≡ put u.waiting side [] → Lost (gateway_of t s) side (gateway_of v r)
 lost_of t u v s r side m keeps l wait = record {
   effects = stop.effects;
@@ -147,13 +152,15 @@ lost_of t u v s r side m keeps l wait = record {
   other_wire = waiting_at v r (other side)
       ∙ (ap (λ (w : Both (List Sent)). at w (other side)) wait
       ∙ (put_there u.waiting side [] ∙ (sym (waiting_at u r (other side)) ∙ stop.kept (other side))));
-  over = ap (λ (x : SessionState). is_over x.phase) (state ∙ m.state) ∙ stopped_over (state_of t s) side;
-  held = lets_go t u v s r (λ one. stopped_awaited t u s r side one m) keeps.sides l;
+  over = ap (λ (x : SessionState). is_over x.phase) (state ∙ m.state)
+      ∙ stopped_over (state_of t s) (Endings.Lost side) side;
+  counts = stop.counts;
+  held = lets_go t u v s r (λ one. stopped_awaited t u s r (Endings.Lost side) side one m) keeps.sides l;
 }
   where
     stop : Goes (gateway_of t s) (Loses side ∷ []) Notes.Nothing (gateway_of u r)
-    stop = goes_event (gateway_of t s) (gateway_of u r) (Loses side) (stopped (state_of t s) side) Notes.Nothing refl
-        refl m (stop_note (state_of t s) side)
+    stop = goes_event (gateway_of t s) (gateway_of u r) (Loses side) (stopped (state_of t s) (Endings.Lost side) side)
+        Notes.Nothing refl refl m (stop_note (state_of t s) (Endings.Lost side) side)
 
     state : state_of v r ≡ state_of u r
     state = gone_state u v r l

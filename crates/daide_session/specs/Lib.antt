@@ -3,3 +3,4 @@ pub mod Reaction
 pub mod Work
 pub mod Bounds
 pub mod InARow
+pub mod Joined

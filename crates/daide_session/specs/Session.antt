@@ -1,5 +1,5 @@
 -- How a session's parts stand for its value, and what holds of it between calls.
-use Rattle.std.specs.Prelude.{◌≡◌, ◌<◌, [], false, Ok, Err}
+use Rattle.std.specs.Prelude.{◌≡◌, ◌<◌, [], false, is_some, Ok, Err}
 use Rattle.daide_frame.specs.declared.side.Side.{Side}
 use Rattle.daide_frame.specs.Frames.{missing}
 use Rattle.daide_grammar.specs.declared.level.Level.{Level}
@@ -29,11 +29,12 @@ state_of t stage = record {
   };
   phase = stage.phase;
   level = stage.level;
+  ending = stage.ending;
   bot = t.sides.bot.coming;
   server = t.sides.server.coming;
 }
 
--- that state, what waits for each wire, and what is held of each side
+-- that state, what waits for each wire, what is held of each side, and the counts
 abbrev pub gateway_of : Traffic → Stage → Gateway
 gateway_of t stage = record {
   state = state_of t stage;
@@ -43,6 +44,7 @@ gateway_of t stage = record {
   server_parts = t.parts.server;
   bot = t.sides.bot.holding;
   server = t.sides.server.holding;
+  summary = stage.summary;
 }
 
 -- the level in the phase Open, level 0 in every other phase
@@ -55,19 +57,21 @@ level_in Over level = L0
 -- ---- between calls
 
 -- While a session is not over, bytes of each side's next frame are missing, so none lies there whole; and no
--- frame that waits ends the session.
+-- frame that waits ends the session. What ended it is known exactly once it is over.
 pub record IsStanding (g : Gateway) : Type 0 where
   pub wanted : is_over g.state.phase ≡ false → (side : Side) →
       0 < missing g.state.limits.cap (coming g.state side).pending
   pub no_end : is_over g.state.phase ≡ false → (wire : Side) → has_end (waiting g wire) ≡ false
+  pub ending : is_some g.state.ending ≡ is_over g.state.phase
 
 -- ---- what is dropped
 
--- nothing waits for a wire any more, and nothing else changed of the state and the wires
+-- nothing waits for a wire any more, and nothing else changed of the state, the wires and the counts
 pub record Dropped (old : Gateway) (side : Side) (new : Gateway) : Type 0 where
   pub same_state : new.state ≡ old.state
   pub dropped : waiting new side ≡ []
   pub other_wire : waiting new (other side) ≡ waiting old (other side)
+  pub counts : new.summary ≡ old.summary
   pub held : LetsGo old new
 
 -- ---- refusals

@@ -1,6 +1,7 @@
 //! Laws of what sessions send: functions without a body of their own, whose contracts are the laws.
 
 ghost use Rattle.daide_session.specs.InARow.{InARowOver, TwoGatewaysInARow};
+ghost use Rattle.daide_session.specs.Joined.{JoinedGateways, JoinedGatewaysOver};
 ghost use Rattle.daide_words.specs.Words.{words_of};
 
 use daide_words::words::Words;
@@ -19,4 +20,22 @@ pub fn two_gateways_in_a_row_over(words: &Words)
 {
     words.are_accepted();
     two_gateways_in_a_row();
+}
+
+/// Of two joined gateways with the same limits and words, where the next gets what the one sends toward a side: the
+/// frames that the next hears from there are the first of those that the one sent, byte for byte and in their order.
+/// Each message among them it passes on toward that side, unless its level for it is lower than the one by which it was
+/// passed on, or it is the one's own HUH, too deep by one bracket: that it answers with HUH, and nothing with PRN.
+pub fn joined_gateways()
+    ensures { JoinedGateways }
+{
+    two_gateways_in_a_row();
+}
+
+/// So it is with the words of who holds `Words`, which are accepted.
+pub fn joined_gateways_over(words: &Words)
+    ensures { JoinedGatewaysOver (words_of words.now) }
+{
+    words.are_accepted();
+    joined_gateways();
 }

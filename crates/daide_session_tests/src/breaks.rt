@@ -56,10 +56,10 @@ const FM: &[u8] = &[3, 0, 0, 0];
 
 /// Where a conversation breaks: a put to a side fails, or else a pull from it ends; by the number of the call, from 1.
 #[derive(Clone, Copy)]
-struct Break {
-    is_put: bool,
-    side: Side,
-    number: usize,
+pub struct Break {
+    pub is_put: bool,
+    pub side: Side,
+    pub number: usize,
 }
 
 impl Break {
@@ -72,8 +72,8 @@ impl Break {
 /// Ports that give and take a byte at a time, and break once. The bot waits after its IM until the RM has come, and the
 /// server until the IM has.
 #[derive(Drop)]
-struct Breaking {
-    ports: MemoryPorts<'static>,
+pub struct Breaking {
+    pub ports: MemoryPorts<'static>,
     at: Break,
     bot_pulls: usize,
     server_pulls: usize,
@@ -82,7 +82,7 @@ struct Breaking {
 }
 
 /// Ports before their first call, which break there.
-fn breaking_at(alloc: Global, at: Break) -> Breaking {
+pub fn breaking_at(alloc: Global, at: Break) -> Breaking {
     Breaking {
         ports: MemoryPorts::new(alloc, FROM_THE_BOT, FROM_THE_SERVER, NEVER),
         at,
@@ -100,6 +100,16 @@ fn count(number: &mut usize) -> usize {
 }
 
 impl Breaking {
+    /// How many calls were made: pulls from the bot and the server, puts to the bot and the server.
+    pub fn counts(&self) -> [usize; 4] {
+        [
+            self.bot_pulls,
+            self.server_pulls,
+            self.bot_puts,
+            self.server_puts,
+        ]
+    }
+
     /// The number of this pull, and whether the side has nothing to say yet.
     fn next_pull(&mut self, side: Side) -> (usize, bool) {
         match side {
@@ -187,10 +197,13 @@ fn assert_sent_well(alloc: Global, ports: &Breaking, side: Side, is_all: bool) -
     holds(!is_all || bytes.len() == count, "all was sent")
 }
 
+/// At most so many turns.
+pub const TURNS: u64 = 400;
+
 /// The end of a relay of a fresh session over ports that break.
-fn end_of(alloc: Global, ports: &mut Breaking) -> Result<RelayEnd, Fail> {
+pub fn end_of(alloc: Global, ports: &mut Breaking) -> Result<RelayEnd, Fail> {
     let mut session = Session::new(alloc, WIDEST)?;
-    Ok(relay(&mut session, ports, 400))
+    Ok(relay(&mut session, ports, TURNS))
 }
 
 /// Relays the conversation, which breaks there, looks at what each side was sent, and answers whether it was closed.
@@ -203,7 +216,7 @@ fn is_closed_well(alloc: Global, at: Break) -> Result<bool, Fail> {
 }
 
 /// Whether it is a put that breaks, or a pull, and of which side.
-const KINDS: &[(bool, Side)] = &[(false, Bot), (false, Server), (true, Bot), (true, Server)];
+pub const KINDS: &[(bool, Side)] = &[(false, Bot), (false, Server), (true, Bot), (true, Server)];
 
 /// How many conversations that break at calls of this number are closed.
 fn closed_at(alloc: Global, number: usize) -> Result<usize, Fail> {

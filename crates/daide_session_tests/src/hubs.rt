@@ -280,7 +280,7 @@ fn assert_both_sent(
 /// The ports of the session at a place, which is taken out if it is closed.
 fn remove(hub: &mut Hub<Feeding>, place: usize) -> Option<Feeding> {
     if place < hub.count() {
-        hub.remove_over(place)
+        hub.remove_over(place).map(|removed| removed.ports)
     } else {
         None
     }

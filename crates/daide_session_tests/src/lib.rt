@@ -10,13 +10,19 @@ mod answers;
 #[cfg(test)]
 mod breaks;
 #[cfg(test)]
+mod broken_neighbours;
+#[cfg(test)]
 mod chains;
+#[cfg(test)]
+mod endings;
 #[cfg(test)]
 mod growths;
 #[cfg(test)]
 mod hubs;
 #[cfg(test)]
 mod ranges;
+#[cfg(test)]
+mod records;
 #[cfg(test)]
 mod relays;
 #[cfg(test)]

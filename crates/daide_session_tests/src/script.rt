@@ -7,7 +7,7 @@ ghost use Rattle.std.specs.Prelude.{◌≤◌, length};
 use daide_frame::side::Side::{self, Bot, Server};
 use daide_grammar::level::Level;
 use daide_machine::config::Config;
-use daide_session::session::{Note, Phase, Session};
+use daide_session::session::{Ending, Note, Phase, Session, Summary};
 use daide_tests::rows::holds;
 use daide_tests::words::counted;
 use std::alloc::{Allocator, Global};
@@ -53,6 +53,13 @@ pub enum Look {
     NoSteps(Side),
     /// The side was sent these bytes since the last look.
     Sent(Side, &'static str),
+    /// This ended the session, which counted so many relayed, by PRN, by HUH, and faults; or it is not over.
+    Ending(Option<Ending>, [u64; 4]),
+}
+
+/// Frames that were relayed, answers PRN, answers HUH, and faults.
+pub fn counts_of(summary: Summary) -> [u64; 4] {
+    [summary.relayed, summary.prn, summary.huh, summary.faults]
 }
 
 /// The widest limits.
@@ -322,6 +329,9 @@ impl Script {
             Look::Front(side, want) => session.front(side).len() == want,
             Look::Weight(least, most) => (least..=most).contains(&session.weight()),
             Look::NoSteps(side) => session.steps(side) == 0 && session.total(side) == 0,
+            Look::Ending(ending, counts) => {
+                session.ending() == ending && counts_of(session.summary()) == counts
+            }
             Look::Steps(_, _) | Look::Sent(_, _) => false,
         }
     }

@@ -2,11 +2,13 @@
 
 use crate::hubs::{Growths, NO_GROWTHS};
 use crate::relays::{NEVER, QUIET, assert_sent};
-use daide_frame::side::Side::Server;
+use crate::script::counts_of;
+use daide_frame::side::Side::{Bot, Server};
 use daide_gate::serving::{ServeFault, serve};
 use daide_gate::settings::{Settings, read_settings};
-use daide_gate::system::{Connect, Notice, System};
+use daide_gate::system::{Cause, Connect, Notice, SessionEnd, System};
 use daide_machine::config::ConfigError;
+use daide_machine::ending::Ending;
 use daide_tests::memory_ports::{Arrival, MemoryPorts, Script};
 use daide_tests::rows::{holds, same};
 use linked_list_allocator::LocalHeap;
@@ -56,6 +58,8 @@ struct Stage {
     most: usize,
     events: Vec<Event>,
     retired: Vec<MemoryPorts<'static>>,
+    /// How the sessions ended, in the order in which they were retired.
+    ends: Vec<SessionEnd>,
 }
 
 impl Stage {
@@ -70,6 +74,7 @@ impl Stage {
             most: 0,
             events: Vec::new(alloc),
             retired: Vec::new(alloc),
+            ends: Vec::new(alloc),
         }
     }
 
@@ -125,10 +130,11 @@ impl System<MemoryPorts<'static>> for Stage {
         }
     }
 
-    fn retire(&mut self, ports: MemoryPorts<'static>) {
+    fn retire(&mut self, ports: MemoryPorts<'static>, end: SessionEnd) {
         self.held = self.held.saturating_sub(1);
         self.note(Event::Retired);
         let _ = self.retired.push(ports);
+        let _ = self.ends.push(end);
     }
 
     fn tell(&mut self, notice: Notice) {
@@ -367,6 +373,42 @@ fn assert_spent(alloc: Global, stage: &Stage) -> Result<(), Fail> {
 fn spent_turns_end_an_open_wire(rt: HostRuntime) -> Result<(), Fail> {
     let stage = stage_after(rt.alloc(), OPENING, (1, 1, 5))?;
     assert_spent(rt.alloc(), &stage)
+}
+
+/// Runs of one bot, with why its session ended, and how many frames it relayed.
+const ENDS_OF_RUNS: &[(Scene, Limits, Cause, u64)] = &[
+    (ENDING, (1, 1, 9), Cause::Session(Ending::Ended(Bot)), 0),
+    (OPENING, (1, 1, 5), Cause::TurnsSpent, 1),
+    (
+        Scene {
+            bot: QUIET,
+            ..ENDING
+        },
+        (1, 1, 3),
+        Cause::TurnsSpent,
+        0,
+    ),
+];
+
+/// The system is told that end of one session.
+fn assert_end(alloc: Global, row: &(Scene, Limits, Cause, u64)) -> Result<(), Fail> {
+    let (scene, limits, cause, relayed) = row;
+    let stage = stage_after(alloc, *scene, *limits)?;
+    match stage.ends.as_slice() {
+        [end] => holds(
+            end.cause == *cause && counts_of(end.summary) == [*relayed, 0, 0, 0],
+            "the end",
+        ),
+        _ => Err(Fail::new("there is one end")),
+    }
+}
+
+#[test]
+fn system_is_told_how_a_session_ended(rt: HostRuntime) -> Result<(), Fail> {
+    for row in ENDS_OF_RUNS {
+        assert_end(rt.alloc(), row)?;
+    }
+    Ok(())
 }
 
 /// Bots that say nothing, of which some don't come at once, and some find no server.

@@ -9,20 +9,21 @@ use Rattle.std.specs.List.{range_with_len, concat}
 use Rattle.toml.specs.Data.{Data, string, integer, boolean, array, no_items, item, Members, no_members, member, table}
 use Rattle.daide_settings.specs.declared.settings.key.Key.{Key}
 use Rattle.daide_settings.specs.declared.settings.key.Key.TheVariants.{Listen, Server, TopLevel, MaxBody, MaxDepth}
-use Rattle.daide_settings.specs.declared.settings.key.Key.TheVariants.{ImSeconds, MaxSessions, Sessions, Turns, Words}
+use Rattle.daide_settings.specs.declared.settings.key.Key.TheVariants.{ImSeconds, MaxSessions, Sessions, Turns, IdleSeconds}
+use Rattle.daide_settings.specs.declared.settings.key.Key.TheVariants.{Words}
 use Rattle.daide_settings.specs.declared.settings.SettingsError.{SettingsError}
 use Rattle.daide_settings.specs.declared.settings.SettingsError.TheVariants.{Unknown, WrongType, Range}
 use Rattle.daide_settings.specs.Settings.{Given, is_in_range, text_judged, judged_members}
 
--- ---- documents of all ten keys
+-- ---- documents of all eleven keys
 
 -- the value of each key, in the order of the table; members stand in the order of their keys' bytes
 abbrev document : (ℕ → Data) → Members
 document value =
-    member (codes "im_seconds") (value 5) (member (codes "listen") (value 0) (member (codes "max_body") (value 3)
-    (member (codes "max_depth") (value 4) (member (codes "max_sessions") (value 6) (member (codes "server") (value 1)
-    (member (codes "sessions") (value 7) (member (codes "top_level") (value 2) (member (codes "turns") (value 8)
-    (member (codes "words") (value 9) no_members)))))))))
+    member (codes "idle_seconds") (value 9) (member (codes "im_seconds") (value 5) (member (codes "listen") (value 0)
+    (member (codes "max_body") (value 3) (member (codes "max_depth") (value 4) (member (codes "max_sessions") (value 6)
+    (member (codes "server") (value 1) (member (codes "sessions") (value 7) (member (codes "top_level") (value 2)
+    (member (codes "turns") (value 8) (member (codes "words") (value 10) no_members))))))))))
 
 abbrev at : List Data → ℕ → Data
 at values n = slice_index_or values n (boolean false)
@@ -31,7 +32,7 @@ at values n = slice_index_or values n (boolean false)
 abbrev right : List Data
 right =
     string (codes "l") ∷ string (codes "s") ∷ integer (pos 20) ∷ integer (pos 1024) ∷ integer (pos 13)
-    ∷ integer (pos 4) ∷ integer (pos 5) ∷ integer (pos 6) ∷ integer (pos 7) ∷ array no_items ∷ []
+    ∷ integer (pos 4) ∷ integer (pos 5) ∷ integer (pos 6) ∷ integer (pos 7) ∷ integer (pos 8) ∷ array no_items ∷ []
 
 each_key_has_its_field : judged_members (document (at right)) ≡ Ok (record {
   listen = codes "l";
@@ -43,6 +44,7 @@ each_key_has_its_field : judged_members (document (at right)) ≡ Ok (record {
   max_sessions = 5;
   sessions = 6;
   turns = 7;
+  idle_seconds = 8;
   words = [];
 })
 unfolding judged_members
@@ -59,11 +61,12 @@ no_slot =
 abbrev ranged : List Data
 ranged =
     string [] ∷ string [] ∷ integer (pos 25) ∷ integer (pos 513) ∷ integer (pos 3) ∷ integer (pos 3601)
-    ∷ integer (pos 257) ∷ integer (pos 1000001) ∷ integer (pos 0) ∷ array (item no_slot no_items) ∷ []
+    ∷ integer (pos 257) ∷ integer (pos 1000001) ∷ integer (pos 0) ∷ integer (pos 86401)
+    ∷ array (item no_slot no_items) ∷ []
 
 -- a value of a type that no key has
 abbrev typed : List Data
-typed = replicate 10 (boolean true)
+typed = replicate 11 (boolean true)
 
 -- ---- two faults
 
@@ -75,14 +78,15 @@ faulty first second i j =
 -- for each key but the last, with each key behind it
 abbrev pairs : List Data → List Data → List (List (Result Given SettingsError))
 pairs first second =
-    map (λ i. map (faulty first second i) (range_with_len (i + 1) (9 - i))) (range_with_len 0 9)
+    map (λ i. map (faulty first second i) (range_with_len (i + 1) (10 - i))) (range_with_len 0 10)
 
--- what is told of each key with nine, eight, .. keys behind it
+-- what is told of each key with ten, nine, .. keys behind it
 abbrev told : (Key → SettingsError) → List (List (Result Given SettingsError))
 told fault =
-    replicate 9 (Err (fault Listen)) ∷ replicate 8 (Err (fault Server)) ∷ replicate 7 (Err (fault TopLevel))
-    ∷ replicate 6 (Err (fault MaxBody)) ∷ replicate 5 (Err (fault MaxDepth)) ∷ replicate 4 (Err (fault ImSeconds))
-    ∷ replicate 3 (Err (fault MaxSessions)) ∷ replicate 2 (Err (fault Sessions)) ∷ replicate 1 (Err (fault Turns)) ∷ []
+    replicate 10 (Err (fault Listen)) ∷ replicate 9 (Err (fault Server)) ∷ replicate 8 (Err (fault TopLevel))
+    ∷ replicate 7 (Err (fault MaxBody)) ∷ replicate 6 (Err (fault MaxDepth)) ∷ replicate 5 (Err (fault ImSeconds))
+    ∷ replicate 4 (Err (fault MaxSessions)) ∷ replicate 3 (Err (fault Sessions)) ∷ replicate 2 (Err (fault Turns))
+    ∷ replicate 1 (Err (fault IdleSeconds)) ∷ []
 
 first_key_told : (pairs ranged ranged ≡ told Range) × (pairs typed typed ≡ told WrongType)
     × (pairs ranged typed ≡ told Range) × (pairs typed ranged ≡ told WrongType)
@@ -91,10 +95,12 @@ first_key_told = (refl, refl, refl, refl)
 
 -- of each key alone
 abbrev alone : List Data → List (Result Given SettingsError)
-alone faults = map (λ i. faulty faults faults i i) (range_with_len 0 10)
+alone faults = map (λ i. faulty faults faults i i) (range_with_len 0 11)
 
 abbrev keys : List Key
-keys = Listen ∷ Server ∷ TopLevel ∷ MaxBody ∷ MaxDepth ∷ ImSeconds ∷ MaxSessions ∷ Sessions ∷ Turns ∷ Words ∷ []
+keys =
+    Listen ∷ Server ∷ TopLevel ∷ MaxBody ∷ MaxDepth ∷ ImSeconds ∷ MaxSessions ∷ Sessions ∷ Turns ∷ IdleSeconds
+    ∷ Words ∷ []
 
 each_key_told : (alone ranged ≡ map (λ key. Err (Range key)) keys) × (alone typed ≡ map (λ key. Err (WrongType key)) keys)
 unfolding judged_members
@@ -105,8 +111,8 @@ abbrev with_unknown : List Data → ℕ → Result Given SettingsError
 with_unknown faults i =
     judged_members (member (codes "depth") (integer (pos 5)) (document (λ n. if n == i then at faults n else at right n)))
 
-unknown_key_told : (map (with_unknown ranged) (range_with_len 0 11) ≡ replicate 11 (Err Unknown))
-    × (map (with_unknown typed) (range_with_len 0 11) ≡ replicate 11 (Err Unknown))
+unknown_key_told : (map (with_unknown ranged) (range_with_len 0 12) ≡ replicate 12 (Err Unknown))
+    × (map (with_unknown typed) (range_with_len 0 12) ≡ replicate 12 (Err Unknown))
 unfolding judged_members
 unknown_key_told = (refl, refl)
 

@@ -8,7 +8,8 @@ use Rattle.toml.specs.Data.{member}
 use Rattle.toml.specs.Parse.{parse_document}
 use Rattle.toml.proofs.OnLiterals.{toml_on_literals}
 use Rattle.daide_settings.specs.declared.settings.key.Key.TheVariants.{Listen, Server, TopLevel, MaxBody, MaxDepth}
-use Rattle.daide_settings.specs.declared.settings.key.Key.TheVariants.{ImSeconds, MaxSessions, Sessions, Turns, Words}
+use Rattle.daide_settings.specs.declared.settings.key.Key.TheVariants.{ImSeconds, MaxSessions, Sessions, Turns, IdleSeconds}
+use Rattle.daide_settings.specs.declared.settings.key.Key.TheVariants.{Words}
 use Rattle.daide_settings.specs.declared.settings.SettingsError.TheVariants.{NotToml, Unknown, Missing}
 use Rattle.daide_settings.specs.declared.settings.SettingsError.TheVariants.{WrongType, Range}
 use Rattle.daide_settings.specs.Settings.{is_in_range, address_of, number_of, judged_members}
@@ -123,6 +124,15 @@ most_turns = refl
 too_many_turns : is_in_range Turns 1000000000001 ≡ false
 too_many_turns = refl
 
+never_idle : is_in_range IdleSeconds 0 ≡ true
+never_idle = refl
+
+a_day : is_in_range IdleSeconds 86400 ≡ true
+a_day = refl
+
+more_than_a_day : is_in_range IdleSeconds 86401 ≡ false
+more_than_a_day = refl
+
 -- ---- whole documents; members stand in the order of their keys' bytes
 
 abbrev both : Members → Members
@@ -142,6 +152,7 @@ defaults : judged_members two_addresses ≡ Ok (record {
   max_sessions = 16;
   sessions = 1;
   turns = 1000000000;
+  idle_seconds = 0;
   words = [];
 })
 unfolding judged_members

@@ -14,5 +14,6 @@ given_of settings = record {
   max_sessions = settings.max_sessions;
   sessions = settings.sessions;
   turns = settings.turns;
+  idle_seconds = settings.idle_seconds;
   words = words_of settings.words;
 }

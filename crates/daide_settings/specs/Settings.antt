@@ -7,7 +7,8 @@ use Rattle.toml.specs.Data.{Data, as_str, as_integer, Members, get_member}
 use Rattle.daide_machine.specs.Config.{is_level, is_body, is_depth}
 use Rattle.daide_settings.specs.declared.settings.key.Key.{Key}
 use Rattle.daide_settings.specs.declared.settings.key.Key.TheVariants.{Listen, Server, TopLevel, MaxBody, MaxDepth}
-use Rattle.daide_settings.specs.declared.settings.key.Key.TheVariants.{ImSeconds, MaxSessions, Sessions, Turns, Words}
+use Rattle.daide_settings.specs.declared.settings.key.Key.TheVariants.{ImSeconds, MaxSessions, Sessions, Turns, IdleSeconds}
+use Rattle.daide_settings.specs.declared.settings.key.Key.TheVariants.{Words}
 use Rattle.daide_settings.specs.declared.settings.SettingsError.{SettingsError}
 use Rattle.daide_settings.specs.declared.settings.SettingsError.TheVariants.{NotToml, Unknown, Missing}
 use Rattle.daide_settings.specs.declared.settings.SettingsError.TheVariants.{WrongType, Range}
@@ -27,6 +28,7 @@ key_text ImSeconds = codes "im_seconds"
 key_text MaxSessions = codes "max_sessions"
 key_text Sessions = codes "sessions"
 key_text Turns = codes "turns"
+key_text IdleSeconds = codes "idle_seconds"
 key_text Words = codes "words"
 
 abbrev pub is_within : ℕ → ℕ → ℕ → Bool
@@ -43,6 +45,7 @@ is_in_range ImSeconds n = is_within 1 3600 n
 is_in_range MaxSessions n = is_within 1 256 n
 is_in_range Sessions n = is_within 1 1000000 n
 is_in_range Turns n = is_within 1 1000000000000 n
+is_in_range IdleSeconds n = is_within 0 86400 n
 is_in_range Words n = is_within 0 16 n
 
 -- the number of a key that a document doesn't have; the two addresses have none, and must stand, and words are none
@@ -56,6 +59,7 @@ default_of ImSeconds = Some 30
 default_of MaxSessions = Some 16
 default_of Sessions = Some 1
 default_of Turns = Some 1000000000
+default_of IdleSeconds = Some 0
 default_of Words = None
 
 -- whether a document may have this key
@@ -64,7 +68,7 @@ is_known text =
     bytes_eq text (key_text Listen) || bytes_eq text (key_text Server) || bytes_eq text (key_text TopLevel)
     || bytes_eq text (key_text MaxBody) || bytes_eq text (key_text MaxDepth) || bytes_eq text (key_text ImSeconds)
     || bytes_eq text (key_text MaxSessions) || bytes_eq text (key_text Sessions) || bytes_eq text (key_text Turns)
-    || bytes_eq text (key_text Words)
+    || bytes_eq text (key_text IdleSeconds) || bytes_eq text (key_text Words)
 
 abbrev pub has_only_known : Members → Bool
 has_only_known members = has_only is_known members
@@ -108,6 +112,7 @@ pub record Given : Type 0 where
   pub max_sessions : ℕ
   pub sessions : ℕ
   pub turns : ℕ
+  pub idle_seconds : ℕ
   pub words : List Word
 
 -- the next judgement, if the one before it passed
@@ -127,6 +132,7 @@ keys_judged members =
     then_with (number_of MaxSessions (get_member (key_text MaxSessions) members)) (λ max_sessions.
     then_with (number_of Sessions (get_member (key_text Sessions) members)) (λ sessions.
     then_with (number_of Turns (get_member (key_text Turns) members)) (λ turns.
+    then_with (number_of IdleSeconds (get_member (key_text IdleSeconds) members)) (λ idle_seconds.
     then_with (words_judged (get_member (key_text Words) members)) (λ words.
     Ok (record {
       listen = listen;
@@ -138,8 +144,9 @@ keys_judged members =
       max_sessions = max_sessions;
       sessions = sessions;
       turns = turns;
+      idle_seconds = idle_seconds;
       words = words;
-    })))))))))))
+    }))))))))))))
 
 -- a key that no settings have is told before any key is judged
 unfoldable pub judged_members : Members → Result Given SettingsError

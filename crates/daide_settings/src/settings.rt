@@ -69,6 +69,8 @@ pub struct Settings {
     pub sessions: u32,
     /// How many turns a session has at most.
     pub turns: u64,
+    /// After how long a side of which nothing comes is taken as ended, in seconds; 0 for never.
+    pub idle_seconds: u32,
     /// The words of press that the operator adds.
     pub words: Words,
 }
@@ -147,6 +149,7 @@ fn settings_of(alloc: Global, table: &Table) -> Result<Settings, SettingsError>
     let max_sessions = number_at(table, Key::MaxSessions)?;
     let sessions = number_at(table, Key::Sessions)?;
     let turns = number_at(table, Key::Turns)?;
+    let idle_seconds = number_at(table, Key::IdleSeconds)?;
     let words = words_at(found(table, Key::Words))?;
     let Ok(listen) = Address::new(alloc, listen) else {
         return Err(SettingsError::Memory);
@@ -166,6 +169,7 @@ fn settings_of(alloc: Global, table: &Table) -> Result<Settings, SettingsError>
         max_sessions: max_sessions as usize,
         sessions: sessions as u32,
         turns,
+        idle_seconds: idle_seconds as u32,
         words,
     })
 }

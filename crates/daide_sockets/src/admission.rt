@@ -40,15 +40,15 @@ impl<'w> Door<'w> {
         }
     }
 
-    /// The connection of a bot that came, if the system has one; it isn't asked during the pause after an accept that
-    /// failed.
-    pub fn accept<R: Clock>(&self, watch: &Watch<R>) -> Option<TcpStream> {
+    /// The connection of a bot that came, and its address, if the system has one; it isn't asked during the pause after an
+    /// accept that failed.
+    pub fn accept<R: Clock>(&self, watch: &Watch<R>) -> Option<(TcpStream, SocketAddr)> {
         self.reopen(watch);
         if !self.place.flags.readiness.get().may_read {
             return None;
         }
         match self.take(watch) {
-            Ok(stream) => Some(stream),
+            Ok(came) => Some(came),
             Err(error) => {
                 self.refused(watch, error.kind());
                 None
@@ -57,10 +57,9 @@ impl<'w> Door<'w> {
     }
 
     /// Accepts, where a descriptor is left for the bot's connect to the server too.
-    fn take<R: Clock>(&self, watch: &Watch<R>) -> io::Result<TcpStream> {
+    fn take<R: Clock>(&self, watch: &Watch<R>) -> io::Result<(TcpStream, SocketAddr)> {
         let _spare = watch.spare()?;
-        let (stream, _) = self.listener.accept()?;
-        Ok(stream)
+        self.listener.accept()
     }
 
     /// Notes that an accept gave none: another is made once a bot comes, or after a pause where it failed.
@@ -89,6 +88,8 @@ enum Progress {
 /// A bot whose connect to the server is under way.
 #[derive(Drop)]
 pub(crate) struct Arrival<'w> {
+    /// Its session's number.
+    number: u32,
     bot: Socket<'w>,
     server: Option<Socket<'w>>,
     /// How many addresses were tried.
@@ -104,8 +105,8 @@ pub(crate) struct Arrival<'w> {
 pub(crate) enum Outcome<'w, R: Clock> {
     /// Bot and server are joined.
     Joined(SocketPorts<'w, R>),
-    /// No address of the server was reached in its time; the bot's own socket is left.
-    Unreached(Socket<'w>),
+    /// No address of the server was reached in its time; the session's number and the bot's own socket are left.
+    Unreached(u32, Socket<'w>),
     /// It is still under way.
     Pending(Arrival<'w>),
 }
@@ -114,11 +115,12 @@ impl<'w> Arrival<'w> {
     /// A bot that came now, whose connect is still to begin.
     pub(crate) fn new<R: Clock>(
         watch: &Watch<R>,
-        bot: Socket<'w>,
+        (number, bot): (u32, Socket<'w>),
         im_time: Duration,
         connect_time: Duration,
     ) -> Arrival<'w> {
         Arrival {
+            number,
             bot,
             server: None,
             tried: 0,
@@ -169,33 +171,35 @@ impl<'w> Arrival<'w> {
         Progress::Pending
     }
 
-    /// Goes on with the connect, as far as that is without waiting.
+    /// Goes on with the connect, as far as that is without waiting. Once it is there, either side may be silent for so long.
     pub(crate) fn advance<R: Clock, N: Net>(
         self,
         watch: &'w Watch<R>,
         net: &N,
         servers: &[SocketAddr],
+        idle_time: Option<Duration>,
     ) -> Outcome<'w, R> {
         let mut arrival = self;
         for _ in 0..=servers.len() {
             match arrival.progress() {
-                Progress::Connected => return arrival.join(watch),
+                Progress::Connected => return arrival.join(watch, idle_time),
                 Progress::Pending => break,
                 Progress::Failed if arrival.tried < servers.len() => {
                     arrival.try_next(watch, net, servers);
                 }
-                Progress::Failed => return Outcome::Unreached(arrival.bot),
+                Progress::Failed => return Outcome::Unreached(arrival.number, arrival.bot),
             }
         }
         if watch.is_over(arrival.gives_up) {
-            return Outcome::Unreached(arrival.bot);
+            return Outcome::Unreached(arrival.number, arrival.bot);
         }
         Outcome::Pending(arrival)
     }
 
-    /// The ports of a bot whose server is there.
-    fn join<R: Clock>(self, watch: &'w Watch<R>) -> Outcome<'w, R> {
+    /// The ports of a bot whose server is there, either of which may be silent for so long; none for ever.
+    fn join<R: Clock>(self, watch: &'w Watch<R>, idle_time: Option<Duration>) -> Outcome<'w, R> {
         let Arrival {
+            number,
             bot,
             server,
             tried: _,
@@ -203,10 +207,11 @@ impl<'w> Arrival<'w> {
             im_over,
         } = self;
         let Some(server) = server else {
-            return Outcome::Unreached(bot);
+            return Outcome::Unreached(number, bot);
         };
         server.place.flags.due.set(None);
         bot.place.flags.due.set(im_over);
-        Outcome::Joined(SocketPorts::new(watch, bot, server))
+        let ports = SocketPorts::new(watch, bot, server);
+        Outcome::Joined(ports.of_session(number, idle_time))
     }
 }

@@ -46,6 +46,7 @@ impl<'w, S: Duplex + Drop> Closing<'w, S> {
     {
         // Until all that it holds is written, no moment is waited for.
         socket.place.flags.due.set(None);
+        socket.place.flags.silent_from.set(None);
         Closing {
             socket,
             rest: Dropping::new(MOST_DROPPED),
@@ -93,6 +94,7 @@ impl<'w, S: Duplex + Drop> Closing<'w, S> {
             stream,
             place,
             pool,
+            ..
         } = &mut self.socket;
         let flags = place.flags;
         let mut readiness = flags.readiness.get();

@@ -2,7 +2,8 @@
 //!
 //! No call waits but the loop's own wait. `watch` is what is known of each socket, `connection` is a connection as a
 //! stream both ways, `ports` are a session's, `admission` takes bots and connects them, `closing` closes in stages,
-//! `system` puts them together for the loop, and `gateway` runs it at the addresses of settings.
+//! `session_notice` has the lines of a session, `system` puts them together for the loop, and `gateway` runs it at the
+//! addresses of settings.
 //!
 //! What the system answers, and what a shared cell holds, no contract can name. So a call that hangs on either is
 //! proved safe and to end, and its doc says what it does; the tests of `daide_gate_tests` show it.
@@ -14,6 +15,7 @@ pub mod connection;
 pub mod gateway;
 pub mod laws;
 pub mod ports;
+pub mod session_notice;
 pub mod system;
 pub mod watch;
 

@@ -12,7 +12,7 @@ ghost use Rattle.daide_streams.specs.Streams.{Moves};
 ghost use Rattle.daide_streams.specs.Taking.{front_of};
 
 use crate::connection::Connection;
-use crate::watch::{Place, Watch};
+use crate::watch::{Flags, Place, Watch};
 use daide_frame::side::Side;
 use daide_streams::buffered::Buffered;
 use daide_streams::duplex::Duplex;
@@ -21,6 +21,7 @@ use daide_turns::ports::{Ports, Pull, Put};
 use mio::Interest;
 use mio::net::TcpStream;
 use std::rt::Clock;
+use std::time::Duration;
 
 /// For how many turns bytes are held at most that may be written, though more come all the time.
 const MOST_TURNS_HELD: usize = 16;
@@ -34,6 +35,8 @@ pub struct Socket<'w, S: Drop = Connection> {
     pub place: Place<'w>,
     /// Room for what is held.
     pub(crate) pool: &'w Pool,
+    /// Whether nothing came of its peer for too long, so that it was taken as ended.
+    is_silent: bool,
 }
 
 impl<'w> Socket<'w> {
@@ -59,6 +62,7 @@ impl<'w, S: Drop> Socket<'w, S> {
             stream: Buffered::new(stream),
             place,
             pool: watch.pool(),
+            is_silent: false,
         }
     }
 
@@ -120,9 +124,33 @@ impl<S: Duplex + Drop> Socket<'_, S> {
     }
 }
 
+/// How long the peers of a session may be silent; none for ever.
+#[derive(Drop)]
+struct Patience<'w, R: Clock> {
+    watch: &'w Watch<R>,
+    time: Option<Duration>,
+}
+
+impl<R: Clock> Patience<'_, R> {
+    /// From now on nothing comes of a socket, as far as is known.
+    fn begin(&self, flags: &Flags) {
+        let Some(time) = self.time else {
+            return;
+        };
+        flags.silent_from.set(self.watch.after(time));
+    }
+
+    /// Whether nothing came of a socket for too long.
+    fn is_over(&self, flags: &Flags) -> bool {
+        self.time.is_some() && self.watch.is_over(flags.silent_from.get())
+    }
+}
+
 /// Pulls of one socket of a session. Where nothing comes, nothing more comes now that is for the other: what is held of
-/// it is written.
-fn pull_past<S: Duplex + Drop>(
+/// it is written. Where nothing came for too long, one more read is made, and where that finds nothing either the side is
+/// taken as ended.
+fn pull_past<R: Clock, S: Duplex + Drop>(
+    patience: &Patience<'_, R>,
     own: &mut Socket<'_, S>,
     other: &mut Socket<'_, S>,
     buffer: &mut [u8],
@@ -133,11 +161,20 @@ fn pull_past<S: Duplex + Drop>(
     ensures other { Passes S.to_give S.taken other.old.stream [] [] other.new.stream }
     ensures unread { IsUnread S.to_give other.old.stream other.new.stream }
 {
+    let is_late = patience.is_over(own.place.flags);
+    if is_late {
+        own.place.flags.note(true, false);
+    }
     let pull = own.pull(buffer);
     if pull != Pull::Idle {
+        patience.begin(own.place.flags);
         return pull;
     }
     other.flush();
+    if is_late {
+        own.is_silent = true;
+        return Pull::Ended;
+    }
     pull
 }
 
@@ -164,7 +201,9 @@ fn put_past<S: Duplex + Drop>(
 /// The connections of a session. The moment that the bot's waits for is that of its initial message.
 #[derive(Drop)]
 pub struct SocketPorts<'w, R: Clock, S: Drop = Connection> {
-    watch: &'w Watch<R>,
+    /// Its number, from 1, in the order in which the bots of a run came; 0 of ports that no run has.
+    number: u32,
+    patience: Patience<'w, R>,
     /// For how many turns something was held that may be written.
     held: usize,
     bot: Socket<'w, S>,
@@ -181,12 +220,58 @@ impl<'w, R: Clock, S: Drop> SocketPorts<'w, R, S> {
         ensures bot { result.bot.stream ≡ bot.entry.stream }
         ensures server { result.server.stream ≡ server.entry.stream }
     {
+        let patience = Patience { watch, time: None };
         SocketPorts {
-            watch,
+            number: 0,
+            patience,
             held: 0,
             bot,
             server,
         }
+    }
+
+    /// The same, as those of a run's session of this number, which begins now: a side of which nothing comes for so long
+    /// is taken as ended; none for ever.
+    pub(crate) fn of_session(self, number: u32, time: Option<Duration>) -> SocketPorts<'w, R, S>
+        ensures bot { result.bot.stream ≡ self.entry.bot.stream }
+        ensures server { result.server.stream ≡ self.entry.server.stream }
+    {
+        let SocketPorts {
+            number: _,
+            patience,
+            held,
+            bot,
+            server,
+        } = self;
+        let patience = Patience {
+            watch: patience.watch,
+            time,
+        };
+        patience.begin(bot.place.flags);
+        patience.begin(server.place.flags);
+        SocketPorts {
+            number,
+            patience,
+            held,
+            bot,
+            server,
+        }
+    }
+
+    /// The number of their session.
+    pub fn number(&self) -> u32 {
+        self.number
+    }
+
+    /// The side that was taken as ended, since nothing came of it for too long.
+    pub fn silent_side(&self) -> Option<Side> {
+        if self.bot.is_silent {
+            return Some(Side::Bot);
+        }
+        if self.server.is_silent {
+            return Some(Side::Server);
+        }
+        None
     }
 
     /// The sockets of the bot and of the server.
@@ -195,7 +280,8 @@ impl<'w, R: Clock, S: Drop> SocketPorts<'w, R, S> {
         ensures server { result.1.stream ≡ self.entry.server.stream }
     {
         let SocketPorts {
-            watch: _,
+            number: _,
+            patience: _,
             held: _,
             bot,
             server,
@@ -208,7 +294,7 @@ impl<'w, R: Clock, S: Drop> SocketPorts<'w, R, S> {
         ensures bot { self.new.bot ≡ self.old.bot }
         ensures server { self.new.server ≡ self.old.server }
     {
-        self.watch.note_turn();
+        self.patience.watch.note_turn();
         self.held = if self.bot.stream.is_behind() || self.server.stream.is_behind() {
             self.held.saturating_add(1)
         } else {
@@ -241,8 +327,8 @@ impl<R: Clock, S: Duplex + Drop> Ports for SocketPorts<'_, R, S> {
     #[tactic(auto, using(daide_streams::proofs::StreamLemmas::pulled_moves))]
     fn pull(&mut self, side: Side, buffer: &mut [u8]) -> Pull {
         match side {
-            Side::Bot => pull_past(&mut self.bot, &mut self.server, buffer),
-            Side::Server => pull_past(&mut self.server, &mut self.bot, buffer),
+            Side::Bot => pull_past(&self.patience, &mut self.bot, &mut self.server, buffer),
+            Side::Server => pull_past(&self.patience, &mut self.server, &mut self.bot, buffer),
         }
     }
 
@@ -259,7 +345,7 @@ impl<R: Clock, S: Duplex + Drop> Ports for SocketPorts<'_, R, S> {
         self.begin_turn();
         self.flush_late();
         let due = &self.bot.place.flags.due;
-        let is_over = self.watch.is_over(due.get());
+        let is_over = self.patience.watch.is_over(due.get());
         if is_over {
             due.set(None);
         }

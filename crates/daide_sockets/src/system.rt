@@ -1,12 +1,13 @@
 //! What a run asks of the system, over sockets.
 
-ghost use Rattle.std.specs.Prelude.{◌≡◌, ◌+◌, ◌*◌, ◌^◌, ◌<◌, None};
+ghost use Rattle.std.specs.Prelude.{◌≡◌, ◌↔◌, ◌+◌, ◌*◌, ◌^◌, ◌<◌, IsNone, None};
 
 use crate::admission::{Arrival, Door, Outcome};
 use crate::closing::{Closings, MOST_CLOSING};
 use crate::ports::{Socket, SocketPorts};
+use crate::session_notice::SessionNotice;
 use crate::watch::Watch;
-use daide_service::{Connect, Notice, System};
+use daide_service::{Connect, Notice, SessionEnd, System};
 use daide_settings::Settings;
 use mio::net::TcpListener;
 use std::alloc::Global;
@@ -25,7 +26,17 @@ pub fn most_sockets(max_sessions: usize) -> usize
         .saturating_add(1)
 }
 
-/// The sockets of a run beside those of its sessions.
+/// How long a side may be silent, by so many seconds of the settings; none where they say for ever.
+fn idle_time_of(seconds: u32) -> Option<Duration>
+    ensures { IsNone result ↔ (seconds ≡ 0) }
+{
+    if seconds == 0 {
+        return None;
+    }
+    Some(Duration::from_secs(u64::from(seconds)))
+}
+
+/// The sockets of a run beside those of its sessions, and what is told of these.
 #[derive(Drop)]
 pub struct Sockets<'w, R: Clock + Net, E: Write + Drop> {
     runtime: &'w R,
@@ -33,15 +44,21 @@ pub struct Sockets<'w, R: Clock + Net, E: Write + Drop> {
     door: Door<'w>,
     servers: &'w [SocketAddr],
     im_time: Duration,
+    /// How long a side may be silent; none for ever.
+    idle_time: Option<Duration>,
     connect_time: Duration,
+    /// How many bots came.
+    came: u32,
     arrivals: Vec<Arrival<'w>>,
     closings: Closings<'w>,
     errors: E,
+    /// Whether a line is told where a session begins, and one where it ends.
+    is_verbose: bool,
 }
 
 impl<'w, R: Clock + Net, E: Write + Drop> Sockets<'w, R, E> {
     /// The sockets of a run that no bot came to yet, at a listener and towards a server that is tried for so long;
-    /// none where memory is refused or the listener can't be followed.
+    /// none where memory is refused or the listener can't be followed. Nothing is told of its sessions.
     pub fn new(
         alloc: Global,
         runtime: &'w R,
@@ -64,11 +81,32 @@ impl<'w, R: Clock + Net, E: Write + Drop> Sockets<'w, R, E> {
             door,
             servers,
             im_time: Duration::from_secs(u64::from(settings.im_seconds)),
+            idle_time: idle_time_of(settings.idle_seconds),
             connect_time,
+            came: 0,
             arrivals,
             closings,
             errors,
+            is_verbose: false,
         })
+    }
+
+    /// Says whether a line is told where a session begins, and one where it ends.
+    pub fn set_verbose(&mut self, is_verbose: bool) {
+        self.is_verbose = is_verbose;
+    }
+
+    /// Where lines for the operator go.
+    pub fn errors(&mut self) -> &mut E {
+        &mut self.errors
+    }
+
+    /// Tells a line of a session, where that is asked for.
+    fn tell_of_session(&mut self, notice: SessionNotice) {
+        if self.is_verbose {
+            // Where nobody reads it the run goes on.
+            let _ = writeln!(self.errors, "daide-gate: {notice}");
+        }
     }
 
     /// Goes on with the sockets that close, and reopens the door where its pause is over.
@@ -114,13 +152,19 @@ impl<'w, R: Clock + Net, E: Write + Drop> System<SocketPorts<'w, &'w R>> for Soc
     }
 
     fn accept(&mut self) -> bool {
-        let Some(stream) = self.door.accept(self.watch) else {
+        let Some((stream, address)) = self.door.accept(self.watch) else {
             return false;
         };
         let Some(bot) = Socket::new(self.watch, stream) else {
             return false;
         };
-        let mut arrival = Arrival::new(self.watch, bot, self.im_time, self.connect_time);
+        self.came = self.came.saturating_add(1);
+        self.tell_of_session(SessionNotice::Began {
+            number: self.came,
+            bot: address,
+        });
+        let came = (self.came, bot);
+        let mut arrival = Arrival::new(self.watch, came, self.im_time, self.connect_time);
         arrival.try_next(self.watch, self.runtime, self.servers);
         self.arrivals.push(arrival).is_ok()
     }
@@ -132,9 +176,10 @@ impl<'w, R: Clock + Net, E: Write + Drop> System<SocketPorts<'w, &'w R>> for Soc
                 break;
             }
             let arrival = self.arrivals.remove(0);
-            match arrival.advance(self.watch, self.runtime, self.servers) {
+            match arrival.advance(self.watch, self.runtime, self.servers, self.idle_time) {
                 Outcome::Joined(ports) => return Connect::Ready(ports),
-                Outcome::Unreached(bot) => {
+                Outcome::Unreached(number, bot) => {
+                    self.tell_of_session(SessionNotice::of_no_server(number));
                     self.closings.begin(self.watch, bot);
                     return Connect::Failed;
                 }
@@ -147,7 +192,9 @@ impl<'w, R: Clock + Net, E: Write + Drop> System<SocketPorts<'w, &'w R>> for Soc
         Connect::Pending
     }
 
-    fn retire(&mut self, ports: SocketPorts<'w, &'w R>) {
+    fn retire(&mut self, ports: SocketPorts<'w, &'w R>, end: SessionEnd) {
+        let notice = SessionNotice::of_end(ports.number(), end, ports.silent_side());
+        self.tell_of_session(notice);
         self.closings.begin_both(self.watch, ports);
     }
 

@@ -32,6 +32,8 @@ pub struct Flags {
     pub readiness: Cell<Readiness>,
     /// The moment at which something is to be done.
     pub due: Cell<Option<Instant>>,
+    /// The moment from which the peer counts as silent, if nothing comes of it before; none where it never does.
+    pub(crate) silent_from: Cell<Option<Instant>>,
 }
 
 /// The table of a run, and the moment at which the system was asked last.
@@ -88,6 +90,7 @@ impl Flags {
             is_taken: Cell::new(false),
             readiness: Cell::new(Readiness::UNKNOWN),
             due: Cell::new(None),
+            silent_from: Cell::new(None),
         }
     }
 
@@ -105,6 +108,7 @@ impl Flags {
         self.is_taken.set(true);
         self.readiness.set(Readiness::UNKNOWN);
         self.due.set(None);
+        self.silent_from.set(None);
     }
 
     /// Notes that a read may give something, or a write take something. What was noted before stays so.
@@ -143,12 +147,17 @@ impl Flags {
         }
     }
 
-    /// The moment that is waited for, of a socket that is there.
-    fn awaited(&self) -> Option<Instant> {
-        if self.is_taken.get() {
-            self.due.get()
-        } else {
-            None
+    /// The moment that is waited for, of a socket that is there. A silence that began already is waited for no more: the
+    /// next pull tells it, and where none is made, since a session has no room, there is nothing to be done.
+    fn awaited(&self, now: Instant) -> Option<Instant> {
+        if !self.is_taken.get() {
+            return None;
+        }
+        let silent_from = self.silent_from.get().filter(|moment| *moment > now);
+        match (self.due.get(), silent_from) {
+            (Some(due), Some(silent_from)) => Some(due.min(silent_from)),
+            (due, None) => due,
+            (None, silent_from) => silent_from,
         }
     }
 }
@@ -230,9 +239,10 @@ impl<R: Clock> Watch<R> {
 
     /// How long nothing is to be done, if nothing comes; none where no moment is waited for.
     fn patience(&self) -> Option<Duration> {
+        let now = self.now.get()?;
         let used = self.flags.iter().take(self.used.get());
-        let nearest = used.filter_map(|flags| flags.awaited()).min()?;
-        Some(nearest.saturating_duration_since(self.now.get()?))
+        let nearest = used.filter_map(|flags| flags.awaited(now)).min()?;
+        Some(nearest.saturating_duration_since(now))
     }
 
     /// Takes over what the system tells within a time, and reads the clock.

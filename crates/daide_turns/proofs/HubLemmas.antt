@@ -3,6 +3,7 @@ use Rattle.std.proofs.Common.{◌≡◌, ℕ, ◌+◌, ◌*◌, ◌<◌, ◌≤�
 use Rattle.std.proofs.Common.{drop}
 use Rattle.std.proofs.Common.{map, get_or, set, suc, Some, refl, sym, ap, ◌∙◌, subst, arith, length-append}
 use Rattle.std.specs.Prelude.{◌&&◌, ◌==◌, ◌%◌, nat_le, Ok, Err, Result, All, sum_by, slice_get, remove, option_map}
+use Rattle.std.specs.Prelude.{Option, None, IsSome, is_some}
 use Rattle.std.proofs.lemmas.List.{map-set, map-append, take-map, drop-map, length-map, length-set, get_or_read}
 use Rattle.std.proofs.lemmas.List.Elements.{All-append, All-take, All-drop, All-get_or, All-set, All-push}
 use Rattle.std.proofs.lemmas.List.Sums.{sum_by-cons}
@@ -198,3 +199,13 @@ sum_by-map f v [] = refl
 sum_by-map f v (x ∷ xs) =
     sum_by-cons f (v x) (map v xs) ∙ ap (λ (n : ℕ). f (v x) + n) (sum_by-map f v xs)
     ∙ sym (sum_by-cons (λ x. f (v x)) x xs)
+
+-- ---- what ended a session
+
+pub is_there : {A : Type 0} (o : Option A) → is_some o ≡ true → IsSome o
+is_there None e = absurd (cc)
+is_there (Some x) e = refl
+
+pub closed_over : (over quiet : Bool) → (over && quiet) ≡ true → over ≡ true
+closed_over true quiet e = refl
+closed_over false quiet e = absurd (cc)

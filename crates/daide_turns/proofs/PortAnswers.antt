@@ -32,6 +32,7 @@ clock_pops a b note work g = record {
   effects = g.effects;
   run = g.run;
   wires = λ side. goes_wire a (Pops ∷ []) note b g side;
+  counts = g.counts;
   work = work;
 }
 
@@ -40,6 +41,7 @@ clock_runs a work = record {
   effects = [];
   run = (refl, refl);
   wires = λ side. append-nil (bytes_of (waiting a side));
+  counts = refl;
   work = work;
 }
 
@@ -50,6 +52,7 @@ got_bytes a side len n bytes note b work g = record {
   effects = g.effects;
   run = subst (λ (es : List Event). Runs a.state es g.effects b.state) (sym (append-nil (bytes_come side bytes))) g.run;
   wires = λ one. goes_wire a (bytes_come side bytes) note b g one;
+  counts = g.counts;
   work = work;
 }
 
@@ -59,6 +62,7 @@ was_idle a side len bytes work = record {
   effects = [];
   run = (refl, refl);
   wires = λ one. append-nil (bytes_of (waiting a one));
+  counts = refl;
   work = work;
 }
 
@@ -69,6 +73,7 @@ has_ended a side len bytes note b work g = record {
   effects = g.effects;
   run = g.run;
   wires = λ one. goes_wire a (Ends side ∷ []) note b g one;
+  counts = g.counts;
   work = work;
 }
 
@@ -127,6 +132,7 @@ took_bytes a side bytes n b f h work g = record {
   effects = [];
   run = (refl, g.same_state);
   wires = λ one. wire side one f g;
+  counts = g.counts;
   work = work;
 }
   where
@@ -144,6 +150,7 @@ put_failed a side bytes b work g = record {
   effects = g.effects;
   run = g.run;
   wires = λ one. wire side one g.effects g.over g.dropped g.other_wire;
+  counts = g.counts;
   work = work;
 }
   where

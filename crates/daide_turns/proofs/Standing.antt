@@ -86,6 +86,7 @@ new_stands limits g n = record {
   effects = [];
   run = (refl, n.state);
   wires = λ side. wire side n.to_bot n.to_server;
+  counts = n.uncounted;
   work = work;
 }
   where

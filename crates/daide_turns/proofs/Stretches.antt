@@ -8,6 +8,7 @@ use Rattle.daide_machine.specs.Machine.{SessionState, Effect, Runs, is_over}
 use Rattle.daide_machine.specs.Wires.{Gateway, waiting, sent_to, bytes_of}
 use Rattle.daide_machine.proofs.OneRun.{one_run, runs_join}
 use Rattle.daide_machine.proofs.PieceRuns.{over_stays}
+use Rattle.daide_machine.proofs.SummaryLemmas.{tallied_then}
 use Rattle.daide_machine.proofs.WireLemmas.{sent_to-append, bytes_of-append}
 use Rattle.daide_turns.specs.Record.{PortAnswer, event_of, events_of, took, taken, fails, has_failed, Moved, Relays}
 use Rattle.daide_turns.specs.Record.{BecomesBy, Carries, Tells}
@@ -98,6 +99,7 @@ relays_append a xs b ys c h k = record {
       )
       (moved_append (has_failed side xs) (has_failed side ys) (is_over b.state.phase) (is_over c.state.phase)
       _ _ _ _ _ _ _ (h.wires side) (k.wires side) quiet);
+  counts = tallied_then h.effects k.effects a.summary b.summary c.summary h.counts k.counts;
   work = works_then a xs b ys c (events_of-append xs ys) h.work k.work;
 }
 
@@ -106,6 +108,7 @@ relays_nil a = record {
   effects = [];
   run = (refl, refl);
   wires = λ side. append-nil (bytes_of (waiting a side));
+  counts = refl;
   work = λ side. paid_same side a a refl refl;
 }
 

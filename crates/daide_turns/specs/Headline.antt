@@ -6,6 +6,7 @@ use Rattle.std.specs.Prelude.{◌≡◌, ◌*◌, true, false, List, [], ◌++�
 use Rattle.daide_frame.specs.declared.side.Side.{Side}
 use Rattle.daide_reader.specs.Reading.{IsRaised}
 use Rattle.daide_machine.specs.Machine.{Limits, opening}
+use Rattle.daide_machine.specs.Summary.{nothing_counted}
 use Rattle.daide_machine.specs.Wires.{Gateway, Holding, holding, sent_to, bytes_of, is_closed}
 use Rattle.daide_session.specs.Bounds.{IsWithinBounds}
 use Rattle.daide_turns.specs.Record.{PortAnswer, Relays, came, taken, has_failed}
@@ -27,11 +28,12 @@ untouched limits = record {
   server_parts = [];
   bot = nothing_held;
   server = nothing_held;
+  summary = nothing_counted;
 }
 
 -- The session stands where a run from its opening stands, by all that its ports answered since it was made: its
--- state is the machine's, each wire took the machine's answers, but for what waits, and no table was asked more than
--- twice for a byte that came.
+-- state is the machine's, each wire took the machine's answers, but for what waits, all moves are counted, and no table
+-- was asked more than twice for a byte that came.
 abbrev pub Stands : Limits → List PortAnswer → Gateway → Type 0
 Stands limits history g = Relays (untouched limits) history g
 

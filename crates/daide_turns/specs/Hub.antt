@@ -6,6 +6,8 @@ use Rattle.daide_machine.specs.Machine.{Limits}
 use Rattle.daide_machine.specs.Wires.{Gateway, IsNew, is_closed}
 use Rattle.daide_machine.specs.Weight.{weight_of, weight_bound}
 use Rattle.daide_machine.specs.declared.config.Config.{Config}
+use Rattle.daide_machine.specs.declared.ending.Ending.{Ending}
+use Rattle.daide_machine.specs.declared.summary.Summary.{Summary}
 use Rattle.daide_turns.specs.declared.hub.AddFault.{AddFault}
 use Rattle.daide_turns.specs.declared.hub.AddFault.TheVariants as Faults
 use Rattle.daide_turns.specs.declared.hub.HubError.{HubError}
@@ -65,6 +67,10 @@ abbrev pub Removes : {P : Type 0} → Hosting P → ℕ → P → Hosting P → 
 Removes old i ports new =
     (session : Gateway) × (slice_get old.places i ≡ Some (session, ports)) × (is_closed session ≡ true)
     × (new ≡ with_places old (remove old.places i))
+
+-- what is told of a session that is taken out: its moves counted, and which event ended it
+abbrev pub IsToldOf : Gateway → Summary → Ending → Type 0
+IsToldOf session summary ending = (summary ≡ session.summary) × (session.state.ending ≡ Some ending)
 
 -- The session and the ports at this place went from one pair to another, by a call of this kind; every other
 -- place is as it was.

@@ -6,6 +6,7 @@ use Rattle.daide_frame.specs.declared.side.Side.{Side}
 use Rattle.daide_machine.specs.Events.{Event, Ends, Loses, Pops, bytes_come}
 use Rattle.daide_machine.specs.Heard.{bytes_from}
 use Rattle.daide_machine.specs.Machine.{Effect, Runs, is_over}
+use Rattle.daide_machine.specs.Summary.{tallied}
 use Rattle.daide_machine.specs.Wires.{Gateway, waiting, same_side, sent_to, bytes_of}
 use Rattle.daide_turns.specs.declared.ports.Pull.{Pull}
 use Rattle.daide_turns.specs.declared.ports.Pull.TheVariants.{Got, Idle, Ended}
@@ -116,12 +117,14 @@ Moved true over waited answers took waits =
     (over ≡ true) × (waits ≡ []) × ((rest : List ℕ) × (waited ++ answers ≡ took ++ rest))
 
 -- By these answers of the ports the session goes from old to new: its state is the machine's, by the events
--- that they tell, each wire took the machine's answers, and no table was asked more than twice for a byte that came.
+-- that they tell, each wire took the machine's answers, the moves are counted, and no table was asked more than twice
+-- for a byte that came.
 pub record Relays (old : Gateway) (answers : List PortAnswer) (new : Gateway) : Type 0 where
   pub effects : List Effect
   pub run : Runs old.state (events_of answers) effects new.state
   pub wires : (side : Side) → Moved (has_failed side answers) (is_over new.state.phase) (bytes_of (waiting old side))
       (bytes_of (sent_to side effects)) (taken side answers) (bytes_of (waiting new side))
+  pub counts : new.summary ≡ tallied effects old.summary
   pub work : Works old answers new
 
 -- ---- a call

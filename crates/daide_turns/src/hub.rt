@@ -10,11 +10,13 @@ ghost use Rattle.daide_machine.specs.Config.{config_fault};
 ghost use Rattle.daide_machine.specs.Config.{limits_of, limits_with};
 ghost use Rattle.daide_words.specs.Words.{words_of};
 ghost use Rattle.daide_turns.specs.Hub.{Hosting, IsHubSize, IsHubCause, IsAddCause, Adds, Removes, Changes, IsTurned};
-ghost use Rattle.daide_turns.specs.Hub.{weight_at, session_bound};
+ghost use Rattle.daide_turns.specs.Hub.{IsToldOf, weight_at, session_bound};
 
 use crate::exchange::{BUFFER, turn_through};
 use crate::ports::Ports;
 use daide_machine::config::{Config, ConfigError};
+use daide_machine::ending::Ending;
+use daide_machine::summary::Summary;
 use daide_session::session::Session;
 use daide_words::words::Words;
 use std::alloc::{Allocator, Global};
@@ -41,6 +43,17 @@ pub enum AddFault {
     Full,
     /// The memory of a body was refused.
     Memory,
+}
+
+/// What is left of a session that is taken out.
+#[derive(Drop)]
+pub struct Removed<P: Ports> {
+    /// Its ports.
+    pub ports: P,
+    /// Its moves counted, modulo 2^64.
+    pub summary: Summary,
+    /// Which event ended it.
+    pub ending: Ending,
 }
 
 /// A session and its ports.
@@ -187,18 +200,24 @@ impl<P: Ports, A: Allocator + Copy> Hub<P, A> {
         total
     }
 
-    /// Takes out the session at a place where it is over and nothing waits, and hands its ports back; the later
-    /// ones move down one place. Else nothing changes.
-    pub fn remove_over(&mut self, i: usize) -> Option<P>
+    /// Takes out the session at a place where it is over and nothing waits, and hands its ports back, with what it
+    /// counted and what ended it; the later ones move down one place. Else nothing changes.
+    pub fn remove_over(&mut self, i: usize) -> Option<Removed<P>>
         requires { i < length self.old.places }
-        ensures moved_down { IfSome result (λ ports. Removes self.old i ports self.new) }
+        ensures moved_down { IfSome result (λ removed. Removes self.old i removed.ports self.new) }
+        ensures told { IfSome result (λ removed. IfSome (slice_get self.old.places i)
+            (λ place. IsToldOf place.0 removed.summary removed.ending)) }
         ensures unchanged { IfNone result (self.new ≡ self.old) }
         ensures open { IfNone result (IfSome (slice_get self.old.places i) (λ place. is_closed place.0 ≡ false)) }
     {
         if !self.places[i].session.is_closed() {
             return None;
         }
-        let Place { session: _, ports } = self.places.remove(i);
-        Some(ports)
+        let Place { session, ports } = self.places.remove(i);
+        Some(Removed {
+            ports,
+            summary: session.summary(),
+            ending: session.ending().unwrap(),
+        })
     }
 }

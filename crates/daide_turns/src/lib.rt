@@ -12,6 +12,6 @@ pub mod ports;
 pub mod relaying;
 
 pub use exchange::turn;
-pub use hub::{AddFault, Hub, HubError};
+pub use hub::{AddFault, Hub, HubError, Removed};
 pub use ports::{Ports, Pull, Put};
 pub use relaying::{RelayEnd, relay};

@@ -28,13 +28,16 @@ pub enum Key {
     Sessions,
     /// How many turns a session has at most: 1 to 1,000,000,000,000; 1,000,000,000 by default.
     Turns,
+    /// After how long a side of which nothing comes is taken as ended, in seconds: 0 to 86,400, where 0 is never; 0 by
+    /// default.
+    IdleSeconds,
     /// The words of press that an operator adds: an array of at most 16 tables; none by default.
     Words,
 }
 
 impl Key {
     /// Every key, in the order in which they are judged.
-    pub const ALL: [Key; 10] = [
+    pub const ALL: [Key; 11] = [
         Key::Listen,
         Key::Server,
         Key::TopLevel,
@@ -44,6 +47,7 @@ impl Key {
         Key::MaxSessions,
         Key::Sessions,
         Key::Turns,
+        Key::IdleSeconds,
         Key::Words,
     ];
 
@@ -61,6 +65,7 @@ impl Key {
             Key::MaxSessions => "max_sessions",
             Key::Sessions => "sessions",
             Key::Turns => "turns",
+            Key::IdleSeconds => "idle_seconds",
             Key::Words => "words",
         }
     }
@@ -80,6 +85,7 @@ impl Key {
             Key::MaxSessions => Some(16),
             Key::Sessions => Some(1),
             Key::Turns => Some(1_000_000_000),
+            Key::IdleSeconds => Some(0),
         }
     }
 
@@ -99,6 +105,7 @@ impl Key {
             Key::MaxSessions => 1 <= number && number <= 256,
             Key::Sessions => 1 <= number && number <= 1_000_000,
             Key::Turns => 1 <= number && number <= 1_000_000_000_000,
+            Key::IdleSeconds => number <= 86_400,
             Key::Words => number <= 16,
         }
     }
@@ -127,6 +134,7 @@ pub(crate) fn is_known(text: &str) -> bool
             | "max_sessions"
             | "sessions"
             | "turns"
+            | "idle_seconds"
             | "words"
     )
 }

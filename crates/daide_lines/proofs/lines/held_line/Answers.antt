@@ -8,4 +8,4 @@ pub returns : goal.returns
 returns c =
     subst (λ (l : List ℕ). IfSome c.line_end.result (IsHeldLine l c.args.count)) c.as_slice-held.ensures.value
     (held_whole c.as_slice-held.result.now c.min.result c.args.count c.line_end.result (omega (arith, c.min.ensures))
-    (omega (arith, c.min.ensures)) (omega arith) c.line_end.ensures)
+    (omega (arith, c.min.ensures)) (omega arith) c.as_slice-held.ensures.fits c.line_end.ensures)

@@ -1,5 +1,5 @@
-use Rattle.std.proofs.Common.{arith, rules, ap, sym, ◌∙◌, subst, length, Ok}
-use Rattle.std.specs.Io.KnownBytes.{append_known}
+use Rattle.std.proofs.Common.{arith, rules, refl, ap, sym, ◌∙◌, subst, length, Ok}
+use Rattle.daide_lines.specs.Output.{all_of}
 use Rattle.daide_lines.specs.Lines.{Reads}
 use Rattle.daide_lines.proofs.LineLemmas.{begun, emptied, scanned_on, failed_read, no_byte}
 use Rattle.daide_lines.proofs.LineLemmas.{found_end, found_last, found_line, found_too_long}
@@ -9,19 +9,21 @@ use Rattle.daide_lines.proofs.lines.next_line.Goals as goal
 
 pub returns-in-Err-clause-found : goal.returns-in-Err-clause-found
 returns-in-Err-clause-found g c =
-    no_byte (g.R.Read.remaining c.args.reader.now) c.args.block.now c.args.count c.clear.new.self.items
+    no_byte (g.R.Read.remaining c.args.input.now.reader.now) c.args.input.now.block c.args.count c.clear.new.self.items
     (g.R.Read.remaining c.has_more.new.reader) c.has_more.new.block c.in-Err.fault c.in-Err.ensures.more
 
 pub loop-turn-init : goal.loop-turn-init
 loop-turn-init g c = (
-  begun (g.R.Read.remaining c.args.reader.now) c.args.block.now c.clear.new.self.items c.clear.ensures,
-  keeps_all (append_known (g.W.Write.contents c.args.writer.now) c.args.page.now.items),
+  begun (g.R.Read.remaining c.args.input.now.reader.now) c.args.input.now.block c.clear.new.self.items c.clear.ensures,
+  keeps_all (all_of g.W.Write.contents c.args.output.now),
+  refl,
+  refl,
 )
 
 pub returns-then-scan-clause-found : goal.returns-then-scan-clause-found
 returns-then-scan-clause-found g c =
-    found_line (g.R.Read.remaining c.args.reader.now) c.args.block.now (g.R.Read.remaining c.loop-turn.reader)
-    c.loop-turn.text.items c.loop-turn.block c.scan.new.text.items c.scan.new.block c.drop_cr.new.text.items
+    found_line (g.R.Read.remaining c.args.input.now.reader.now) c.args.input.now.block (g.R.Read.remaining c.loop-turn.input.reader.now)
+    c.loop-turn.input.text.items c.loop-turn.input.block c.scan.new.text.items c.scan.new.block c.drop_cr.new.text.items
     c.loop-turn._turn c.args.count c.loop-turn.invariant.0 c.if-scan.ensures (omega arith) c.drop_cr.ensures
 
 pub returns-then-scan-clause-kept : goal.returns-then-scan-clause-kept
@@ -29,16 +31,16 @@ returns-then-scan-clause-kept g c = c.loop-turn.invariant.1
 
 pub returns-then-len-eq-TOO_LONG-clause-found : goal.returns-then-len-eq-TOO_LONG-clause-found
 returns-then-len-eq-TOO_LONG-clause-found g c =
-    found_too_long (g.R.Read.remaining c.args.reader.now) c.args.block.now (g.R.Read.remaining c.loop-turn.reader)
-    c.loop-turn.text.items c.loop-turn.block c.scan.new.text.items c.scan.new.block c.loop-turn._turn c.args.count
+    found_too_long (g.R.Read.remaining c.args.input.now.reader.now) c.args.input.now.block (g.R.Read.remaining c.loop-turn.input.reader.now)
+    c.loop-turn.input.text.items c.loop-turn.input.block c.scan.new.text.items c.scan.new.block c.loop-turn._turn c.args.count
     c.loop-turn.invariant.0 c.if-scan.ensures (sym c.len.ensures.value ∙ c.if-len-eq-TOO_LONG.true) (omega arith)
 
 pub returns-in-Ok-false-read_on-clause-found : goal.returns-in-Ok-false-read_on-clause-found
 returns-in-Ok-false-read_on-clause-found g c =
-    found_end (g.R.Read.remaining c.args.reader.now) c.args.block.now (g.R.Read.remaining c.loop-turn.reader)
+    found_end (g.R.Read.remaining c.args.input.now.reader.now) c.args.input.now.block (g.R.Read.remaining c.loop-turn.input.reader.now)
     c.scan.new.text.items c.loop-turn._turn (g.R.Read.remaining c.read_on.new.reader) c.read_on.new.block c.args.count
-    (emptied (g.R.Read.remaining c.args.reader.now) c.args.block.now (g.R.Read.remaining c.loop-turn.reader)
-    c.loop-turn.text.items c.loop-turn.block c.scan.new.text.items c.scan.new.block c.loop-turn._turn
+    (emptied (g.R.Read.remaining c.args.input.now.reader.now) c.args.input.now.block (g.R.Read.remaining c.loop-turn.input.reader.now)
+    c.loop-turn.input.text.items c.loop-turn.input.block c.scan.new.text.items c.scan.new.block c.loop-turn._turn
     c.loop-turn.invariant.0 c.if-scan.ensures (λ e. c.if-len-eq-TOO_LONG.false (c.len.ensures.value ∙ e))
     (omega (arith, c.len.ensures.value, c.len.ensures.fits)))
     (search rules) (sym c.is_empty.ensures ∙ c.if-is_empty.true)
@@ -57,10 +59,10 @@ returns-in-Err-read_on-clause-kept_at_fault g c other =
 
 pub returns-in-Ok-false-2-clause-found : goal.returns-in-Ok-false-2-clause-found
 returns-in-Ok-false-2-clause-found g c =
-    found_last (g.R.Read.remaining c.args.reader.now) c.args.block.now (g.R.Read.remaining c.loop-turn.reader)
+    found_last (g.R.Read.remaining c.args.input.now.reader.now) c.args.input.now.block (g.R.Read.remaining c.loop-turn.input.reader.now)
     c.scan.new.text.items c.loop-turn._turn (g.R.Read.remaining c.read_on.new.reader) c.read_on.new.block c.args.count
-    (emptied (g.R.Read.remaining c.args.reader.now) c.args.block.now (g.R.Read.remaining c.loop-turn.reader)
-    c.loop-turn.text.items c.loop-turn.block c.scan.new.text.items c.scan.new.block c.loop-turn._turn
+    (emptied (g.R.Read.remaining c.args.input.now.reader.now) c.args.input.now.block (g.R.Read.remaining c.loop-turn.input.reader.now)
+    c.loop-turn.input.text.items c.loop-turn.input.block c.scan.new.text.items c.scan.new.block c.loop-turn._turn
     c.loop-turn.invariant.0 c.if-scan.ensures (λ e. c.if-len-eq-TOO_LONG.false (c.len.ensures.value ∙ e))
     (omega (arith, c.len.ensures.value, c.len.ensures.fits)))
     (search rules)
@@ -68,27 +70,29 @@ returns-in-Ok-false-2-clause-found g c =
 
 pub returns-in-Err-read_on-clause-found : goal.returns-in-Err-read_on-clause-found
 returns-in-Err-read_on-clause-found g c =
-    failed_read (g.R.Read.remaining c.args.reader.now) c.args.block.now (g.R.Read.remaining c.loop-turn.reader)
+    failed_read (g.R.Read.remaining c.args.input.now.reader.now) c.args.input.now.block (g.R.Read.remaining c.loop-turn.input.reader.now)
     c.scan.new.text.items c.loop-turn._turn (g.R.Read.remaining c.read_on.new.reader) c.read_on.new.block c.args.count
     c.in-Err-read_on.fault
-    (emptied (g.R.Read.remaining c.args.reader.now) c.args.block.now (g.R.Read.remaining c.loop-turn.reader)
-    c.loop-turn.text.items c.loop-turn.block c.scan.new.text.items c.scan.new.block c.loop-turn._turn
+    (emptied (g.R.Read.remaining c.args.input.now.reader.now) c.args.input.now.block (g.R.Read.remaining c.loop-turn.input.reader.now)
+    c.loop-turn.input.text.items c.loop-turn.input.block c.scan.new.text.items c.scan.new.block c.loop-turn._turn
     c.loop-turn.invariant.0 c.if-scan.ensures (λ e. c.if-len-eq-TOO_LONG.false (c.len.ensures.value ∙ e))
     (omega (arith, c.len.ensures.value, c.len.ensures.fits)))
-    (subst (Reads (g.R.Read.remaining c.loop-turn.reader) (g.R.Read.remaining c.read_on.new.reader) c.read_on.new.block)
+    (subst (Reads (g.R.Read.remaining c.loop-turn.input.reader.now) (g.R.Read.remaining c.read_on.new.reader) c.read_on.new.block)
     c.in-Err-read_on.is c.read_on.ensures.read)
 
 pub loop-turn-preserved : goal.loop-turn-preserved
 loop-turn-preserved g c = (
-  scanned_on (g.R.Read.remaining c.args.reader.now) c.args.block.now (g.R.Read.remaining c.loop-turn.reader)
+  scanned_on (g.R.Read.remaining c.args.input.now.reader.now) c.args.input.now.block (g.R.Read.remaining c.loop-turn.input.reader.now)
       c.scan.new.text.items c.loop-turn._turn (g.R.Read.remaining c.read_on.new.reader) c.read_on.new.block
-      (emptied (g.R.Read.remaining c.args.reader.now) c.args.block.now (g.R.Read.remaining c.loop-turn.reader)
-      c.loop-turn.text.items c.loop-turn.block c.scan.new.text.items c.scan.new.block c.loop-turn._turn
+      (emptied (g.R.Read.remaining c.args.input.now.reader.now) c.args.input.now.block (g.R.Read.remaining c.loop-turn.input.reader.now)
+      c.loop-turn.input.text.items c.loop-turn.input.block c.scan.new.text.items c.scan.new.block c.loop-turn._turn
       c.loop-turn.invariant.0 c.if-scan.ensures (λ e. c.if-len-eq-TOO_LONG.false (c.len.ensures.value ∙ e))
       (omega (arith, c.len.ensures.value, c.len.ensures.fits)))
-      (subst (Reads (g.R.Read.remaining c.loop-turn.reader) (g.R.Read.remaining c.read_on.new.reader) c.read_on.new.block)
+      (subst (Reads (g.R.Read.remaining c.loop-turn.input.reader.now) (g.R.Read.remaining c.read_on.new.reader) c.read_on.new.block)
       (c.in-Ok-true-read_on.is ∙ ap Ok c.in-Ok-true-read_on.field-0-test) c.read_on.ensures.read),
   keeps_more _ _ _ c.loop-turn.invariant.1 c.in-Ok-true-read_on.ensures.kept,
+  c.loop-turn.invariant.2,
+  c.read_on.ensures.same_writer ∙ c.loop-turn.invariant.3,
 )
 
 pub unreachable-requires : goal.unreachable-requires

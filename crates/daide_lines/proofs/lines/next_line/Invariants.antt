@@ -1,9 +1,12 @@
-use Rattle.std.specs.Io.KnownBytes.{Keeps, append_known}
+use Rattle.std.specs.Io.KnownBytes.{Keeps}
+use Rattle.daide_lines.specs.Input.{IsSameReader}
+use Rattle.daide_lines.specs.Output.{IsSameWriter, all_of}
 use Rattle.daide_lines.proofs.LineLemmas.{HasScanned}
 use Rattle.daide_lines.proofs.lines.next_line.Given as goal
 
 abbrev pub invariant-loop-turn : goal.invariant-loop-turn
 invariant-loop-turn g l =
-    HasScanned (g.R.Read.remaining l.fn.reader) l.fn.block (g.R.Read.remaining l.reader) l.text.items l.block l._turn
-    × Keeps (append_known (g.W.Write.contents l.fn.writer) l.fn.page.items)
-    (append_known (g.W.Write.contents l.writer) l.page.items)
+    HasScanned (g.R.Read.remaining l.fn.input.reader.now) l.fn.input.block (g.R.Read.remaining l.input.reader.now)
+    l.input.text.items l.input.block l._turn
+    × Keeps (all_of g.W.Write.contents l.fn.output) (all_of g.W.Write.contents l.output)
+    × IsSameReader l.fn.input l.input × IsSameWriter l.fn.output l.output

@@ -12,7 +12,7 @@ returns-in-Some c =
     (line_scanned c.as_slice-held.result.now c.args.text.now.items c.min.result c.in-Some.n c.skip.new.self
     c.put.new.self.items (omega (arith, c.min.ensures))
     (omega (arith, c.min.ensures, c.len-room.ensures.value, full)) c.in-Some.ensures.0 c.in-Some.ensures.1 c.in-Some.ensures.2
-    (c.skip.ensures ∙ ap (drop (c.in-Some.n + 1)) (sym c.as_slice-held.ensures.value)) grown)
+    (c.skip.ensures ∙ ap (drop (c.in-Some.n + 1)) (sym c.as_slice-held.ensures.value)) grown c.as_slice-held.ensures.fits)
 
 pub returns-in-None : goal.returns-in-None
 returns-in-None c =

@@ -1,5 +1,6 @@
 use Rattle.std.proofs.Common.{◌-◌, [], List, ℕ, Option, length}
-use Rattle.std.specs.Io.KnownBytes.{append_known}
+use Rattle.daide_lines.specs.Input.{IsSameReader}
+use Rattle.daide_lines.specs.Output.{IsSameWriter, all_of}
 use Rattle.daide_log.specs.Log.{Playing}
 use Rattle.daide_log.specs.Progress.{HasRead, states_of}
 use Rattle.daide_log.proofs.EventLemmas.{Plays}
@@ -9,10 +10,12 @@ use Rattle.daide_log.proofs.check.play.Given as goal
 abbrev pub invariant-lines : goal.invariant-lines
 invariant-lines g l =
     Plays (λ (origin : Option (List ℕ)).
-    HasRead origin (g.R.Read.remaining l.fn.reader) l.fn.block l.lines [] (Playing l.version (states_of l.fn.sessions.items)))
-    (g.R.Read.remaining l.reader) l.block l.count l.version l.sessions.items (length l.fn.sessions.items) l.summary
-    (append_known (g.W.Write.contents l.fn.writer) l.fn.page.items)
-    (append_known (g.W.Write.contents l.writer) l.page.items)
+    HasRead origin (g.R.Read.remaining l.fn.input.reader.now) l.fn.input.block l.lines []
+    (Playing l.version (states_of l.fn.sessions.items)))
+    (g.R.Read.remaining l.input.reader.now) l.input.block l.count l.version l.sessions.items
+    (length l.fn.sessions.items) l.account.summary (all_of g.W.Write.contents l.fn.account.output)
+    (all_of g.W.Write.contents l.account.output)
+    × IsSameReader l.fn.input l.input × IsSameWriter l.fn.account.output l.account.output
 
 -- how many lines there may still be
 abbrev pub decreases-lines : goal.decreases-lines

@@ -1,5 +1,5 @@
 use Rattle.std.proofs.Common.{subst, sym, [], List, arith}
-use Rattle.std.specs.Io.KnownBytes.{append_known}
+use Rattle.daide_lines.specs.Output.{all_of}
 use Rattle.daide_machine.specs.Machine.{SessionState, opening}
 use Rattle.daide_machine.specs.Config.{limits_with}
 use Rattle.daide_words.specs.Words.{words_of}
@@ -13,36 +13,36 @@ use Rattle.daide_log.proofs.check.report.Goals as goal
 
 pub returns-in-Err-clause-refused : goal.returns-in-Err-clause-refused
 returns-in-Err-clause-refused g c =
-    fault_at_once (g.R.Read.remaining c.args.reader.now) (g.R.Read.remaining c.read_head.new.reader)
-    (append_known (g.W.Write.contents c.args.writer.now) c.args.page.now.items)
-    (append_known (g.W.Write.contents c.read_head.new.writer) c.read_head.new.page.items) c.in-Err.fault
+    fault_at_once (g.R.Read.remaining c.args.input.now.reader.now) (g.R.Read.remaining c.read_head.new.input.reader.now)
+    (all_of g.W.Write.contents c.args.account.now.output)
+    (all_of g.W.Write.contents c.read_head.new.output) c.in-Err.fault
     c.in-Err.ensures.opened c.in-Err.ensures.kept_at_fault
 
 pub returns-in-Err-open_sessions-clause-refused : goal.returns-in-Err-open_sessions-clause-refused
 returns-in-Err-open_sessions-clause-refused g c =
-    memory_wanted c.in-Ok.opened (g.R.Read.remaining c.args.reader.now) (g.R.Read.remaining c.read_head.new.reader)
-    c.read_head.new.block (append_known (g.W.Write.contents c.args.writer.now) c.args.page.now.items)
-    (append_known (g.W.Write.contents c.read_head.new.writer) c.read_head.new.page.items) c.in-Err-open_sessions.fault
+    memory_wanted c.in-Ok.opened (g.R.Read.remaining c.args.input.now.reader.now) (g.R.Read.remaining c.read_head.new.input.reader.now)
+    c.read_head.new.input.block (all_of g.W.Write.contents c.args.account.now.output)
+    (all_of g.W.Write.contents c.read_head.new.output) c.in-Err-open_sessions.fault
     c.in-Err-open_sessions.ensures.refused c.in-Ok.ensures.opened c.in-Ok.ensures.kept
 
 pub returns-then-not-opened-clause-report : goal.returns-then-not-opened-clause-report
 returns-then-not-opened-clause-report g c =
     let head = c.in-Ok.opened.head in
-    let first = append_known (g.W.Write.contents c.args.writer.now) c.args.page.now.items in
-    let mid = append_known (g.W.Write.contents c.read_head.new.writer) c.read_head.new.page.items in
-    finished (g.R.Read.remaining c.args.reader.now) (g.R.Read.remaining c.read_head.new.reader) c.in-Ok.opened.lines []
+    let first = all_of g.W.Write.contents c.args.account.now.output in
+    let mid = all_of g.W.Write.contents c.read_head.new.output in
+    finished (g.R.Read.remaining c.args.input.now.reader.now) (g.R.Read.remaining c.read_head.new.input.reader.now) c.in-Ok.opened.lines []
     head.version (replicate head.limits.sessions (opening (limits_with head.limits.config (words_of head.words))))
-    c.new.result first mid (append_known (g.W.Write.contents c.finish.new.writer) c.finish.new.page.items)
+    c.args.account.now.summary first mid (all_of g.W.Write.contents c.finish.new.output)
     c.finish.result
-    (opened_last c.in-Ok.opened (g.R.Read.remaining c.args.reader.now) (g.R.Read.remaining c.read_head.new.reader)
-    c.read_head.new.block c.if-not-opened.true c.in-Ok.ensures.opened)
-    c.new.ensures (keeps_appends first mid c.in-Ok.ensures.kept) c.finish.ensures.written
+    (opened_last c.in-Ok.opened (g.R.Read.remaining c.args.input.now.reader.now) (g.R.Read.remaining c.read_head.new.input.reader.now)
+    c.read_head.new.input.block c.if-not-opened.true c.in-Ok.ensures.opened)
+    c.requires.nothing (keeps_appends first mid c.in-Ok.ensures.kept) c.finish.ensures.written
 
 pub returns-then-not-opened-clause-refused : goal.returns-then-not-opened-clause-refused
 returns-then-not-opened-clause-refused g c =
-    write_failed (g.R.Read.remaining c.args.reader.now) (g.R.Read.remaining c.read_head.new.reader)
-    (append_known (g.W.Write.contents c.args.writer.now) c.args.page.now.items)
-    (append_known (g.W.Write.contents c.finish.new.writer) c.finish.new.page.items) c.finish.result
+    write_failed (g.R.Read.remaining c.args.input.now.reader.now) (g.R.Read.remaining c.read_head.new.input.reader.now)
+    (all_of g.W.Write.contents c.args.account.now.output)
+    (all_of g.W.Write.contents c.finish.new.output) c.finish.result
     c.finish.ensures.refused
 
 pub play-requires-clause-some : goal.play-requires-clause-some
@@ -64,26 +64,26 @@ play-requires-clause-lines g c = c.in-Ok.ensures.opened.1
 pub returns-clause-report : goal.returns-clause-report
 returns-clause-report g c =
     let head = c.in-Ok.opened.head in
-    let old = g.R.Read.remaining c.args.reader.now in
-    let now = g.R.Read.remaining c.read_head.new.reader in
-    reported_from old (append_known (g.W.Write.contents c.args.writer.now) c.args.page.now.items)
-    (append_known (g.W.Write.contents c.read_head.new.writer) c.read_head.new.page.items)
-    (append_known (g.W.Write.contents c.play.new.writer) c.play.new.page.items) c.play.result c.in-Ok.ensures.kept
+    let old = g.R.Read.remaining c.args.input.now.reader.now in
+    let now = g.R.Read.remaining c.read_head.new.input.reader.now in
+    reported_from old (all_of g.W.Write.contents c.args.account.now.output)
+    (all_of g.W.Write.contents c.read_head.new.output)
+    (all_of g.W.Write.contents c.play.new.account.output) c.play.result c.in-Ok.ensures.kept
     (c.play.ensures.report old
-    (subst (λ (s : List SessionState). HasRead old now c.read_head.new.block c.in-Ok.opened.lines []
+    (subst (λ (s : List SessionState). HasRead old now c.read_head.new.input.block c.in-Ok.opened.lines []
     (Playing head.version s)) (sym c.in-Ok-open_sessions.ensures.begun)
-    (opened_more c.in-Ok.opened old now c.read_head.new.block c.if-not-opened.false c.in-Ok.ensures.opened)))
+    (opened_more c.in-Ok.opened old now c.read_head.new.input.block c.if-not-opened.false c.in-Ok.ensures.opened)))
 
 pub returns-clause-refused : goal.returns-clause-refused
 returns-clause-refused g c =
     let head = c.in-Ok.opened.head in
-    let old = g.R.Read.remaining c.args.reader.now in
-    let now = g.R.Read.remaining c.read_head.new.reader in
-    refused_from old (g.R.Read.remaining c.play.new.reader)
-    (append_known (g.W.Write.contents c.args.writer.now) c.args.page.now.items)
-    (append_known (g.W.Write.contents c.read_head.new.writer) c.read_head.new.page.items)
-    (append_known (g.W.Write.contents c.play.new.writer) c.play.new.page.items) c.play.result c.in-Ok.ensures.kept
+    let old = g.R.Read.remaining c.args.input.now.reader.now in
+    let now = g.R.Read.remaining c.read_head.new.input.reader.now in
+    refused_from old (g.R.Read.remaining c.play.new.input.reader.now)
+    (all_of g.W.Write.contents c.args.account.now.output)
+    (all_of g.W.Write.contents c.read_head.new.output)
+    (all_of g.W.Write.contents c.play.new.account.output) c.play.result c.in-Ok.ensures.kept
     (c.play.ensures.refused old
-    (subst (λ (s : List SessionState). HasRead old now c.read_head.new.block c.in-Ok.opened.lines []
+    (subst (λ (s : List SessionState). HasRead old now c.read_head.new.input.block c.in-Ok.opened.lines []
     (Playing head.version s)) (sym c.in-Ok-open_sessions.ensures.begun)
-    (opened_more c.in-Ok.opened old now c.read_head.new.block c.if-not-opened.false c.in-Ok.ensures.opened)))
+    (opened_more c.in-Ok.opened old now c.read_head.new.input.block c.if-not-opened.false c.in-Ok.ensures.opened)))

@@ -1,5 +1,5 @@
 use Rattle.std.proofs.Common.{◌≡◌, ◌∙◌, sym, ap, length, ℕ, arith}
-use Rattle.std.specs.Io.KnownBytes.{append_known}
+use Rattle.daide_lines.specs.Output.{all_of}
 use Rattle.daide_log.specs.Log.{event_in}
 use Rattle.daide_lines.specs.Told.{event_told}
 use Rattle.daide_log.proofs.EventLemmas.{all_idle, session_judged, nothing_judged, on_ok}
@@ -13,9 +13,9 @@ pub returns-in-Some-Quiet-clause-judged : goal.returns-in-Some-Quiet-clause-judg
 returns-in-Some-Quiet-clause-judged g c =
     let count : length c.args.sessions.now.items ≡ c.len-count.result =
     omega (arith, c.len-count.ensures, c.args.sessions.now.ok.0) in
-    nothing_judged c.args.version c.args.number c.args.line.now c.args.sessions.now.items c.args.summary.now
-    (append_known (g.W.Write.contents c.args.writer.now) c.args.page.now.items)
-    (ap (λ (n : ℕ). event_in c.args.version n c.args.line.now) count
+    nothing_judged c.args.origin.version c.args.origin.line c.args.line.now c.args.sessions.now.items c.args.account.now.summary
+    (all_of g.W.Write.contents c.args.account.now.output)
+    (ap (λ (n : ℕ). event_in c.args.origin.version n c.args.line.now) count
     ∙ sym (rw c.in-Some-Quiet.field-0-is at c.in-Some-Quiet.ensures.told))
 
 pub returns-in-Some-Of-clause-judged : goal.returns-in-Some-Of-clause-judged
@@ -24,20 +24,20 @@ returns-in-Some-Of-clause-judged g c =
     omega (arith, c.len-count.ensures, c.args.sessions.now.ok.0) in
     let within = rw c.in-Some-Of.field-0-is at c.in-Some-Of.ensures.within in
     on_ok c.judge.result _ _ c.judge.ensures.judged
-    (session_judged c.args.version c.args.number c.in-Some-Of.session
+    (session_judged c.args.origin.version c.args.origin.line c.in-Some-Of.session
     (event_told c.read_told.new.bytes c.in-Some-Of.told) c.args.line.now c.args.sessions.now.items c.index_mut.result.now
-    c.judge.new.session c.source_in-source.result c.args.summary.now c.judge.new.summary
-    (append_known (g.W.Write.contents c.args.writer.now) c.args.page.now.items)
-    (append_known (g.W.Write.contents c.judge.new.writer) c.judge.new.page.items)
-    (ap (λ (n : ℕ). event_in c.args.version n c.args.line.now) count
+    c.judge.new.session c.source-source.result c.args.account.now.summary c.judge.new.account.summary
+    (all_of g.W.Write.contents c.args.account.now.output)
+    (all_of g.W.Write.contents c.judge.new.account.output)
+    (ap (λ (n : ℕ). event_in c.args.origin.version n c.args.line.now) count
     ∙ sym (rw c.in-Some-Of.field-0-is at c.in-Some-Of.ensures.told))
-    within.0 (omega (arith, within.1, count)) c.index_mut.ensures.value c.source_in-source.ensures)
+    within.0 (omega (arith, within.1, count)) c.index_mut.ensures.value c.source-source.ensures)
 
 pub returns-in-None-clause-few : goal.returns-in-None-clause-few
-returns-in-None-clause-few g c = no_more 1024 c.args.summary.now
+returns-in-None-clause-few g c = no_more 1024 c.args.account.now.summary
 
 pub returns-in-Some-Quiet-clause-few : goal.returns-in-Some-Quiet-clause-few
-returns-in-Some-Quiet-clause-few g c = no_more 1024 c.args.summary.now
+returns-in-Some-Quiet-clause-few g c = no_more 1024 c.args.account.now.summary
 
 pub returns-in-Some-Of-clause-idle : goal.returns-in-Some-Of-clause-idle
 returns-in-Some-Of-clause-idle g c =

@@ -1,5 +1,5 @@
 use Rattle.std.proofs.Common.{[], ◌∷◌}
-use Rattle.std.specs.Io.KnownBytes.{append_known}
+use Rattle.daide_lines.specs.Output.{all_of}
 use Rattle.daide_frame.specs.declared.side.Side.TheVariants.{Bot}
 use Rattle.daide_machine.specs.Events.{Pops}
 use Rattle.daide_log.proofs.PlayLemmas.{tells_moves, timer_moves}
@@ -10,9 +10,9 @@ pub returns-clause-told : goal.returns-clause-told
 returns-clause-told g c =
     on_ok c.tell.result _ _ c.tell.ensures.text
     (tells_moves c.args.source Bot c.args.session.now.state (Pops ∷ []) c.take_answers.new.session.state
-    c.im_timeout-told.result c.args.summary.now c.tell.new.summary
-    (append_known (g.W.Write.contents c.args.writer.now) c.args.page.now.items)
-    (append_known (g.W.Write.contents c.tell.new.writer) c.tell.new.page.items)
+    c.im_timeout-told.result c.args.account.now.summary c.tell.new.account.summary
+    (all_of g.W.Write.contents c.args.account.now.output)
+    (all_of g.W.Write.contents c.tell.new.account.output)
     (timer_moves c.args.session.now c.im_timeout-told.new.self c.take_answers.new.session.state c.im_timeout-told.result
     c.im_timeout-told.ensures.goes c.take_answers.ensures.state)
     c.tell.ensures.counted)

@@ -17,13 +17,13 @@ end_session-requires g c =
 
 pub returns-clause-moves : goal.returns-clause-moves
 returns-clause-moves g c = failed c.args.traffic.now c.end.new.self c.end_session.new.traffic c.args.stage.now
-    c.end_session.new.stage c.args.side c.args.code
+    c.end_session.new.stage c.count.new.self c.args.side c.args.code
     (record {
       cap = c.end_session.ensures.keeps.cap ∙ c.end.ensures.limits.0;
       rules = c.end_session.ensures.keeps.rules ∙ c.end.ensures.limits.1;
       sides = c.end_session.ensures.keeps.sides ∙ c.end.ensures.sides;
     })
-    c.end.ensures.waiting c.end_session.ensures.stage c.end_session.ensures.sent
+    c.end.ensures.waiting c.end_session.ensures.stage c.count.ensures.modulo c.end_session.ensures.sent
 
 pub returns-clause-fronts : goal.returns-clause-fronts
 returns-clause-fronts g c =

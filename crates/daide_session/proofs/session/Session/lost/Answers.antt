@@ -1,11 +1,12 @@
-use Rattle.std.proofs.Common.{[], ap, ◌∙◌, subst}
+use Rattle.std.proofs.Common.{[], ◌∷◌, ap, ◌∙◌, subst}
 use Rattle.daide_frame.specs.declared.side.Side.TheVariants.{Bot, Server}
-use Rattle.daide_machine.specs.Events.{other}
+use Rattle.daide_machine.specs.Events.{Loses, other}
+use Rattle.daide_machine.proofs.EndingLemmas.{runs_told}
 use Rattle.daide_machine.specs.Wires.{Gateway, Lost}
 use Rattle.daide_traffic.specs.Both.{Both}
 use Rattle.daide_traffic.specs.Traffic.{Arrival}
 use Rattle.daide_traffic.specs.Fronts.{KeepsFront}
-use Rattle.daide_session.specs.Session.{gateway_of}
+use Rattle.daide_session.specs.Session.{state_of, gateway_of}
 use Rattle.daide_session.specs.Work.{HoldsNoMore}
 use Rattle.daide_session.proofs.GatewayFronts.{other_front}
 use Rattle.daide_session.proofs.WrittenLemmas.{holds_less, lost_of}
@@ -20,7 +21,11 @@ done g c = lost_of c.self.inside.traffic c.stop.new.traffic c.lose.new.self c.se
     c.args.side c.stop.ensures.moves c.stop.ensures.keeps c.lose.ensures.lets_go c.lose.ensures.waiting
 
 pub invariant_of-self : goal.invariant_of-self
-invariant_of-self g c = standing_over _ (done g c).over
+invariant_of-self g c =
+    let lost = done g c in
+    standing_over _ lost.over
+    (runs_told (state_of c.self.inside.traffic c.self.inside.stage) (Loses c.args.side ∷ []) lost.effects
+    (state_of c.lose.new.self c.stop.new.stage) lost.run c.self.invariant.ending)
 
 pub returns-clause-lost : goal.returns-clause-lost
 returns-clause-lost g c =

@@ -1,0 +1,12 @@
+-- A report on its way out.
+use Rattle.std.specs.Prelude.{◌≡◌, ℕ, List, Option}
+use Rattle.std.specs.Io.KnownBytes.{append_known}
+use Rattle.daide_lines.specs.declared.output.Output.{Output}
+
+-- what the writer holds, and behind it what is held back from it
+abbrev pub all_of : {W : Type 0} → (W → Option (List ℕ)) → Output W → Option (List ℕ)
+all_of contents output = append_known (contents output.writer.now) output.page.items
+
+-- it goes to the same writer
+abbrev pub IsSameWriter : {W : Type 0} → Output W → Output W → Type 0
+IsSameWriter old new = new.writer.ghost_name ≡ old.writer.ghost_name

@@ -1,0 +1,46 @@
+//! A log that is read: its reader, what was read of it, and the line that was taken.
+
+ghost use Rattle.std.specs.Prelude.{◌≡◌, []};
+ghost use Rattle.daide_lines.specs.Input.{LiesIn, line_at};
+
+use crate::block::Block;
+use crate::lines::{Found, without_cr};
+use crate::text::Text;
+use std::io::Read;
+
+/// A reader, what it gave and was not looked at yet, and a line that was copied.
+#[derive(Drop)]
+pub struct Input<'a, R> {
+    /// What was read and not looked at.
+    pub block: Block,
+    /// A line that did not lie whole in it.
+    pub text: Text,
+    /// What gives more.
+    pub reader: &'a mut R,
+}
+
+impl<'a, R: Read> Input<'a, R> {
+    /// With nothing read.
+    pub fn new(reader: &'a mut R) -> Input<'a, R>
+        ensures none { result.block ≡ [] }
+        ensures reader { result.reader.now ≡ reader.old }
+        ensures same_reader { result.reader.ghost_name ≡ reader.entry.ghost_name }
+    {
+        Input {
+            block: Block::new(),
+            text: Text::new(),
+            reader,
+        }
+    }
+
+    /// The line that was found, without its line end.
+    pub fn line(&self, found: Found) -> &[u8]
+        requires { LiesIn found self.now.block }
+        ensures { result.now ≡ line_at found self.now.block self.now.text.items }
+    {
+        match found {
+            Found::Held(end) => without_cr(&self.block.as_slice()[..end]),
+            Found::Line | Found::Last | Found::End => self.text.as_slice(),
+        }
+    }
+}

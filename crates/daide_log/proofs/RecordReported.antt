@@ -1,0 +1,445 @@
+-- The report of a session's record: its head, then a line for each answer that tells something.
+use Rattle.std.proofs.Common.{◌≡◌, ℕ, suc, ◌+◌, ◌<◌, ◌≤◌, ◌⊎◌, inl, inr, cond, eqb, leb}
+use Rattle.std.proofs.Common.{Bool, true, false, List, [], ◌∷◌, ◌++◌, length, codes, append-nil}
+use Rattle.std.proofs.Common.{Option, Some, None, Result, Ok, Err, refl, sym, ap, ◌∙◌, subst, arith, append_assoc, length-append}
+use Rattle.std.specs.Prelude.{is_ok, not, option_map}
+use Rattle.std.specs.List.{AllByRecursion, list_all}
+use Rattle.std.proofs.lemmas.Bool.{and_parts, leb-true}
+use Rattle.std.proofs.lemmas.Bool.Decides.{nat_tests}
+use Rattle.daide_token.specs.Names.{Named as NamedToken}
+use Rattle.daide_frame.specs.declared.side.Side.{Side}
+use Rattle.daide_frame.specs.declared.side.Side.TheVariants.{Bot}
+use Rattle.daide_words.specs.declared.word.Word.{Word}
+use Rattle.daide_words.specs.declared.word.WordError.{WordError}
+use Rattle.daide_words.specs.declared.word.WordError.TheVariants as faults
+use Rattle.daide_words.specs.Word.{names_of}
+use Rattle.daide_words.specs.Accepted.{word_fault, are_accepted, are_accepted_after, is_capital, is_free_name, is_free_code}
+use Rattle.daide_words.specs.Accepted.{has_press, may_hold}
+use Rattle.daide_machine.specs.declared.config.Config.{Config}
+use Rattle.daide_machine.specs.declared.note.Note.{Note}
+use Rattle.daide_machine.specs.Config.{config_fault, limits_with}
+use Rattle.daide_machine.specs.Events.{Event, Ends, Loses}
+use Rattle.daide_machine.specs.Machine.{SessionState, Effect, Outcome, Step, Runs, opening, event_outcome, is_over}
+use Rattle.daide_machine.proofs.OneRun.{one_run}
+use Rattle.daide_machine.proofs.PieceRuns.{over_stays}
+use Rattle.daide_reader.specs.declared.verdict.Verdict.{Verdict}
+use Rattle.daide_turns.specs.declared.ports.Pull.TheVariants.{Got, Idle, Ended}
+use Rattle.daide_turns.specs.declared.ports.Put.TheVariants.{Took, Failed}
+use Rattle.daide_turns.specs.Record.{PortAnswer, Clock, Pulled, Offered, event_of, events_of}
+use Rattle.daide_lines.specs.LogLine.{most_lines}
+use Rattle.daide_lines.specs.LogLine.{LogEvent, Traffic, EndOf, TimeOver}
+use Rattle.daide_lines.specs.MatchLine.{Of}
+use Rattle.daide_log.specs.declared.heading.Version.TheVariants.{Match}
+use Rattle.daide_log.specs.Heading.{Head, Unnamed, Named, Headed, with_word, heading_after}
+use Rattle.daide_log.specs.Report.{Entry, entries_of, side_of}
+use Rattle.daide_log.specs.Report.{events_of as events_in}
+use Rattle.daide_log.specs.Log.{Stage, Opening, Playing, GoesOn, Reports, ReportsAll, IsReport, begun, stage_at, source_in}
+use Rattle.daide_log.specs.RecordText.{told_by}
+use Rattle.daide_log.specs.RecordText.{event_text, event_line, line_of_answer, count_of_answer, lines_of_answers}
+use Rattle.daide_log.specs.RecordText.{count_of_answers, lines_of_words, word_text, config_text, head_text, head_count}
+use Rattle.daide_log.specs.RecordText.{record_text, record_count}
+use Rattle.daide_log.specs.Recording.{IsPiece}
+use Rattle.daide_log.proofs.RecordCounts.{session_counts}
+use Rattle.daide_log.specs.RecordLaw.{side_of_answer, TellsBy, notes_told, notes_of, HasName, IsReported}
+use Rattle.daide_log.proofs.RecordLines.{plain_unbroken, plain_without_cr, IsWritable, line_back, line_plain, line_short}
+use Rattle.daide_log.proofs.RecordHead.{IsWord, config_back, config_plain, config_short, word_back, word_plain, word_short}
+
+-- ---- runs
+
+run_split : (a b : List Event) (old new : SessionState) (moves : List Effect) → Runs old (a ++ b) moves new →
+    (mid : SessionState) × (first : List Effect) × (rest : List Effect)
+    × Runs old a first mid × Runs mid b rest new × (moves ≡ first ++ rest)
+run_split [] b old new moves r = (old, [], moves, (refl, refl), r, refl)
+run_split (event ∷ a) b old new moves r =
+    let s = run_split a b r.0 new r.2 r.4 in (
+      s.0,
+      r.1 ++ s.1,
+      s.2,
+      (r.0, r.1, s.1, r.3, s.3, refl),
+      s.4,
+      r.5 ∙ ap (λ (l : List Effect). r.1 ++ l) s.5 ∙ sym (append_assoc r.1 s.1 s.2),
+    )
+
+-- ---- as the log has it
+
+-- A wire that failed is an end in the log, so a session may have ended otherwise there; the two are the same, or both over.
+abbrev IsAsLogged : SessionState → SessionState → Type 0
+IsAsLogged logged state = (logged ≡ state) ⊎ ((is_over logged.phase ≡ true) × (is_over state.phase ≡ true))
+
+same_moves : (old : SessionState) (side : Side) (verdict : Verdict) →
+    (event_outcome old (Ends side) verdict).effects ≡ (event_outcome old (Loses side) verdict).effects
+same_moves old side verdict = go (is_over old.phase) refl
+  where
+    go : (b : Bool) → is_over old.phase ≡ b →
+        (event_outcome old (Ends side) verdict).effects ≡ (event_outcome old (Loses side) verdict).effects
+    go true e = rw e refl
+    go false e = rw e refl
+
+ended_over : (old : SessionState) (side : Side) (verdict : Verdict) →
+    is_over (event_outcome old (Ends side) verdict).state.phase ≡ true
+ended_over old side verdict = go (is_over old.phase) refl
+  where
+    go : (b : Bool) → is_over old.phase ≡ b → is_over (event_outcome old (Ends side) verdict).state.phase ≡ true
+    go true e = rw e e
+    go false e = rw e refl
+
+lost_over : (old : SessionState) (side : Side) (verdict : Verdict) →
+    is_over (event_outcome old (Loses side) verdict).state.phase ≡ true
+lost_over old side verdict = go (is_over old.phase) refl
+  where
+    go : (b : Bool) → is_over old.phase ≡ b → is_over (event_outcome old (Loses side) verdict).state.phase ≡ true
+    go true e = rw e e
+    go false e = rw e refl
+
+-- a wire that failed moves a session as the end of its side does
+lost_is_ended : (side : Side) (old new : SessionState) (moves : List Effect) → Runs old (Loses side ∷ []) moves new →
+    (other : SessionState) × Runs old (Ends side ∷ []) moves other × IsAsLogged other new
+lost_is_ended side old new moves r =
+    let verdict = r.3.verdict in
+    let out = event_outcome old (Ends side) verdict in
+    let step : Step old (Ends side) out.effects out.state =
+    record { verdict = verdict; right = r.3.right; outcome = refl } in
+    let state_is : new ≡ (event_outcome old (Loses side) verdict).state =
+    r.4.1 ∙ sym (ap (λ (o : Outcome). o.state) r.3.outcome) in
+    let first : r.1 ≡ out.effects =
+    sym (ap (λ (o : Outcome). o.effects) r.3.outcome) ∙ sym (same_moves old side verdict) in (
+      out.state,
+      (
+        out.state,
+        out.effects,
+        [],
+        step,
+        (refl, refl),
+        r.5 ∙ ap (λ (l : List Effect). r.1 ++ l) r.4.0 ∙ ap (λ (l : List Effect). l ++ []) first,
+      ),
+      inr (ended_over old side verdict, ap (λ (s : SessionState). is_over s.phase) state_is ∙ lost_over old side verdict),
+    )
+
+-- the events of an answer, as its line tells them
+abbrev events_logged : Option LogEvent → List Event
+events_logged None = []
+events_logged (Some event) = events_in event
+
+-- where the session goes by an answer, as the log has it
+record GoesAsLogged (old : SessionState) (answer : PortAnswer) (moves : List Effect) (new : SessionState) : Type 0 where
+  logged : SessionState
+  runs : Runs old (events_logged (told_by answer)) moves logged
+  alike : IsAsLogged logged new
+
+same_goes : (answer : PortAnswer) (old new : SessionState) (moves : List Effect) → Runs old (event_of answer) moves new →
+    GoesAsLogged old answer moves new
+same_goes (Clock true) old new moves r = record { logged = new; runs = r; alike = inl refl }
+same_goes (Clock false) old new moves r = record { logged = new; runs = r; alike = inl refl }
+same_goes (Pulled side buffer (Got n) []) old new moves r = record { logged = new; runs = r; alike = inl refl }
+same_goes (Pulled side buffer (Got n) (byte ∷ came)) old new moves r =
+    record { logged = new; runs = r; alike = inl refl }
+same_goes (Pulled side buffer Idle came) old new moves r = record { logged = new; runs = r; alike = inl refl }
+same_goes (Pulled side buffer Ended came) old new moves r = record { logged = new; runs = r; alike = inl refl }
+same_goes (Offered side handed (Took n)) old new moves r = record { logged = new; runs = r; alike = inl refl }
+same_goes (Offered side handed Failed) old new moves r =
+    let other = lost_is_ended side old new moves r in record { logged = other.0; runs = other.1; alike = other.2 }
+
+goes_as_logged : (answer : PortAnswer) (logged old new : SessionState) (moves : List Effect) → IsAsLogged logged old →
+    Runs old (event_of answer) moves new → GoesAsLogged logged answer moves new
+goes_as_logged answer logged old new moves (inl same) r =
+    same_goes answer logged new moves (subst (λ (s : SessionState). Runs s (event_of answer) moves new) (sym same) r)
+goes_as_logged answer logged old new moves (inr over) r =
+    let stays = one_run (event_of answer) old moves [] new old r (over_stays old (event_of answer) over.1) in
+    record {
+      logged = logged;
+      runs = subst (λ (l : List Effect). Runs logged (events_logged (told_by answer)) l logged) (sym stays.0)
+          (over_stays logged (events_logged (told_by answer)) over.0);
+      alike = inr (over.0, ap (λ (s : SessionState). is_over s.phase) stays.1 ∙ over.1);
+    }
+
+-- ---- what is told
+
+notes_of-append : (a b : List Effect) → notes_of (a ++ b) ≡ notes_of a ++ notes_of b
+notes_of-append [] b = refl
+notes_of-append (move ∷ a) b = ap (λ (l : List Note). move.told ∷ l) (notes_of-append a b)
+
+notes_told-append : (a b : List Entry) → notes_told (a ++ b) ≡ notes_told a ++ notes_told b
+notes_told-append [] b = refl
+notes_told-append (entry ∷ a) b = ap (λ (l : List Note). entry.told ∷ l) (notes_told-append a b)
+
+entries_told : (number : ℕ) (side : Side) (moves : List Effect) →
+    notes_told (entries_of (source_in Match number 1) side moves) ≡ notes_of moves
+entries_told number side [] = refl
+entries_told number side (move ∷ moves) = ap (λ (l : List Note). move.told ∷ l) (entries_told number side moves)
+
+told_by_lines : (answers : List PortAnswer) (lines : ℕ) (old new : SessionState) (moves : List Effect) →
+    Runs old (events_of answers) moves new →
+    (told : List Entry) × TellsBy lines old answers told new × (notes_told told ≡ notes_of moves)
+told_by_lines [] lines old new moves r = ([], (refl, r.1), sym (ap notes_of r.0))
+told_by_lines (answer ∷ answers) lines old new moves r =
+    let s = run_split (event_of answer) (events_of answers) old new moves r in
+    let later = told_by_lines answers (lines + count_of_answer answer) s.0 new s.2 s.4 in
+    let here = entries_of (source_in Match (lines + 1) 1) (side_of_answer answer) s.1 in (
+      here ++ later.0,
+      (s.0, s.1, later.0, s.3, later.1, refl),
+      notes_told-append here later.0
+          ∙ ap (λ (l : List Note). l ++ notes_told later.0) (entries_told (lines + 1) (side_of_answer answer) s.1)
+          ∙ ap (λ (l : List Note). notes_of s.1 ++ l) later.2 ∙ sym (notes_of-append s.1 s.2) ∙ ap notes_of (sym s.5),
+    )
+
+-- ---- one answer
+
+-- the same report, said otherwise
+same_report : (bytes other : List ℕ) (number another : ℕ) (told more : List Entry) (stage after : Stage) → bytes ≡ other →
+    number ≡ another → told ≡ more → stage ≡ after → Reports bytes number told stage → Reports other another more after
+same_report bytes other number another told more stage after b n t s h =
+    subst (λ (x : Stage). Reports other another more x) s
+    (subst (λ (x : List Entry). Reports other another x stage) t
+    (subst (λ (x : ℕ). Reports other x told stage) n (subst (λ (x : List ℕ). Reports x number told stage) b h)))
+
+playing : SessionState → Stage
+playing state = Playing Match (state ∷ [])
+
+quiet_reported : (bytes : List ℕ) (number : ℕ) (told : List Entry) (side : Side) (old new : SessionState)
+    (moves : List Effect) → Reports bytes number told (Playing Match (old ∷ [])) → Runs old [] moves new →
+    Reports (bytes ++ []) (number + 0) (told ++ entries_of (source_in Match (number + 1) 1) side moves)
+    (Playing Match (new ∷ []))
+quiet_reported bytes number told side old new moves h r =
+    same_report bytes (bytes ++ []) number (number + 0) told
+    (told ++ entries_of (source_in Match (number + 1) 1) side moves) (Playing Match (old ∷ [])) (Playing Match (new ∷ []))
+    (sym (append-nil bytes)) (omega arith)
+    (sym (ap (λ (l : List Effect). told ++ entries_of (source_in Match (number + 1) 1) side l) r.0 ∙ append-nil told))
+    (ap (λ (s : SessionState). Playing Match (s ∷ [])) (sym r.1)) h
+
+event_reported : (event : LogEvent) (bytes : List ℕ) (number : ℕ) (told : List Entry) (old new : SessionState)
+    (moves : List Effect) → IsWritable event → number + 1 ≤ most_lines →
+    Reports bytes number told (Playing Match (old ∷ [])) → Runs old (events_in event) moves new →
+    Reports (bytes ++ event_line event) (number + 1)
+    (told ++ entries_of (source_in Match (number + 1) 1) (side_of event) moves) (Playing Match (new ∷ []))
+unfolding event_line
+event_reported event bytes number told old new moves good fits h r =
+    let line = codes "1 " ++ event_text event in
+    let plain = line_plain event good in
+    let more = entries_of (source_in Match (number + 1) 1) (side_of event) moves in
+    let goes : GoesOn (number + 1) (Playing Match (old ∷ [])) line more (Playing Match (new ∷ [])) =
+    (Of 1 event, line_back event good, new ∷ [], (old, new, moves, refl, r, refl, refl), refl) in
+    subst (λ (x : List ℕ). Reports x (number + 1) (told ++ more) (Playing Match (new ∷ [])))
+    (append_assoc bytes line (10 ∷ []))
+    (Reports.line bytes number told (Playing Match (old ∷ [])) h line more (Playing Match (new ∷ [])) (omega arith)
+    (plain_unbroken line plain) (line_short event good)
+    (subst (λ (x : List ℕ). GoesOn (number + 1) (Playing Match (old ∷ [])) x more (Playing Match (new ∷ [])))
+    (sym (plain_without_cr line plain)) goes))
+
+answer_reported : (answer : PortAnswer) (bytes : List ℕ) (number : ℕ) (told : List Entry) (old new : SessionState)
+    (moves : List Effect) → IsPiece answer → number + count_of_answer answer ≤ most_lines →
+    Reports bytes number told (Playing Match (old ∷ [])) → Runs old (events_logged (told_by answer)) moves new →
+    Reports (bytes ++ line_of_answer answer) (number + count_of_answer answer)
+    (told ++ entries_of (source_in Match (number + 1) 1) (side_of_answer answer) moves) (Playing Match (new ∷ []))
+answer_reported (Clock true) bytes number told old new moves piece fits h r =
+    event_reported TimeOver bytes number told old new moves tt fits h r
+answer_reported (Clock false) bytes number told old new moves piece fits h r =
+    quiet_reported bytes number told Bot old new moves h r
+answer_reported (Pulled side buffer (Got n) []) bytes number told old new moves piece fits h r =
+    quiet_reported bytes number told side old new moves h r
+answer_reported (Pulled side buffer (Got n) (byte ∷ came)) bytes number told old new moves piece fits h r =
+    event_reported (Traffic side (byte ∷ came)) bytes number told old new moves (piece.0, omega arith, piece.1) fits h r
+answer_reported (Pulled side buffer Idle came) bytes number told old new moves piece fits h r =
+    quiet_reported bytes number told side old new moves h r
+answer_reported (Pulled side buffer Ended came) bytes number told old new moves piece fits h r =
+    event_reported (EndOf side) bytes number told old new moves tt fits h r
+answer_reported (Offered side handed (Took n)) bytes number told old new moves piece fits h r =
+    quiet_reported bytes number told side old new moves h r
+answer_reported (Offered side handed Failed) bytes number told old new moves piece fits h r =
+    event_reported (EndOf side) bytes number told old new moves tt fits h r
+
+-- all answers
+
+answers_reported : (answers : List PortAnswer) (bytes : List ℕ) (number : ℕ) (told more : List Entry)
+    (logged old new : SessionState) → AllByRecursion IsPiece answers → number + count_of_answers answers ≤ most_lines →
+    Reports bytes number told (Playing Match (logged ∷ [])) → IsAsLogged logged old → TellsBy number old answers more new →
+    (after : SessionState) × Reports (bytes ++ lines_of_answers answers) (number + count_of_answers answers)
+    (told ++ more) (Playing Match (after ∷ []))
+answers_reported [] bytes number told more logged old new pieces fits h alike t = (
+  logged,
+  same_report bytes (bytes ++ []) number (number + 0) told (told ++ more) (Playing Match (logged ∷ []))
+      (Playing Match (logged ∷ [])) (sym (append-nil bytes)) (omega arith)
+      (sym (ap (λ (l : List Entry). told ++ l) t.0 ∙ append-nil told)) refl h,
+)
+answers_reported (answer ∷ answers) bytes number told more logged old new pieces fits h alike t =
+    let line = line_of_answer answer in
+    let count = count_of_answer answer in
+    let here = entries_of (source_in Match (number + 1) 1) (side_of_answer answer) t.1 in
+    let goes = goes_as_logged answer logged old t.0 t.1 alike t.3 in
+    let first = answer_reported answer bytes number told logged goes.logged t.1 pieces.0 (omega arith) h goes.runs in
+    let all = answers_reported answers (bytes ++ line) (number + count) (told ++ here) t.2 goes.logged t.0 new pieces.1
+    (omega arith) first goes.alike t.4 in (
+      all.0,
+      same_report ((bytes ++ line) ++ lines_of_answers answers) (bytes ++ (line ++ lines_of_answers answers))
+          ((number + count) + count_of_answers answers) (number + (count + count_of_answers answers)) ((told ++ here) ++ t.2)
+          (told ++ more) (Playing Match (all.0 ∷ [])) (Playing Match (all.0 ∷ []))
+          (append_assoc bytes line (lines_of_answers answers)) (omega arith)
+          (append_assoc told here t.2 ∙ ap (λ (l : List Entry). told ++ l) (sym t.5)) refl all.1,
+    )
+
+-- ---- words
+
+-- a word that was accepted is read back, and there were fewer than may be
+record IsAccepted (taken : List NamedToken) (word : Word) : Type 0 where
+  letters : list_all is_capital word.name ≡ true
+  code : word.code < 65536
+  few : length taken < 16
+
+abbrev fault_by : Bool → Bool → Bool → Word → Result (Unit {0}) WordError
+fault_by a b c word =
+    cond a (Err faults.Full) (cond (not b) (Err faults.Name) (cond (not c) (Err faults.Code)
+    (cond (not (has_press word.level)) (Err faults.Level)
+    (cond (not (may_hold word.slot word.operand)) (Err faults.Operand) (Ok tt)))))
+
+accepted : (taken : List NamedToken) (word : Word) → is_ok (word_fault taken word) ≡ true → IsAccepted taken word
+accepted taken word h = go (leb 16 (length taken)) (is_free_name taken word.name) (is_free_code taken word.code) refl refl refl h
+  where
+    go : (a b c : Bool) → leb 16 (length taken) ≡ a → is_free_name taken word.name ≡ b → is_free_code taken word.code ≡ c →
+        is_ok (fault_by a b c word) ≡ true →
+        IsAccepted taken word
+    go true b c e f g h = absurd (cc)
+    go false false c e f g h = absurd (cc)
+    go false true false e f g h = absurd (cc)
+    go false true true e f g h =
+        let most = (and_parts (leb 0x4A00 word.code) (leb word.code 0x4AFF) (and_parts _ _ g).0).1 in
+        let small = leb-true word.code 0x4AFF most in
+        record {
+          letters = (and_parts (list_all is_capital word.name) _ f).0;
+          code = omega arith;
+          few = grind (arith, nat_tests);
+        }
+
+few_accepted : (words : List Word) (taken : List NamedToken) → are_accepted_after taken words ≡ true → length taken ≤ 16 →
+    length taken + length words ≤ 16
+few_accepted [] taken h few = omega arith
+few_accepted (word ∷ words) taken h few =
+    let both = and_parts (is_ok (word_fault taken word)) (are_accepted_after (taken ++ (word.code, word.name) ∷ []) words) h in
+    let less = (accepted taken word both.0).few in
+    let size = length-append taken ((word.code, word.name) ∷ []) in
+    let rest = few_accepted words (taken ++ (word.code, word.name) ∷ []) both.1 (omega arith) in
+    omega arith
+
+names_of-more : (words : List Word) (word : Word) → names_of (words ++ word ∷ []) ≡ names_of words ++ (word.code, word.name) ∷ []
+names_of-more [] word = refl
+names_of-more (first ∷ words) word = ap (λ (l : List NamedToken). (first.code, first.name) ∷ l) (names_of-more words word)
+
+-- a head that sets these
+abbrev head_with : Config → ℕ → List Word → Head
+head_with config total words =
+    record { version = Match; limits = record { config = config; sessions = 1; words = total }; words = words }
+
+still_opening : (config : Config) (total : ℕ) (words : List Word) → length words < total →
+    stage_at (Headed (head_with config total words)) ≡ Opening (Headed (head_with config total words))
+still_opening config total words less =
+    let other : eqb (length words) total ≡ false = grind (arith, nat_tests) in
+    ap (λ (b : Bool). cond b (begun (head_with config total words)) (Opening (Headed (head_with config total words)))) other
+
+all_there : (config : Config) (words : List Word) →
+    stage_at (Headed (head_with config (length words) words)) ≡ Playing Match (opening (limits_with config words) ∷ [])
+all_there config words =
+    let same : eqb (length words) (length words) ≡ true = grind (arith, nat_tests) in
+    ap (λ (b : Bool). cond b (begun (head_with config (length words) words))
+    (Opening (Headed (head_with config (length words) words)))) same
+
+heading_more : (config : Config) (total : ℕ) (words : List Word) (word : Word) → IsWord word →
+    is_ok (word_fault (names_of words) word) ≡ true →
+    heading_after (Headed (head_with config total words)) (word_text word)
+    ≡ Some (Headed (head_with config total (words ++ word ∷ [])))
+heading_more config total words word good h =
+    ap (λ (o : Option Word). option_map (λ l. Headed (head_with config total l)) (with_word words o)) (word_back word good)
+    ∙ ap (λ (b : Bool). option_map (λ l. Headed (head_with config total l)) (cond b (Some (words ++ word ∷ [])) None)) h
+
+words_reported : (words before : List Word) (config : Config) (total : ℕ) (bytes : List ℕ) (number : ℕ) →
+    Reports bytes number [] (stage_at (Headed (head_with config total before))) → length before + length words ≡ total →
+    are_accepted_after (names_of before) words ≡ true → AllByRecursion HasName words →
+    number + length words ≤ most_lines →
+    Reports (bytes ++ lines_of_words words) (number + length words) []
+    (stage_at (Headed (head_with config total (before ++ words))))
+words_reported [] before config total bytes number h size good names fits =
+    same_report bytes (bytes ++ []) number (number + 0) [] [] (stage_at (Headed (head_with config total before)))
+    (stage_at (Headed (head_with config total (before ++ [])))) (sym (append-nil bytes)) (omega arith) refl
+    (ap (λ (l : List Word). stage_at (Headed (head_with config total l))) (sym (append-nil before))) h
+words_reported (word ∷ words) before config total bytes number h size good names fits =
+    let both = and_parts (is_ok (word_fault (names_of before) word))
+    (are_accepted_after (names_of before ++ (word.code, word.name) ∷ []) words) good in
+    let here = accepted (names_of before) word both.0 in
+    let is_word : IsWord word = record { three = names.0; letters = here.letters; code = here.code } in
+    let line = word_text word in
+    let plain = word_plain word is_word in
+    let after = stage_at (Headed (head_with config total (before ++ word ∷ []))) in
+    let opened : Reports bytes number [] (Opening (Headed (head_with config total before))) =
+    subst (λ (s : Stage). Reports bytes number [] s) (still_opening config total before (omega arith)) h in
+    let goes : GoesOn (number + 1) (Opening (Headed (head_with config total before))) line [] after =
+    (Headed (head_with config total (before ++ word ∷ [])), heading_more config total before word is_word both.0, refl, refl) in
+    let first : Reports ((bytes ++ line) ++ 10 ∷ []) (number + 1) [] after =
+    Reports.line bytes number [] (Opening (Headed (head_with config total before))) opened line [] after (omega arith)
+    (plain_unbroken line plain) (word_short word is_word)
+    (subst (λ (x : List ℕ). GoesOn (number + 1) (Opening (Headed (head_with config total before))) x [] after)
+    (sym (plain_without_cr line plain)) goes) in
+    let grown = length-append before (word ∷ []) in
+    let more = words_reported words (before ++ word ∷ []) config total ((bytes ++ line) ++ 10 ∷ []) (number + 1) first
+    (omega arith) (ap (λ (l : List NamedToken). are_accepted_after l words) (names_of-more before word) ∙ both.1) names.1
+    (omega arith) in
+    same_report (((bytes ++ line) ++ 10 ∷ []) ++ lines_of_words words) (bytes ++ ((line ++ 10 ∷ []) ++ lines_of_words words))
+    ((number + 1) + length words) (number + suc (length words)) [] []
+    (stage_at (Headed (head_with config total ((before ++ word ∷ []) ++ words))))
+    (stage_at (Headed (head_with config total (before ++ word ∷ words))))
+    (ap (λ (l : List ℕ). l ++ lines_of_words words) (append_assoc bytes line (10 ∷ []))
+    ∙ append_assoc bytes (line ++ 10 ∷ []) (lines_of_words words))
+    (omega arith) refl
+    (ap (λ (l : List Word). stage_at (Headed (head_with config total l))) (append_assoc before (word ∷ []) words)) more
+
+-- ---- the whole
+
+name_reported : Reports (codes "daide-log 2\n") 1 [] (Opening (Named Match))
+name_reported =
+    Reports.line [] 0 [] (Opening Unnamed) Reports.none (codes "daide-log 2") [] (Opening (Named Match)) (omega arith)
+    (plain_unbroken (codes "daide-log 2") refl) (omega arith) (Named Match, refl, refl, refl)
+
+head_reported : (config : Config) (words : List Word) → config_fault config ≡ Ok tt → are_accepted words ≡ true →
+    AllByRecursion HasName words → head_count words ≤ most_lines →
+    Reports (head_text config words) (head_count words) [] (Playing Match (opening (limits_with config words) ∷ []))
+unfolding head_text
+head_reported config words good well names fits =
+    let total = length words in
+    let few = few_accepted words [] well (omega arith) in
+    let line = config_text config total in
+    let plain = config_plain config total good (omega arith) in
+    let after = stage_at (Headed (head_with config total [])) in
+    let goes : GoesOn 2 (Opening (Named Match)) line [] after = (
+      Headed (head_with config total []),
+      ap (λ o. option_map (λ limits. Headed (record { version = Match; limits = limits; words = [] })) o)
+          (config_back config total good (omega arith)),
+      refl,
+      refl,
+    ) in
+    let second : Reports ((codes "daide-log 2\n" ++ line) ++ 10 ∷ []) 2 [] after =
+    Reports.line (codes "daide-log 2\n") 1 [] (Opening (Named Match)) name_reported line [] after (omega arith)
+    (plain_unbroken line plain) (config_short config total good (omega arith))
+    (subst (λ (x : List ℕ). GoesOn 2 (Opening (Named Match)) x [] after) (sym (plain_without_cr line plain)) goes) in
+    same_report (((codes "daide-log 2\n" ++ line) ++ 10 ∷ []) ++ lines_of_words words)
+    ((codes "daide-log 2\n" ++ (line ++ 10 ∷ [])) ++ lines_of_words words) (2 + total) (2 + total) [] []
+    (stage_at (Headed (head_with config total words))) (Playing Match (opening (limits_with config words) ∷ []))
+    (ap (λ (l : List ℕ). l ++ lines_of_words words) (append_assoc (codes "daide-log 2\n") line (10 ∷ []))) refl refl
+    (all_there config words)
+    (words_reported words [] config total ((codes "daide-log 2\n" ++ line) ++ 10 ∷ []) 2 second (omega arith) well names fits)
+
+pub record_reported : (config : Config) (words : List Word) (answers : List PortAnswer) (moves : List Effect)
+    (state : SessionState) → config_fault config ≡ Ok tt → are_accepted words ≡ true → AllByRecursion HasName words →
+    AllByRecursion IsPiece answers → record_count words answers ≤ most_lines →
+    Runs (opening (limits_with config words)) (events_of answers) moves state →
+    IsReported config words answers moves state
+record_reported config words answers moves state good well names pieces fits run =
+    let start = opening (limits_with config words) in
+    let told = told_by_lines answers (head_count words) start state moves run in
+    let head = head_reported config words good well names (omega arith) in
+    let all = answers_reported answers (head_text config words) (head_count words) [] told.0 start start state pieces fits
+    head (inl refl) told.1 in
+    record {
+      told = told.0;
+      by_lines = told.1;
+      notes = told.2;
+      counts = session_counts told.0 moves told.2;
+      report = IsReport.whole (record_text config words answers) (record_count words answers) told.0 Match (all.0 ∷ [])
+          (ReportsAll.ended (record_text config words answers) (record_count words answers) told.0
+          (Playing Match (all.0 ∷ [])) all.1);
+    }

@@ -1,0 +1,183 @@
+-- What the record of ports has of their answers.
+use Rattle.std.proofs.Common.{◌≡◌, ◌≢◌, ℕ, ◌+◌, ◌≤◌, List, [], ◌∷◌, ◌++◌, Option, Some, None, refl, sym, ap, ◌∙◌, subst}
+use Rattle.std.proofs.Common.{arith, append_assoc, append-nil}
+use Rattle.std.specs.List.{AllByRecursion}
+use Rattle.std.specs.Io.KnownBytes.{Keeps, Appends}
+use Rattle.daide_words.specs.declared.word.Word.{Word}
+use Rattle.daide_machine.specs.declared.config.Config.{Config}
+use Rattle.daide_turns.specs.Record.{PortAnswer, BecomesBy}
+use Rattle.daide_lines.specs.LogLine.{LogEvent, most_lines}
+use Rattle.daide_log.specs.declared.record.RecordEnd.{RecordEnd}
+use Rattle.daide_log.specs.declared.record.RecordEnd.TheVariants.{Whole, Failed, Full}
+use Rattle.daide_log.specs.RecordText.{event_line, told_by, line_told, count_told, line_of_answer, count_of_answer}
+use Rattle.daide_log.specs.RecordText.{lines_of_answers, count_of_answers, head_text, record_text, record_count}
+use Rattle.daide_log.specs.Recording.{Written, Recorded, Records, Takes, TakesLine, TakesEvent, IsPiece}
+use Rattle.daide_log.specs.RecordLaw.{HasFront, PortsAreRecorded}
+
+-- ---- one answer more
+
+lines_more : (answers : List PortAnswer) (answer : PortAnswer) →
+    lines_of_answers (answers ++ answer ∷ []) ≡ lines_of_answers answers ++ line_of_answer answer
+lines_more [] answer = append-nil (line_of_answer answer)
+lines_more (first ∷ answers) answer =
+    ap (λ (l : List ℕ). line_of_answer first ++ l) (lines_more answers answer)
+    ∙ sym (append_assoc (line_of_answer first) (lines_of_answers answers) (line_of_answer answer))
+
+count_more : (answers : List PortAnswer) (answer : PortAnswer) →
+    count_of_answers (answers ++ answer ∷ []) ≡ count_of_answers answers + count_of_answer answer
+count_more [] answer = omega arith
+count_more (first ∷ answers) answer = omega (arith, count_more answers answer)
+
+pieces_more : (answers : List PortAnswer) (answer : PortAnswer) → AllByRecursion IsPiece answers → IsPiece answer →
+    AllByRecursion IsPiece (answers ++ answer ∷ [])
+pieces_more [] answer h k = (k, tt)
+pieces_more (first ∷ answers) answer h k = (h.0, pieces_more answers answer h.1 k)
+
+text_more : (config : Config) (words : List Word) (answers : List PortAnswer) (answer : PortAnswer) →
+    record_text config words answers ++ line_of_answer answer ≡ record_text config words (answers ++ answer ∷ [])
+text_more config words answers answer =
+    append_assoc (head_text config words) (lines_of_answers answers) (line_of_answer answer)
+    ∙ ap (λ (l : List ℕ). head_text config words ++ l) (sym (lines_more answers answer))
+
+-- ---- a record so far
+
+-- the record is whole, and has the lines of these
+record IsOf (config : Config) (words : List Word) (answers : List PortAnswer) (written : Written) : Type 0 where
+  text : written.text ≡ Some (record_text config words answers)
+  lines : written.lines ≡ record_count words answers
+  few : record_count words answers ≤ most_lines
+  pieces : AllByRecursion IsPiece answers
+  ending : written.ending ≡ Whole
+
+-- what becomes of it by an answer: it is whole, or it ended
+record IsOver (config : Config) (words : List Word) (answers : List PortAnswer) (written : Written) : Type 0 where
+  text : written.text ≡ Some (record_text config words answers)
+  ending : written.ending ≡ Full
+
+data Outcome (config : Config) (words : List Word) (answers : List PortAnswer) (answer : PortAnswer) (new : Written) : Type 0
+  where
+    further : IsOf config words (answers ++ answer ∷ []) new → Outcome config words answers answer new
+    full : IsOver config words answers new → Outcome config words answers answer new
+    failed : new.ending ≡ Failed → Outcome config words answers answer new
+
+appended : (old new : Option (List ℕ)) (text line : List ℕ) → old ≡ Some text → Appends old new line → new ≡ Some (text ++ line)
+appended None new text line e h = absurd (cc)
+appended (Some xs) None text line e h = absurd h
+appended (Some xs) (Some ys) text line e h =
+    let same : xs ≡ text = cc in ap Some (h ∙ ap (λ (l : List ℕ). l ++ line) same)
+
+kept : (old new : Option (List ℕ)) (text : List ℕ) → old ≡ Some text → Keeps old new → new ≡ Some text
+kept None new text e h = absurd (cc)
+kept (Some xs) None text e h = absurd h
+kept (Some xs) (Some ys) text e h = ap Some h ∙ e
+
+lined : (config : Config) (words : List Word) (answers : List PortAnswer) (answer : PortAnswer) (event : LogEvent)
+    (old new : Written) → IsOf config words answers old → IsPiece answer → told_by answer ≡ Some event → (ending : RecordEnd) →
+    new.ending ≡ ending → TakesLine ending old event new → Outcome config words answers answer new
+lined config words answers answer event old new h piece told Whole e t =
+    let line : line_of_answer answer ≡ event_line event = ap line_told told in
+    let count : count_of_answer answer ≡ 1 = ap count_told told in
+    let lines = h.lines in
+    let more = count_more answers answer in
+    further (record {
+      text = appended old.text new.text (record_text config words answers) (event_line event) h.text t.2
+          ∙ ap Some (ap (λ (l : List ℕ). record_text config words answers ++ l) (sym line) ∙ text_more config words answers answer);
+      lines = omega (arith, t.1);
+      few = omega (arith, t.0);
+      pieces = pieces_more answers answer h.pieces piece;
+      ending = e;
+    })
+lined config words answers answer event old new h piece told Full e t =
+    full (record { text = kept old.text new.text (record_text config words answers) h.text t.2; ending = e })
+lined config words answers answer event old new h piece told Failed e t = failed e
+
+taken : (config : Config) (words : List Word) (answers : List PortAnswer) (answer : PortAnswer) (old new : Written) →
+    IsOf config words answers old → IsPiece answer → (told : Option LogEvent) → told_by answer ≡ told → Takes old told new →
+    Outcome config words answers answer new
+taken config words answers answer old new h piece None e t =
+    let line : line_of_answer answer ≡ [] = ap line_told e in
+    let count : count_of_answer answer ≡ 0 = ap count_told e in
+    let same = ap (λ (w : Written). w.lines) t in
+    let lines = h.lines in
+    let few = h.few in
+    let more = count_more answers answer in
+    further (record {
+      text = ap (λ (w : Written). w.text) t ∙ h.text
+          ∙ ap Some (sym (append-nil (record_text config words answers))
+          ∙ ap (λ (l : List ℕ). record_text config words answers ++ l) (sym line) ∙ text_more config words answers answer);
+      lines = omega arith;
+      few = omega arith;
+      pieces = pieces_more answers answer h.pieces piece;
+      ending = ap (λ (w : Written). w.ending) t ∙ h.ending;
+    })
+taken config words answers answer old new h piece (Some event) e t =
+    lined config words answers answer event old new h piece e new.ending refl
+    (subst (λ (x : RecordEnd). TakesEvent x old event new) h.ending t)
+
+-- ---- a record that ended
+
+untaken : (ending : RecordEnd) (old new : Written) (told : Option LogEvent) → ending ≢ Whole → old.ending ≡ ending →
+    Takes old told new → new ≡ old
+untaken ending old new None other e t = t
+untaken Whole old new (Some event) other e t = absurd (other refl)
+untaken Failed old new (Some event) other e t = subst (λ (x : RecordEnd). TakesEvent x old event new) e t
+untaken Full old new (Some event) other e t = subst (λ (x : RecordEnd). TakesEvent x old event new) e t
+
+module _ {P : Type 0} (becomes : P → PortAnswer → P → Type 0) where
+  stays : (ending : RecordEnd) (answers : List PortAnswer) (old new : Recorded P) → ending ≢ Whole →
+      old.record_of.ending ≡ ending → BecomesBy (Records becomes) old answers new → new.record_of ≡ old.record_of
+  stays ending [] old new other e b = ap (λ (r : Recorded P). r.record_of) b
+  stays ending (answer ∷ answers) old new other e b =
+      let same = untaken ending old.record_of b.0.record_of (told_by answer) other e b.1.taken in
+      stays ending answers b.0 new other (ap (λ (w : Written). w.ending) same ∙ e) b.2 ∙ same
+
+  fronts : (config : Config) (words : List Word) (answers done : List PortAnswer) (old new : Recorded P) →
+      IsOf config words done old.record_of → BecomesBy (Records becomes) old answers new →
+      new.record_of.ending ≢ Failed → HasFront config words (done ++ answers) new.record_of
+  fronts config words [] done old new h b other =
+      let same : new.record_of ≡ old.record_of = ap (λ (r : Recorded P). r.record_of) b in
+      record {
+        front = done;
+        rest = [];
+        whole = refl;
+        text = ap (λ (w : Written). w.text) same ∙ h.text;
+        few = h.few;
+        pieces = h.pieces;
+        all = λ _. refl;
+      }
+  fronts config words (answer ∷ answers) done old new h b other =
+      go (taken config words done answer old.record_of b.0.record_of h b.1.piece (told_by answer) refl b.1.taken)
+      (λ k. fronts config words answers (done ++ answer ∷ []) b.0 new k b.2 other)
+    where
+      go : Outcome config words done answer b.0.record_of →
+          (IsOf config words (done ++ answer ∷ []) b.0.record_of →
+          HasFront config words ((done ++ answer ∷ []) ++ answers) new.record_of) →
+          HasFront config words (done ++ answer ∷ answers) new.record_of
+      go (further k) later =
+          subst (λ (l : List PortAnswer). HasFront config words l new.record_of) (append_assoc done (answer ∷ []) answers)
+          (later k)
+      go (full k) later =
+          let same = stays Full answers b.0 new (λ e. absurd (cc)) k.ending b.2 in
+          let ended : new.record_of.ending ≡ Full = ap (λ (w : Written). w.ending) same ∙ k.ending in
+          record {
+            front = done;
+            rest = answer ∷ answers;
+            whole = refl;
+            text = ap (λ (w : Written). w.text) same ∙ k.text;
+            few = h.few;
+            pieces = h.pieces;
+            all = λ e. absurd (cc);
+          }
+      go (failed k) later =
+          let same = stays Failed answers b.0 new (λ e. absurd (cc)) k b.2 in
+          absurd (other (ap (λ (w : Written). w.ending) same ∙ k))
+
+  pub ports_recorded : PortsAreRecorded becomes
+  ports_recorded config words answers old new fits begun b other =
+      fronts config words answers [] old new (record {
+        text = ap (λ (w : Written). w.text) begun ∙ ap Some (sym (append-nil (head_text config words)));
+        lines = ap (λ (w : Written). w.lines) begun ∙ omega arith;
+        few = omega arith;
+        pieces = tt;
+        ending = ap (λ (w : Written). w.ending) begun;
+      }) b other

@@ -1,0 +1,99 @@
+-- What the record of a session's ports reports: the moves of that session, each under the number of the line that tells
+-- what made it. (own)
+use Rattle.std.specs.Prelude.{◌≡◌, ◌≢◌, ℕ, ◌+◌, ◌≤◌, true, List, [], ◌∷◌, ◌++◌, length, map, Some, Ok}
+use Rattle.std.specs.List.{AllByRecursion}
+use Rattle.daide_frame.specs.declared.side.Side.{Side}
+use Rattle.daide_frame.specs.declared.side.Side.TheVariants.{Bot}
+use Rattle.daide_words.specs.declared.word.Word.{Word}
+use Rattle.daide_words.specs.Accepted.{are_accepted}
+use Rattle.daide_machine.specs.declared.config.Config.{Config}
+use Rattle.daide_machine.specs.declared.note.Note.{Note}
+use Rattle.daide_machine.specs.Config.{config_fault, limits_with}
+use Rattle.daide_machine.specs.Machine.{SessionState, Effect, Runs, opening}
+use Rattle.daide_turns.specs.Record.{PortAnswer, Clock, Pulled, Offered, event_of, events_of, BecomesBy}
+use Rattle.daide_lines.specs.LogLine.{most_lines}
+use Rattle.daide_log.specs.declared.heading.Version.TheVariants.{Match}
+use Rattle.daide_log.specs.declared.record.RecordEnd.TheVariants.{Whole, Failed}
+use Rattle.daide_log.specs.Report.{Entry, entries_of, lines_of, counted_all, summary_line}
+use Rattle.daide_machine.specs.Summary.{nothing_counted, reduced, tallied}
+use Rattle.daide_log.specs.Log.{source_in, IsReport}
+use Rattle.daide_log.specs.RecordText.{count_of_answer, record_text, record_count, head_text, head_count}
+use Rattle.daide_log.specs.Recording.{Written, Recorded, Records, IsPiece}
+
+-- ---- moves, by the answers that made them
+
+-- whose an answer is; the timer is that of the bot's first message
+abbrev pub side_of_answer : PortAnswer → Side
+side_of_answer (Clock popped) = Bot
+side_of_answer (Pulled side buffer pull bytes) = side
+side_of_answer (Offered side bytes put) = side
+
+-- By these answers, which follow so many lines, the session goes from old to new; and these are its moves, each under the
+-- number of the line of its answer, and under number 1 for the session.
+abbrev pub TellsBy : ℕ → SessionState → List PortAnswer → List Entry → SessionState → Type 0
+TellsBy lines old [] told new = (told ≡ []) × (new ≡ old)
+TellsBy lines old (answer ∷ answers) told new =
+    (mid : SessionState) × (moves : List Effect) × (later : List Entry)
+    × Runs old (event_of answer) moves mid × TellsBy (lines + count_of_answer answer) mid answers later new
+    × (told ≡ entries_of (source_in Match (lines + 1) 1) (side_of_answer answer) moves ++ later)
+
+-- what is told of entries, and of moves
+abbrev pub notes_told : List Entry → List Note
+notes_told entries = map (λ entry. entry.told) entries
+
+abbrev pub notes_of : List Effect → List Note
+notes_of moves = map (λ move. move.told) moves
+
+-- ---- the law
+
+-- the name of each word has three letters, as that of a `Word` has
+abbrev pub HasName : Word → Type 0
+HasName word = length word.name ≡ 3
+
+-- This is the report of a session's record, and the whole of it: its notes, each once and in their order, under the number
+-- of the line that tells what made it, and the counts of them all, which are the session's own, modulo 2^64.
+pub record IsReported (config : Config) (words : List Word) (answers : List PortAnswer) (moves : List Effect)
+    (state : SessionState) : Type 0 where
+  pub told : List Entry
+  pub by_lines : TellsBy (head_count words) (opening (limits_with config words)) answers told state
+  pub notes : notes_told told ≡ notes_of moves
+  pub report : IsReport (record_text config words answers)
+      (lines_of told ++ summary_line (counted_all told nothing_counted)) (Ok (counted_all told nothing_counted))
+  pub counts : tallied moves nothing_counted ≡ reduced (counted_all told nothing_counted)
+
+-- Where a session that has these limits and words goes by what answers of ports tell it, the log that is written of these
+-- answers reports that session.
+abbrev pub RecordsAreReported : Type 0
+RecordsAreReported =
+    (config : Config) (words : List Word) (answers : List PortAnswer) (moves : List Effect) (state : SessionState) →
+    config_fault config ≡ Ok tt → are_accepted words ≡ true → AllByRecursion HasName words →
+    AllByRecursion IsPiece answers → record_count words answers ≤ most_lines →
+    Runs (opening (limits_with config words)) (events_of answers) moves state →
+    IsReported config words answers moves state
+
+-- ---- ports
+
+-- a record to which no answer came, over a writer that tells its bytes
+abbrev pub begun_record : Config → List Word → Written
+begun_record config words =
+    record { text = Some (head_text config words); lines = head_count words; ending = Whole }
+
+-- What a record has of these answers: the head, and the lines of their front, as many as a log may have; while it is whole
+-- the lines of them all.
+pub record HasFront (config : Config) (words : List Word) (answers : List PortAnswer) (written : Written) : Type 0 where
+  pub front : List PortAnswer
+  pub rest : List PortAnswer
+  pub whole : answers ≡ front ++ rest
+  pub text : written.text ≡ Some (record_text config words front)
+  pub few : record_count words front ≤ most_lines
+  pub pieces : AllByRecursion IsPiece front
+  pub all : written.ending ≡ Whole → rest ≡ []
+
+-- Ports with a record, however they were asked: unless its writer failed, the record has a front of their answers, and all
+-- of them unless it is full.
+abbrev pub PortsAreRecorded : {P : Type 0} → (P → PortAnswer → P → Type 0) → Type 0
+PortsAreRecorded {P} becomes =
+    (config : Config) (words : List Word) (answers : List PortAnswer) (old new : Recorded P) →
+    head_count words ≤ most_lines → old.record_of ≡ begun_record config words →
+    BecomesBy (Records becomes) old answers new → new.record_of.ending ≢ Failed →
+    HasFront config words answers new.record_of

@@ -1,0 +1,129 @@
+-- The text of the record of a session: a log of version 2 with one session, by the answers of its ports.
+-- docs/FORMATS.md, "The record". (own)
+use Rattle.std.specs.Prelude.{ℕ, ◌+◌, true, false, List, [], ◌∷◌, ◌++◌, length, codes, Option, Some, None}
+use Rattle.std.specs.Fmt.{decimal}
+use Rattle.hex.specs.Hex.{encode_upper}
+use Rattle.daide_token.specs.Token.{bytes_of}
+use Rattle.daide_frame.specs.declared.side.Side.{Side}
+use Rattle.daide_grammar.specs.Level.{level_number}
+use Rattle.daide_words.specs.declared.slot.Slot.{Slot}
+use Rattle.daide_words.specs.declared.slot.Slot.TheVariants as slots
+use Rattle.daide_words.specs.declared.operand.Operand.{Operand}
+use Rattle.daide_words.specs.declared.operand.Operand.TheVariants as operands
+use Rattle.daide_words.specs.declared.word.Word.{Word}
+use Rattle.daide_machine.specs.declared.config.Config.{Config}
+use Rattle.daide_turns.specs.declared.ports.Pull.TheVariants.{Got, Idle, Ended}
+use Rattle.daide_turns.specs.declared.ports.Put.TheVariants.{Took, Failed}
+use Rattle.daide_turns.specs.Record.{PortAnswer, Clock, Pulled, Offered}
+use Rattle.daide_lines.specs.LogLine.{LogEvent, Traffic, EndOf, TimeOver, Silence}
+use Rattle.daide_log.specs.Report.{name_of_side}
+
+-- ---- what an answer of ports tells a log
+
+-- bytes of a side, if there are any
+abbrev pub piece_of : Side → List ℕ → Option LogEvent
+piece_of side [] = None
+piece_of side (byte ∷ bytes) = Some (Traffic side (byte ∷ bytes))
+
+-- a clock that popped, bytes that came, and an end; a wire that failed is the end of its side
+abbrev pub told_by : PortAnswer → Option LogEvent
+told_by (Clock true) = Some TimeOver
+told_by (Clock false) = None
+told_by (Pulled side buffer (Got n) bytes) = piece_of side bytes
+told_by (Pulled side buffer Idle bytes) = None
+told_by (Pulled side buffer Ended bytes) = Some (EndOf side)
+told_by (Offered side bytes (Took n)) = None
+told_by (Offered side bytes Failed) = Some (EndOf side)
+
+-- ---- the lines of answers
+
+-- an event, as a line of version 1 has it
+unfoldable pub event_text : LogEvent → List ℕ
+event_text (Traffic side bytes) = name_of_side side ++ 32 ∷ encode_upper bytes
+event_text (EndOf side) = codes "end " ++ name_of_side side
+event_text TimeOver = codes "timer"
+event_text Silence = []
+
+-- the line of an event of session 1
+unfoldable pub event_line : LogEvent → List ℕ
+event_line event = codes "1 " ++ event_text event ++ 10 ∷ []
+
+-- the line of what was told, if anything was
+abbrev pub line_told : Option LogEvent → List ℕ
+line_told None = []
+line_told (Some event) = event_line event
+
+abbrev pub count_told : Option LogEvent → ℕ
+count_told None = 0
+count_told (Some event) = 1
+
+-- the line of an answer, and whether it has one
+abbrev pub line_of_answer : PortAnswer → List ℕ
+line_of_answer answer = line_told (told_by answer)
+
+abbrev pub count_of_answer : PortAnswer → ℕ
+count_of_answer answer = count_told (told_by answer)
+
+-- those of answers, one after the other, and how many they are
+abbrev pub lines_of_answers : List PortAnswer → List ℕ
+lines_of_answers [] = []
+lines_of_answers (answer ∷ answers) = line_of_answer answer ++ lines_of_answers answers
+
+abbrev pub count_of_answers : List PortAnswer → ℕ
+count_of_answers [] = 0
+count_of_answers (answer ∷ answers) = count_of_answer answer + count_of_answers answers
+
+-- ---- the head
+
+-- words, with a space between two of them
+abbrev pub spaced : List (List ℕ) → List ℕ
+spaced [] = []
+spaced (word ∷ []) = word
+spaced (word ∷ other ∷ words) = word ++ 32 ∷ spaced (other ∷ words)
+
+-- the names of a slot and of an operand in the settings
+abbrev pub name_of_slot : Slot → List ℕ
+name_of_slot slots.Press = codes "press"
+name_of_slot slots.Arrangement = codes "arrangement"
+
+abbrev pub name_of_operand : Operand → List ℕ
+name_of_operand operands.Power = codes "power"
+name_of_operand operands.Powers = codes "powers"
+name_of_operand operands.Provinces = codes "provinces"
+name_of_operand operands.Order = codes "order"
+name_of_operand operands.Arrangement = codes "arrangement"
+name_of_operand operands.Press = codes "press"
+
+-- the line of a word of the operator's, without its line feed
+unfoldable pub word_text : Word → List ℕ
+word_text word =
+    spaced (codes "word" ∷ word.name ∷ encode_upper (bytes_of word.code) ∷ name_of_slot word.slot
+    ∷ decimal (level_number word.level) ∷ name_of_operand word.operand ∷ [])
+
+-- those of words, each with its line feed
+abbrev pub lines_of_words : List Word → List ℕ
+lines_of_words [] = []
+lines_of_words (word ∷ words) = (word_text word ++ 10 ∷ []) ++ lines_of_words words
+
+-- the line of the limits, of one session, and of so many words
+unfoldable pub config_text : Config → ℕ → List ℕ
+config_text config words =
+    spaced (codes "config" ∷ decimal config.top_level ∷ decimal config.max_body ∷ decimal config.max_depth ∷ codes "1"
+    ∷ decimal words ∷ [])
+
+-- the head of a record
+unfoldable pub head_text : Config → List Word → List ℕ
+head_text config words =
+    codes "daide-log 2\n" ++ (config_text config (length words) ++ 10 ∷ []) ++ lines_of_words words
+
+-- how many lines it has
+abbrev pub head_count : List Word → ℕ
+head_count words = 2 + length words
+
+-- ---- the whole
+
+abbrev pub record_text : Config → List Word → List PortAnswer → List ℕ
+record_text config words answers = head_text config words ++ lines_of_answers answers
+
+abbrev pub record_count : List Word → List PortAnswer → ℕ
+record_count words answers = head_count words + count_of_answers answers

@@ -1,0 +1,78 @@
+-- Ports that keep a record: what an answer does to the ports and to the record. (own)
+use Rattle.std.specs.Prelude.{◌≡◌, ⊤, ℕ, ◌+◌, ◌<◌, ◌≤◌, min, Bool, true, false, List, length, Option, Some, None}
+use Rattle.std.specs.Io.KnownBytes.{Appends, Keeps}
+use Rattle.hex.specs.Hex.{IsBytes}
+use Rattle.daide_turns.specs.Record.{PortAnswer, Clock, Pulled, Offered}
+use Rattle.daide_lines.specs.LogLine.{LogEvent, most_lines}
+use Rattle.daide_log.specs.declared.record.RecordEnd.{RecordEnd}
+use Rattle.daide_log.specs.declared.record.RecordEnd.TheVariants.{Whole, Failed, Full}
+use Rattle.daide_log.specs.RecordText.{told_by, event_line}
+
+-- ---- a record
+
+-- What was written and what is held behind it, where the writer tells its bytes; how many lines that is; and whether the
+-- record is whole so far, or ended before.
+pub record Written : Type 0 where
+  pub text : Option (List ℕ)
+  pub lines : ℕ
+  pub ending : RecordEnd
+
+-- what an ending is
+abbrev pub is_failed : RecordEnd → Bool
+is_failed Whole = false
+is_failed Failed = true
+is_failed Full = false
+
+abbrev pub is_full : RecordEnd → Bool
+is_full Whole = false
+is_full Failed = false
+is_full Full = true
+
+-- A whole record gets the line of an event, unless it has as many lines as a log may have: then it keeps what it has.
+-- What a writer that failed has is not said.
+abbrev pub TakesLine : RecordEnd → Written → LogEvent → Written → Type 0
+TakesLine Whole old event new =
+    (old.lines < most_lines) × (new.lines ≡ old.lines + 1) × Appends old.text new.text (event_line event)
+TakesLine Full old event new = (most_lines ≤ old.lines) × (new.lines ≡ old.lines) × Keeps old.text new.text
+TakesLine Failed old event new = new.lines ≡ old.lines
+
+-- one that ended is as it was
+abbrev pub TakesEvent : RecordEnd → Written → LogEvent → Written → Type 0
+TakesEvent Whole old event new = TakesLine new.ending old event new
+TakesEvent Failed old event new = new ≡ old
+TakesEvent Full old event new = new ≡ old
+
+-- what is told, if anything is
+abbrev pub Takes : Written → Option LogEvent → Written → Type 0
+Takes old None new = new ≡ old
+Takes old (Some event) new = TakesEvent old.ending old event new
+
+-- ---- ports
+
+-- the most bytes of a line
+abbrev pub longest_piece : ℕ
+longest_piece = 1024
+
+-- ports, and the record of their answers
+pub record Recorded (P : Type 0) : Type 0 where
+  pub ports : P
+  pub record_of : Written
+
+-- the same answer of the ports within, which are lent no more of a buffer than a line has bytes
+abbrev pub asked_within : PortAnswer → PortAnswer
+asked_within (Clock popped) = Clock popped
+asked_within (Pulled side buffer pull bytes) = Pulled side (min buffer longest_piece) pull bytes
+asked_within (Offered side bytes put) = Offered side bytes put
+
+-- what came fits a line
+abbrev pub IsPiece : PortAnswer → Type 0
+IsPiece (Clock popped) = ⊤
+IsPiece (Pulled side buffer pull bytes) = IsBytes bytes × (length bytes ≤ longest_piece)
+IsPiece (Offered side bytes put) = ⊤
+
+-- what an answer does to ports and record
+pub record Records {P : Type 0} (becomes : P → PortAnswer → P → Type 0) (old : Recorded P) (answer : PortAnswer)
+    (new : Recorded P) : Type 0 where
+  pub ports : becomes old.ports (asked_within answer) new.ports
+  pub piece : IsPiece answer
+  pub taken : Takes old.record_of (told_by answer) new.record_of

@@ -1,0 +1,13 @@
+//! What a check has told of a log so far.
+
+use crate::report::Summary;
+use daide_lines::output::Output;
+
+/// What was counted, and the lines of the report, on their way out.
+#[derive(Drop)]
+pub struct Account<'a, W> {
+    /// What was counted.
+    pub summary: Summary,
+    /// The lines.
+    pub output: Output<'a, W>,
+}

@@ -1,0 +1,184 @@
+//! The record of a session: a log of what its ports answered, as `check_log` reads it.
+//!
+//! Lines are held back, and handed to the writer in blocks of whole lines.
+
+ghost use Rattle.std.specs.Prelude.{◌≡◌, ◌≢◌, ◌<◌, ◌≤◌, Some, length};
+ghost use Rattle.std.specs.Io.KnownBytes.{Keeps, append_known};
+ghost use Rattle.daide_words.specs.Words.{words_of};
+ghost use Rattle.daide_lines.specs.LogLine.{most_lines, EndOf, TimeOver};
+ghost use Rattle.daide_log.specs.RecordText.{piece_of, head_text, head_count};
+ghost use Rattle.daide_log.specs.Recording.{Takes, is_failed, is_full};
+
+use crate::record_text::{put_end, put_head, put_piece, put_timer};
+use daide_frame::Side;
+use daide_lines::page::{Page, hand_over};
+use daide_machine::Config;
+use daide_words::Words;
+use std::io::Write;
+use std::marker::Model;
+
+/// The most lines of a record: those that a log may have.
+pub const MOST_LINES: u32 = 1_000_000;
+
+/// How many bytes may be held where the longest line still finds room.
+const FRONT: usize = 6092;
+
+/// How a record ended, or would end now.
+#[derive(Clone, Copy, Debug, PartialEq, Eq)]
+pub enum RecordEnd {
+    /// It has a line for each answer that tells something.
+    Whole,
+    /// Its writer failed, and nothing was written since.
+    Failed,
+    /// It has as many lines as a log may have, and a further one was to come.
+    Full,
+}
+
+/// The record of one session over a writer: a log of version 2.
+#[derive(Drop)]
+pub struct Record<W: Write + Drop> {
+    writer: W,
+    held: Page,
+    lines: u32,
+    ending: RecordEnd,
+}
+
+impl<W: Write + Drop> Model for Record<W> {
+    ghost use Rattle.std.specs.Io.KnownBytes.{append_known};
+    ghost use Rattle.daide_log.specs.Recording.{Written};
+
+    ghost Value = { Written };
+
+    ghost view = { λ r. record {
+      text = append_known (W.contents r.writer) r.held.items;
+      lines = r.lines;
+      ending = r.ending;
+    } };
+}
+
+/// Makes room for a line behind what is held, of so many lines with those that were handed over; what can take none is
+/// handed over.
+fn make_room<W: Write>(held: &mut Page, lines: u32, writer: &mut W) -> RecordEnd
+    ensures kept { result ≢ RecordEnd.Failed → Keeps (append_known (W.contents writer.old) held.old.items)
+        (append_known (W.contents writer.new) held.new.items) }
+    ensures whole { result ≡ RecordEnd.Whole → (lines < most_lines) × (length held.new.items ≤ 6092) }
+    ensures full { result ≡ RecordEnd.Full → most_lines ≤ lines }
+{
+    if lines < MOST_LINES && held.len() <= FRONT {
+        return RecordEnd::Whole;
+    }
+    match hand_over(held, writer) {
+        Ok(()) => {
+            if lines < MOST_LINES {
+                RecordEnd::Whole
+            } else {
+                RecordEnd::Full
+            }
+        }
+        Err(_) => RecordEnd::Failed,
+    }
+}
+
+impl<W: Write + Drop> Record<W> {
+    /// A record of a session with these limits and words, over a writer. Its head is held, and nothing is written yet.
+    pub fn new(writer: W, config: Config, words: Words) -> Record<W>
+        ensures { result ≡ record {
+          text = append_known (W.contents writer) (head_text config (words_of words));
+          lines = head_count (words_of words);
+          ending = RecordEnd.Whole;
+        } }
+    {
+        let mut held = Page::new();
+        put_head(&config, &words, &mut held);
+        Record {
+            writer,
+            held,
+            lines: 2 + words.names().len() as u32,
+            ending: RecordEnd::Whole,
+        }
+    }
+
+    /// How the record ended, or would end now.
+    pub fn ending(&self) -> RecordEnd
+        ensures { result ≡ self.now.ending }
+    {
+        self.ending
+    }
+
+    /// Whether its writer failed.
+    pub fn has_failed(&self) -> bool
+        ensures { result ≡ is_failed self.now.ending }
+    {
+        self.ending == RecordEnd::Failed
+    }
+
+    /// Whether a line was left out since there are as many as a log may have.
+    pub fn is_full(&self) -> bool
+        ensures { result ≡ is_full self.now.ending }
+    {
+        self.ending == RecordEnd::Full
+    }
+
+    /// Bytes of a side came, no more than a line has.
+    pub fn came(&mut self, side: Side, bytes: &[u8])
+        requires { length bytes.now ≤ 1024 }
+        ensures { Takes self.old (piece_of side bytes.now) self.new }
+    {
+        if bytes.is_empty() || self.ending != RecordEnd::Whole {
+            return;
+        }
+        self.ending = make_room(&mut self.held, self.lines, &mut self.writer);
+        if self.ending == RecordEnd::Whole {
+            put_piece(side, bytes, &mut self.held);
+            self.lines += 1;
+        }
+    }
+
+    /// A side ended, or the wire toward it failed.
+    pub fn ended(&mut self, side: Side)
+        ensures { Takes self.old (Some (EndOf side)) self.new }
+    {
+        if self.ending != RecordEnd::Whole {
+            return;
+        }
+        self.ending = make_room(&mut self.held, self.lines, &mut self.writer);
+        if self.ending == RecordEnd::Whole {
+            put_end(side, &mut self.held);
+            self.lines += 1;
+        }
+    }
+
+    /// The time for the initial message is over.
+    pub fn timed_out(&mut self)
+        ensures { Takes self.old (Some TimeOver) self.new }
+    {
+        if self.ending != RecordEnd::Whole {
+            return;
+        }
+        self.ending = make_room(&mut self.held, self.lines, &mut self.writer);
+        if self.ending == RecordEnd::Whole {
+            put_timer(&mut self.held);
+            self.lines += 1;
+        }
+    }
+
+    /// Hands over what is held of a record that did not fail, and hands back the writer and how the record ended.
+    pub fn finish(self) -> (W, RecordEnd)
+        ensures failed { self.ending ≡ RecordEnd.Failed → result.1 ≡ RecordEnd.Failed }
+        ensures whole { result.1 ≢ RecordEnd.Failed → (result.1 ≡ self.ending) × Keeps self.text (W.contents result.0) }
+    {
+        let Record {
+            mut writer,
+            mut held,
+            lines: _,
+            ending,
+        } = self;
+        if ending == RecordEnd::Failed {
+            return (writer, ending);
+        }
+        match hand_over(&mut held, &mut writer) {
+            Ok(()) => (writer, ending),
+            Err(_) => (writer, RecordEnd::Failed),
+        }
+    }
+}

@@ -1,0 +1,151 @@
+//! The lines of a record, each put behind those that are held back.
+
+ghost use Rattle.std.specs.Prelude.{◌≡◌, ◌≤◌, ◌+◌, ◌*◌, ◌/◌, ◌%◌, ◌∷◌, ◌++◌, [], length, slice_index};
+ghost use Rattle.hex.specs.Hex.{encode_upper, upper_digits};
+ghost use Rattle.daide_words.specs.Words.{words_of};
+ghost use Rattle.daide_lines.specs.LogLine.{Traffic, EndOf, TimeOver};
+ghost use Rattle.daide_log.specs.RecordText.{event_line, name_of_slot, name_of_operand};
+ghost use Rattle.daide_log.specs.RecordText.{word_text, config_text, head_text};
+
+use crate::report::{put, put_number, put_side};
+use daide_frame::Side;
+use daide_lines::page::Page;
+use daide_machine::Config;
+use daide_words::{Operand, Slot, Word, Words};
+
+/// The digits, with upper-case letters.
+const DIGITS: &[u8; 16] = b"0123456789ABCDEF";
+
+/// Puts the two digits of a byte.
+#[inline(always)]
+fn put_byte(byte: u8, line: &mut Page)
+    requires { length line.old.items ≤ 8190 }
+    ensures text { line.new.items ≡ line.old.items ++ slice_index upper_digits (byte / 16)
+        ∷ slice_index upper_digits (byte % 16) ∷ [] }
+    ensures length { length line.new.items ≡ length line.old.items + 2 }
+{
+    line.push(DIGITS[(byte / 16) as usize]);
+    line.push(DIGITS[(byte % 16) as usize]);
+}
+
+/// Puts bytes in hexadecimal digits.
+#[tactic(auto, using(crate::proofs::RecordLines::encode_more))]
+fn put_bytes(bytes: &[u8], line: &mut Page)
+    requires { length line.old.items + 2 * length bytes.now ≤ 8192 }
+    ensures text { line.new.items ≡ line.old.items ++ encode_upper bytes.now }
+    ensures length { length line.new.items ≡ length line.old.items + 2 * length bytes.now }
+{
+    for i in 0..bytes.len() {
+        put_byte(bytes[i], line);
+    }
+}
+
+/// Puts the line of bytes that came of a side.
+#[tactic(auto, unfolding(crate::specs::RecordText::event_line, crate::specs::RecordText::event_text))]
+pub fn put_piece(side: Side, bytes: &[u8], line: &mut Page)
+    requires few { length bytes.now ≤ 1024 }
+    requires room { length line.old.items ≤ 6092 }
+    ensures { line.new.items ≡ line.old.items ++ event_line (Traffic side bytes.now) }
+{
+    put(b"1 ", line);
+    put_side(side, line);
+    put_bytes(bytes, line);
+    line.push(b'\n');
+}
+
+/// Puts the line of a side's end.
+#[tactic(auto, unfolding(crate::specs::RecordText::event_line, crate::specs::RecordText::event_text))]
+pub fn put_end(side: Side, line: &mut Page)
+    requires { length line.old.items ≤ 6092 }
+    ensures { line.new.items ≡ line.old.items ++ event_line (EndOf side) }
+{
+    match side {
+        Side::Bot => put(b"1 end bot\n", line),
+        Side::Server => put(b"1 end server\n", line),
+    }
+}
+
+/// Puts the line of the timer.
+#[tactic(auto, unfolding(crate::specs::RecordText::event_line, crate::specs::RecordText::event_text))]
+pub fn put_timer(line: &mut Page)
+    requires { length line.old.items ≤ 6092 }
+    ensures { line.new.items ≡ line.old.items ++ event_line TimeOver }
+{
+    put(b"1 timer\n", line);
+}
+
+/// Puts the line of limits, of one session, and of so many words.
+#[tactic(auto, unfolding(crate::specs::RecordText::config_text))]
+fn put_config(config: &Config, words: usize, line: &mut Page)
+    requires { length line.old.items ≤ 64 }
+    ensures text { line.new.items ≡ line.old.items ++ config_text config.now words ++ 10 ∷ [] }
+    ensures few { length line.new.items ≤ length line.old.items + 93 }
+{
+    put(b"config ", line);
+    put_number(config.top_level as u64, line);
+    put(b" ", line);
+    put_number(config.max_body as u64, line);
+    put(b" ", line);
+    put_number(config.max_depth as u64, line);
+    put(b" 1 ", line);
+    put_number(words as u64, line);
+    put(b"\n", line);
+}
+
+/// The name of a slot, and the space before it and behind it.
+fn name_of_slot(slot: Slot) -> &'static [u8]
+    ensures name { result.now ≡ 32 ∷ name_of_slot slot ++ 32 ∷ [] }
+    ensures few { length result.now ≤ 13 }
+{
+    match slot {
+        Slot::Press => b" press ",
+        Slot::Arrangement => b" arrangement ",
+    }
+}
+
+/// The name of an operand, the space before it, and the end of the line.
+fn name_of_operand(operand: Operand) -> &'static [u8]
+    ensures name { result.now ≡ 32 ∷ name_of_operand operand ++ 10 ∷ [] }
+    ensures few { length result.now ≤ 13 }
+{
+    match operand {
+        Operand::Power => b" power\n",
+        Operand::Powers => b" powers\n",
+        Operand::Provinces => b" provinces\n",
+        Operand::Order => b" order\n",
+        Operand::Arrangement => b" arrangement\n",
+        Operand::Press => b" press\n",
+    }
+}
+
+/// Puts the line of a word.
+#[tactic(auto, unfolding(crate::specs::RecordText::word_text))]
+fn put_word(word: Word, line: &mut Page)
+    requires { length line.old.items ≤ 4096 }
+    ensures text { line.new.items ≡ line.old.items ++ word_text word ++ 10 ∷ [] }
+    ensures few { length line.new.items ≤ length line.old.items + 64 }
+{
+    put(b"word ", line);
+    put(&word.name, line);
+    put(b" ", line);
+    put_bytes(&word.code.to_be(), line);
+    put(name_of_slot(word.slot), line);
+    put_number(word.level.number() as u64, line);
+    put(name_of_operand(word.operand), line);
+}
+
+/// Puts the head of a record.
+#[tactic(auto, unfolding(crate::specs::RecordText::head_text))]
+pub fn put_head(config: &Config, words: &Words, line: &mut Page)
+    requires { line.old.items ≡ [] }
+    ensures { line.new.items ≡ head_text config.now (words_of words.now) }
+{
+    let count = words.names().len();
+    put(b"daide-log 2\n", line);
+    put_config(config, count, line);
+    for place in 0..count {
+        if let Some(word) = words.get(place) {
+            put_word(word, line);
+        }
+    }
+}

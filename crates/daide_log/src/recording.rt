@@ -1,0 +1,85 @@
+//! Ports that keep a record of their answers.
+
+ghost use Rattle.std.specs.Prelude.{◌≡◌};
+ghost use Rattle.std.specs.Io.KnownBytes.{Keeps};
+
+use crate::record::{Record, RecordEnd};
+use daide_frame::Side;
+use daide_lines::event_line::MOST;
+use daide_turns::{Ports, Pull, Put};
+use std::io::Write;
+use std::marker::Model;
+
+/// Ports that record what they tell a session: bytes that came, ends, a clock that popped, and a wire that failed, as the
+/// end of its side. The answers are those of the ports within, whatever becomes of the record; they are lent no more of
+/// a buffer than a line has bytes.
+#[derive(Drop)]
+pub struct Recording<P: Ports, W: Write + Drop> {
+    ports: P,
+    log: Record<W>,
+}
+
+impl<P: Ports, W: Write + Drop> Model for Recording<P, W> {
+    ghost use Rattle.daide_log.specs.Recording.{Recorded};
+
+    ghost Value = { Recorded P };
+
+    ghost view = { λ r. record { ports = r.ports; record_of = r.log } };
+}
+
+impl<P: Ports, W: Write + Drop> Recording<P, W> {
+    /// Ports with a record of what they answer from now on.
+    pub fn new(ports: P, log: Record<W>) -> Recording<P, W>
+        ensures { result ≡ record { ports = ports; record_of = log } }
+    {
+        Recording { ports, log }
+    }
+
+    /// The record, as it is now.
+    pub fn record(&self) -> &Record<W>
+        ensures { result.now ≡ self.now.record_of }
+    {
+        &self.log
+    }
+
+    /// The ports themselves, and the record.
+    pub fn into_parts(self) -> (P, Record<W>)
+        ensures { result ≡ (self.ports, self.record_of) }
+    {
+        let Recording { ports, log } = self;
+        (ports, log)
+    }
+}
+
+impl<P: Ports, W: Write + Drop> Ports for Recording<P, W> {
+    ghost use Rattle.daide_log.specs.Recording.{Records};
+
+    ghost becomes = { Records P.becomes };
+
+    fn pull(&mut self, side: Side, buffer: &mut [u8]) -> Pull {
+        let most = buffer.len().min(MOST);
+        let pull = self.ports.pull(side, &mut buffer[..most]);
+        match pull {
+            Pull::Got(count) => self.log.came(side, &buffer[..count]),
+            Pull::Idle => {}
+            Pull::Ended => self.log.ended(side),
+        }
+        pull
+    }
+
+    fn put(&mut self, side: Side, bytes: &[u8]) -> Put {
+        let put = self.ports.put(side, bytes);
+        if put == Put::Failed {
+            self.log.ended(side);
+        }
+        put
+    }
+
+    fn clock_popped(&mut self) -> bool {
+        let popped = self.ports.clock_popped();
+        if popped {
+            self.log.timed_out();
+        }
+        popped
+    }
+}

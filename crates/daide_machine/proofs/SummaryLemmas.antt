@@ -1,0 +1,37 @@
+-- Counts of moves, one stretch after another, and the same in numbers without a bound.
+use Rattle.std.proofs.Common.{◌≡◌, ℕ, ◌+◌, ◌%◌, ◌^◌, List, [], ◌∷◌, ◌++◌, refl, sym, ap, ◌∙◌}
+use Rattle.std.proofs.Math.Nat.{mod-add-mod}
+use Rattle.daide_machine.specs.declared.note.Deed.TheVariants as Deeds
+use Rattle.daide_machine.specs.declared.note.Note.{Note}
+use Rattle.daide_machine.specs.declared.note.Note.TheVariants as Notes
+use Rattle.daide_machine.specs.declared.summary.Summary.{Summary}
+use Rattle.daide_machine.specs.Machine.{Effect}
+use Rattle.daide_machine.specs.Summary.{counted, counted_on, one_more, tallied, counted_moves, reduced}
+
+pub tallied-append : (a b : List Effect) (s : Summary) → tallied (a ++ b) s ≡ tallied b (tallied a s)
+tallied-append [] b s = refl
+tallied-append (effect ∷ a) b s = tallied-append a b (counted_on effect.told s)
+
+-- the counts after one stretch, and after the next
+pub tallied_then : (a b : List Effect) (old mid new : Summary) → mid ≡ tallied a old → new ≡ tallied b mid →
+    new ≡ tallied (a ++ b) old
+tallied_then a b old mid new first second = second ∙ (ap (tallied b) first ∙ sym (tallied-append a b old))
+
+-- one more of a count modulo 2^64 is one more of the count, modulo 2^64
+one_more_mod : (n : ℕ) → one_more (n % 2 ^ 64) ≡ (n + 1) % 2 ^ 64
+one_more_mod n = mod-add-mod n (2 ^ 64) 1
+
+counted_reduced : (told : Note) (s : Summary) → counted_on told (reduced s) ≡ reduced (counted told s)
+counted_reduced Notes.Nothing s = refl
+counted_reduced (Notes.Frame head Deeds.Relayed) s = rw (one_more_mod s.relayed) refl
+counted_reduced (Notes.Frame head Deeds.Dropped) s = refl
+counted_reduced (Notes.Frame head Deeds.Prn) s = rw (one_more_mod s.prn) refl
+counted_reduced (Notes.Frame head (Deeds.Huh place)) s = rw (one_more_mod s.huh) refl
+counted_reduced (Notes.Fault code) s = rw (one_more_mod s.faults) refl
+
+-- a session's counts are its moves counted, modulo 2^64
+pub tallied_reduced : (effects : List Effect) (s : Summary) →
+    tallied effects (reduced s) ≡ reduced (counted_moves effects s)
+tallied_reduced [] s = refl
+tallied_reduced (effect ∷ effects) s =
+    ap (tallied effects) (counted_reduced effect.told s) ∙ tallied_reduced effects (counted effect.told s)

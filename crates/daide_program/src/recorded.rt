@@ -1,0 +1,68 @@
+//! A run of which each session is recorded in a folder: the system of its sockets, with a record round each session's
+//! ports. A run without one has the sockets' own system and nothing of this.
+
+use crate::folder::{Folder, SessionFile, end};
+use daide_gate::{Connect, Notice, Recording, SessionEnd, System};
+use daide_sockets::ports::SocketPorts;
+use daide_sockets::system::Sockets;
+use std::io::Write;
+use std::net::Net;
+use std::rt::{Clock, Files};
+
+/// The sockets of a run, and the folder of its records.
+#[derive(Drop)]
+pub(crate) struct RecordedSockets<'w, 'f, R: AllocGlobal + Clock + Net + Files, E: Write + Drop> {
+    pub sockets: Sockets<'w, R, E>,
+    pub folder: Folder<'f, R>,
+}
+
+impl<R: AllocGlobal + Clock + Net + Files, E: Write + Drop> RecordedSockets<'_, '_, R, E> {
+    /// Waits until the last sockets are closed.
+    pub(crate) fn finish(&mut self) {
+        self.sockets.finish();
+    }
+}
+
+impl<'w, R: AllocGlobal + Clock + Net + Files, E: Write + Drop> System<
+    Recording<SocketPorts<'w, &'w R>, SessionFile<R::File>>,
+> for RecordedSockets<'w, '_, R, E> {
+    ghost use Rattle.std.specs.Prelude.{None};
+
+    ghost told = { λ _. None };
+
+    fn begin_round(&mut self) {
+        self.sockets.begin_round();
+    }
+
+    fn accept(&mut self) -> bool {
+        self.sockets.accept()
+    }
+
+    fn connected(&mut self) -> Connect<Recording<SocketPorts<'w, &'w R>, SessionFile<R::File>>> {
+        match self.sockets.connected() {
+            Connect::Ready(ports) => {
+                let number = ports.number();
+                Connect::Ready(self.folder.begin(number, ports, self.sockets.errors()))
+            }
+            Connect::Failed => Connect::Failed,
+            Connect::Pending => Connect::Pending,
+        }
+    }
+
+    fn retire(
+        &mut self,
+        ports: Recording<SocketPorts<'w, &'w R>, SessionFile<R::File>>,
+        end_of: SessionEnd,
+    ) {
+        let ports = end(ports, self.sockets.errors());
+        self.sockets.retire(ports, end_of);
+    }
+
+    fn tell(&mut self, notice: Notice) {
+        self.sockets.tell(notice);
+    }
+
+    fn wait(&mut self, accepts: bool) {
+        self.sockets.wait(accepts);
+    }
+}

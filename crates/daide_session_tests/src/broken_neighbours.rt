@@ -1,0 +1,133 @@
+//! Two sessions in a hub, one of which breaks: at every place of its conversation a side's stream ends, or the wire
+//! toward it fails. It ends as it does alone, and the other's calls and bytes are what they are alone.
+
+use crate::breaks::{Break, Breaking, KINDS, TURNS, breaking_at, end_of};
+use crate::relays::sent;
+use crate::script::WIDEST;
+use daide_frame::side::Side::{Bot, Server};
+use daide_tests::rows::holds;
+use daide_turns::hub::Hub;
+use std::alloc::Global;
+use std::test::Fail;
+
+/// No call has the number 0, so nothing breaks.
+const NOWHERE: Break = Break {
+    is_put: false,
+    side: Bot,
+    number: 0,
+};
+
+/// The ports of a relay alone, which breaks there.
+fn alone_at(alloc: Global, at: Break) -> Result<Breaking, Fail> {
+    let mut ports = breaking_at(alloc, at);
+    end_of(alloc, &mut ports)?;
+    Ok(ports)
+}
+
+/// As many calls of each kind were made of these ports as of those of a session alone, and its wires took the same.
+fn assert_as_alone(alloc: Global, ports: &Breaking, alone: &Breaking) -> Result<(), Fail> {
+    let calls = ports.ports.calls().unwrap_or(&[]);
+    let alone_calls = alone.ports.calls().unwrap_or(&[]);
+    let to_bot = sent(alloc, calls, Bot)? == sent(alloc, alone_calls, Bot)?;
+    let to_server = sent(alloc, calls, Server)? == sent(alloc, alone_calls, Server)?;
+    holds(ports.counts() == alone.counts(), "the calls")?;
+    holds(to_bot && to_server, "the bytes")
+}
+
+/// Makes a turn of each session of a hub, from the first to the last.
+fn turn_each(hub: &mut Hub<Breaking>) {
+    for place in 0..hub.count() {
+        if place < hub.count() {
+            hub.turn(place);
+        }
+    }
+}
+
+/// The ports of the session at a place, which is taken out if it is closed.
+fn take_out(hub: &mut Hub<Breaking>, place: usize) -> Option<Breaking> {
+    if place < hub.count() {
+        hub.remove_over(place).map(|removed| removed.ports)
+    } else {
+        None
+    }
+}
+
+/// Turns the sessions of a hub round by round, as many turns each as a relay makes. The ports of the session at a
+/// place, if it was closed: it is taken out then, and the other one goes on.
+fn play(hub: &mut Hub<Breaking>, place: usize) -> Option<Breaking> {
+    let mut out = None;
+    for _round in 0..TURNS {
+        turn_each(hub);
+        if out.is_none() {
+            out = take_out(hub, place);
+        }
+    }
+    out
+}
+
+/// A hub of two sessions, which break there.
+fn hub_of(alloc: Global, first: Break, second: Break) -> Result<Hub<Breaking>, Fail> {
+    let mut hub = Hub::new(alloc, WIDEST, 2)?;
+    for at in [first, second] {
+        holds(hub.add(breaking_at(alloc, at)).is_ok(), "it is added")?;
+    }
+    Ok(hub)
+}
+
+/// The last session of a hub went as it does alone.
+fn assert_last(alloc: Global, hub: &Hub<Breaking>, alone: &Breaking) -> Result<(), Fail> {
+    match hub.count() {
+        0 => Err(Fail::new("no session is left")),
+        count => assert_as_alone(alloc, hub.ports(count - 1), alone),
+    }
+}
+
+/// Beside a session that breaks nowhere, at place 1 or 0, one at the other place breaks there. Answers whether it was
+/// closed.
+fn goes_as_alone(alloc: Global, at: Break, is_first: bool, whole: &Breaking) -> Result<bool, Fail> {
+    let (mut hub, place) = if is_first {
+        (hub_of(alloc, at, NOWHERE)?, 0)
+    } else {
+        (hub_of(alloc, NOWHERE, at)?, 1)
+    };
+    match play(&mut hub, place) {
+        Some(ports) => {
+            assert_as_alone(alloc, &ports, &alone_at(alloc, at)?)?;
+            assert_last(alloc, &hub, whole)?;
+            Ok(true)
+        }
+        None => {
+            assert_last(alloc, &hub, whole)?;
+            Ok(false)
+        }
+    }
+}
+
+/// How many sessions that break at calls of this number were closed, each beside one that goes on.
+fn closed_at(alloc: Global, number: usize, whole: &Breaking) -> Result<usize, Fail> {
+    let mut closed = 0_usize;
+    for (is_put, side) in KINDS {
+        let at = Break {
+            is_put: *is_put,
+            side: *side,
+            number,
+        };
+        if goes_as_alone(alloc, at, number % 2 == 0, whole)? {
+            closed = closed.saturating_add(1);
+        }
+    }
+    Ok(closed)
+}
+
+#[test]
+fn session_that_breaks_harms_no_neighbour(rt: HostRuntime) -> Result<(), Fail> {
+    let whole = alone_at(rt.alloc(), NOWHERE)?;
+    let mut closed = 0_usize;
+    for number in 1..110 {
+        closed = closed.saturating_add(closed_at(rt.alloc(), number, &whole)?);
+    }
+    holds(
+        closed >= 60 + 14 + (26 + 32) + (34 + 20),
+        "how many were closed",
+    )
+}

@@ -1,0 +1,147 @@
+//! Records of sessions over ports in memory: what is written, what is reported of it, and what a writer that fails does.
+
+use crate::relays::{NEVER, OPENS, QUIET};
+use daide_frame::side::Side;
+use daide_gate::{
+    Config, Ports, Pull, Record, RecordEnd, Recording, RelayEnd, Session, Words, check_log, relay,
+};
+use daide_tests::fakes::FailsAtWrite;
+use daide_tests::memory_ports::{Acceptance, Arrival, MemoryPorts, Script};
+use daide_tests::rows::{holds, same};
+use daide_tests::words::two_words;
+use std::alloc::Global;
+use std::test::Fail;
+
+/// The limits of each session here.
+const LIMITS: Config = Config {
+    top_level: 60,
+    max_body: 1024,
+    max_depth: 16,
+};
+
+/// A session: what each side sends and its wire takes, how often the clock is quiet, the record, and its report.
+#[derive(Clone, Copy)]
+struct Recorded {
+    bot: Script<'static>,
+    server: Script<'static>,
+    quiet: u64,
+    is_worded: bool,
+    record: &'static str,
+    report: &'static str,
+}
+
+/// An IM in two pieces, an RM, and a wire to the bot that fails; a clock that pops; a bot that ends at once, and a server, where the
+/// operator added words.
+const SESSIONS: [Recorded; 4] = [
+    Recorded {
+        bot: Script {
+            pulls: &[Arrival::Bytes(&[0, 0, 0, 4, 0, 1, 0xDA, 0x10])],
+            puts: &[Acceptance::Fails],
+        },
+        server: OPENS,
+        quiet: NEVER,
+        is_worded: false,
+        record: "daide-log 2\nconfig 60 1024 16 1 0\n1 bot 00000004\n1 bot 0001DA10\n1 server 01000000\n1 end bot\n",
+        report: "4 1 bot IM 4 relay\n5 1 server RM 0 relay\n6 1 bot end\nrelayed 2 prn 0 huh 0 faults 0\n",
+    },
+    Recorded {
+        bot: QUIET,
+        server: QUIET,
+        quiet: 2,
+        is_worded: false,
+        record: "daide-log 2\nconfig 60 1024 16 1 0\n1 timer\n",
+        report: "3 1 bot fault 01\nrelayed 0 prn 0 huh 0 faults 1\n",
+    },
+    Recorded {
+        bot: Script {
+            pulls: &[Arrival::End],
+            puts: &[],
+        },
+        server: QUIET,
+        quiet: NEVER,
+        is_worded: false,
+        record: "daide-log 2\nconfig 60 1024 16 1 0\n1 end bot\n",
+        report: "3 1 bot end\nrelayed 0 prn 0 huh 0 faults 0\n",
+    },
+    Recorded {
+        bot: QUIET,
+        server: Script {
+            pulls: &[Arrival::End],
+            puts: &[],
+        },
+        quiet: NEVER,
+        is_worded: true,
+        record: "daide-log 2\nconfig 60 1024 16 1 2\nword XYZ 4A40 press 20 power\nword QQQ 4A41 arrangement 30 arrangement\n1 end server\n",
+        report: "5 1 server end\nrelayed 0 prn 0 huh 0 faults 0\n",
+    },
+];
+
+/// The words of a session that has some, or none.
+fn words_of(is_worded: bool) -> Words {
+    if is_worded { two_words() } else { Words::new() }
+}
+
+/// What was written of a session, which is whole.
+fn written(alloc: Global, row: &Recorded) -> Result<Vec<u8>, Fail> {
+    let mut session = Session::with_words(alloc, LIMITS, words_of(row.is_worded))?;
+    let ports = MemoryPorts::new(alloc, row.bot, row.server, row.quiet);
+    let record = Record::new(Vec::new(alloc), LIMITS, words_of(row.is_worded));
+    let mut ports = Recording::new(ports, record);
+    same(
+        &relay(&mut session, &mut ports, 9),
+        &RelayEnd::Closed,
+        &"the end",
+    )?;
+    let (_, record) = ports.into_parts();
+    let (text, ending) = record.finish();
+    same(&ending, &RecordEnd::Whole, &"the record")?;
+    Ok(text)
+}
+
+#[test]
+fn records_are_written_and_reported(rt: HostRuntime) -> Result<(), Fail> {
+    let alloc = rt.alloc();
+    for row in &SESSIONS {
+        let text = written(alloc, row)?;
+        holds(text.as_slice() == row.record.as_bytes(), row.record)?;
+        let mut report = Vec::new(alloc);
+        holds(
+            check_log(alloc, &mut text.as_slice(), &mut report).is_ok(),
+            "a log",
+        )?;
+        holds(report.as_slice() == row.report.as_bytes(), row.report)?;
+    }
+    Ok(())
+}
+
+/// Four pieces of 1,024 bytes, of which each makes a line; the fourth finds no room.
+const LONG: Script<'static> = Script {
+    pulls: &[Arrival::Bytes(&[0xAB; 5000])],
+    puts: &[],
+};
+
+#[test]
+fn writer_that_fails_changes_no_answer(rt: HostRuntime) -> Result<(), Fail> {
+    let alloc = rt.alloc();
+    let ports = MemoryPorts::new(alloc, LONG, QUIET, NEVER);
+    let broken = FailsAtWrite {
+        taken: Vec::new(alloc),
+        writes: 0,
+    };
+    let record = Record::new(broken, LIMITS, Words::new());
+    let mut ports = Recording::new(ports, record);
+    let mut buffer = [0; 2000];
+    for (pull, has_failed) in [
+        (Pull::Got(1024), false),
+        (Pull::Got(1024), false),
+        (Pull::Got(1024), false),
+        (Pull::Got(1024), true),
+        (Pull::Got(904), true),
+        (Pull::Idle, true),
+    ] {
+        same(&ports.pull(Side::Bot, &mut buffer), &pull, &"the answer")?;
+        same(&ports.record().has_failed(), &has_failed, &"the record")?;
+    }
+    let (_, record) = ports.into_parts();
+    same(&record.finish().1, &RecordEnd::Failed, &"the end")
+}
