@@ -20,18 +20,17 @@ pub use daide_words::{Extended, Operand, Slot, Word, WordError, Words};
 pub use daide_reader::{Reader, Verdict};
 
 // A session, and what turns it.
-pub use daide_machine::{Config, ConfigError, Deed, Ending, Note, Phase};
+pub use daide_machine::{
+    Cause, Config, ConfigError, Connect, Deed, Ending, Note, Notice, Phase, Ports, Pull, Put,
+    SessionEnd, System, ports, system,
+};
 pub use daide_session::{Session, SessionError};
 pub use daide_turns::{
-    AddFault, Hub, HubError, Ports, Pull, Put, RelayEnd, Removed, exchange, hub, ports, relay,
-    relaying, turn,
+    AddFault, Hub, HubError, RelayEnd, Removed, exchange, hub, relay, relaying, turn,
 };
 
 // What the program does with its input.
 pub use daide_log::{LogFault, Record, RecordEnd, Recording, Summary, check_log, record};
-pub use daide_service::{
-    Cause, Connect, Notice, ServeFault, Service, SessionEnd, System, metered, serve, serving,
-    system,
-};
+pub use daide_service::{ServeFault, Service, metered, serve, serving};
 pub use daide_settings::{Address, Key, Settings, SettingsError, read_settings, settings};
 pub use daide_show::{ShowFault, frame_view, show, show_with};

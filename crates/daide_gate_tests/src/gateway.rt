@@ -8,7 +8,7 @@ use crate::stage::Who::{Bot, Server};
 use crate::stage::{Act, Report, any_port, run_beside};
 use daide_program::running::{RunFault, run_text};
 use daide_sockets::admission::Door;
-use daide_sockets::gateway::GatewayFault;
+use daide_program::gateway::GatewayFault;
 use daide_sockets::watch::Watch;
 use daide_tests::rows::holds;
 use std::alloc::Global;

@@ -6,7 +6,7 @@ use daide_gate::settings::SettingsError;
 use daide_program::answer;
 use daide_program::running::RunFault;
 use daide_program::terminal::Asking;
-use daide_sockets::gateway::GatewayFault;
+use daide_program::gateway::GatewayFault;
 use daide_tests::fakes::FailsAtWrite;
 use daide_tests::rows::{holds, same};
 use std::alloc::AllocError;

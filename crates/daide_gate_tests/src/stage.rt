@@ -11,7 +11,7 @@ use daide_sockets::ports::{Socket, SocketPorts};
 use daide_sockets::system::{Sockets, most_sockets};
 use daide_sockets::watch::{Place, Watch};
 use daide_sockets::{Interest, TcpListener, TcpStream};
-use daide_turns::ports::{Pull, Put};
+use daide_machine::ports::{Pull, Put};
 use std::alloc::Global;
 use std::net::{Net, Shutdown, SocketAddr, UdpSocket};
 use std::rt::Clock;

@@ -9,7 +9,7 @@ use daide_streams::duplex::Duplex;
 use daide_streams::pool::Pool;
 use daide_streams::readiness::Readiness;
 use daide_tests::rows::{holds, same};
-use daide_turns::ports::{Pull, Put};
+use daide_machine::ports::{Pull, Put};
 use std::alloc::Global;
 use std::io;
 use std::io::ErrorKind;

@@ -16,7 +16,7 @@ use daide_sockets::{Interest, TcpListener};
 use daide_streams::duplex::Duplex;
 use daide_streams::readiness::Readiness;
 use daide_tests::rows::{holds, same};
-use daide_turns::ports::{Ports, Pull, Put};
+use daide_machine::ports::{Ports, Pull, Put};
 use std::cell::Cell;
 use std::io;
 use std::io::ErrorKind;

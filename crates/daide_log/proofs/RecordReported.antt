@@ -23,9 +23,9 @@ use Rattle.daide_machine.specs.Machine.{SessionState, Effect, Outcome, Step, Run
 use Rattle.daide_machine.proofs.OneRun.{one_run}
 use Rattle.daide_machine.proofs.PieceRuns.{over_stays}
 use Rattle.daide_reader.specs.declared.verdict.Verdict.{Verdict}
-use Rattle.daide_turns.specs.declared.ports.Pull.TheVariants.{Got, Idle, Ended}
-use Rattle.daide_turns.specs.declared.ports.Put.TheVariants.{Took, Failed}
-use Rattle.daide_turns.specs.Record.{PortAnswer, Clock, Pulled, Offered, event_of, events_of}
+use Rattle.daide_machine.specs.declared.ports.Pull.TheVariants.{Got, Idle, Ended}
+use Rattle.daide_machine.specs.declared.ports.Put.TheVariants.{Took, Failed}
+use Rattle.daide_machine.specs.Ports.{PortAnswer, Clock, Pulled, Offered, event_of, events_of}
 use Rattle.daide_lines.specs.LogLine.{most_lines}
 use Rattle.daide_lines.specs.LogLine.{LogEvent, Traffic, EndOf, TimeOver}
 use Rattle.daide_lines.specs.MatchLine.{Of}

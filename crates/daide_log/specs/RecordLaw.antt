@@ -10,7 +10,7 @@ use Rattle.daide_machine.specs.declared.config.Config.{Config}
 use Rattle.daide_machine.specs.declared.note.Note.{Note}
 use Rattle.daide_machine.specs.Config.{config_fault, limits_with}
 use Rattle.daide_machine.specs.Machine.{SessionState, Effect, Runs, opening}
-use Rattle.daide_turns.specs.Record.{PortAnswer, Clock, Pulled, Offered, event_of, events_of, BecomesBy}
+use Rattle.daide_machine.specs.Ports.{PortAnswer, Clock, Pulled, Offered, event_of, events_of, BecomesBy}
 use Rattle.daide_lines.specs.LogLine.{most_lines}
 use Rattle.daide_log.specs.declared.heading.Version.TheVariants.{Match}
 use Rattle.daide_log.specs.declared.record.RecordEnd.TheVariants.{Whole, Failed}

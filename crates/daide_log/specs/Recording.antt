@@ -2,7 +2,7 @@
 use Rattle.std.specs.Prelude.{◌≡◌, ⊤, ℕ, ◌+◌, ◌<◌, ◌≤◌, min, Bool, true, false, List, length, Option, Some, None}
 use Rattle.std.specs.Io.KnownBytes.{Appends, Keeps}
 use Rattle.hex.specs.Hex.{IsBytes}
-use Rattle.daide_turns.specs.Record.{PortAnswer, Clock, Pulled, Offered}
+use Rattle.daide_machine.specs.Ports.{PortAnswer, Clock, Pulled, Offered}
 use Rattle.daide_lines.specs.LogLine.{LogEvent, most_lines}
 use Rattle.daide_log.specs.declared.record.RecordEnd.{RecordEnd}
 use Rattle.daide_log.specs.declared.record.RecordEnd.TheVariants.{Whole, Failed, Full}

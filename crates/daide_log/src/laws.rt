@@ -7,7 +7,7 @@ ghost use Rattle.daide_log.specs.Laws.{SessionsAreAlone};
 ghost use Rattle.daide_log.specs.Log.{IsReport};
 ghost use Rattle.daide_log.specs.RecordLaw.{RecordsAreReported, PortsAreRecorded};
 
-use daide_turns::Ports;
+use daide_machine::ports::Ports;
 
 /// What the log of a match without words tells of a session is what the session's own log tells, but for its number.
 pub fn sessions_are_alone()

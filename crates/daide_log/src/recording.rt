@@ -6,7 +6,7 @@ ghost use Rattle.std.specs.Io.KnownBytes.{Keeps};
 use crate::record::{Record, RecordEnd};
 use daide_frame::Side;
 use daide_lines::event_line::MOST;
-use daide_turns::{Ports, Pull, Put};
+use daide_machine::ports::{Ports, Pull, Put};
 use std::io::Write;
 use std::marker::Model;
 

@@ -13,3 +13,5 @@ pub mod Fates
 pub mod Passing
 pub mod Harm
 pub mod Laws
+pub mod Ports
+pub mod System

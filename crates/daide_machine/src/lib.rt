@@ -2,9 +2,10 @@
 //! tables in code.
 //!
 //! `specs/` has the definitions, in the order Bounds, Events, Answers, HloLevel, Machine, Summary, Wires, Weight,
-//! Calls, Heard, Fates, Passing, Harm, Laws. The code decides, and holds nothing but what is found of an HLO so far and
+//! Calls, Heard, Fates, Passing, Harm, Laws; then Ports and System, what is asked of the world outside. The code decides, and holds nothing but what is found of an HLO so far and
 //! the counts of moves: `rules` and `hlo` answer what the machine's tables say, and `answers` has the words round an
-//! answer; so a session, and all that drives one, is proved over the same words.
+//! answer; so a session, and all that drives one, is proved over the same words. `ports` is what a session asks of its two
+//! wires and its clock, and `system` what a run asks of the system: so what meets the system waits for no session.
 #![tactic(auto)]
 
 pub mod answers;
@@ -15,12 +16,16 @@ pub mod hlo;
 pub mod laws;
 pub mod note;
 pub mod phase;
+pub mod ports;
 pub mod rules;
 pub mod summary;
+pub mod system;
 
 pub use bounds::{MAX_BODY, MAX_DEPTH, STACK_ENTRIES};
 pub use config::{Config, ConfigError};
 pub use ending::Ending;
 pub use note::{Deed, Note};
 pub use phase::Phase;
+pub use ports::{Ports, Pull, Put};
 pub use summary::Summary;
+pub use system::{Cause, Connect, Notice, SessionEnd, System};

@@ -1,13 +1,15 @@
 //! What `daide-gate` does with the words of its command line, over any streams.
 //!
-//! `arguments` says what the words ask for, `program` does it, `running` reads settings and runs the gateway over
-//! sockets, `folder` has the records of sessions, `recorded` is a run that keeps them, `faults` has the line that tells a
+//! `arguments` says what the words ask for, `program` does it, `gateway` is the gateway over sockets at the addresses of
+//! settings, with its laws, `running` reads settings and runs it, `folder` has the records of sessions, `recorded` is a run that keeps them, `faults` has the line that tells a
 //! fault and the exit statuses, and `terminal` is a standard input that a person may be typing.
 #![tactic(auto)]
 
 mod arguments;
 pub mod faults;
 mod folder;
+pub mod gateway;
+pub mod laws;
 mod program;
 mod recorded;
 pub mod running;

@@ -7,7 +7,8 @@ use crate::faults::{CLEAN, FAULT, tell};
 use crate::folder::Folder;
 use crate::recorded::RecordedSockets;
 use daide_gate::settings::{Settings, SettingsError, read_settings};
-use daide_sockets::gateway::{GatewayFault, Ground, ground_of, serve_at, serve_with, sockets_on};
+use crate::gateway::{GatewayFault, fault_of, serve_at, serve_with};
+use daide_sockets::ground::{Ground, ground_of, sockets_on};
 use daide_streams::text::{TextFault, read_text};
 use std::alloc::Allocator;
 use std::io::{Read, Write};
@@ -90,7 +91,7 @@ fn run_recorded<R: AllocGlobal + Files + Clock + Net, O: Write, E: Write>(
         listener,
         servers,
         watch,
-    } = ground_of(rt, &settings).map_err(RunFault::Gateway)?;
+    } = ground_of(rt, &settings).map_err(|fault| RunFault::Gateway(fault_of(fault)))?;
     let at = (listener, servers.as_slice(), &watch);
     let Some(mut sockets) = sockets_on(rt, &settings, at, errors) else {
         return Err(RunFault::Memory);

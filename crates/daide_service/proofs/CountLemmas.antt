@@ -4,12 +4,12 @@ use Rattle.std.proofs.Common.{subst, arith}
 use Rattle.std.specs.Prelude.{◌==◌, is_none}
 use Rattle.daide_machine.specs.Wires.{Gateway, is_closed}
 use Rattle.daide_turns.specs.Hub.{Hosting}
-use Rattle.daide_service.specs.declared.system.Connect.{Connect}
-use Rattle.daide_service.specs.declared.system.Connect.TheVariants.{Ready, Failed, Pending}
-use Rattle.daide_service.specs.declared.system.Notice.TheVariants.{CannotReach}
+use Rattle.daide_machine.specs.declared.system.Connect.{Connect}
+use Rattle.daide_machine.specs.declared.system.Connect.TheVariants.{Ready, Failed, Pending}
+use Rattle.daide_machine.specs.declared.system.Notice.TheVariants.{CannotReach}
 use Rattle.daide_service.specs.declared.tally.Tally.{Tally}
 use Rattle.daide_service.specs.Metered.{Meter}
-use Rattle.daide_service.specs.System.{SystemAnswer, Begins, Accepts, Connects, Retires, Notifies, Waits}
+use Rattle.daide_machine.specs.System.{SystemAnswer, Begins, Accepts, Connects, Retires, Notifies, Waits}
 use Rattle.daide_service.specs.Serving.{arrived, come, AdmitsWhere, MeetsWhere, MeetsBy, last_words, farewell_where}
 use Rattle.daide_service.specs.Serving.{end_of, farewell, farewells, wait_where}
 use Rattle.daide_service.specs.Served.{comes, connects, unreached, counted}

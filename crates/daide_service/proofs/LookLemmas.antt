@@ -3,7 +3,7 @@ use Rattle.std.proofs.Common.{◌≡◌, ℕ, ◌+◌, List, [], ◌∷◌, ◌+
 use Rattle.daide_frame.specs.declared.side.Side.{Side}
 use Rattle.daide_frame.specs.declared.side.Side.TheVariants.{Bot, Server}
 use Rattle.daide_machine.specs.Wires.{Gateway}
-use Rattle.daide_turns.specs.Record.{PortAnswer, Clock, Pulled, Offered}
+use Rattle.daide_machine.specs.Ports.{PortAnswer, Clock, Pulled, Offered}
 use Rattle.daide_turns.specs.Turn.{Then, AsksClock, Puts, Pulls, Turn}
 use Rattle.daide_service.specs.Served.{looks_in}
 

@@ -12,15 +12,15 @@ use Rattle.daide_machine.specs.declared.phase.Phase.{Phase}
 use Rattle.daide_machine.specs.declared.phase.Phase.TheVariants.{Open, Over}
 use Rattle.daide_machine.specs.Machine.{Limits, Sent, fm_bytes, in_phase, opening, with_ending}
 use Rattle.daide_machine.specs.Wires.{Gateway, bytes_of}
-use Rattle.daide_turns.specs.declared.ports.Pull.TheVariants.{Got, Idle, Ended}
-use Rattle.daide_turns.specs.declared.ports.Put.TheVariants.{Took, Failed}
+use Rattle.daide_machine.specs.declared.ports.Pull.TheVariants.{Got, Idle, Ended}
+use Rattle.daide_machine.specs.declared.ports.Put.TheVariants.{Took, Failed}
 use Rattle.daide_turns.specs.Headline.{nothing_held}
-use Rattle.daide_turns.specs.Record.{Clock, Pulled, Offered}
-use Rattle.daide_service.specs.declared.system.Notice.TheVariants.{TurnsSpent}
-use Rattle.daide_service.specs.declared.system.Cause.TheVariants as Causes
+use Rattle.daide_machine.specs.Ports.{Clock, Pulled, Offered}
+use Rattle.daide_machine.specs.declared.system.Notice.TheVariants.{TurnsSpent}
+use Rattle.daide_machine.specs.declared.system.Cause.TheVariants as Causes
 use Rattle.daide_service.specs.Metered.{Meter, left_after, moved_after, moved_by}
 use Rattle.daide_service.specs.Serving.{farewells, remaining}
-use Rattle.daide_service.specs.System.{Retires, Notifies}
+use Rattle.daide_machine.specs.System.{Retires, Notifies}
 
 -- ---- what moved
 

@@ -18,7 +18,7 @@ use Rattle.daide_machine.specs.declared.ending.Ending.TheVariants.{Ended}
 use Rattle.daide_machine.proofs.EndingLemmas.{runs_told}
 use Rattle.daide_machine.specs.Machine.{Limits, is_over}
 use Rattle.daide_machine.specs.Wires.{Gateway, IsNew, is_closed}
-use Rattle.daide_turns.specs.Record.{PortAnswer, Clock, Pulled, Offered, BecomesBy, events_of}
+use Rattle.daide_machine.specs.Ports.{PortAnswer, Clock, Pulled, Offered, BecomesBy, events_of}
 use Rattle.daide_turns.specs.Headline.{untouched, Stands, IsBoundedAndExact}
 use Rattle.daide_turns.specs.Hub.{Hosting, IsTurned, Changes}
 use Rattle.daide_turns.specs.HubRuns.{Turned, HubRuns}
@@ -26,12 +26,12 @@ use Rattle.daide_turns.proofs.Stretches.{becomes_then}
 use Rattle.daide_turns.proofs.Standing.{new_stands}
 use Rattle.daide_turns.proofs.ApartLemmas.{runs_split}
 use Rattle.daide_settings.specs.declared.settings.Settings.{Settings}
-use Rattle.daide_service.specs.declared.system.Connect.{Connect}
-use Rattle.daide_service.specs.declared.system.Connect.TheVariants.{Ready, Failed, Pending}
-use Rattle.daide_service.specs.declared.system.Notice.TheVariants.{CannotReach, TurnsSpent}
+use Rattle.daide_machine.specs.declared.system.Connect.{Connect}
+use Rattle.daide_machine.specs.declared.system.Connect.TheVariants.{Ready, Failed, Pending}
+use Rattle.daide_machine.specs.declared.system.Notice.TheVariants.{CannotReach, TurnsSpent}
 use Rattle.daide_service.specs.declared.tally.Tally.{Tally}
 use Rattle.daide_service.specs.Metered.{Meter, Meters, moved_by, one_less}
-use Rattle.daide_service.specs.System.{SystemAnswer, Begins, Accepts, Connects, Retires, Notifies, Waits}
+use Rattle.daide_machine.specs.System.{SystemAnswer, Begins, Accepts, Connects, Retires, Notifies, Waits}
 use Rattle.daide_service.specs.Serving.{Serving, fresh, opening, accepts, come, AdmitsWhere, MeetsWhere, turns_below}
 use Rattle.daide_service.specs.Serving.{TurnsAll, last_words, farewell, farewell_where, farewells, remaining, parting}
 use Rattle.daide_service.specs.Serving.{cause_by, end_of}

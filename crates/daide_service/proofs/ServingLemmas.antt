@@ -6,12 +6,12 @@ use Rattle.std.specs.Result.{IsErrAnd}
 use Rattle.std.proofs.lemmas.List.{length-set}
 use Rattle.std.proofs.Math.Dec.{eqb-suc-zero}
 use Rattle.daide_machine.specs.Wires.{Gateway}
-use Rattle.daide_turns.specs.Record.{PortAnswer, Tells}
+use Rattle.daide_machine.specs.Ports.{PortAnswer, Tells}
 use Rattle.daide_turns.proofs.Stretches.{or_assoc, tells_nil, tells_then}
 use Rattle.daide_turns.specs.Hub.{Hosting, Changes, IsTurned}
 use Rattle.daide_turns.specs.HubRuns.{HubCall, Turned, HubStep, HubRuns}
 use Rattle.daide_service.specs.Metered.{Meter, Meters}
-use Rattle.daide_service.specs.System.{SystemAnswer}
+use Rattle.daide_machine.specs.System.{SystemAnswer}
 use Rattle.daide_settings.specs.declared.settings.Settings.{Settings}
 use Rattle.daide_service.specs.declared.serving.ServeFault.{ServeFault}
 use Rattle.daide_service.specs.declared.serving.ServeFault.TheVariants as Faults

@@ -1,10 +1,10 @@
 -- Ports with so many turns: what a call does to them by its answer, and what counts as a move.
 use Rattle.std.specs.Prelude.{◌≡◌, ℕ, suc, zero, nat_lt, Bool, true, false, ◌||◌, List, [], ◌∷◌, Option, Some, None}
-use Rattle.daide_turns.specs.Record.{PortAnswer, Clock, Pulled, Offered}
-use Rattle.daide_turns.specs.declared.ports.Pull.{Pull}
-use Rattle.daide_turns.specs.declared.ports.Pull.TheVariants.{Got, Idle, Ended}
-use Rattle.daide_turns.specs.declared.ports.Put.{Put}
-use Rattle.daide_turns.specs.declared.ports.Put.TheVariants.{Took, Failed}
+use Rattle.daide_machine.specs.Ports.{PortAnswer, Clock, Pulled, Offered}
+use Rattle.daide_machine.specs.declared.ports.Pull.{Pull}
+use Rattle.daide_machine.specs.declared.ports.Pull.TheVariants.{Got, Idle, Ended}
+use Rattle.daide_machine.specs.declared.ports.Put.{Put}
+use Rattle.daide_machine.specs.declared.ports.Put.TheVariants.{Took, Failed}
 
 -- ports, the turns that are left of them, none once they are spent, and whether anything moved in the last one
 pub record Meter (P : Type 0) : Type 0 where

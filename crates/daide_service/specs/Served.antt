@@ -6,14 +6,14 @@ use Rattle.daide_machine.specs.Machine.{Limits}
 use Rattle.daide_machine.specs.Wires.{Gateway, is_closed}
 use Rattle.daide_words.specs.Words.{words_of}
 use Rattle.daide_machine.specs.Config.{limits_with}
-use Rattle.daide_turns.specs.Record.{PortAnswer, Clock, Pulled, Offered, BecomesBy}
+use Rattle.daide_machine.specs.Ports.{PortAnswer, Clock, Pulled, Offered, BecomesBy}
 use Rattle.daide_turns.specs.Headline.{IsBoundedAndExact}
 use Rattle.daide_turns.specs.Hub.{IsTurned}
 use Rattle.daide_settings.specs.declared.settings.Settings.{Settings}
-use Rattle.daide_service.specs.declared.system.Connect.TheVariants.{Ready, Failed, Pending}
-use Rattle.daide_service.specs.declared.system.SessionEnd.{SessionEnd}
+use Rattle.daide_machine.specs.declared.system.Connect.TheVariants.{Ready, Failed, Pending}
+use Rattle.daide_machine.specs.declared.system.SessionEnd.{SessionEnd}
 use Rattle.daide_service.specs.Metered.{Meter, Meters, moved_by}
-use Rattle.daide_service.specs.System.{SystemAnswer, Begins, Accepts, Connects, Retires, Notifies, Waits}
+use Rattle.daide_machine.specs.System.{SystemAnswer, Begins, Accepts, Connects, Retires, Notifies, Waits}
 use Rattle.daide_service.specs.Serving.{Serving, cause_by, fresh, opening, Rounds, Serves}
 
 -- the limits of a run's sessions

@@ -12,21 +12,21 @@ use Rattle.daide_turns.specs.declared.hub.HubError.{HubError}
 use Rattle.daide_turns.specs.declared.hub.HubError.TheVariants as HubErrors
 use Rattle.daide_words.specs.Words.{words_of}
 use Rattle.daide_machine.specs.Config.{limits_with}
-use Rattle.daide_turns.specs.Record.{PortAnswer}
+use Rattle.daide_machine.specs.Ports.{PortAnswer}
 use Rattle.daide_turns.specs.Hub.{Hosting, with_places, Adds, IsHubCause}
 use Rattle.daide_turns.specs.HubRuns.{HubCall, Turned, HubRuns}
 use Rattle.daide_settings.specs.declared.settings.Settings.{Settings}
 use Rattle.daide_service.specs.declared.serving.ServeFault.{ServeFault}
 use Rattle.daide_service.specs.declared.serving.ServeFault.TheVariants as Faults
 use Rattle.daide_service.specs.declared.tally.Tally.{Tally}
-use Rattle.daide_service.specs.declared.system.Connect.{Connect}
-use Rattle.daide_service.specs.declared.system.Connect.TheVariants.{Ready, Failed, Pending}
-use Rattle.daide_service.specs.declared.system.Notice.TheVariants.{CannotReach, TurnsSpent}
-use Rattle.daide_service.specs.declared.system.Cause.{Cause}
-use Rattle.daide_service.specs.declared.system.Cause.TheVariants as Causes
-use Rattle.daide_service.specs.declared.system.SessionEnd.{SessionEnd}
+use Rattle.daide_machine.specs.declared.system.Connect.{Connect}
+use Rattle.daide_machine.specs.declared.system.Connect.TheVariants.{Ready, Failed, Pending}
+use Rattle.daide_machine.specs.declared.system.Notice.TheVariants.{CannotReach, TurnsSpent}
+use Rattle.daide_machine.specs.declared.system.Cause.{Cause}
+use Rattle.daide_machine.specs.declared.system.Cause.TheVariants as Causes
+use Rattle.daide_machine.specs.declared.system.SessionEnd.{SessionEnd}
 use Rattle.daide_service.specs.Metered.{Meter, Meters}
-use Rattle.daide_service.specs.System.{SystemAnswer, Begins, Accepts, Connects, Retires, Notifies, Waits}
+use Rattle.daide_machine.specs.System.{SystemAnswer, Begins, Accepts, Connects, Retires, Notifies, Waits}
 
 -- a run at work: the sessions, and the counts of bots
 pub record Serving (P : Type 0) : Type 0 where

@@ -2,7 +2,7 @@
 
 ghost use Rattle.daide_service.specs.Served.{SessionsAreServed, MovesAreAnswered, TurnsAreCounted, TurnsLookOnce};
 
-use daide_turns::ports::Ports;
+use daide_machine::ports::Ports;
 
 /// After whatever rounds of a run: each session that it holds, and each whose ports it let go, began with ports that a
 /// connect gave, and by all that these answered since it is bounded and exact: the headline. One that was let go is

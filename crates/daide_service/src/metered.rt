@@ -3,7 +3,7 @@
 ghost use Rattle.std.specs.Prelude.{◌≡◌, false, Some, is_none};
 
 use daide_frame::side::Side;
-use daide_turns::ports::{Ports, Pull, Put};
+use daide_machine::ports::{Ports, Pull, Put};
 use std::marker::Model;
 
 /// Ports that may be asked so many turns. Each turn begins with a look at the clock; from the look on that is

@@ -6,8 +6,8 @@ ghost use Rattle.std.specs.Prelude.{◌≡◌, ◌+◌, ◌≤◌, ◌==◌, fal
 ghost use Rattle.std.specs.Prelude.{Ok, OnOk, OnErr, IfOk, IfErr};
 ghost use Rattle.daide_machine.specs.Config.{config_fault};
 ghost use Rattle.daide_turns.specs.Hub.{IsHubSize};
-ghost use Rattle.daide_service.specs.System.{SystemAnswer, Connects};
-ghost use Rattle.daide_turns.specs.Record.{Tells};
+ghost use Rattle.daide_machine.specs.System.{SystemAnswer, Connects};
+ghost use Rattle.daide_machine.specs.Ports.{Tells};
 ghost use Rattle.daide_service.specs.Serving.{IsWithin, Admits, Meets, TurnsAll, any_moved, RemovesClosed, parting};
 ghost use Rattle.daide_service.specs.Serving.{cause_by, end_by};
 ghost use Rattle.daide_service.specs.Serving.{wait_where, any_stirs, Round, is_done, opening, fault_of};
@@ -15,13 +15,13 @@ ghost use Rattle.daide_service.specs.Served.{IsWholeRun};
 ghost use Rattle.daide_service.specs.Serving.{IsServeCause, IsOpeningCause, IsOfSettings, BreaksOff, GivesUp, arrived};
 
 use crate::metered::Metered;
-use crate::system::{Cause, Connect, Notice, SessionEnd, System};
+use daide_machine::system::{Cause, Connect, Notice, SessionEnd, System};
 use crate::tally::Tally;
 use daide_machine::config::ConfigError;
 use daide_machine::ending::Ending;
 use daide_settings::settings::Settings;
 use daide_turns::hub::{AddFault, Hub, HubError, Removed};
-use daide_turns::ports::Ports;
+use daide_machine::ports::Ports;
 use std::alloc::{Allocator, Global};
 use std::marker::Model;
 use thiserror::Error;

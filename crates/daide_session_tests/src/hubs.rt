@@ -8,7 +8,7 @@ use daide_tests::memory_ports::{Acceptance, Arrival, MemoryPorts, Script};
 use daide_tests::rows::{holds, same};
 use daide_tests::words::two_words;
 use daide_turns::hub::{AddFault, Hub, HubError};
-use daide_turns::ports::{Ports, Pull, Put};
+use daide_machine::ports::{Ports, Pull, Put};
 use linked_list_allocator::LocalHeap;
 use std::alloc::Global;
 use std::test::Fail;

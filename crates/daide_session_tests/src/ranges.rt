@@ -8,7 +8,7 @@ use daide_tests::memory_ports::MemoryPorts;
 use daide_tests::rows::{holds, same};
 use daide_tests::words::two_words;
 use daide_turns::hub::{AddFault, Hub};
-use daide_turns::ports::Ports;
+use daide_machine::ports::Ports;
 use std::alloc::Global;
 use std::test::Fail;
 

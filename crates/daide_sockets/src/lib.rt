@@ -1,9 +1,9 @@
-//! The gateway over sockets: what the loop of a run asks of the system.
+//! The system over sockets: what the loop of a run asks of it.
 //!
 //! No call waits but the loop's own wait. `watch` is what is known of each socket, `connection` is a connection as a
 //! stream both ways, `ports` are a session's, `admission` takes bots and connects them, `closing` closes in stages,
-//! `session_notice` has the lines of a session, `system` puts them together for the loop, and `gateway` runs it at the
-//! addresses of settings.
+//! `session_notice` has the lines of a session, `system` puts them together for the loop, and `ground` is what a run
+//! stands on at the addresses of settings.
 //!
 //! What the system answers, and what a shared cell holds, no contract can name. So a call that hangs on either is
 //! proved safe and to end, and its doc says what it does; the tests of `daide_gate_tests` show it.
@@ -12,8 +12,7 @@
 pub mod admission;
 pub mod closing;
 pub mod connection;
-pub mod gateway;
-pub mod laws;
+pub mod ground;
 pub mod ports;
 pub mod session_notice;
 pub mod system;

@@ -6,7 +6,7 @@
 //! system's read and write answered.
 
 ghost use Rattle.std.specs.Prelude.{◌≡◌, [], length, take};
-ghost use Rattle.daide_turns.specs.Record.{IsPullWithin, IsPutWithin, pulled_len};
+ghost use Rattle.daide_machine.specs.Ports.{IsPullWithin, IsPutWithin, pulled_len};
 ghost use Rattle.daide_streams.specs.Buffers.{Passes, IsUnread};
 ghost use Rattle.daide_streams.specs.Streams.{Moves};
 ghost use Rattle.daide_streams.specs.Taking.{front_of};
@@ -17,7 +17,7 @@ use daide_frame::side::Side;
 use daide_streams::buffered::Buffered;
 use daide_streams::duplex::Duplex;
 use daide_streams::pool::Pool;
-use daide_turns::ports::{Ports, Pull, Put};
+use daide_machine::ports::{Ports, Pull, Put};
 use mio::Interest;
 use mio::net::TcpStream;
 use std::rt::Clock;

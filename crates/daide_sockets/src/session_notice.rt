@@ -4,7 +4,7 @@ use daide_frame::code::Code;
 use daide_frame::side::Side;
 use daide_machine::ending::Ending;
 use daide_machine::summary::Summary;
-use daide_service::{Cause, SessionEnd};
+use daide_machine::system::{Cause, SessionEnd};
 use std::fmt;
 use std::net::SocketAddr;
 use thiserror::Error;

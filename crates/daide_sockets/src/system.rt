@@ -7,7 +7,7 @@ use crate::closing::{Closings, MOST_CLOSING};
 use crate::ports::{Socket, SocketPorts};
 use crate::session_notice::SessionNotice;
 use crate::watch::Watch;
-use daide_service::{Connect, Notice, SessionEnd, System};
+use daide_machine::system::{Connect, Notice, SessionEnd, System};
 use daide_settings::Settings;
 use mio::net::TcpListener;
 use std::alloc::Global;

@@ -6,8 +6,8 @@ use Rattle.std.proofs.lemmas.List.{drop-take, drop-drop, drop-append-le, take_at
 use Rattle.std.proofs.lemmas.Slice.{between_is}
 use Rattle.std.proofs.KnownBytes.{Consumes-nil, Consumes-trans, Appends-nil, Appends-trans}
 use Rattle.std.specs.Io.KnownBytes.{Consumes, Keeps, Appends}
-use Rattle.daide_turns.specs.declared.ports.Put.{Put}
-use Rattle.daide_turns.specs.declared.ports.Put.TheVariants.{Took, Failed}
+use Rattle.daide_machine.specs.declared.ports.Put.{Put}
+use Rattle.daide_machine.specs.declared.ports.Put.TheVariants.{Took, Failed}
 use Rattle.daide_streams.specs.Buffers.{Buffer, Passes, IsUnread, IsUnwritten}
 use Rattle.daide_streams.specs.Taking.{IsTaken, taken_len, front_of}
 

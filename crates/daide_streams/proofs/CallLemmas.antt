@@ -1,7 +1,7 @@
 -- Pulls of a stream with buffers, by those of the stream.
 use Rattle.std.proofs.Common.{◌≡◌, ℕ, zero, ◌<◌, ◌≤◌, subst, Bool, true, false, List, [], Option, arith, refl, sym, ◌∙◌, ◌⊎◌, inl, inr, ⊎_elim}
-use Rattle.daide_turns.specs.declared.ports.Pull.{Pull}
-use Rattle.daide_turns.specs.declared.ports.Pull.TheVariants.{Got, Idle, Ended}
+use Rattle.daide_machine.specs.declared.ports.Pull.{Pull}
+use Rattle.daide_machine.specs.declared.ports.Pull.TheVariants.{Got, Idle, Ended}
 use Rattle.daide_streams.specs.declared.readiness.Readiness.{Readiness}
 use Rattle.daide_streams.specs.Buffers.{is_alike}
 use Rattle.daide_streams.specs.Calls.{StreamCall, IsPull}

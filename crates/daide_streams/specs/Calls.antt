@@ -5,11 +5,11 @@ use Rattle.std.specs.IoError.{error_kind}
 use Rattle.std.specs.declared.io.Error.{Error}
 use Rattle.std.specs.declared.io.ErrorKind.{ErrorKind}
 use Rattle.std.specs.declared.io.ErrorKind.TheVariants as Kinds
-use Rattle.daide_turns.specs.Record.{Tells}
-use Rattle.daide_turns.specs.declared.ports.Pull.{Pull}
-use Rattle.daide_turns.specs.declared.ports.Pull.TheVariants as Pulls
-use Rattle.daide_turns.specs.declared.ports.Put.{Put}
-use Rattle.daide_turns.specs.declared.ports.Put.TheVariants as Puts
+use Rattle.daide_machine.specs.Ports.{Tells}
+use Rattle.daide_machine.specs.declared.ports.Pull.{Pull}
+use Rattle.daide_machine.specs.declared.ports.Pull.TheVariants as Pulls
+use Rattle.daide_machine.specs.declared.ports.Put.{Put}
+use Rattle.daide_machine.specs.declared.ports.Put.TheVariants as Puts
 use Rattle.daide_streams.specs.declared.outcome.Outcome.{Outcome}
 use Rattle.daide_streams.specs.declared.readiness.Readiness.{Readiness}
 use Rattle.daide_streams.specs.declared.outcome.Outcome.TheVariants.{Moved, Interrupted, NotNow, Failed}

@@ -6,7 +6,7 @@
 //! is refused, the stream is read and written as if there were no buffers.
 
 ghost use Rattle.std.specs.Prelude.{◌≡◌, ◌<◌, ◌≤◌, ◌++◌, [], true, length, take, IfSome};
-ghost use Rattle.daide_turns.specs.Record.{IsPullWithin, IsPutWithin, pulled_len};
+ghost use Rattle.daide_machine.specs.Ports.{IsPullWithin, IsPutWithin, pulled_len};
 ghost use Rattle.daide_streams.specs.Buffers.{Passes, IsUnread, IsUnwritten, IsBufferedPull, held_in};
 ghost use Rattle.daide_streams.specs.Taking.{front_of};
 
@@ -15,7 +15,7 @@ use crate::duplex::Duplex;
 use crate::held::{Held, MOST_HELD};
 use crate::pool::Pool;
 use crate::readiness::Readiness;
-use daide_turns::ports::{Pull, Put};
+use daide_machine::ports::{Pull, Put};
 use std::marker::Model;
 
 /// A stream, what was read of it ahead, and what it is still to take.

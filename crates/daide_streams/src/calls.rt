@@ -2,14 +2,14 @@
 
 ghost use Rattle.std.specs.Prelude.{◌≡◌, length, take};
 ghost use Rattle.std.specs.Io.KnownBytes.{Consumes};
-ghost use Rattle.daide_turns.specs.Record.{IsPullWithin, IsPutWithin, pulled_len};
+ghost use Rattle.daide_machine.specs.Ports.{IsPullWithin, IsPutWithin, pulled_len};
 ghost use Rattle.daide_streams.specs.Calls.{Tries, Read, Written, IsPull, IsPut, pull_of, put_of};
 ghost use Rattle.daide_streams.specs.Taking.{IsTaken};
 
 use crate::duplex::Duplex;
 use crate::outcome::Outcome;
 use crate::readiness::Readiness;
-use daide_turns::ports::{Pull, Put};
+use daide_machine::ports::{Pull, Put};
 
 /// How often an interrupted call is made again.
 const AGAIN: usize = 7;

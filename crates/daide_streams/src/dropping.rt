@@ -1,7 +1,7 @@
 //! What is read and dropped of a stream that closes.
 
 ghost use Rattle.std.specs.Prelude.{◌≡◌, ◌+◌, ◌≤◌, ℕ, List, [], length, true};
-ghost use Rattle.daide_turns.specs.declared.ports.Pull.{Pull};
+ghost use Rattle.daide_machine.specs.declared.ports.Pull.{Pull};
 ghost use Rattle.daide_streams.specs.Buffers.{Passes, IsUnwritten, IsBufferedPull};
 ghost use Rattle.daide_streams.specs.Calls.{is_last_piece};
 
@@ -9,7 +9,7 @@ use crate::buffered::Buffered;
 use crate::duplex::Duplex;
 use crate::pool::Pool;
 use crate::readiness::Readiness;
-use daide_turns::ports::Pull;
+use daide_machine::ports::Pull;
 use std::marker::Model;
 
 /// The most bytes that are dropped at once.

@@ -3,7 +3,7 @@
 ghost use Rattle.std.specs.Prelude.{◌≡◌, ℕ, List, [], ◌∷◌, length, Option};
 ghost use Rattle.std.specs.Io.{ReadsAtMost, WritesAtMost};
 ghost use Rattle.std.specs.Io.KnownBytes.{ReadConsumes, WriteAppends};
-ghost use Rattle.daide_turns.specs.Record.{Tells};
+ghost use Rattle.daide_machine.specs.Ports.{Tells};
 ghost use Rattle.daide_streams.specs.Calls.{StreamCall, Read, Written, WritingEnded, outcome_by};
 
 use std::io;

@@ -2,14 +2,14 @@
 
 ghost use Rattle.std.specs.Prelude.{◌≡◌, ◌≤◌, ◌++◌, [], min, length, take, drop, IfOk};
 ghost use Rattle.std.specs.Io.KnownBytes.{Consumes};
-ghost use Rattle.daide_turns.specs.Record.{pulled_len};
+ghost use Rattle.daide_machine.specs.Ports.{pulled_len};
 ghost use Rattle.daide_streams.specs.Calls.{IsPull};
 ghost use Rattle.daide_streams.specs.Taking.{IsTaken, taken_len};
 
 use crate::calls::{pull_from, put_to};
 use crate::duplex::Duplex;
 use crate::readiness::Readiness;
-use daide_turns::ports::{Pull, Put};
+use daide_machine::ports::{Pull, Put};
 use std::alloc::{AllocError, Global};
 use std::marker::Model;
 

@@ -7,7 +7,6 @@ pub mod calls;
 pub mod dropping;
 pub mod duplex;
 pub mod held;
-pub mod laws;
 pub mod outcome;
 pub mod pool;
 pub mod readiness;

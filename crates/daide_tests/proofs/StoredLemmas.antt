@@ -4,7 +4,7 @@ use Rattle.std.specs.Prelude.{Option, Some, None, Result, Ok, Err, IfOk, IfSome,
 use Rattle.std.proofs.lemmas.List.{map-append}
 use Rattle.daide_tests.specs.declared.memory_ports.Call.{Call}
 use Rattle.daide_tests.specs.MemoryPorts.{answer_stored, answers_stored}
-use Rattle.daide_turns.specs.Record.{PortAnswer, Tells}
+use Rattle.daide_machine.specs.Ports.{PortAnswer, Tells}
 
 -- a call was stored behind the others, or there is no record any more
 pub tells : {A E : Type 0} (old calls after : Option (Vec (Call A) A)) (call : Result (Call A) E)

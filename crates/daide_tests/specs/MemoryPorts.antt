@@ -3,7 +3,7 @@ use Rattle.std.specs.Prelude.{List, map, Option, Some, None}
 use Rattle.std.specs.Prelude.{Vec}
 use Rattle.daide_tests.specs.declared.memory_ports.Call.{Call}
 use Rattle.daide_tests.specs.declared.memory_ports.Call.TheVariants as Calls
-use Rattle.daide_turns.specs.Record.{PortAnswer, Clock, Pulled, Offered}
+use Rattle.daide_machine.specs.Ports.{PortAnswer, Clock, Pulled, Offered}
 
 -- a stored call, as an answer
 abbrev pub answer_stored : {A : Type 0} → Call A → PortAnswer

@@ -4,12 +4,12 @@
 //! nothing from then on.
 
 ghost use Rattle.std.specs.Prelude.{◌≡◌, [], ◌∷◌, ◌++◌, ◌≤◌, length, Some, Ok, IfSome, Option, Vec, map, option_map};
-ghost use Rattle.daide_turns.specs.Record.{IsPullWithin, IsPutWithin, pulled_len};
+ghost use Rattle.daide_machine.specs.Ports.{IsPullWithin, IsPutWithin, pulled_len};
 ghost use Rattle.daide_tests.specs.MemoryPorts.{answer_stored, answers_stored};
 ghost use Rattle.daide_tests.specs.declared.memory_ports.Call.{Call};
 
 use daide_frame::side::Side;
-use daide_turns::ports::{Ports, Pull, Put};
+use daide_machine::ports::{Ports, Pull, Put};
 use std::alloc::{AllocError, Allocator, Global};
 
 /// What one pull from a side gives.
@@ -186,7 +186,7 @@ impl<'a, A: Allocator + Copy> MemoryPorts<'a, A> {
 
 impl<'a, A: Allocator + Copy> Ports for MemoryPorts<'a, A> {
     ghost use Rattle.std.specs.Prelude.{[], ◌∷◌};
-    ghost use Rattle.daide_turns.specs.Record.{Tells};
+    ghost use Rattle.daide_machine.specs.Ports.{Tells};
     ghost use Rattle.daide_tests.specs.MemoryPorts.{answers_stored};
 
     ghost becomes = { λ old answer new. Tells (answers_stored old.calls) (answer ∷ []) (answers_stored new.calls) };

@@ -8,8 +8,9 @@ use Rattle.daide_machine.specs.Heard.{bytes_from}
 use Rattle.daide_machine.specs.Wires.{Gateway, same_side}
 use Rattle.daide_session.specs.Work.{IsPaidBy}
 use Rattle.daide_session.proofs.WorkLemmas.{paid_then}
-use Rattle.daide_turns.specs.declared.ports.Pull.TheVariants.{Got}
-use Rattle.daide_turns.specs.Record.{PortAnswer, Clock, Pulled, events_of, came, Works}
+use Rattle.daide_machine.specs.declared.ports.Pull.TheVariants.{Got}
+use Rattle.daide_machine.specs.Ports.{PortAnswer, Clock, Pulled, events_of}
+use Rattle.daide_turns.specs.Record.{came, Works}
 
 -- ---- one answer after another
 

@@ -4,7 +4,8 @@ use Rattle.std.proofs.Common.{◌<◌, subst, set, ◌∙◌, arith}
 use Rattle.std.specs.Prelude.{slice_get, remove, unwrap_or}
 use Rattle.daide_machine.specs.Machine.{Limits}
 use Rattle.daide_machine.specs.Wires.{Gateway, IsNew, is_closed}
-use Rattle.daide_turns.specs.Record.{PortAnswer, BecomesBy, Carries}
+use Rattle.daide_machine.specs.Ports.{PortAnswer, BecomesBy}
+use Rattle.daide_turns.specs.Record.{Carries}
 use Rattle.daide_turns.specs.Turn.{Then}
 use Rattle.daide_turns.specs.Headline.{Stands, Headline, WholeTurn}
 use Rattle.daide_turns.specs.Hub.{Hosting, IsTurned}

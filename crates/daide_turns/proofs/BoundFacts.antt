@@ -9,11 +9,11 @@ use Rattle.daide_machine.specs.Machine.{Limits}
 use Rattle.daide_machine.specs.Wires.{Gateway, holding, room_of}
 use Rattle.daide_machine.specs.declared.config.Config.{Config}
 use Rattle.daide_turns.specs.declared.hub.HubError.TheVariants as Errors
-use Rattle.daide_turns.specs.declared.ports.Pull.TheVariants.{Got}
+use Rattle.daide_machine.specs.declared.ports.Pull.TheVariants.{Got}
 use Rattle.daide_machine.specs.Config.{config_fault}
 use Rattle.daide_machine.specs.Config.{limits_of}
 use Rattle.daide_session.specs.Bounds.{IsWithinBounds}
-use Rattle.daide_turns.specs.Record.{PortAnswer, Pulled}
+use Rattle.daide_machine.specs.Ports.{PortAnswer, Pulled}
 use Rattle.daide_turns.specs.Turn.{FillsRoom, turn_steps}
 use Rattle.daide_turns.specs.Headline.{IsBoundedAndExact}
 use Rattle.daide_turns.specs.Hub.{IsHubSize, IsHubCause, session_bound}

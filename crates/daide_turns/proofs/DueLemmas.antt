@@ -9,11 +9,11 @@ use Rattle.daide_machine.specs.Events.{Event, other}
 use Rattle.daide_machine.specs.Machine.{Sent}
 use Rattle.daide_machine.specs.Wires.{Gateway, waiting, same_side, sent_to, bytes_of, front_of}
 use Rattle.daide_machine.proofs.WireLemmas.{bytes_of-append}
-use Rattle.daide_turns.specs.declared.ports.Pull.{Pull}
-use Rattle.daide_turns.specs.declared.ports.Pull.TheVariants.{Got, Idle, Ended}
-use Rattle.daide_turns.specs.declared.ports.Put.{Put}
-use Rattle.daide_turns.specs.declared.ports.Put.TheVariants.{Took, Failed}
-use Rattle.daide_turns.specs.Record.{PortAnswer, Clock, Offered, took, taken, IsPutWithin}
+use Rattle.daide_machine.specs.declared.ports.Pull.{Pull}
+use Rattle.daide_machine.specs.declared.ports.Pull.TheVariants.{Got, Idle, Ended}
+use Rattle.daide_machine.specs.declared.ports.Put.{Put}
+use Rattle.daide_machine.specs.declared.ports.Put.TheVariants.{Took, Failed}
+use Rattle.daide_machine.specs.Ports.{PortAnswer, Clock, Offered, took, taken, IsPutWithin}
 use Rattle.daide_turns.specs.Turn.{Then, GoesOn, Hears, AsksClock, Hands, Puts, Gets}
 use Rattle.daide_turns.specs.Turn.{Pulls, Turn}
 use Rattle.daide_turns.specs.Due.{AreTurns, TakesSome, EachTakesSome, EachTurnTakesSome, taken_in}

@@ -17,11 +17,11 @@ use Rattle.daide_machine.specs.Wires.{without, first_len, sent_to}
 use Rattle.daide_traffic.specs.Inbound.{parts_by}
 use Rattle.daide_traffic.specs.Fronts.{AreFresh, ArePartsOf, KeepsFront}
 use Rattle.daide_traffic.proofs.PartsLemmas.{below}
-use Rattle.daide_turns.specs.declared.ports.Pull.{Pull}
-use Rattle.daide_turns.specs.declared.ports.Pull.TheVariants.{Got, Idle, Ended}
-use Rattle.daide_turns.specs.declared.ports.Put.{Put}
-use Rattle.daide_turns.specs.declared.ports.Put.TheVariants.{Took, Failed}
-use Rattle.daide_turns.specs.Record.{PortAnswer, Offered, taken}
+use Rattle.daide_machine.specs.declared.ports.Pull.{Pull}
+use Rattle.daide_machine.specs.declared.ports.Pull.TheVariants.{Got, Idle, Ended}
+use Rattle.daide_machine.specs.declared.ports.Put.{Put}
+use Rattle.daide_machine.specs.declared.ports.Put.TheVariants.{Took, Failed}
+use Rattle.daide_machine.specs.Ports.{PortAnswer, Offered, taken}
 use Rattle.daide_turns.specs.Turn.{Then, Hears, AsksClock, Hands, Puts, Gets, Pulls, Turn}
 use Rattle.daide_turns.specs.Due.{AreTurns, TakesAll, EachTakesAll, EachTurnTakesAll, taken_in}
 use Rattle.daide_turns.proofs.DueLemmas.{own_taken, same_self, taken-append}

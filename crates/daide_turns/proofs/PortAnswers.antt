@@ -15,9 +15,10 @@ use Rattle.daide_machine.specs.Wires.{Gateway, waiting, sent_to, bytes_of, witho
 use Rattle.daide_machine.specs.Wires.{Goes, Lost, Wrote, IsFrontOf}
 use Rattle.daide_machine.proofs.WireLemmas.{bytes_of-append}
 use Rattle.daide_session.proofs.GatewayFronts.{apart}
-use Rattle.daide_turns.specs.declared.ports.Pull.TheVariants.{Got, Idle, Ended}
-use Rattle.daide_turns.specs.declared.ports.Put.TheVariants.{Took, Failed}
-use Rattle.daide_turns.specs.Record.{Clock, Pulled, Offered, Moved, Relays, Works, taken, has_failed}
+use Rattle.daide_machine.specs.declared.ports.Pull.TheVariants.{Got, Idle, Ended}
+use Rattle.daide_machine.specs.declared.ports.Put.TheVariants.{Took, Failed}
+use Rattle.daide_machine.specs.Ports.{Clock, Pulled, Offered, taken, has_failed}
+use Rattle.daide_turns.specs.Record.{Moved, Relays, Works}
 
 goes_wire : (a : Gateway) (es : List Event) (note : Note) (b : Gateway) (g : Goes a es note b) (side : Side) →
     bytes_of (waiting a side) ++ bytes_of (sent_to side g.effects) ≡ bytes_of (waiting b side)

@@ -2,7 +2,8 @@
 use Rattle.std.proofs.Common.{◌≡◌, ℕ, zero, suc, ◌+◌, false, List, [], refl}
 use Rattle.std.proofs.Common.{sym, subst, add-one}
 use Rattle.daide_machine.specs.Wires.{Gateway, is_closed}
-use Rattle.daide_turns.specs.Record.{PortAnswer, Relays, Carries}
+use Rattle.daide_machine.specs.Ports.{PortAnswer}
+use Rattle.daide_turns.specs.Record.{Relays, Carries}
 use Rattle.daide_turns.specs.Turn.{Then}
 use Rattle.daide_turns.specs.Headline.{WholeTurn}
 use Rattle.daide_session.specs.Bounds.{IsWithinBounds}

@@ -7,7 +7,8 @@ use Rattle.daide_frame.specs.declared.side.Side.TheVariants.{Bot, Server}
 use Rattle.daide_reader.specs.Reading.{IsRaised}
 use Rattle.daide_machine.specs.Machine.{Limits, Sent, SessionState, is_over}
 use Rattle.daide_machine.specs.Wires.{Gateway, IsNew, holding, waiting, bytes_of, is_closed, no_frame}
-use Rattle.daide_turns.specs.Record.{PortAnswer, Moved, Relays, Works, came, has_failed}
+use Rattle.daide_machine.specs.Ports.{PortAnswer, has_failed}
+use Rattle.daide_turns.specs.Record.{Moved, Relays, Works, came}
 use Rattle.daide_turns.specs.Turn.{Then}
 use Rattle.daide_session.specs.Work.{unspent}
 use Rattle.daide_session.specs.Bounds.{IsWithinBounds}

@@ -10,8 +10,10 @@ use Rattle.daide_machine.proofs.OneRun.{one_run, runs_join}
 use Rattle.daide_machine.proofs.PieceRuns.{over_stays}
 use Rattle.daide_machine.proofs.SummaryLemmas.{tallied_then}
 use Rattle.daide_machine.proofs.WireLemmas.{sent_to-append, bytes_of-append}
-use Rattle.daide_turns.specs.Record.{PortAnswer, event_of, events_of, took, taken, fails, has_failed, Moved, Relays}
-use Rattle.daide_turns.specs.Record.{BecomesBy, Carries, Tells}
+use Rattle.daide_machine.specs.Ports.{PortAnswer, event_of, events_of, took, taken, fails, has_failed}
+use Rattle.daide_turns.specs.Record.{Moved, Relays}
+use Rattle.daide_machine.specs.Ports.{BecomesBy, Tells}
+use Rattle.daide_turns.specs.Record.{Carries}
 use Rattle.daide_turns.specs.Turn.{Then}
 use Rattle.daide_session.proofs.WorkLemmas.{paid_same}
 use Rattle.daide_turns.proofs.AnswerWork.{works_then}

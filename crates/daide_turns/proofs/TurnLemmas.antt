@@ -6,11 +6,12 @@ use Rattle.daide_frame.specs.declared.side.Side.{Side}
 use Rattle.daide_frame.specs.declared.side.Side.TheVariants.{Bot, Server}
 use Rattle.daide_machine.specs.Wires.{Gateway, waiting, front_of, first_len, room_of, IsFrontOf}
 use Rattle.daide_machine.specs.Machine.{Sent}
-use Rattle.daide_turns.specs.declared.ports.Pull.{Pull}
-use Rattle.daide_turns.specs.declared.ports.Pull.TheVariants.{Got, Idle, Ended}
-use Rattle.daide_turns.specs.declared.ports.Put.{Put}
-use Rattle.daide_turns.specs.declared.ports.Put.TheVariants.{Took, Failed}
-use Rattle.daide_turns.specs.Record.{PortAnswer, Clock, Pulled, Offered, IsPutWithin, pulled_len, Relays, Works}
+use Rattle.daide_machine.specs.declared.ports.Pull.{Pull}
+use Rattle.daide_machine.specs.declared.ports.Pull.TheVariants.{Got, Idle, Ended}
+use Rattle.daide_machine.specs.declared.ports.Put.{Put}
+use Rattle.daide_machine.specs.declared.ports.Put.TheVariants.{Took, Failed}
+use Rattle.daide_machine.specs.Ports.{PortAnswer, Clock, Pulled, Offered, IsPutWithin, pulled_len}
+use Rattle.daide_turns.specs.Record.{Relays, Works}
 use Rattle.daide_turns.specs.Record.{Working}
 use Rattle.std.specs.Prelude.{min}
 use Rattle.daide_turns.specs.Turn.{Then, Hears, AsksClock, Hands, HasNone, HandsFront, Puts, Gets, HasNoRoom}

@@ -3,8 +3,8 @@ use Rattle.std.specs.Prelude.{◌≡◌, ℕ, ◌<◌, ◌≤◌, min, true, Lis
 use Rattle.daide_frame.specs.declared.side.Side.{Side}
 use Rattle.daide_machine.specs.Wires.{Gateway, waiting, same_side, bytes_of, first_len, parts_of}
 use Rattle.daide_traffic.specs.Fronts.{AreFresh}
-use Rattle.daide_turns.specs.declared.ports.Put.TheVariants.{Took, Failed}
-use Rattle.daide_turns.specs.Record.{PortAnswer, Clock, Pulled, Offered, taken}
+use Rattle.daide_machine.specs.declared.ports.Put.TheVariants.{Took, Failed}
+use Rattle.daide_machine.specs.Ports.{PortAnswer, Clock, Pulled, Offered, taken}
 use Rattle.daide_turns.specs.Turn.{Turn}
 
 -- turns in a row, each by the answers of its own

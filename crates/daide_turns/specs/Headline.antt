@@ -9,7 +9,8 @@ use Rattle.daide_machine.specs.Machine.{Limits, opening}
 use Rattle.daide_machine.specs.Summary.{nothing_counted}
 use Rattle.daide_machine.specs.Wires.{Gateway, Holding, holding, sent_to, bytes_of, is_closed}
 use Rattle.daide_session.specs.Bounds.{IsWithinBounds}
-use Rattle.daide_turns.specs.Record.{PortAnswer, Relays, came, taken, has_failed}
+use Rattle.daide_machine.specs.Ports.{PortAnswer, taken, has_failed}
+use Rattle.daide_turns.specs.Record.{Relays, came}
 use Rattle.daide_turns.specs.Turn.{Turn}
 
 -- ---- where a session stands

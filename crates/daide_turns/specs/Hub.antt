@@ -14,7 +14,8 @@ use Rattle.daide_turns.specs.declared.hub.HubError.{HubError}
 use Rattle.daide_turns.specs.declared.hub.HubError.TheVariants as Errors
 use Rattle.daide_machine.specs.Config.{config_fault}
 use Rattle.daide_machine.specs.Config.{limits_with}
-use Rattle.daide_turns.specs.Record.{PortAnswer, Carries}
+use Rattle.daide_machine.specs.Ports.{PortAnswer}
+use Rattle.daide_turns.specs.Record.{Carries}
 use Rattle.daide_turns.specs.Turn.{AsksAtMost, turn_steps}
 use Rattle.daide_turns.specs.Headline.{WholeTurn}
 

@@ -3,7 +3,8 @@ use Rattle.std.specs.Prelude.{◌≡◌, ℕ, zero, suc, ◌<◌, true, List, []
 use Rattle.std.specs.Prelude.{slice_get, remove}
 use Rattle.daide_machine.specs.Machine.{Limits}
 use Rattle.daide_machine.specs.Wires.{Gateway, IsNew, is_closed}
-use Rattle.daide_turns.specs.Record.{PortAnswer, BecomesBy, Carries}
+use Rattle.daide_machine.specs.Ports.{PortAnswer, BecomesBy}
+use Rattle.daide_turns.specs.Record.{Carries}
 use Rattle.daide_turns.specs.Headline.{Stands, Headline}
 use Rattle.daide_turns.specs.Hub.{Hosting, Adds, Removes, Changes, IsTurned}
 

@@ -2,7 +2,8 @@
 use Rattle.std.specs.Prelude.{List, [], ◌++◌}
 use Rattle.daide_machine.specs.Machine.{Limits}
 use Rattle.daide_machine.specs.Wires.{Gateway, IsNew}
-use Rattle.daide_turns.specs.Record.{PortAnswer, Relays, Carries}
+use Rattle.daide_machine.specs.Ports.{PortAnswer}
+use Rattle.daide_turns.specs.Record.{Relays, Carries}
 use Rattle.daide_turns.specs.Headline.{Stands, Headline}
 
 -- by what ports answered in two calls, one after the other, a session goes as in one call

@@ -1,97 +1,12 @@
--- What ports tell of their answers, and what these answers mean for a session: the events by which it goes, the bytes
--- that each wire took, and how often the tables may be asked.
-use Rattle.std.specs.Prelude.{◌≡◌, ℕ, ◌≤◌, Bool, true, false, ◌||◌, if◌then◌else◌}
-use Rattle.std.specs.Prelude.{List, [], ◌∷◌, ◌++◌, take, length, Option, Some, IfSome}
+-- What the answers of ports make of a session: its moves, what waits for each wire, and how often the tables may be asked.
+use Rattle.std.specs.Prelude.{◌≡◌, ℕ, Bool, true, false, List, [], ◌++◌, length}
 use Rattle.daide_frame.specs.declared.side.Side.{Side}
-use Rattle.daide_machine.specs.Events.{Event, Ends, Loses, Pops, bytes_come}
 use Rattle.daide_machine.specs.Heard.{bytes_from}
 use Rattle.daide_machine.specs.Machine.{Effect, Runs, is_over}
+use Rattle.daide_machine.specs.Ports.{PortAnswer, BecomesBy, events_of, taken, has_failed}
 use Rattle.daide_machine.specs.Summary.{tallied}
-use Rattle.daide_machine.specs.Wires.{Gateway, waiting, same_side, sent_to, bytes_of}
-use Rattle.daide_turns.specs.declared.ports.Pull.{Pull}
-use Rattle.daide_turns.specs.declared.ports.Pull.TheVariants.{Got, Idle, Ended}
-use Rattle.daide_turns.specs.declared.ports.Put.{Put}
-use Rattle.daide_turns.specs.declared.ports.Put.TheVariants.{Took, Failed}
+use Rattle.daide_machine.specs.Wires.{Gateway, waiting, sent_to, bytes_of}
 use Rattle.daide_session.specs.Work.{IsPaidBy}
-
--- ---- the record
-
--- one answer of the ports: of the clock; of a pull, with the length of its buffer and the bytes that came;
--- of a put, with the bytes handed in
-pub data PortAnswer : Type 0 where
-  Clock : (popped : Bool) → PortAnswer
-  Pulled : (side : Side) → (buffer : ℕ) → (pull : Pull) → (bytes : List ℕ) → PortAnswer
-  Offered : (side : Side) → (bytes : List ℕ) → (put : Put) → PortAnswer
-
--- how many bytes a pull gave
-abbrev pub pulled_len : Pull → ℕ
-pulled_len (Got n) = n
-pulled_len Idle = 0
-pulled_len Ended = 0
-
--- a pull gives no more than its buffer holds
-abbrev pub IsPullWithin : Pull → ℕ → Type 0
-IsPullWithin (Got n) len = n ≤ len
-IsPullWithin Idle len = Unit {0}
-IsPullWithin Ended len = Unit {0}
-
--- a put takes no more than it was handed
-abbrev pub IsPutWithin : Put → ℕ → Type 0
-IsPutWithin (Took n) len = n ≤ len
-IsPutWithin Failed len = Unit {0}
-
--- Ports went from old to new by these answers, one call for each, told or not; `becomes` is what one call does to them
--- by its answer.
-abbrev pub BecomesBy : {P : Type 0} → (P → PortAnswer → P → Type 0) → P → List PortAnswer → P → Type 0
-BecomesBy becomes old [] new = new ≡ old
-BecomesBy {P} becomes old (answer ∷ answers) new =
-    (mid : P) × becomes old answer mid × BecomesBy becomes mid answers new
-
--- What tells a record afterwards told one before, and these answers are all that came to it. What tells none
--- afterwards owes nothing.
-abbrev pub Tells : {A : Type 0} → Option (List A) → List A → Option (List A) → Type 0
-Tells {A} old answers new = IfSome new (λ after. (before : List A) × (old ≡ Some before) × (after ≡ before ++ answers))
-
--- ---- the events
-
--- what an answer tells the session: the timer, bytes of a side, its end, or a wire that failed
-abbrev pub event_of : PortAnswer → List Event
-event_of (Clock true) = Pops ∷ []
-event_of (Clock false) = []
-event_of (Pulled side buffer (Got n) bytes) = bytes_come side bytes
-event_of (Pulled side buffer Idle bytes) = []
-event_of (Pulled side buffer Ended bytes) = Ends side ∷ []
-event_of (Offered side bytes (Took n)) = []
-event_of (Offered side bytes Failed) = Loses side ∷ []
-
--- all that a record tells it
-abbrev pub events_of : List PortAnswer → List Event
-events_of [] = []
-events_of (answer ∷ answers) = event_of answer ++ events_of answers
-
--- ---- the wires
-
-abbrev pub took : Side → PortAnswer → List ℕ
-took side (Clock popped) = []
-took side (Pulled from buffer pull bytes) = []
-took side (Offered to bytes (Took n)) = if same_side to side then take n bytes else []
-took side (Offered to bytes Failed) = []
-
--- the bytes that the wire toward a side took, in order
-abbrev pub taken : Side → List PortAnswer → List ℕ
-taken side [] = []
-taken side (answer ∷ answers) = took side answer ++ taken side answers
-
-abbrev pub fails : Side → PortAnswer → Bool
-fails side (Clock popped) = false
-fails side (Pulled from buffer pull bytes) = false
-fails side (Offered to bytes (Took n)) = false
-fails side (Offered to bytes Failed) = same_side to side
-
--- whether a put to the wire toward a side failed
-abbrev pub has_failed : Side → List PortAnswer → Bool
-has_failed side [] = false
-has_failed side (answer ∷ answers) = fails side answer || has_failed side answers
 
 -- ---- the work
 

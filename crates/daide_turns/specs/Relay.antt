@@ -1,7 +1,8 @@
 -- What `relay` does: so many turns of a session, while it isn't closed.
 use Rattle.std.specs.Prelude.{◌≡◌, ℕ, zero, suc, ◌≤◌, Bool, true, false, List, [], ◌++◌}
 use Rattle.daide_machine.specs.Wires.{Gateway, is_closed}
-use Rattle.daide_turns.specs.Record.{PortAnswer, Relays}
+use Rattle.daide_machine.specs.Ports.{PortAnswer}
+use Rattle.daide_turns.specs.Record.{Relays}
 use Rattle.daide_turns.specs.Headline.{Headline, WholeTurn}
 use Rattle.daide_turns.specs.declared.relaying.RelayEnd.{RelayEnd}
 use Rattle.daide_turns.specs.declared.relaying.RelayEnd.TheVariants.{Closed, TurnsSpent}

@@ -8,12 +8,12 @@ use Rattle.daide_machine.specs.declared.note.Note.{Note}
 use Rattle.daide_machine.specs.Events.{Event, Ends, Pops, bytes_come, other}
 use Rattle.daide_machine.specs.Wires.{Gateway, waiting, first_len, front_of, holding, room_of, IsFrontOf}
 use Rattle.daide_machine.specs.Wires.{Goes, Lost, Wrote, parts_of, parts_after}
-use Rattle.daide_turns.specs.declared.ports.Pull.{Pull}
-use Rattle.daide_turns.specs.declared.ports.Pull.TheVariants.{Got, Idle, Ended}
-use Rattle.daide_turns.specs.declared.ports.Put.{Put}
-use Rattle.daide_turns.specs.declared.ports.Put.TheVariants.{Took, Failed}
+use Rattle.daide_machine.specs.declared.ports.Pull.{Pull}
+use Rattle.daide_machine.specs.declared.ports.Pull.TheVariants.{Got, Idle, Ended}
+use Rattle.daide_machine.specs.declared.ports.Put.{Put}
+use Rattle.daide_machine.specs.declared.ports.Put.TheVariants.{Took, Failed}
 use Rattle.daide_traffic.specs.Fronts.{KeepsFront, AreFresh}
-use Rattle.daide_turns.specs.Record.{PortAnswer, Clock, Pulled, Offered, pulled_len, IsPutWithin}
+use Rattle.daide_machine.specs.Ports.{PortAnswer, Clock, Pulled, Offered, pulled_len, IsPutWithin}
 
 -- one stretch of answers, and then another
 abbrev pub Then : (Gateway → List PortAnswer → Gateway → Type 0) → (Gateway → List PortAnswer → Gateway → Type 0) →

@@ -5,7 +5,7 @@ ghost use Rattle.daide_turns.specs.HubRuns.{SessionsAreApart, PortsComeBackApart
 ghost use Rattle.daide_turns.specs.HubRuns.{OpenedSessionsStand};
 ghost use Rattle.daide_turns.specs.Due.{DueBytesGo, FramesGo};
 
-use crate::ports::Ports;
+use daide_machine::ports::Ports;
 
 /// What ports answered in two calls, one after the other, moves a session as if it were answered in one.
 pub fn relays_join()

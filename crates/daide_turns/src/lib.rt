@@ -1,6 +1,6 @@
 //! What turns a session: its ports, one turn, many in a row, and many sessions in one loop.
 //!
-//! A session touches no wire. `ports` says what is asked of its two wires and of the clock, `exchange` is one turn,
+//! A session touches no wire: what is asked of its two wires and of the clock is `Ports`, below. `exchange` is one turn,
 //! `relaying` makes turns until the session is closed, and `hub` holds sessions with their ports. What the ports answer is
 //! a parameter of all that is said here, stored or not.
 #![tactic(auto)]
@@ -8,10 +8,8 @@
 pub mod exchange;
 pub mod hub;
 pub mod laws;
-pub mod ports;
 pub mod relaying;
 
 pub use exchange::turn;
 pub use hub::{AddFault, Hub, HubError, Removed};
-pub use ports::{Ports, Pull, Put};
 pub use relaying::{RelayEnd, relay};

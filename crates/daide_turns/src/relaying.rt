@@ -7,7 +7,7 @@ ghost use Rattle.daide_turns.specs.Record.{Carries};
 ghost use Rattle.daide_turns.specs.Relay.{MakesTurns, WholeRelay, is_spent};
 
 use crate::exchange::turn;
-use crate::ports::Ports;
+use daide_machine::ports::Ports;
 use daide_session::session::Session;
 use std::alloc::Allocator;
 

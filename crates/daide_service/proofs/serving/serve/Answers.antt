@@ -1,7 +1,7 @@
 use Rattle.std.proofs.Common.{◌≤◌, List, sym, ◌∙◌, subst, arith, rules}
-use Rattle.daide_turns.specs.Record.{Tells}
+use Rattle.daide_machine.specs.Ports.{Tells}
 use Rattle.daide_service.specs.declared.serving.ServeFault.{ServeFault}
-use Rattle.daide_service.specs.System.{SystemAnswer}
+use Rattle.daide_machine.specs.System.{SystemAnswer}
 use Rattle.daide_service.specs.Serving.{Serving, GivesUp, opening}
 use Rattle.daide_service.proofs.ServingLemmas.{Ran, no_rounds, another_round, at_memory, runs_out}
 use Rattle.daide_service.proofs.ServedLemmas.{whole_run}

@@ -1,7 +1,7 @@
 -- So many reads were interrupted: each gave nothing and left what the stream took, and the buffer keeps its length.
 use Rattle.std.proofs.Common.{◌≡◌, length, replicate}
 use Rattle.std.specs.Io.KnownBytes.{Keeps}
-use Rattle.daide_turns.specs.Record.{Tells}
+use Rattle.daide_machine.specs.Ports.{Tells}
 use Rattle.daide_streams.specs.Calls.{Read}
 use Rattle.daide_streams.specs.declared.outcome.Outcome.TheVariants.{Interrupted}
 use Rattle.daide_streams.proofs.calls.read_on.Given as goal

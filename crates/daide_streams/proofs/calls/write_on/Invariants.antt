@@ -1,7 +1,7 @@
 -- So many writes were interrupted: each took nothing, and left what the stream has to give.
 use Rattle.std.proofs.Common.{◌≡◌, replicate}
 use Rattle.std.specs.Io.KnownBytes.{Keeps}
-use Rattle.daide_turns.specs.Record.{Tells}
+use Rattle.daide_machine.specs.Ports.{Tells}
 use Rattle.daide_streams.specs.Calls.{Written}
 use Rattle.daide_streams.specs.declared.outcome.Outcome.TheVariants.{Interrupted}
 use Rattle.daide_streams.proofs.calls.write_on.Given as goal

@@ -1,7 +1,8 @@
 use Rattle.std.proofs.Common.{Bool, [], ◌∷◌, refl, sym, subst}
 use Rattle.daide_machine.specs.Events.{Pops}
 use Rattle.daide_machine.proofs.LimitsKept.{runs_limits}
-use Rattle.daide_turns.specs.Record.{Clock, Working}
+use Rattle.daide_machine.specs.Ports.{Clock}
+use Rattle.daide_turns.specs.Record.{Working}
 use Rattle.daide_turns.specs.Turn.{AsksClock, Hears}
 use Rattle.daide_turns.proofs.Stretches.{carries_one}
 use Rattle.daide_session.proofs.WorkLemmas.{paid_held, paid_same}

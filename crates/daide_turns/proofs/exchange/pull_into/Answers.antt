@@ -2,8 +2,9 @@ use Rattle.std.proofs.Common.{◌≡◌, [], ◌∷◌, length, take, refl, rule
 use Rattle.daide_machine.specs.declared.note.Note.TheVariants as Note
 use Rattle.daide_machine.specs.Events.{Ends, bytes_come, other}
 use Rattle.daide_machine.proofs.LimitsKept.{runs_limits}
-use Rattle.daide_turns.specs.declared.ports.Pull.TheVariants.{Got, Idle, Ended}
-use Rattle.daide_turns.specs.Record.{Pulled, Working}
+use Rattle.daide_machine.specs.declared.ports.Pull.TheVariants.{Got, Idle, Ended}
+use Rattle.daide_machine.specs.Ports.{Pulled}
+use Rattle.daide_turns.specs.Record.{Working}
 use Rattle.daide_turns.specs.Turn.{Pulls}
 use Rattle.daide_turns.proofs.Stretches.{carries_one}
 use Rattle.daide_turns.proofs.TurnLemmas.{whole_pull}

@@ -3,8 +3,9 @@ use Rattle.daide_machine.specs.Events.{Loses}
 use Rattle.daide_machine.specs.Machine.{SessionState}
 use Rattle.daide_machine.specs.Wires.{waiting}
 use Rattle.daide_machine.proofs.LimitsKept.{runs_limits}
-use Rattle.daide_turns.specs.declared.ports.Put.TheVariants.{Took, Failed}
-use Rattle.daide_turns.specs.Record.{Offered, Working}
+use Rattle.daide_machine.specs.declared.ports.Put.TheVariants.{Took, Failed}
+use Rattle.daide_machine.specs.Ports.{Offered}
+use Rattle.daide_turns.specs.Record.{Working}
 use Rattle.daide_turns.specs.Turn.{Puts}
 use Rattle.daide_turns.proofs.Stretches.{carries_nothing, carries_one}
 use Rattle.daide_turns.proofs.TurnLemmas.{front_short, no_put, whole_put}

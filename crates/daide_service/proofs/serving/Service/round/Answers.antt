@@ -1,8 +1,8 @@
 use Rattle.std.proofs.Common.{ℕ, List, [], ◌∷◌, ◌++◌, Result, Ok, Err, refl, ap, ◌∙◌, subst, arith}
 use Rattle.std.specs.Prelude.{◌||◌, OnErr}
-use Rattle.daide_service.specs.declared.system.Connect.TheVariants.{Ready}
-use Rattle.daide_service.specs.System.{SystemAnswer, Begins, Connects}
-use Rattle.daide_turns.specs.Record.{Tells}
+use Rattle.daide_machine.specs.declared.system.Connect.TheVariants.{Ready}
+use Rattle.daide_machine.specs.System.{SystemAnswer, Begins, Connects}
+use Rattle.daide_machine.specs.Ports.{Tells}
 use Rattle.daide_service.specs.Serving.{Serving, Admits, BreaksOff, Round, wait_where, accepts}
 use Rattle.daide_service.proofs.ServingLemmas.{waits_alike}
 use Rattle.daide_turns.proofs.Stretches.{tells_then}

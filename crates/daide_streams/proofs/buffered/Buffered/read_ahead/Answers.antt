@@ -1,5 +1,5 @@
 use Rattle.std.proofs.Common.{rules, refl, ◌≡◌, [], ◌++◌, ℕ, List, take, ap, sym, ◌∙◌, append-nil}
-use Rattle.daide_turns.specs.Record.{pulled_len}
+use Rattle.daide_machine.specs.Ports.{pulled_len}
 use Rattle.daide_streams.specs.Buffers.{Buffer, held_in}
 use Rattle.daide_streams.proofs.BufferLemmas.{of_view, ahead_passes}
 use Rattle.daide_streams.proofs.CallLemmas.{own_pull}

@@ -1,5 +1,5 @@
 use Rattle.std.proofs.Common.{◌==◌, refl}
-use Rattle.daide_turns.specs.Record.{Clock}
+use Rattle.daide_machine.specs.Ports.{Clock}
 use Rattle.daide_tests.proofs.StoredLemmas.{tells}
 use Rattle.daide_tests.proofs.memory_ports.MemoryPortsPorts.clock_popped.Goals as goal
 

@@ -1,5 +1,5 @@
 use Rattle.std.proofs.Common.{◌≡◌, length, take, ap, ◌∙◌, rules}
-use Rattle.daide_turns.specs.Record.{Pulled, pulled_len}
+use Rattle.daide_machine.specs.Ports.{Pulled, pulled_len}
 use Rattle.daide_tests.proofs.StoredLemmas.{copied, tells}
 use Rattle.daide_tests.proofs.memory_ports.MemoryPortsPorts.pull.Goals.{in-Bot, in-Server}
 use Rattle.daide_tests.proofs.memory_ports.MemoryPortsPorts.pull.Goals as goal

@@ -1,5 +1,5 @@
 use Rattle.std.proofs.Common.{◌≡◌, ap, ◌∙◌, rules}
-use Rattle.daide_turns.specs.Record.{Offered}
+use Rattle.daide_machine.specs.Ports.{Offered}
 use Rattle.daide_tests.proofs.StoredLemmas.{copied, tells}
 use Rattle.daide_tests.proofs.memory_ports.MemoryPortsPorts.put.Goals.{in-Bot, in-Server}
 use Rattle.daide_tests.proofs.memory_ports.MemoryPortsPorts.put.Goals as goal

@@ -2,18 +2,20 @@
 use Rattle.std.proofs.Common.{◌≡◌, ℕ, List, [], ◌∷◌, Option, Some, None, refl, ap, subst, sym}
 use Rattle.std.specs.Prelude.{Contains}
 use Rattle.daide_machine.specs.Wires.{Gateway}
-use Rattle.daide_turns.specs.Record.{PortAnswer, Clock, Pulled, Offered, BecomesBy}
-use Rattle.daide_turns.specs.declared.ports.Pull.{Pull}
-use Rattle.daide_turns.specs.declared.ports.Put.{Put}
+use Rattle.daide_machine.specs.Ports.{PortAnswer, Clock, Pulled, Offered, BecomesBy}
+use Rattle.daide_machine.specs.declared.ports.Pull.{Pull}
+use Rattle.daide_machine.specs.declared.ports.Put.{Put}
 use Rattle.daide_settings.specs.declared.settings.Settings.{Settings}
-use Rattle.daide_service.specs.declared.system.Connect.TheVariants.{Ready}
+use Rattle.daide_machine.specs.declared.system.Connect.TheVariants.{Ready}
 use Rattle.daide_service.specs.Metered.{Meter, Meters, BecomesWhile, IsSpentAnswer}
 use Rattle.daide_service.specs.Serving.{fresh}
 use Rattle.daide_service.specs.Served.{IsServed, run_limits}
-use Rattle.daide_service.specs.System.{SystemAnswer, Connects}
+use Rattle.daide_machine.specs.System.{SystemAnswer, Connects}
 use Rattle.daide_streams.specs.Buffers.{Buffer}
-use Rattle.daide_streams.specs.Streams.{Moves, Exchanges}
-use Rattle.daide_streams.proofs.StreamLemmas.{still_moves, exchanged}
+use Rattle.daide_streams.specs.Streams.{Moves}
+use Rattle.daide_streams.proofs.StreamLemmas.{still_moves}
+use Rattle.daide_program.specs.Exchanged.{Exchanges}
+use Rattle.daide_program.proofs.StreamLemmas.{exchanged}
 
 module _ {P S : Type 0} (streams : P → Buffer S × Buffer S) (to_give taken : S → Option (List ℕ)) where
   -- what one call does to the streams

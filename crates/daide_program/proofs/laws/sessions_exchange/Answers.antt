@@ -1,5 +1,5 @@
-use Rattle.daide_streams.proofs.StreamLemmas.{exchanged}
-use Rattle.daide_streams.proofs.laws.sessions_exchange.Goals as goal
+use Rattle.daide_program.proofs.StreamLemmas.{exchanged}
+use Rattle.daide_program.proofs.laws.sessions_exchange.Goals as goal
 
 pub returns : goal.returns
 returns g c = λ limits history first now gateway moves h.

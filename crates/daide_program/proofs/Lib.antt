@@ -1,1 +1,2 @@
 mod ExchangeLemmas
+mod StreamLemmas

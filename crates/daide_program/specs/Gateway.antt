@@ -1,8 +1,8 @@
 -- What a gateway's faults say.
 use Rattle.daide_settings.specs.declared.settings.Settings.{Settings}
 use Rattle.daide_service.specs.Serving.{IsServeCause}
-use Rattle.daide_sockets.specs.declared.gateway.GatewayFault.{GatewayFault}
-use Rattle.daide_sockets.specs.declared.gateway.GatewayFault.TheVariants.{Listen, Memory, Serve}
+use Rattle.daide_program.specs.declared.gateway.GatewayFault.{GatewayFault}
+use Rattle.daide_program.specs.declared.gateway.GatewayFault.TheVariants.{Listen, Memory, Serve}
 
 -- a fault that comes before the gateway serves
 abbrev pub IsBeforeServing : GatewayFault → Type 0

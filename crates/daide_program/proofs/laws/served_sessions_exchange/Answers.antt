@@ -1,5 +1,5 @@
-use Rattle.daide_sockets.proofs.ExchangeLemmas.{served_exchange}
-use Rattle.daide_sockets.proofs.laws.served_sessions_exchange.Goals as goal
+use Rattle.daide_program.proofs.ExchangeLemmas.{served_exchange}
+use Rattle.daide_program.proofs.laws.served_sessions_exchange.Goals as goal
 
 pub returns : goal.returns
 returns g c = λ settings answers now h.

@@ -1,8 +1,8 @@
 //! The two wires and the clock, as a turn asks them.
 
 ghost use Rattle.std.specs.Prelude.{length, take};
-ghost use Rattle.daide_turns.specs.Record.{PortAnswer, Clock, Pulled, Offered, IsPullWithin, IsPutWithin};
-ghost use Rattle.daide_turns.specs.Record.{pulled_len};
+ghost use Rattle.daide_machine.specs.Ports.{PortAnswer, Clock, Pulled, Offered, IsPullWithin, IsPutWithin};
+ghost use Rattle.daide_machine.specs.Ports.{pulled_len};
 
 use daide_frame::side::Side;
 

@@ -1,0 +1,24 @@
+//! Laws of sessions over streams and of a run over sockets: functions with no parameters and an empty body, whose
+//! contracts are the laws.
+
+ghost use Rattle.daide_program.specs.Exchanged.{SessionsExchange, ServedSessionsExchange};
+
+use daide_gate::ports::Ports;
+use daide_sockets::ports::SocketPorts;
+use daide_streams::duplex::Duplex;
+use std::rt::Clock;
+
+/// A session over two streams that tell their bytes: what it heard of a side is what that side's stream gave, in order;
+/// what each stream took is a front of the machine's answers to that, and all of them where the session is closed and
+/// the wire didn't fail.
+pub fn sessions_exchange<S: Duplex>()
+    ensures { SessionsExchange S.to_give S.taken }
+{}
+
+/// Each session that a run serves, over any streams that tell their bytes: what it heard of a side is what that side's
+/// stream gave since its connect came about, in order; what each stream took is a front of the machine's answers to
+/// that, and all of them where the session is closed and the wire didn't fail.
+pub fn served_sessions_exchange<R: Clock, S: Duplex + Drop>()
+    ensures { ServedSessionsExchange ⟦<SocketPorts<'static, R, S> as Ports>⟧.becomes
+        (λ ports. (ports.bot.stream, ports.server.stream)) S.to_give S.taken }
+{}
