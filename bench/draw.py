@@ -3,10 +3,10 @@
 
     bench/draw.py
 
-Each file there gives the picture of its name. `layers`, `session-machine` and `message` are diagrams; any other file is
-a table of figures, of which bars are drawn, so a new one needs no code. Lines that begin with `#` are the picture's
-title and where its figures come from. The same data give the same bytes. The pictures go by the reader's choice of
-light or dark.
+Each file there gives the picture of its name. `layers`, `session-machine` and `message` are diagrams, `proofs` has a
+bar a crate, of parts that add up; any other file is a table of figures, of which bars are drawn, so a new one needs
+no code. Lines that begin with `#` are the picture's title and where its figures come from. The same data give the
+same bytes. The pictures go by the reader's choice of light or dark.
 """
 
 import csv
@@ -123,6 +123,32 @@ def bars(notes, columns, rows):
     return picture
 
 
+def proofs(notes, columns, rows):
+    """A bar for each crate, its parts one behind the other, with their sum; a part that is left out is 0."""
+    picture = Picture(notes)
+    parts = [(row[0], [float(figure or 0) for figure in row[1:]]) for row in rows]
+    longest = max(sum(figures) for _, figures in parts)
+    left, x, y = 190, 190, picture.top + 4
+    for name, kind in zip(columns[1:], SERIES):
+        picture.bar(x, y, 12, 12, kind)
+        picture.text(x + 18, y + 11, name, "faint", 12)
+        x += 40 + 7 * len(name)
+    y += 26
+    for crate, figures in parts:
+        picture.text(left - 8, y + 13, crate, anchor="end", family="monospace", size=12)
+        x = left
+        for figure, kind in zip(figures, SERIES):
+            if figure:
+                picture.bar(x, y, figure / longest * (WIDTH - left - 70), 17, kind)
+                x += figure / longest * (WIDTH - left - 70)
+        picture.text(x + 6, y + 13, f"{sum(figures):,.0f}", "faint", 12)
+        y += 21
+    whole = sum(sum(figures) for _, figures in parts)
+    picture.text(WIDTH - 20, y + 12, f"in {notes['unit']}; {whole:,.0f} in all, {whole / 60:,.0f} minutes", "faint", 12,
+                 anchor="end")
+    return picture
+
+
 def layers(notes, _columns, rows):
     """The crates in rows, each above all that it uses, and below them what is trusted."""
     uses = {}
@@ -215,7 +241,7 @@ def message(notes, _columns, rows):
 
 def main():
     """Draws every file of figures."""
-    diagrams = {"layers": layers, "session-machine": session_machine, "message": message}
+    diagrams = {"layers": layers, "session-machine": session_machine, "message": message, "proofs": proofs}
     for path in sorted((HERE / "figures").glob("*.csv")):
         picture = diagrams.get(path.stem, bars)(*read(path))
         target = HERE.parent / "docs/img" / f"{path.stem}.svg"

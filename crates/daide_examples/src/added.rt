@@ -105,18 +105,16 @@ fn check_refused(
 ) -> Result<(), Fail> {
     let (name, code, level, operand, fault) = row;
     let refused = word(*name, *code, Slot::Arrangement, *level, *operand);
-    same(&words.add(refused), &Err(*fault), code)?;
-    same(&words.names().len(), &1, code)
+    let answer = words.add(refused);
+    same(&(answer, words.names().len()), &(Err(*fault), 1), code)
 }
 
 /// The words are XYZ and QQQ, and their names these.
 fn check_both(words: &Words) -> Result<(), Fail> {
     let names = [(xyz().code, *b"XYZ"), (qqq().code, *b"QQQ")];
-    holds(words.names() == names.as_slice(), "names")?;
-    holds(
-        words.get(1) == Some(qqq()) && words.get(2).is_none(),
-        "the words",
-    )
+    let is_named = words.names() == names.as_slice();
+    let are_both = words.get(1) == Some(qqq()) && words.get(2).is_none();
+    holds(is_named && are_both, "the names, and the words")
 }
 
 /// After XYZ each of them is refused, and QQQ is added.
@@ -146,10 +144,27 @@ fn seventeenth_word_is_refused(_rt: HostRuntime) -> Result<(), Fail> {
         same(&words.add(added), &Ok(()), &number)?;
     }
     let last = word(*b"gof", 0x4A10, Slot::Press, Level::L20, Operand::Power);
-    same(&words.add(last), &Err(WordError::Full), &"the last")?;
-    same(&words.names().len(), &16, &"names")?;
+    let full = words.add(last);
+    let count = words.names().len();
     let class = Extended::new(words).class_of(Token::from_code(0x4A5F));
-    same(&class.class(), &Class::Word(15), &"the sixteenth")
+    let told = (full, count, class.class());
+    let want = (Err(WordError::Full), 16, Class::Word(15));
+    same(&told, &want, &"the last, the names, the sixteenth")
+}
+
+/// The classes of XYZ and QQQ, where there is XYZ alone.
+fn classes_of(table: &mut Extended) -> (Class, Class) {
+    let xyz = table.class_of(xyz().code).class();
+    (xyz, table.class_of(qqq().code).class())
+}
+
+/// Whether the start stops at XYZ, and may end, and how often the table was asked then.
+fn asked_at_start(table: &mut Extended) -> (bool, bool, u64) {
+    let start = table.start(Side2::Client, Level::L0);
+    let word = table.class_of(xyz().code);
+    let is_stop = table.predict(start, word).is_stop();
+    let may_end = table.may_end(start);
+    (is_stop, may_end, table.asked())
 }
 
 #[test]
@@ -157,11 +172,7 @@ fn answers_are_counted(_rt: HostRuntime) -> Result<(), Fail> {
     let mut words = Words::new();
     holds(words.add(xyz()) == Ok(()), "XYZ")?;
     let mut table = Extended::new(words);
-    let start = table.start(Side2::Client, Level::L0);
-    let word = table.class_of(xyz().code);
-    same(&word.class(), &Class::Word(0), &"XYZ")?;
-    same(&table.class_of(qqq().code).class(), &Class::Other, &"QQQ")?;
-    holds(table.predict(start, word).is_stop(), "the start at XYZ")?;
-    holds(!table.may_end(start), "the start")?;
-    same(&table.asked(), &2, &"asked")
+    let want = (Class::Word(0), Class::Other);
+    same(&classes_of(&mut table), &want, &"XYZ, and QQQ")?;
+    same(&asked_at_start(&mut table), &(true, false, 2), &"asked")
 }

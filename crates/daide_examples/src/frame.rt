@@ -180,25 +180,31 @@ fn feed_piece(cutter: &mut Cutter, piece: &[u8]) -> Option<Step> {
 /// Feeds pieces, and holds each answer and the room after it against the table.
 fn feed_pieces(cutter: &mut Cutter, pieces: &[(&[u8], Step, usize)]) -> Result<(), Fail> {
     for (piece, step, room) in pieces {
-        same(&feed_piece(cutter, piece), &Some(*step), piece)?;
-        same(&cutter.room(), room, piece)?;
+        let answer = feed_piece(cutter, piece);
+        same(&(answer, cutter.room()), &(Some(*step), *room), piece)?;
     }
     Ok(())
+}
+
+/// What is seen of a cutter: the room, the head, and whether the body is this.
+fn seen(cutter: &Cutter, body: &[u8]) -> (usize, Option<Head>, bool) {
+    (cutter.room(), cutter.head(), cutter.body() == body)
+}
+
+/// Cuts that frame from these pieces, and is reset.
+fn cut_frame(cutter: &mut Cutter, pieces: &[(&[u8], Step, usize)]) -> Result<(), Fail> {
+    same(&seen(cutter, &[]), &(4, None, true), &"before")?;
+    feed_pieces(cutter, pieces)?;
+    same(&seen(cutter, BODY), &(0, Some(HEAD), true), &"cut")?;
+    cutter.reset();
+    same(&seen(cutter, &[]), &(4, None, true), &"reset")
 }
 
 #[test]
 fn cuts_one_frame_whole_and_by_bytes(rt: HostRuntime) -> Result<(), Fail> {
     let mut cutter = Cutter::new(rt.alloc(), 1024)?;
-    for pieces in &[PIECES, SINGLE_BYTES] {
-        same(&cutter.room(), &4, &"before")?;
-        feed_pieces(&mut cutter, pieces)?;
-        same(&cutter.head(), &Some(HEAD), &"cut")?;
-        same(&cutter.body(), &BODY, &"cut")?;
-        cutter.reset();
-        same(&cutter.head(), &None, &"reset")?;
-        same(&cutter.body().len(), &0, &"reset")?;
-    }
-    Ok(())
+    cut_frame(&mut cutter, PIECES)?;
+    cut_frame(&mut cutter, SINGLE_BYTES)
 }
 
 /// First frames: the bytes, the last answer, the byte that it comes at, and how many bytes of body are kept.
@@ -256,14 +262,9 @@ fn cut_within(heap: &LocalHeap) -> Option<(usize, Step, usize)> {
 fn is_cut_within(alloc: Global, bytes: usize) -> Result<bool, Fail> {
     let heap = LocalHeap::new(alloc, bytes)?;
     let seen = cut_within(&heap);
-    same(&heap.used(), &0, &bytes)?;
-    match seen {
-        Some(seen) => {
-            same(&seen, &(512, Step::Bodied, 512), &bytes)?;
-            Ok(true)
-        }
-        None => Ok(false),
-    }
+    let is_right = seen.is_none() || seen == Some((512, Step::Bodied, 512));
+    same(&(is_right, heap.used()), &(true, 0), &bytes)?;
+    Ok(seen.is_some())
 }
 
 /// It takes room for the longest body and no more.

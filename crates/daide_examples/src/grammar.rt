@@ -65,40 +65,53 @@ fn seen(answer: &Move) -> (bool, bool, usize) {
     (answer.is_stop(), answer.is_take(), answer.len())
 }
 
-/// A few cells by hand, of any table.
-fn answers_and_counts<T: Predict>(table: &mut T) -> Result<(), Fail> {
+/// Whether a table starts with the symbols of a client, and of a server.
+fn are_starts<T: Predict>(table: &mut T) -> (bool, bool) {
     let client = table.start(Side2::Client, Level::L0);
-    let is_client = matches!(client.sym(), Sym::Client(Level::L0));
     let server = table.start(Side2::ServerEnd, Level::L60);
-    let is_server = matches!(server.sym(), Sym::Server(Level::L60));
-    same(&(is_client, is_server), &(true, true), &"the start")?;
+    (
+        matches!(client.sym(), Sym::Client(Level::L0)),
+        matches!(server.sym(), Sym::Server(Level::L60)),
+    )
+}
 
-    // OBS is a whole message, and nothing else may follow
+/// What a table makes of OBS: its class, the answer to it at the start, and whether a bracket there stops.
+fn obs_at_start<T: Predict>(table: &mut T) -> (Class, (bool, bool, usize), bool) {
+    let client = table.start(Side2::Client, Level::L0);
     let obs = table.class_of(Token::from_code(0x480F));
-    same(&obs.class(), &Class::Obs, &"OBS")?;
     let answer = table.predict(client, obs);
-    same(&seen(&answer), &(false, true, 0), &"OBS")?;
-    let answer = table.predict(client, Column::named(Class::Ket));
-    same(&answer.is_stop(), &true, &"a bracket")?;
+    let bracket = table.predict(client, Column::named(Class::Ket));
+    (obs.class(), seen(&answer), bracket.is_stop())
+}
 
-    // TME may stand alone, and HST may not
+/// What a table makes of TME: the answer to it at the start, whether a number comes next, and whether a bracket in place of
+/// it is taken, and stops; and whether the message may end before the number, and HST before its turn.
+fn tme_at_start<T: Predict>(
+    table: &mut T,
+) -> ((bool, bool, usize), (bool, bool, bool), (bool, bool)) {
+    let client = table.start(Side2::Client, Level::L0);
     let answer = table.predict(client, Column::named(Class::Tme));
-    same(&seen(&answer), &(false, true, 1), &"TME")?;
     let number = answer.cells()[0];
     let is_number = matches!(number.sym(), Sym::MaybeNumberGroup);
-    same(&is_number, &true, &"behind TME")?;
-    let answer = table.predict(number, Column::named(Class::Ket));
-    same(
-        &(answer.is_take(), answer.is_stop()),
-        &(false, false),
-        &"a number left out",
-    )?;
-    same(&table.may_end(number), &true, &"TME")?;
-    same(
-        &table.may_end(Symbol::named(Sym::TurnGroup)),
-        &false,
-        &"HST",
-    )?;
+    let left_out = table.predict(number, Column::named(Class::Ket));
+    let may_end = table.may_end(number);
+    (
+        seen(&answer),
+        (is_number, left_out.is_take(), left_out.is_stop()),
+        (may_end, table.may_end(Symbol::named(Sym::TurnGroup))),
+    )
+}
+
+/// A few cells by hand, of any table.
+fn answers_and_counts<T: Predict>(table: &mut T) -> Result<(), Fail> {
+    same(&are_starts(table), &(true, true), &"the start")?;
+    // OBS is a whole message, and nothing else may follow
+    let obs = obs_at_start(table);
+    same(&obs, &(Class::Obs, (false, true, 0), true), &"OBS")?;
+    // TME may stand alone, and HST may not
+    let tme = tme_at_start(table);
+    let want = ((false, true, 1), (true, false, false), (true, false));
+    same(&tme, &want, &"TME, and HST")?;
     same(&table.asked(), &6, &"asked")
 }
 
@@ -136,13 +149,14 @@ fn rests_tell_their_symbols(_rt: HostRuntime) -> Result<(), Fail> {
             Sym::Orders
         ]
     );
-    same(&is_told, &true, &"five symbols")?;
-    same(&Rest::of([]).as_slice().len(), &0, &"none")
+    let none = Rest::of([]).as_slice().len();
+    same(&(is_told, none), &(true, 0), &"five symbols, and none")
 }
 
 #[test]
 fn answers_are_small(_rt: HostRuntime) -> Result<(), Fail> {
-    same(&size_of::<Symbol>(), &1, &"a symbol")?;
-    same(&size_of::<Column>(), &size_of::<usize>(), &"a column")?;
-    same(&size_of::<Move>(), &size_of::<usize>(), &"an answer")
+    let symbol = size_of::<Symbol>();
+    let sizes = (symbol, size_of::<Column>(), size_of::<Move>());
+    let word = size_of::<usize>();
+    same(&sizes, &(1, word, word), &"a symbol, a column, an answer")
 }

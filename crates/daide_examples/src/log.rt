@@ -2,7 +2,7 @@
 
 use daide_log::LogFault;
 use daide_log::check::check_log;
-use daide_log::report::Summary;
+use daide_machine::Summary;
 use daide_tests::rows::same;
 use std::alloc::Global;
 use std::test::Fail;

@@ -21,7 +21,7 @@ fn side_of(word: &str) -> Option<Side2> {
 }
 
 /// A level by its number.
-fn level_of(word: &str) -> Option<Level> {
+fn level_named(word: &str) -> Option<Level> {
     match word.parse() {
         Ok(number) => Level::of(number),
         Err(_) => None,
@@ -45,7 +45,12 @@ pub fn example_of(row: &str) -> Option<Example<'_>> {
     let (sender, rest) = row.split_once(" | ")?;
     let (text, verdict) = rest.split_once(" | ")?;
     let (side, level) = sender.split_once(' ')?;
-    Some((side_of(side)?, level_of(level)?, text, verdict_of(verdict)?))
+    Some((
+        side_of(side)?,
+        level_named(level)?,
+        text,
+        verdict_of(verdict)?,
+    ))
 }
 
 /// The token of `#` and four hexadecimal digits.

@@ -12,14 +12,7 @@ use std::test::Fail;
 
 /// A log of so many sessions, whose timer pops in the last.
 fn log_of(alloc: Global, sessions: usize) -> Result<String, Fail> {
-    let number = sessions.to_string(alloc)?;
-    let mut log = String::new(alloc);
-    log.push_str("daide-log 2\nconfig 60 512 16 ")?;
-    log.push_str(number.as_str())?;
-    log.push_str(" 0\n")?;
-    log.push_str(number.as_str())?;
-    log.push_str(" timer\n")?;
-    Ok(log)
+    Ok(format!(in alloc; "daide-log 2\nconfig 60 512 16 {sessions} 0\n{sessions} timer\n")?)
 }
 
 /// Such a log has one fault.

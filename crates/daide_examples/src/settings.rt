@@ -234,15 +234,15 @@ fn assert_settings(
     words: usize,
 ) -> Result<(), Fail> {
     let are_there = (settings.listen.as_str(), settings.server.as_str());
-    same(&are_there, &addresses, &"addresses")?;
-    same(&(settings.config, settings.im_seconds), &limits, &"limits")?;
     let of_run = (
         settings.max_sessions,
         settings.sessions,
         settings.turns,
         settings.idle_seconds,
     );
-    same(&of_run, &run, &"run")?;
+    let of_session = (settings.config, settings.im_seconds);
+    let told = (are_there, of_session, of_run);
+    same(&told, &(addresses, limits, run), &"addresses and limits")?;
     same(&settings.words.names().len(), &words, &"words")
 }
 

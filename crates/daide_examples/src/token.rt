@@ -4,6 +4,7 @@ use daide_tests::rows::same;
 use daide_token::class::Class;
 use daide_token::text::{write_text, write_text_with};
 use daide_token::token::Token;
+use std::alloc::Global;
 use std::io;
 use std::io::{ErrorKind, Write};
 use std::test::Fail;
@@ -18,17 +19,26 @@ const NUMBERS: &[([u8; 2], Option<i16>)] = &[
     ([0xFF, 0xFF], None),
 ];
 
+/// Numbers that no token has.
+const NO_NUMBERS: &[i16] = &[8192, -8193, i16::MAX, i16::MIN];
+
+/// Two bytes are the token of this number, if they are one, and are read back from it.
+fn check_number(bytes: [u8; 2], number: Option<i16>) -> Result<(), Fail> {
+    let token = Token::from_be(bytes);
+    let back = match number {
+        Some(number) => Token::of_number(number),
+        None => Some(token),
+    };
+    let told = (token.number(), token.to_be(), back);
+    same(&told, &(number, bytes, Some(token)), &bytes)
+}
+
 #[test]
 fn numbers_have_fourteen_bits(_rt: HostRuntime) -> Result<(), Fail> {
     for (bytes, number) in NUMBERS {
-        let token = Token::from_be(*bytes);
-        same(&token.number(), number, bytes)?;
-        same(&token.to_be(), bytes, bytes)?;
-        if let Some(number) = number {
-            same(&Token::of_number(*number), &Some(token), number)?;
-        }
+        check_number(*bytes, *number)?;
     }
-    for number in &[8192, -8193, i16::MAX, i16::MIN] {
+    for number in NO_NUMBERS {
         same(&Token::of_number(*number), &None, number)?;
     }
     Ok(())
@@ -69,8 +79,8 @@ const CLASSES: &[(u16, Class, bool)] = &[
 fn classes_go_by_category_then_code(_rt: HostRuntime) -> Result<(), Fail> {
     for (code, class, known) in CLASSES {
         let token = Token::from_code(*code);
-        same(&token.class(), class, code)?;
-        same(&token.has_known_category(), known, code)?;
+        let told = (token.class(), token.has_known_category());
+        same(&told, &(*class, *known), code)?;
     }
     Ok(())
 }
@@ -117,8 +127,8 @@ const NAMES: &[(u16, &str)] = &[
 fn names_are_those_of_the_tables(_rt: HostRuntime) -> Result<(), Fail> {
     for (code, name) in NAMES {
         let token = Token::from_code(*code);
-        same(&token.name(), &Some(*name), code)?;
-        same(&Token::by_name(name), &Some(token), name)?;
+        let told = (token.name(), Token::by_name(name));
+        same(&told, &(Some(*name), Some(token)), code)?;
     }
     Ok(())
 }
@@ -150,15 +160,20 @@ const TEXTS: &[(&[u8], &str)] = &[
     (&[0xFF, 0xFF, 0x00, 0x00], "#ffff 0"),
 ];
 
+/// Tokens have this text.
+fn check_text(alloc: Global, tokens: &[u8], text: &str) -> Result<(), Fail> {
+    if tokens.len() % 2 != 0 {
+        return Err(Fail::new(text));
+    }
+    let mut written = Vec::new(alloc);
+    write_text(tokens, &mut written)?;
+    same(&written.as_slice(), &text.as_bytes(), &text)
+}
+
 #[test]
 fn printed_text(rt: HostRuntime) -> Result<(), Fail> {
     for (tokens, text) in TEXTS {
-        if tokens.len() % 2 != 0 {
-            return Err(Fail::new(*text));
-        }
-        let mut written = Vec::new(rt.alloc());
-        write_text(tokens, &mut written)?;
-        same(&written.as_slice(), &text.as_bytes(), text)?;
+        check_text(rt.alloc(), tokens, text)?;
     }
     Ok(())
 }
@@ -200,19 +215,28 @@ impl Write for FailsAtWrite {
     }
 }
 
+/// What becomes of a text whose writer takes so many writes: the writer's error, if it was handed on.
+fn fault_after(writes: usize) -> Option<ErrorKind> {
+    let tokens = [0x48, 0x03, 0x4B, 0x41, 0x00, 0x00, 0x4B, 0x42];
+    let mut writer = FailsAtWrite { writes };
+    match write_text(&tokens, &mut writer) {
+        Ok(()) => None,
+        Err(fault) => Some(fault.kind()),
+    }
+}
+
 #[test]
 fn writers_fault_is_handed_on(_rt: HostRuntime) -> Result<(), Fail> {
-    let tokens = [0x48, 0x03, 0x4B, 0x41, 0x00, 0x00, 0x4B, 0x42];
     let mut written = false;
     for writes in 0..16usize {
-        let mut writer = FailsAtWrite { writes };
-        match write_text(&tokens, &mut writer) {
-            Ok(()) => written = true,
-            Err(fault) => {
-                same(&fault.kind(), &ErrorKind::StorageFull, &writes)?;
-                same(&written, &false, &writes)?;
-            }
-        }
+        let fault = fault_after(writes);
+        written = written || fault.is_none();
+        let want = if written {
+            None
+        } else {
+            Some(ErrorKind::StorageFull)
+        };
+        same(&fault, &want, &writes)?;
     }
     same(&written, &true, &"written at last")
 }

@@ -2,7 +2,7 @@
 //!
 //! XYZ is a press of a power from level 20 on, QQQ an arrangement of an arrangement from level 30 on.
 
-ghost use Rattle.std.specs.Prelude.{◌≤◌, length};
+ghost use Rattle.std.specs.Prelude.{◌≤◌, IfOk, length};
 
 use crate::judging::{LONGEST, body_of, judged};
 use crate::messages::tokens_of_text;
@@ -60,20 +60,31 @@ const MESSAGES: &[Message] = &[
     ("SND ( FRA ) ( FCT ( #4a41 ( QRY ( DRW ) ) ) )", L60, Huh(9), Huh(7)),
 ];
 
+/// The verdicts of readers of either room, with the words, and without.
+fn verdicts(level: Level, body: &[u8]) -> ((Verdict, Verdict), (Verdict, Verdict))
+    requires { length body.now ≤ LONGEST }
+{
+    let with = verdict_on_512(two_words(), level, body);
+    let without = verdict_on_512(Words::new(), level, body);
+    let roomy_with = verdict_on_2048(two_words(), 254, level, body);
+    let roomy_without = verdict_on_2048(Words::new(), 254, level, body);
+    ((with, without), (roomy_with, roomy_without))
+}
+
+/// The body of a message as text.
+fn body_of_text(alloc: Global, text: &str) -> Result<Vec<u8>, Fail>
+    ensures { IfOk result (λ body. length body.items ≤ LONGEST) }
+{
+    let tokens = tokens_of_text(alloc, text)?;
+    body_of(alloc, tokens.as_slice())
+}
+
 /// Readers of either room have the verdicts of a row.
 fn assert_message(alloc: Global, row: &Message) -> Result<(), Fail> {
     let (text, level, with, without) = row;
-    let tokens = tokens_of_text(alloc, text)?;
-    let body = body_of(alloc, tokens.as_slice())?;
-    let body = body.as_slice();
-    same(&verdict_on_512(two_words(), *level, body), with, row)?;
-    same(&verdict_on_512(Words::new(), *level, body), without, row)?;
-    same(&verdict_on_2048(two_words(), 254, *level, body), with, row)?;
-    same(
-        &verdict_on_2048(Words::new(), 254, *level, body),
-        without,
-        row,
-    )
+    let body = body_of_text(alloc, text)?;
+    let want = (*with, *without);
+    same(&verdicts(*level, body.as_slice()), &(want, want), row)
 }
 
 #[test]
@@ -94,15 +105,22 @@ const DEPTHS: &[Depth] = &[
     ("HUH 255*( 255*)", Huh(63), Huh(255)),
 ];
 
+/// The verdicts where 62 brackets may be open, of readers of either room, and where 254 may be.
+fn verdicts_by_depth(body: &[u8]) -> (Verdict, Verdict, Verdict)
+    requires { length body.now ≤ LONGEST }
+{
+    let shallow = verdict_on_512(Words::new(), L10, body);
+    let roomy = verdict_on_2048(Words::new(), 62, L10, body);
+    let deep = verdict_on_2048(Words::new(), 254, L10, body);
+    (shallow, roomy, deep)
+}
+
 /// Readers of either room have the verdicts of a row.
 fn assert_depth(alloc: Global, row: &Depth) -> Result<(), Fail> {
     let (text, shallow, deep) = row;
-    let tokens = tokens_of_text(alloc, text)?;
-    let body = body_of(alloc, tokens.as_slice())?;
-    let body = body.as_slice();
-    same(&verdict_on_512(Words::new(), L10, body), shallow, row)?;
-    same(&verdict_on_2048(Words::new(), 62, L10, body), shallow, row)?;
-    same(&verdict_on_2048(Words::new(), 254, L10, body), deep, row)
+    let body = body_of_text(alloc, text)?;
+    let told = verdicts_by_depth(body.as_slice());
+    same(&told, &(*shallow, *shallow, *deep), row)
 }
 
 #[test]
@@ -159,8 +177,12 @@ fn show_frame<A: Allocator + Copy>(
 fn assert_shown(alloc: Global, level: Level, has_words: bool, want: &str) -> Result<(), Fail> {
     let mut output = Vec::new(alloc);
     let shown = show_frame(alloc, level, has_words, &mut output);
-    holds(output.as_slice() == want.as_bytes(), want)?;
-    same(&shown, &Ok(want.ends_with("relay\n")), &want)
+    let is_shown = output.as_slice() == want.as_bytes();
+    same(
+        &(shown, is_shown),
+        &(Ok(want.ends_with("relay\n")), true),
+        &want,
+    )
 }
 
 #[test]
@@ -171,21 +193,22 @@ fn words_are_shown_by_their_names(rt: HostRuntime) -> Result<(), Fail> {
     Ok(())
 }
 
-/// Shows the frame with the words or without on a heap of a size; whether memory sufficed.
+/// Shows the frame with the words or without on a heap; whether memory sufficed, where that is all that can be wanting.
+fn is_shown_on(alloc: Global, heap: &LocalHeap, has_words: bool) -> Option<bool> {
+    let mut output = Vec::new(alloc);
+    match show_frame(heap, L20, has_words, &mut output) {
+        Ok(is_relay) if is_relay == has_words => Some(true),
+        Err(ShowFault::Memory) if output.is_empty() => Some(false),
+        _ => None,
+    }
+}
+
+/// The same on a heap of a size, which is empty again then.
 fn shows_on_heap(alloc: Global, size: usize, has_words: bool) -> Result<bool, Fail> {
     let heap = LocalHeap::new(alloc, size)?;
-    let mut output = Vec::new(alloc);
-    let shown = show_frame(&heap, L20, has_words, &mut output);
-    holds(heap.used() == 0, "the heap")?;
-    match shown {
-        Ok(is_relay) => {
-            holds(is_relay == has_words, "the frame")?;
-            Ok(true)
-        }
-        Err(fault) => {
-            holds(fault == ShowFault::Memory && output.is_empty(), "refused")?;
-            Ok(false)
-        }
+    match is_shown_on(alloc, &heap, has_words) {
+        Some(is_shown) if heap.used() == 0 => Ok(is_shown),
+        _ => Err(Fail::new("the frame, or refused, and the heap")),
     }
 }
 

@@ -1,5 +1,5 @@
 -- The protocol's error codes.
-use Rattle.std.specs.Prelude.{ℕ}
+use Rattle.std.specs.Prelude.{ℕ, ◌/◌, ◌%◌, List, [], ◌∷◌, codes, slice_index}
 use Rattle.daide_frame.specs.declared.code.Code.{Code}
 use Rattle.daide_frame.specs.declared.code.Code.TheVariants.{ImTimeout, ImNotFirst, WrongEndian, WrongMagic}
 use Rattle.daide_frame.specs.declared.code.Code.TheVariants.{WrongVersion, SecondIm, ImFromServer, UnknownMessage}
@@ -22,3 +22,11 @@ code_number RmNotFirst = 0x0B
 code_number SecondRm = 0x0C
 code_number RmFromClient = 0x0D
 code_number InvalidToken = 0x0E
+
+-- one hexadecimal digit, with upper-case letters
+abbrev pub digit_of : ℕ → ℕ
+digit_of n = slice_index (codes "0123456789ABCDEF") n
+
+-- the number as people read it, in two digits
+abbrev pub code_digits : Code → List ℕ
+code_digits code = digit_of (code_number code / 16) ∷ digit_of (code_number code % 16) ∷ []

@@ -3,8 +3,8 @@
 //! A code says what the peer did wrong, and an error message (EM) tells it to the peer. The variants
 //! stand in the order of their numbers.
 
-ghost use Rattle.std.specs.Prelude.{◌≡◌};
-ghost use Rattle.daide_frame.specs.Code.{code_number};
+ghost use Rattle.std.specs.Prelude.{◌≡◌, length};
+ghost use Rattle.daide_frame.specs.Code.{code_digits, code_number};
 
 /// What was wrong of a frame, or of a missing one.
 #[derive(Clone, Copy, Debug, PartialEq, Eq)]
@@ -59,6 +59,29 @@ impl Code {
             Code::SecondRm => 0x0C,
             Code::RmFromClient => 0x0D,
             Code::InvalidToken => 0x0E,
+        }
+    }
+
+    /// The number as people read it: two hexadecimal digits, with upper-case letters.
+    pub fn digits(self) -> &'static str
+        ensures digits { result.now ≡ code_digits self }
+        ensures two { length result.now ≡ 2 }
+    {
+        match self {
+            Code::ImTimeout => "01",
+            Code::ImNotFirst => "02",
+            Code::WrongEndian => "03",
+            Code::WrongMagic => "04",
+            Code::WrongVersion => "05",
+            Code::SecondIm => "06",
+            Code::ImFromServer => "07",
+            Code::UnknownMessage => "08",
+            Code::WrongLength => "09",
+            Code::DmBeforeRm => "0A",
+            Code::RmNotFirst => "0B",
+            Code::SecondRm => "0C",
+            Code::RmFromClient => "0D",
+            Code::InvalidToken => "0E",
         }
     }
 }

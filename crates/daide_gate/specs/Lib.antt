@@ -8,6 +8,9 @@ pub use Rattle.daide_turns.specs.Turn
 pub use Rattle.daide_turns.specs.Headline
 pub use Rattle.daide_turns.specs.Relay
 pub use Rattle.daide_turns.specs.Hub
+pub use Rattle.daide_words.specs.Words
+pub use Rattle.daide_log.specs.RecordText
+pub use Rattle.daide_log.specs.Recording
 pub use Rattle.daide_show.specs.Input
 pub use Rattle.daide_show.specs.Shown
 pub use Rattle.daide_settings.specs.WordSettings

@@ -3,7 +3,7 @@
 //! Nothing stands here but names. A token, a frame, the grammar and the reader; a session, what turns it, and many in
 //! one loop; and what the program does with its input. Nothing here opens a file or a socket: readers, writers, ports
 //! and the allocator are parameters, so that what is written can be stated as a function of what was read, and each
-//! refusal can be tried. The gateway over sockets is `daide_sockets`.
+//! refusal can be tried. The gateway over sockets is `daide_program`'s.
 #![tactic(auto)]
 
 // Tokens, and their text.
@@ -22,7 +22,7 @@ pub use daide_reader::{Reader, Verdict};
 // A session, and what turns it.
 pub use daide_machine::{
     Cause, Config, ConfigError, Connect, Deed, Ending, Note, Notice, Phase, Ports, Pull, Put,
-    SessionEnd, System, ports, system,
+    SessionEnd, Summary, System, ports, system,
 };
 pub use daide_session::{Session, SessionError};
 pub use daide_turns::{
@@ -30,7 +30,7 @@ pub use daide_turns::{
 };
 
 // What the program does with its input.
-pub use daide_log::{LogFault, Record, RecordEnd, Recording, Summary, check_log, record};
+pub use daide_log::{LogFault, Record, RecordEnd, Recording, check_log, record};
 pub use daide_service::{ServeFault, Service, metered, serve, serving};
 pub use daide_settings::{Address, Key, Settings, SettingsError, read_settings, settings};
 pub use daide_show::{ShowFault, frame_view, show, show_with};

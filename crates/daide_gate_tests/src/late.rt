@@ -4,13 +4,15 @@ use crate::gateway::{EM_01, FM, IM, check};
 use crate::stage::Act::{Comes, Empties, Hears, HearsEnd, Meets, Passes, Says};
 use crate::stage::Who::{Bot, Server};
 use crate::stage::{Act, any_port, run_towards};
-use crate::wires::row_for;
+use crate::wires::two_doors;
 use daide_gate::settings::{Settings, read_settings};
 use daide_gate::system::{Connect, System};
+use daide_sockets::Interest;
 use daide_sockets::ports::SocketPorts;
 use daide_sockets::system::Sockets;
 use daide_sockets::watch::{Flags, Watch};
-use daide_tests::rows::{holds, same};
+use daide_tests::rows::holds;
+use std::alloc::Global;
 use std::net::{SocketAddr, TcpListener};
 use std::test::Fail;
 use std::time::Duration;
@@ -18,14 +20,19 @@ use std::time::Duration;
 /// How many connections fill the queue of a listener.
 const MORE_THAN_WAIT: usize = 160;
 
-/// A listener whose queue is full of connections whose other ends are gone.
-fn full_listener(rt: &HostRuntime) -> Result<daide_sockets::TcpListener, Fail> {
-    let listener = TcpListener::bind(rt, any_port())?;
-    let full = listener.local_addr()?;
+/// Connects to an address as often as fills a queue, and lets the connections go.
+fn fill_queue(rt: &HostRuntime, address: SocketAddr) -> Result<(), Fail> {
     let mut queue = Vec::new(rt.alloc());
     for _ in 0..MORE_THAN_WAIT {
-        queue.push(daide_sockets::TcpStream::connect(rt, full)?)?;
+        queue.push(daide_sockets::TcpStream::connect(rt, address)?)?;
     }
+    Ok(())
+}
+
+/// A listener whose queue is full of connections whose other ends are gone.
+pub fn full_listener(rt: &HostRuntime) -> Result<daide_sockets::TcpListener, Fail> {
+    let listener = TcpListener::bind(rt, any_port())?;
+    fill_queue(rt, listener.local_addr()?)?;
     listener.set_nonblocking(true)?;
     Ok(daide_sockets::TcpListener::from_std(listener))
 }
@@ -93,116 +100,164 @@ fn first_ports<'w>(
     None
 }
 
-/// Both sockets of a session send small writes at once.
-fn sends_at_once<'w>(ports: SocketPorts<'w, &'w HostRuntime>) -> Result<(), Fail> {
-    let (bot, server) = ports.into_sockets();
-    let both = (
-        bot.connection().0.nodelay()?,
-        server.connection().0.nodelay()?,
-    );
-    same(&both, &(true, true), &"the bot's and the server's")
-}
-
-/// The same of the first bot that comes to this listener, towards these addresses.
-fn first_sends_at_once<'w>(
+/// A run's sockets at this listener, towards these addresses.
+fn sockets_of<'w, 't>(
     rt: &'w HostRuntime,
     watch: &'w Watch<&'w HostRuntime>,
     (listener, servers): (daide_sockets::TcpListener, &'w [SocketAddr]),
     settings: &Settings,
-) -> Result<(), Fail> {
-    let mut told = Vec::new(rt.alloc());
+    told: &'t mut Vec<u8>,
+) -> Option<Sockets<'w, HostRuntime, &'t mut Vec<u8>>> {
     let time = Duration::from_secs(5);
-    let system = Sockets::new(
+    Sockets::new(
         rt.alloc(),
         rt,
         watch,
         (listener, servers),
         settings,
         time,
-        &mut told,
+        told,
+    )
+}
+
+/// A listener to which a bot came, and the bot.
+fn door_with_bot(
+    rt: &HostRuntime,
+) -> Result<(daide_sockets::TcpListener, daide_sockets::TcpStream), Fail> {
+    let listener = daide_sockets::TcpListener::bind(rt, any_port())?;
+    let bot = daide_sockets::TcpStream::connect(rt, listener.local_addr()?)?;
+    Ok((listener, bot))
+}
+
+/// The settings of a run; its addresses are never looked up.
+fn plain_settings(alloc: Global) -> Result<Settings, Fail> {
+    Ok(read_settings(alloc, "listen = 'a'\nserver = 'b'")?)
+}
+
+/// Whether both sockets of a session send small writes at once.
+fn are_undelayed<'w>(ports: SocketPorts<'w, &'w HostRuntime>) -> bool {
+    let (bot, server) = ports.into_sockets();
+    let both = (
+        bot.connection().0.nodelay(),
+        server.connection().0.nodelay(),
     );
-    let Some(mut system) = system else {
-        return Err(Fail::new("no sockets"));
-    };
-    match first_ports(&mut system) {
-        Some(ports) => sends_at_once(ports),
-        None => Err(Fail::new("no ports")),
+    matches!(both, (Ok(true), Ok(true)))
+}
+
+/// The same of the first bot that comes.
+fn are_first_undelayed<'w>(system: &mut Sockets<'w, HostRuntime, &mut Vec<u8>>) -> bool {
+    match first_ports(system) {
+        Some(ports) => are_undelayed(ports),
+        None => false,
     }
+}
+
+/// The same of the first bot that comes to this listener, towards these addresses.
+fn sends_at_once<'w>(
+    rt: &'w HostRuntime,
+    watch: &'w Watch<&'w HostRuntime>,
+    ends: (daide_sockets::TcpListener, &'w [SocketAddr]),
+    settings: &Settings,
+) -> bool {
+    let mut told = Vec::new(rt.alloc());
+    match sockets_of(rt, watch, ends, settings, &mut told) {
+        Some(mut system) => are_first_undelayed(&mut system),
+        None => false,
+    }
+}
+
+/// The same in a table of its own.
+fn sends_at_once_towards(rt: &HostRuntime, servers: &[SocketAddr]) -> Result<bool, Fail> {
+    let settings = plain_settings(rt.alloc())?;
+    let (listener, _bot) = door_with_bot(rt)?;
+    let watch = Watch::new(rt.alloc(), rt, rt, 8)?;
+    Ok(sends_at_once(rt, &watch, (listener, servers), &settings))
 }
 
 /// A short frame is not kept back by the system until the one before it was acknowledged.
 #[test]
 fn small_writes_are_not_delayed(rt: HostRuntime) -> Result<(), Fail> {
     let server = TcpListener::bind(&rt, any_port())?;
-    let servers = [server.local_addr()?];
-    let listener = daide_sockets::TcpListener::bind(&rt, any_port())?;
-    let _bot = daide_sockets::TcpStream::connect(&rt, listener.local_addr()?)?;
-    let settings = read_settings(rt.alloc(), "listen = 'a'\nserver = 'b'")?;
-    let watch = Watch::new(rt.alloc(), &rt, &rt, 8)?;
-    first_sends_at_once(&rt, &watch, (listener, &servers), &settings)
+    let at_once = sends_at_once_towards(&rt, &[server.local_addr()?])?;
+    holds(at_once, "the bot's and the server's")
 }
 
-/// What is known of the socket in the third row of a table, in which no row is taken.
-fn third_row<'w>(rt: &HostRuntime, watch: &'w Watch<&'w HostRuntime>) -> Result<&'w Flags, Fail> {
-    let mut doors = (
-        daide_sockets::TcpListener::bind(rt, any_port())?,
-        daide_sockets::TcpListener::bind(rt, any_port())?,
-        daide_sockets::TcpListener::bind(rt, any_port())?,
-    );
-    let _first = row_for(watch, &mut doors.0)?;
-    let _second = row_for(watch, &mut doors.1)?;
-    let third = row_for(watch, &mut doors.2)?;
-    Ok(third.flags)
+/// What is known of the socket in the third row of a table, if there are three, in which no row is taken.
+fn third_free<'w>(
+    watch: &'w Watch<&'w HostRuntime>,
+    doors: &mut (daide_sockets::TcpListener, daide_sockets::TcpListener),
+    door: &mut daide_sockets::TcpListener,
+) -> Option<&'w Flags> {
+    let _first = watch.follow(&mut doors.0, Interest::READABLE)?;
+    let _second = watch.follow(&mut doors.1, Interest::READABLE)?;
+    let third = watch.follow(door, Interest::READABLE)?;
+    Some(third.flags)
+}
+
+/// The same for doors of its own.
+fn third_row<'w>(
+    rt: &HostRuntime,
+    watch: &'w Watch<&'w HostRuntime>,
+) -> Result<Option<&'w Flags>, Fail> {
+    let mut doors = two_doors(rt)?;
+    let mut door = daide_sockets::TcpListener::bind(rt, any_port())?;
+    Ok(third_free(watch, &mut doors, &mut door))
 }
 
 /// Whether a connect is under way though its socket, in the row behind the door's and the bot's, is told to take bytes.
-fn is_under_way(
-    system: &mut Sockets<'_, HostRuntime, &mut Vec<u8>>,
-    flags: &Flags,
-) -> Result<bool, Fail> {
+fn is_under_way(system: &mut Sockets<'_, HostRuntime, &mut Vec<u8>>, flags: &Flags) -> bool {
     for _ in 0..MOST_WAITS {
         system.begin_round();
         if system.accept() {
             flags.note(false, true);
-            return Ok(matches!(system.connected(), Connect::Pending));
+            return matches!(system.connected(), Connect::Pending);
         }
         system.wait(true);
     }
-    Err(Fail::new("no bot"))
+    false
 }
 
 /// The same of the first bot that comes to this listener, towards these addresses.
-fn first_is_under_way<'w>(
+fn is_first_under_way<'w>(
     rt: &'w HostRuntime,
     watch: &'w Watch<&'w HostRuntime>,
-    (listener, servers): (daide_sockets::TcpListener, &'w [SocketAddr]),
+    ends: (daide_sockets::TcpListener, &'w [SocketAddr]),
     settings: &Settings,
-) -> Result<(), Fail> {
-    let flags = third_row(rt, watch)?;
+    flags: &Flags,
+) -> bool {
     let mut told = Vec::new(rt.alloc());
-    let system = Sockets::new(
-        rt.alloc(),
-        rt,
-        watch,
-        (listener, servers),
-        settings,
-        Duration::from_secs(5),
-        &mut told,
-    );
-    let Some(mut system) = system else {
-        return Err(Fail::new("no sockets"));
+    match sockets_of(rt, watch, ends, settings, &mut told) {
+        Some(mut system) => is_under_way(&mut system, flags),
+        None => false,
+    }
+}
+
+/// The same in this table, of which no row is taken.
+fn is_under_way_at<'w>(
+    rt: &'w HostRuntime,
+    watch: &'w Watch<&'w HostRuntime>,
+    servers: &'w [SocketAddr],
+    settings: &Settings,
+) -> Result<bool, Fail> {
+    let Some(flags) = third_row(rt, watch)? else {
+        return Err(Fail::new("no row"));
     };
-    holds(is_under_way(&mut system, flags)?, "it is under way")
+    let (listener, _bot) = door_with_bot(rt)?;
+    let ends = (listener, servers);
+    Ok(is_first_under_way(rt, watch, ends, settings, flags))
+}
+
+/// The same in a table of its own.
+fn is_under_way_towards(rt: &HostRuntime, servers: &[SocketAddr]) -> Result<bool, Fail> {
+    let settings = plain_settings(rt.alloc())?;
+    let watch = Watch::new(rt.alloc(), rt, rt, 3)?;
+    is_under_way_at(rt, &watch, servers, &settings)
 }
 
 /// A connect that isn't done is no connection, whatever the system tells of its socket.
 #[test]
 fn connect_under_way_is_no_connection(rt: HostRuntime) -> Result<(), Fail> {
     let server = full_listener(&rt)?;
-    let servers = [server.local_addr()?];
-    let listener = daide_sockets::TcpListener::bind(&rt, any_port())?;
-    let _bot = daide_sockets::TcpStream::connect(&rt, listener.local_addr()?)?;
-    let settings = read_settings(rt.alloc(), "listen = 'a'\nserver = 'b'")?;
-    let watch = Watch::new(rt.alloc(), &rt, &rt, 3)?;
-    first_is_under_way(&rt, &watch, (listener, &servers), &settings)
+    let is_under_way = is_under_way_towards(&rt, &[server.local_addr()?])?;
+    holds(is_under_way, "it is under way")
 }

@@ -3,14 +3,13 @@
 //! The streams give and take little at once, are interrupted, and often have nothing. So a frame comes and goes in pieces.
 
 use crate::gateway::{FM, IM, ITS_PRN, OBS, RM, UNCLOSED};
-use crate::stage::any_port;
+use crate::wires::two_rows;
 use daide_machine::config::Config;
 use daide_session::session::Session;
 use daide_sockets::ports::{Socket, SocketPorts};
 use daide_sockets::watch::{Flags, Place, Watch};
-use daide_sockets::{Interest, TcpListener};
 use daide_streams::duplex::Duplex;
-use daide_tests::rows::{holds, same};
+use daide_tests::rows::same;
 use daide_turns::relaying::{RelayEnd, relay};
 use std::alloc::{Allocator, Global};
 use std::io;
@@ -132,14 +131,6 @@ struct Talk {
     to_server: &'static [&'static [u8]],
 }
 
-/// A row of the table for a stream in memory: a listener's, since the system must know what it follows.
-fn row_for<'w>(watch: &'w Watch<&HostRuntime>, door: &mut TcpListener) -> Result<Place<'w>, Fail> {
-    match watch.follow(door, Interest::READABLE) {
-        Some(place) => Ok(place),
-        None => Err(Fail::new("no row")),
-    }
-}
-
 /// Turns until the session is closed; whether it is. Before each, a call of any stream may do something.
 fn relay_to_the_end<'w, A: Allocator>(
     session: &mut Session<A>,
@@ -165,39 +156,82 @@ fn write_out(socket: &mut Socket<'_, Line>) {
     }
 }
 
-/// These bytes, and no others, were taken.
-fn took(line: &Line, wanted: &[&[u8]], who: &str) -> Result<(), Fail> {
+/// Whether these bytes, and no others, were taken.
+fn has_taken(line: &Line, wanted: &[&[u8]]) -> bool {
     let mut left = line.took.as_slice();
     for bytes in wanted {
         let Some(rest) = left.strip_prefix(*bytes) else {
-            return Err(Fail::new(format_args!("{who} took {:?}", line.took)));
+            return false;
         };
         left = rest;
     }
-    same(&left.len(), &0, &who)
+    left.is_empty()
 }
 
-/// A session between the two ends of a talk, until it is closed.
-fn talks(rt: &HostRuntime, talk: &Talk) -> Result<(), Fail> {
-    let mut door = TcpListener::bind(rt, any_port())?;
-    let mut other_door = TcpListener::bind(rt, any_port())?;
-    let watch = Watch::new(rt.alloc(), rt, rt, 2)?;
-    let bot = row_for(&watch, &mut door)?;
-    let server = row_for(&watch, &mut other_door)?;
-    let (bot_flags, server_flags) = (bot.flags, server.flags);
-    let mut ports = SocketPorts::new(
-        &watch,
-        Socket::over(&watch, Line::new(rt.alloc(), talk.bot), bot),
-        Socket::over(&watch, Line::new(rt.alloc(), talk.server), server),
-    );
-    let mut session = Session::new(rt.alloc(), CONFIG)?;
-    let is_closed = relay_to_the_end(&mut session, &mut ports, bot_flags, server_flags);
+/// The ports of a session between the two ends of a talk, in these rows.
+fn ports_of<'w>(
+    alloc: Global,
+    watch: &'w Watch<&'w HostRuntime>,
+    flags: (&'w Flags, &'w Flags),
+    talk: &Talk,
+) -> SocketPorts<'w, &'w HostRuntime, Line> {
+    let bot = Line::new(alloc, talk.bot);
+    let server = Line::new(alloc, talk.server);
+    SocketPorts::new(
+        watch,
+        Socket::over(watch, bot, Place { flags: flags.0 }),
+        Socket::over(watch, server, Place { flags: flags.1 }),
+    )
+}
+
+/// Whether the bot's end, and the server's, took just what they should, once what is held is written.
+fn have_taken<'w>(
+    ports: SocketPorts<'w, &'w HostRuntime, Line>,
+    to_bot: &[&[u8]],
+    to_server: &[&[u8]],
+) -> (bool, bool) {
     let (mut bot, mut server) = ports.into_sockets();
     write_out(&mut bot);
     write_out(&mut server);
-    took(bot.connection(), talk.to_bot, "the bot")?;
-    took(server.connection(), talk.to_server, "the server")?;
-    holds(is_closed, "the session is not over")
+    (
+        has_taken(bot.connection(), to_bot),
+        has_taken(server.connection(), to_server),
+    )
+}
+
+/// Whether a session between the two ends of a talk is closed, and both took just what they should.
+fn is_talked<'w>(
+    session: &mut Session,
+    ports: SocketPorts<'w, &'w HostRuntime, Line>,
+    flags: (&'w Flags, &'w Flags),
+    talk: &Talk,
+) -> (bool, (bool, bool)) {
+    let mut ports = ports;
+    let is_closed = relay_to_the_end(session, &mut ports, flags.0, flags.1);
+    (is_closed, have_taken(ports, talk.to_bot, talk.to_server))
+}
+
+/// A session between the two ends of a talk, until it is closed, in the rows of this table.
+fn talks_at<'w>(
+    rt: &HostRuntime,
+    watch: &'w Watch<&'w HostRuntime>,
+    talk: &Talk,
+) -> Result<(), Fail> {
+    let flags = two_rows(rt, watch)?;
+    let mut session = Session::new(rt.alloc(), CONFIG)?;
+    let ports = ports_of(rt.alloc(), watch, flags, talk);
+    let told = is_talked(&mut session, ports, flags, talk);
+    same(
+        &told,
+        &(true, (true, true)),
+        &"closed, and what the bot and the server took",
+    )
+}
+
+/// The same in a table of its own.
+fn talks(rt: &HostRuntime, talk: &Talk) -> Result<(), Fail> {
+    let watch = Watch::new(rt.alloc(), rt, rt, 2)?;
+    talks_at(rt, &watch, talk)
 }
 
 /// A message whose bracket never closes goes back to the bot in a `PRN`, and the server sees nothing of it.

@@ -51,6 +51,7 @@ run settings-with-a-typo | | | unknown key | 1
 run no-such-file | | | settings could not be read | 1
 run --record no-such-folder no-such-file | | | settings could not be read | 1
 run --record no-such-folder settings-without-port | | | record could not be written | 1
+run --record= settings-without-port | | | record could not be written | 1
 run --verbose --record . settings-without-port | | | cannot listen | 1
 ";
 

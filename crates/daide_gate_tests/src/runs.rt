@@ -106,8 +106,8 @@ show --level 70 --side=server | 02000002480F | | bad level | 2
 show --level=x --side=x | 02000002480F | | bad side | 2
 | 0200001C 481740004102400140004A1340004A10400041014102400140014001 | DM 28/SND ( FRA ) ( PRP ( PCE ( ENG FRA ) ) )/HUH at 0/HUH ( ERR SND ( FRA ) ( PRP ( PCE ( ENG FRA ) ) ) )/ | | 3
 | 02000002480F | DM 2/OBS/relay/ | | 0
---version | | daide-gate 0.1.0/ | | 0
--V | | daide-gate 0.1.0/ | | 0
+--version | | daide-gate 1.0.0/ | | 0
+-V | | daide-gate 1.0.0/ | | 0
 run no-such-file | | | settings could not be read | 1
 ";
 
@@ -211,11 +211,11 @@ const USAGES: &str = "\
 --help | show   Shows one frame, read as hexadecimal digits from standard input | 0
 --help | run    Serves bots, each with a connection of its own to the server, until all were served | 0
 --help | Without a command it does what 'show' does with its defaults. | 0
---help | --side <SIDE>  bot or server [default: bot] | 0
---help | --level <N>    0, 10, 20, 30, 40, 50 or 60 [default: 0] | 0
+--help | --side <SIDE>       bot or server [default: bot] | 0
+--help | --level <N>         0, 10, 20, 30, 40, 50 or 60 [default: 0] | 0
 --help | check  Reports what a gateway makes of each line of a log, read from standard input | 0
 --help | 0  the frame would be relayed; the log has no PRN, HUH or fault; all bots were served; help and version | 0
---help | 1  a fault of the input, the output or memory, told in one line on standard error | 0
+--help | 1  a fault of the input, the output, the settings, the folder of records, the address to listen on, or memory, told in | 0
 --help | 2  words that are not understood | 0
 --help | 3  the frame is shown, and would not be relayed; the log is reported, and has a PRN, HUH or fault | 0
 -h | Exit status: | 0

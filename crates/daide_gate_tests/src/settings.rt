@@ -1,7 +1,7 @@
 //! The text of a file of settings: its bound, and what can't be read.
 
 use daide_program::running::{RunFault, text_of};
-use daide_streams::text::{TextFault, read_text};
+use daide_program::text::{TextFault, read_text};
 use daide_tests::rows::{holds, same};
 use linked_list_allocator::LocalHeap;
 use std::alloc::Global;

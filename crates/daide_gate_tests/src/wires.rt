@@ -9,6 +9,7 @@ ghost use Rattle.std.specs.Prelude.{◌≡◌, IfOk};
 use crate::stage::any_port;
 use crate::wires::Step::{Idles, Puts, Turns};
 use daide_frame::side::Side;
+use daide_machine::ports::{Ports, Pull, Put};
 use daide_sockets::closing::Closings;
 use daide_sockets::ports::{Socket, SocketPorts};
 use daide_sockets::watch::{Flags, Place, Watch};
@@ -16,7 +17,6 @@ use daide_sockets::{Interest, TcpListener};
 use daide_streams::duplex::Duplex;
 use daide_streams::readiness::Readiness;
 use daide_tests::rows::{holds, same};
-use daide_machine::ports::{Ports, Pull, Put};
 use std::cell::Cell;
 use std::io;
 use std::io::ErrorKind;
@@ -113,25 +113,39 @@ impl Duplex for Wire {
 type WirePorts<'w> = SocketPorts<'w, Steps, Wire>;
 
 /// A row of the table for a stream in memory: a listener's, since the system must know what it follows.
-pub fn row_for<'w, R: Clock>(
-    watch: &'w Watch<R>,
-    door: &mut TcpListener,
-) -> Result<Place<'w>, Fail> {
+fn row_for<'w, R: Clock>(watch: &'w Watch<R>, door: &mut TcpListener) -> Result<Place<'w>, Fail> {
     match watch.follow(door, Interest::READABLE) {
         Some(place) => Ok(place),
         None => Err(Fail::new("no row")),
     }
 }
 
+/// The next two rows of a table, if there are two, which stay free.
+fn free_rows<'w, R: Clock>(
+    watch: &'w Watch<R>,
+    doors: &mut (TcpListener, TcpListener),
+) -> Option<(&'w Flags, &'w Flags)> {
+    let first = watch.follow(&mut doors.0, Interest::READABLE)?;
+    let second = watch.follow(&mut doors.1, Interest::READABLE)?;
+    Some((first.flags, second.flags))
+}
+
 /// What is known of the sockets in the next two rows of a table, which stay free.
-fn two_rows<'w>(rt: &HostRuntime, watch: &'w Watch<Steps>) -> Result<(&'w Flags, &'w Flags), Fail> {
-    let mut doors = (
-        TcpListener::bind(rt, any_port())?,
-        TcpListener::bind(rt, any_port())?,
-    );
-    let first = row_for(watch, &mut doors.0)?;
-    let second = row_for(watch, &mut doors.1)?;
-    Ok((first.flags, second.flags))
+pub fn two_rows<'w, R: Clock>(
+    rt: &HostRuntime,
+    watch: &'w Watch<R>,
+) -> Result<(&'w Flags, &'w Flags), Fail> {
+    let mut doors = two_doors(rt)?;
+    match free_rows(watch, &mut doors) {
+        Some(flags) => Ok(flags),
+        None => Err(Fail::new("no rows")),
+    }
+}
+
+/// Two listeners.
+pub fn two_doors(rt: &HostRuntime) -> Result<(TcpListener, TcpListener), Fail> {
+    let first = TcpListener::bind(rt, any_port())?;
+    Ok((first, TcpListener::bind(rt, any_port())?))
 }
 
 /// A table of three sockets.
@@ -395,10 +409,7 @@ fn is_taken_anew(watch: &Watch<Steps>, doors: &mut (TcpListener, TcpListener)) -
 
 #[test]
 fn row_of_the_table_is_taken_anew(rt: HostRuntime) -> Result<(), Fail> {
-    let mut doors = (
-        TcpListener::bind(&rt, any_port())?,
-        TcpListener::bind(&rt, any_port())?,
-    );
+    let mut doors = two_doors(&rt)?;
     let watch = table(&rt)?;
     holds(
         is_taken_anew(&watch, &mut doors),

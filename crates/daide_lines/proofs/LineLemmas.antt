@@ -1,19 +1,21 @@
 -- The lines of a log, as they are read.
 use Rattle.std.proofs.Common.{◌≡◌, ℕ, zero, suc, ◌+◌, ◌-◌, ◌<◌, ◌≤◌, Bool, true, false, List, [], ◌∷◌, ◌++◌, length, take, drop}
 use Rattle.std.proofs.Common.{Option, Some, None, Result, Ok, Err, refl, sym, ap, ◌∙◌, subst, arith, ◌⊎◌, inl, inr, append-nil, append_assoc}
-use Rattle.std.proofs.Common.{◌==◌, length-append, length-drop, length-take, get_or, add-one}
+use Rattle.std.proofs.Common.{◌==◌, length-append, length-drop, length-take}
 use Rattle.std.proofs.lemmas.List.{drop-take, drop-drop, take-append-drop, take-take, length-take-le}
 use Rattle.std.proofs.lemmas.Bool.{eqb-true}
 use Rattle.std.specs.Prelude.{IfSome, IfOk}
-use Rattle.std.proofs.Math.Seq.{take-append-add, take-length}
-use Rattle.std.specs.Io.KnownBytes.{Consumes, Keeps}
+use Rattle.std.proofs.Math.Seq.{take-append-add}
+use Rattle.std.specs.Io.KnownBytes.{Consumes, Keeps, append_known}
+use Rattle.daide_lines.specs.Reader.{Reader, LogRead, AddsReads, all_came, AtEach, Gives}
 use Rattle.daide_lines.specs.LogLine.{IsUnbroken, longest_line, most_lines, without_cr}
 use Rattle.daide_lines.specs.declared.fault.LogFault.{LogFault}
 use Rattle.daide_lines.specs.declared.fault.LogFault.TheVariants as Faults
 use Rattle.daide_lines.specs.declared.lines.Found.{Found}
 use Rattle.daide_lines.specs.declared.lines.Found.TheVariants.{Held, Line, Last, End}
 use Rattle.daide_lines.specs.Input.{IsCopied, LiesIn, line_in, rest_in}
-use Rattle.daide_lines.specs.Lines.{Reads, Scans, HasMore, IsFound, IsHeldLine, IsLineEnd, block_size}
+use Rattle.daide_lines.specs.Lines.{Reads, ReadsOn, IsInLine, Scans, HasMore, IsFound, IsHeldLine, IsLineEnd, block_size}
+use Rattle.daide_lines.proofs.PageLemmas.{keeps_more, none_held}
 
 pub unbroken_append : (a b : List ℕ) → IsUnbroken a → IsUnbroken b → IsUnbroken (a ++ b)
 unbroken_append [] b h k = k
@@ -43,43 +45,115 @@ keeps_consumes None new h = tt
 keeps_consumes (Some x) None h = absurd h
 keeps_consumes (Some x) (Some y) h = sym h
 
+-- ---- reads
+
+each_append : (P : List ℕ → Option (List ℕ) → Type 0) (before : List ℕ) (xs ys : List LogRead) → AtEach P before xs →
+    AtEach P (before ++ all_came xs) ys → AtEach P before (xs ++ ys)
+each_append P before [] ys h k = subst (λ (l : List ℕ). AtEach P l ys) (append-nil before) k
+each_append P before (x ∷ xs) ys h k = (
+  h.0,
+  each_append P (before ++ x.came) xs ys h.1
+      (subst (λ (l : List ℕ). AtEach P l ys) (sym (append_assoc before x.came (all_came xs))) k),
+)
+
+each_lifted : (P Q : List ℕ → Option (List ℕ) → Type 0) (front before : List ℕ) (xs : List LogRead) →
+    ((came : List ℕ) (written : Option (List ℕ)) → Q came written → P (front ++ came) written) → AtEach Q before xs →
+    AtEach P (front ++ before) xs
+each_lifted P Q front before [] up h = tt
+each_lifted P Q front before (x ∷ xs) up h = (
+  up before x.written h.0,
+  subst (λ (l : List ℕ). AtEach P l xs) (sym (append_assoc front before x.came))
+      (each_lifted P Q front (before ++ x.came) xs up h.1),
+)
+
+all_came-append : (xs ys : List LogRead) → all_came (xs ++ ys) ≡ all_came xs ++ all_came ys
+all_came-append [] ys = refl
+all_came-append (x ∷ xs) ys =
+    ap (λ (l : List ℕ). x.came ++ l) (all_came-append xs ys) ∙ sym (append_assoc x.came (all_came xs) (all_came ys))
+
+adds_more : (a b c : Option (List LogRead)) (xs ys : List LogRead) → AddsReads a xs b → AddsReads b ys c →
+    AddsReads a (xs ++ ys) c
+adds_more None b c xs ys h k = tt
+adds_more (Some x) None c xs ys h k = absurd h
+adds_more (Some x) (Some y) None xs ys h k = absurd k
+adds_more (Some x) (Some y) (Some z) xs ys h k = k ∙ ap (λ (l : List LogRead). l ++ ys) h ∙ append_assoc x xs ys
+
+adds_none : (a : Option (List LogRead)) → AddsReads a [] a
+adds_none None = tt
+adds_none (Some x) = sym (append-nil x)
+
+-- nothing was read
+pub gives_none : (P : List ℕ → Option (List ℕ) → Type 0) (old : Reader) → Gives P old old []
+gives_none P old = ([], refl, adds_none old.reads, tt, consumes_none old.remaining)
+
+-- more was read, and what is so of that is so behind what came before
+pub gives_on : (P Q : List ℕ → Option (List ℕ) → Type 0) (old now new : Reader) (a b : List ℕ) → Gives P old now a →
+    Gives Q now new b → ((came : List ℕ) (written : Option (List ℕ)) → Q came written → P (a ++ came) written) →
+    Gives P old new (a ++ b)
+gives_on P Q old now new a b h k up = (
+  h.0 ++ k.0,
+  all_came-append h.0 k.0 ∙ ap (λ (l : List ℕ). all_came h.0 ++ l) k.1 ∙ ap (λ (l : List ℕ). l ++ b) h.1,
+  adds_more old.reads now.reads new.reads h.0 k.0 h.2 k.2,
+  each_append P [] h.0 k.0 h.3
+      (subst (λ (l : List ℕ). AtEach P l k.0) (append-nil a ∙ sym h.1) (each_lifted P Q a [] k.0 up k.3)),
+  consumes_more old.remaining now.remaining new.remaining a b h.4 k.4,
+)
+
+-- one read more
+pub gives_read : (P : List ℕ → Option (List ℕ) → Type 0) (old now new : Reader) (a b : List ℕ)
+    (written : Option (List ℕ)) → Gives P old now a →
+    AddsReads now.reads (record { came = b; written = written } ∷ []) new.reads →
+    Consumes now.remaining new.remaining b → P a written → Gives P old new (a ++ b)
+gives_read P old now new a b written h r k p =
+    let read : LogRead = record { came = b; written = written } in (
+      h.0 ++ read ∷ [],
+      all_came-append h.0 (read ∷ []) ∙ ap (λ (l : List ℕ). all_came h.0 ++ l) (append-nil b)
+          ∙ ap (λ (l : List ℕ). l ++ b) h.1,
+      adds_more old.reads now.reads new.reads h.0 (read ∷ []) h.2 r,
+      each_append P [] h.0 (read ∷ []) h.3 (subst (λ (l : List ℕ). P l written) (sym h.1) p, tt),
+      consumes_more old.remaining now.remaining new.remaining a b h.4 k,
+    )
+
+-- ---- a line
+
 -- Of what was held and given so far the text was taken, and this is held; each turn but the first took a byte.
-pub record HasScanned (old : Option (List ℕ)) (held : List ℕ) (now : Option (List ℕ)) (text block : List ℕ) (turn : ℕ) : Type 0
-  where
-    pub given : List ℕ
-    pub consumed : Consumes old now given
-    pub whole : held ++ given ≡ text ++ block
-    pub unbroken : IsUnbroken text
-    pub short : length text ≤ longest_line
-    pub turns : turn ≤ length text + 1
-    pub some : 0 < turn → 0 < length block
+pub record HasScanned (all : Option (List ℕ)) (old : Reader) (held : List ℕ) (now : Reader) (text block : List ℕ)
+    (turn : ℕ) : Type 0 where
+  pub given : List ℕ
+  pub gives : Gives (IsInLine held all) old now given
+  pub whole : held ++ given ≡ text ++ block
+  pub unbroken : IsUnbroken text
+  pub short : length text ≤ longest_line
+  pub turns : turn ≤ length text + 1
+  pub some : 0 < turn → 0 < length block
 
 -- and nothing is held any more
-pub record HasEmptied (old : Option (List ℕ)) (held : List ℕ) (now : Option (List ℕ)) (text : List ℕ) (turn : ℕ) : Type 0 where
+pub record HasEmptied (all : Option (List ℕ)) (old : Reader) (held : List ℕ) (now : Reader) (text : List ℕ) (turn : ℕ) :
+    Type 0 where
   pub given : List ℕ
-  pub consumed : Consumes old now given
+  pub gives : Gives (IsInLine held all) old now given
   pub whole : held ++ given ≡ text
   pub unbroken : IsUnbroken text
   pub short : length text ≤ longest_line
   pub turns : turn ≤ length text
 
-pub emptied : (old : Option (List ℕ)) (held : List ℕ) (now : Option (List ℕ)) (text block after rest : List ℕ) (turn : ℕ) →
-    HasScanned old held now text block turn → Scans block text false rest after → (length after ≡ 2101 → ⊥) →
-    length after ≤ 2101 → HasEmptied old held now after turn
-emptied old held now text block after rest turn h s short fits = go s.4
+pub emptied : (all : Option (List ℕ)) (old : Reader) (held : List ℕ) (now : Reader) (text block after rest : List ℕ)
+    (turn : ℕ) → HasScanned all old held now text block turn → Scans block text false rest after →
+    (length after ≡ 2101 → ⊥) → length after ≤ 2101 → HasEmptied all old held now after turn
+emptied all old held now text block after rest turn h s short fits = go s.4
   where
-    go : (rest ≡ []) ⊎ (longest_line < length after) → HasEmptied old held now after turn
+    go : (rest ≡ []) ⊎ (longest_line < length after) → HasEmptied all old held now after turn
     go (inr long) = absurd (short (omega arith))
     go (inl none) =
-        let all : block ≡ s.0 = s.1 ∙ ap (λ (l : List ℕ). s.0 ++ l) none ∙ append-nil s.0 in
+        let whole : block ≡ s.0 = s.1 ∙ ap (λ (l : List ℕ). s.0 ++ l) none ∙ append-nil s.0 in
         let size = ap length s.3 ∙ length-append text s.0 in
         let some = h.some in
         let turns = h.turns in
-        let grown = ap length all in
+        let grown = ap length whole in
         record {
           given = h.given;
-          consumed = h.consumed;
-          whole = h.whole ∙ ap (λ (l : List ℕ). text ++ l) all ∙ sym s.3;
+          gives = h.gives;
+          whole = h.whole ∙ ap (λ (l : List ℕ). text ++ l) whole ∙ sym s.3;
           unbroken = subst IsUnbroken (sym s.3) (unbroken_append text s.0 h.unbroken s.2);
           short = omega arith;
           turns = later turn turns some size grown;
@@ -90,42 +164,55 @@ emptied old held now text block after rest turn h s short fits = go s.4
         later zero t k e f = omega arith
         later (suc n) t k e f = let b = k (omega arith) in omega arith
 
-pub begun : (old : Option (List ℕ)) (held text : List ℕ) → text ≡ [] → HasScanned old held old text held 0
-begun old held [] none = record {
+pub begun : (all : Option (List ℕ)) (old : Reader) (held text : List ℕ) → text ≡ [] →
+    HasScanned all old held old text held 0
+begun all old held [] none = record {
   given = [];
-  consumed = consumes_none old;
+  gives = gives_none (IsInLine held all) old;
   whole = append-nil held;
   unbroken = tt;
   short = omega arith;
   turns = omega arith;
   some = λ started. absurd (omega (arith, started));
 }
-begun old held (x ∷ text) none = absurd (cc)
+begun all old held (x ∷ text) none = absurd (cc)
 
-pub scanned_on : (old : Option (List ℕ)) (held : List ℕ) (now : Option (List ℕ)) (text : List ℕ) (turn : ℕ)
-    (new : Option (List ℕ)) (block : List ℕ) → HasEmptied old held now text turn → Reads now new block (Ok true) →
-    HasScanned old held new text block (turn + 1)
-scanned_on old held now text turn new block h r =
+-- a read is made within the line
+in_line : (all : Option (List ℕ)) (old : Reader) (held : List ℕ) (now : Reader) (text : List ℕ) (turn : ℕ)
+    (h : HasEmptied all old held now text turn) (written : Option (List ℕ)) → Keeps all written →
+    IsInLine held all h.given written
+in_line all old held now text turn h written k = (
+  subst IsUnbroken (sym h.whole) h.unbroken,
+  subst (λ (l : List ℕ). length l ≤ longest_line) (sym h.whole) h.short,
+  k,
+)
+
+pub scanned_on : (all : Option (List ℕ)) (old : Reader) (held : List ℕ) (now : Reader) (text : List ℕ) (turn : ℕ)
+    (new : Reader) (block : List ℕ) → HasEmptied all old held now text turn → ReadsOn all now new block (Ok true) →
+    HasScanned all old held new text block (turn + 1)
+scanned_on all old held now text turn new block h r =
     let turns = h.turns in
     record {
       given = h.given ++ block;
-      consumed = consumes_more old now new h.given block h.consumed r.0;
+      gives = gives_read (IsInLine held all) old now new h.given block r.0 h.gives r.1.0 r.1.1
+          (in_line all old held now text turn h r.0 r.2);
       whole = sym (append_assoc held h.given block) ∙ ap (λ (l : List ℕ). l ++ block) h.whole;
       unbroken = h.unbroken;
       short = h.short;
       turns = omega arith;
-      some = λ _. r.1;
+      some = λ _. r.1.2;
     }
 
 -- the line's line feed came
-pub found_line : (old : Option (List ℕ)) (held : List ℕ) (now : Option (List ℕ)) (text block after rest line : List ℕ)
-    (turn count : ℕ) → HasScanned old held now text block turn → Scans block text true rest after → count < most_lines →
-    line ≡ without_cr after → IsFound old held count (Ok Line) line now rest
-found_line old held now text block after rest line turn count h s fits same = (
+pub found_line : (all : Option (List ℕ)) (old : Reader) (held : List ℕ) (now : Reader)
+    (text block after rest line : List ℕ) (turn count : ℕ) → HasScanned all old held now text block turn →
+    Scans block text true rest after → count < most_lines → line ≡ without_cr after →
+    IsFound all old held count (Ok Line) line now rest
+found_line all old held now text block after rest line turn count h s fits same = (
   after,
   (
     h.given,
-    h.consumed,
+    h.gives,
     h.whole ∙ ap (λ (l : List ℕ). text ++ l) s.1 ∙ sym (append_assoc text s.0 (10 ∷ rest))
         ∙ ap (λ (l : List ℕ). l ++ 10 ∷ rest) (sym s.3) ∙ sym (append_assoc after (10 ∷ []) rest),
   ),
@@ -137,14 +224,15 @@ found_line old held now text block after rest line turn count h s fits same = (
 )
 
 -- the line has a byte too many
-pub found_too_long : (old : Option (List ℕ)) (held : List ℕ) (now : Option (List ℕ)) (text block after rest : List ℕ)
-    (turn count : ℕ) → HasScanned old held now text block turn → Scans block text false rest after →
-    length after ≡ 2101 → count < most_lines → IsFound old held count (Err (Faults.LineTooLong (count + 1))) after now rest
-found_too_long old held now text block after rest turn count h s long fits = (
+pub found_too_long : (all : Option (List ℕ)) (old : Reader) (held : List ℕ) (now : Reader)
+    (text block after rest : List ℕ) (turn count : ℕ) → HasScanned all old held now text block turn →
+    Scans block text false rest after → length after ≡ 2101 → count < most_lines →
+    IsFound all old held count (Err (Faults.LineTooLong (count + 1))) after now rest
+found_too_long all old held now text block after rest turn count h s long fits = (
   after,
   (
     h.given,
-    h.consumed,
+    h.gives,
     h.whole ∙ ap (λ (l : List ℕ). text ++ l) s.1 ∙ sym (append_assoc text s.0 rest)
         ∙ ap (λ (l : List ℕ). l ++ rest) (sym s.3),
   ),
@@ -155,18 +243,29 @@ found_too_long old held now text block after rest turn count h s long fits = (
   s.5 h.short,
 )
 
+-- a read gave nothing more
+none_given : (all : Option (List ℕ)) (old : Reader) (held : List ℕ) (now : Reader) (text : List ℕ) (turn : ℕ)
+    (new : Reader) (h : HasEmptied all old held now text turn) (written : Option (List ℕ)) →
+    AddsReads now.reads (record { came = []; written = written } ∷ []) new.reads →
+    Consumes now.remaining new.remaining [] → Keeps all written → Gives (IsInLine held all) old new h.given
+none_given all old held now text turn new h written r k kept =
+    subst (Gives (IsInLine held all) old new) (append-nil h.given)
+    (gives_read (IsInLine held all) old now new h.given [] written h.gives r k
+    (in_line all old held now text turn h written kept))
+
 -- the log ended behind a line without a line feed
-pub found_last : (old : Option (List ℕ)) (held : List ℕ) (now : Option (List ℕ)) (text : List ℕ) (turn : ℕ)
-    (new : Option (List ℕ)) (block : List ℕ) (count : ℕ) → HasEmptied old held now text turn → Reads now new block (Ok false) →
-    0 < length text → count < most_lines → IsFound old held count (Ok Last) text new block
-found_last old held now text turn new block count h r some fits = (
+pub found_last : (all : Option (List ℕ)) (old : Reader) (held : List ℕ) (now : Reader) (text : List ℕ) (turn : ℕ)
+    (new : Reader) (block : List ℕ) (count : ℕ) → HasEmptied all old held now text turn →
+    ReadsOn all now new block (Ok false) → 0 < length text → count < most_lines →
+    IsFound all old held count (Ok Last) text new block
+found_last all old held now text turn new block count h r some fits = (
   (
     h.given,
-    subst (Consumes old new) (append-nil h.given) (consumes_more old now new h.given [] h.consumed r.0),
-    h.whole ∙ sym (append-nil text) ∙ ap (λ (l : List ℕ). text ++ l) (sym r.1),
+    none_given all old held now text turn new h r.0 r.1.0 r.1.1 r.2,
+    h.whole ∙ sym (append-nil text) ∙ ap (λ (l : List ℕ). text ++ l) (sym r.1.2),
   ),
-  r.1,
-  r.2,
+  r.1.2,
+  r.1.3,
   h.unbroken,
   h.short,
   some,
@@ -178,62 +277,103 @@ none_left [] e = refl
 none_left (x ∷ l) e = let none : length (x ∷ l) ≡ 0 = eqb-true (length (x ∷ l)) 0 e in absurd (omega arith)
 
 -- the log ended behind a line feed
-pub found_end : (old : Option (List ℕ)) (held : List ℕ) (now : Option (List ℕ)) (text : List ℕ) (turn : ℕ)
-    (new : Option (List ℕ)) (block : List ℕ) (count : ℕ) → HasEmptied old held now text turn →
-    Reads now new block (Ok false) → (length text == 0) ≡ true → IsFound old held count (Ok End) text new block
-found_end old held now text turn new block count h r none = (
+pub found_end : (all : Option (List ℕ)) (old : Reader) (held : List ℕ) (now : Reader) (text : List ℕ) (turn : ℕ)
+    (new : Reader) (block : List ℕ) (count : ℕ) → HasEmptied all old held now text turn →
+    ReadsOn all now new block (Ok false) → (length text == 0) ≡ true → IsFound all old held count (Ok End) text new block
+found_end all old held now text turn new block count h r none = (
   (
     h.given,
-    subst (Consumes old new) (append-nil h.given) (consumes_more old now new h.given [] h.consumed r.0),
-    h.whole ∙ none_left text none ∙ sym r.1,
+    none_given all old held now text turn new h r.0 r.1.0 r.1.1 r.2,
+    h.whole ∙ none_left text none ∙ sym r.1.2,
   ),
-  r.1,
-  r.2,
+  r.1.2,
+  r.1.3,
 )
 
-pub failed_read : (old : Option (List ℕ)) (held : List ℕ) (now : Option (List ℕ)) (text : List ℕ) (turn : ℕ)
-    (new : Option (List ℕ)) (block : List ℕ) (count : ℕ) (fault : LogFault) → HasEmptied old held now text turn →
-    Reads now new block (Err fault) → IsFound old held count (Err fault) text new block
-failed_read old held now text turn new block count (Faults.BadLine n) h r = absurd r
-failed_read old held now text turn new block count (Faults.LineTooLong n) h r = absurd r
-failed_read old held now text turn new block count Faults.TooManyLines h r = absurd r
-failed_read old held now text turn new block count Faults.Write h r = tt
-failed_read old held now text turn new block count Faults.Memory h r = absurd r
-failed_read old held now text turn new block count Faults.Read h r = (
+pub failed_read : (all : Option (List ℕ)) (old : Reader) (held : List ℕ) (now : Reader) (text : List ℕ) (turn : ℕ)
+    (new : Reader) (block : List ℕ) (count : ℕ) (fault : LogFault) → HasEmptied all old held now text turn →
+    ReadsOn all now new block (Err fault) → IsFound all old held count (Err fault) text new block
+failed_read all old held now text turn new block count (Faults.BadLine n) h r = absurd r.1
+failed_read all old held now text turn new block count (Faults.LineTooLong n) h r = absurd r.1
+failed_read all old held now text turn new block count Faults.TooManyLines h r = absurd r.1
+failed_read all old held now text turn new block count Faults.Write h r =
+    (h.given, subst (λ (x : Reader). Gives (IsInLine held all) old x h.given) (sym r.1) h.gives)
+failed_read all old held now text turn new block count Faults.Memory h r = absurd r.1
+failed_read all old held now text turn new block count Faults.Read h r = (
   text,
   (
     h.given,
-    subst (Consumes old new) (append-nil h.given)
-        (consumes_more old now new h.given [] h.consumed (keeps_consumes now new r.0)),
-    h.whole ∙ sym (append-nil text) ∙ ap (λ (l : List ℕ). text ++ l) (sym r.1),
+    none_given all old held now text turn new h r.0 r.1.0 (keeps_consumes now.remaining new.remaining r.1.1) r.2,
+    h.whole ∙ sym (append-nil text) ∙ ap (λ (l : List ℕ). text ++ l) (sym r.1.2),
   ),
-  r.1,
+  r.1.2,
   h.unbroken,
   h.short,
 )
 
 -- no byte was found behind as many lines as there may be
-pub no_byte : (old : Option (List ℕ)) (held : List ℕ) (count : ℕ) (text : List ℕ) (new : Option (List ℕ))
-    (rest : List ℕ) (fault : LogFault) → HasMore old held (Err fault) new rest → IsFound old held count (Err fault) text new rest
-no_byte old held count text new rest (Faults.BadLine n) h = absurd h
-no_byte old held count text new rest (Faults.LineTooLong n) h = absurd h
-no_byte old held count text new rest Faults.TooManyLines h = absurd h
-no_byte old held count text new rest Faults.Write h = tt
-no_byte old held count text new rest Faults.Memory h = absurd h
-no_byte old held count text new rest Faults.Read h = ([], h.0, h.1, tt, omega arith)
+pub no_byte : (all : Option (List ℕ)) (old : Reader) (held : List ℕ) (count : ℕ) (text : List ℕ) (new : Reader)
+    (rest : List ℕ) (fault : LogFault) → HasMore all old held (Err fault) new rest →
+    IsFound all old held count (Err fault) text new rest
+no_byte all old held count text new rest (Faults.BadLine n) h = absurd h
+no_byte all old held count text new rest (Faults.LineTooLong n) h = absurd h
+no_byte all old held count text new rest Faults.TooManyLines h = absurd h
+no_byte all old held count text new rest Faults.Write h =
+    ([], subst (λ (x : Reader). Gives (IsInLine held all) old x []) (sym h) (gives_none (IsInLine held all) old))
+no_byte all old held count text new rest Faults.Memory h = absurd h
+no_byte all old held count text new rest Faults.Read h = ([], h.0, h.1, tt, omega arith)
+
+-- one read where nothing was held
+read_first : (all : Option (List ℕ)) (old new : Reader) (held block : List ℕ) (written : Option (List ℕ)) → held ≡ [] →
+    AddsReads old.reads (record { came = block; written = written } ∷ []) new.reads →
+    Consumes old.remaining new.remaining block → Keeps all written → Gives (IsInLine held all) old new block
+read_first all old new held block written e r k kept =
+    gives_read (IsInLine held all) old old new [] block written (gives_none (IsInLine held all) old) r k
+    (subst (λ (l : List ℕ). IsInLine l all [] written) (sym e) (tt, omega arith, kept))
 
 -- what is held where nothing was, and a byte is looked for
-pub more_read : (old new : Option (List ℕ)) (held block : List ℕ) (more : Result Bool LogFault) → held ≡ [] →
-    Reads old new block more → HasMore old held more new block
-more_read old new held block (Ok true) e r = ((block, r.0, ap (λ (l : List ℕ). l ++ block) e), r.1, r.2)
-more_read old new held block (Ok false) e r = (([], r.0, ap (λ (l : List ℕ). l ++ []) e ∙ sym r.1), r.1, r.2)
-more_read old new held block (Err (Faults.BadLine n)) e r = absurd r
-more_read old new held block (Err (Faults.LineTooLong n)) e r = absurd r
-more_read old new held block (Err Faults.TooManyLines) e r = absurd r
-more_read old new held block (Err Faults.Write) e r = tt
-more_read old new held block (Err Faults.Memory) e r = absurd r
-more_read old new held block (Err Faults.Read) e r =
-    (([], keeps_consumes old new r.0, ap (λ (l : List ℕ). l ++ []) e ∙ sym r.1), r.1)
+pub more_read : (all : Option (List ℕ)) (old new : Reader) (held block : List ℕ) (more : Result Bool LogFault) → held ≡ [] →
+    ReadsOn all old new block more → HasMore all old held more new block
+more_read all old new held block (Ok true) e r = (
+  (block, read_first all old new held block r.0 e r.1.0 r.1.1 r.2, ap (λ (l : List ℕ). l ++ block) e),
+  r.1.2,
+  r.1.3,
+)
+more_read all old new held block (Ok false) e r = (
+  ([], read_first all old new held [] r.0 e r.1.0 r.1.1 r.2, ap (λ (l : List ℕ). l ++ []) e ∙ sym r.1.2),
+  r.1.2,
+  r.1.3,
+)
+more_read all old new held block (Err (Faults.BadLine n)) e r = absurd r.1
+more_read all old new held block (Err (Faults.LineTooLong n)) e r = absurd r.1
+more_read all old new held block (Err Faults.TooManyLines) e r = absurd r.1
+more_read all old new held block (Err Faults.Write) e r = r.1
+more_read all old new held block (Err Faults.Memory) e r = absurd r.1
+more_read all old new held block (Err Faults.Read) e r = (
+  (
+    [],
+    read_first all old new held [] r.0 e r.1.0 (keeps_consumes old.remaining new.remaining r.1.1) r.2,
+    ap (λ (l : List ℕ). l ++ []) e ∙ sym r.1.2,
+  ),
+  r.1.2,
+)
+
+-- what was held of a first byte, with nothing read
+pub more_held : (all : Option (List ℕ)) (old : Reader) (held : List ℕ) → 0 < length held → length held ≤ block_size →
+    HasMore all old held (Ok true) old held
+more_held all old held some few = (([], gives_none (IsInLine held all) old, append-nil held), some, few)
+
+-- what is held back was handed over before
+pub reads_kept : (all now : Option (List ℕ)) (old new : Reader) (block : List ℕ) (result : Result Bool LogFault) →
+    Keeps all now → ReadsOn now old new block result → ReadsOn all old new block result
+reads_kept all now old new block result k r = (r.0, r.1, keeps_more all now r.0 k r.2)
+
+-- one read, with what was held back handed over before
+pub read_handed : (all kept : Option (List ℕ)) (page : List ℕ) (old new : Reader) (block : List ℕ)
+    (result : Result Bool LogFault) → Keeps all (append_known kept page) → page ≡ [] →
+    Reads kept old new block result → ReadsOn all old new block result
+read_handed all kept page old new block result k none r =
+    (kept, r, subst (Keeps all) (ap (append_known kept) none ∙ none_held kept) k)
 
 -- ---- a block
 
@@ -329,11 +469,11 @@ held_whole held k count (Some n) fits few fewer block e =
       block,
     )
 
-pub found_held : (old : Option (List ℕ)) (held : List ℕ) (count n : ℕ) → IsHeldLine held count n →
-    IsFound old held count (Ok (Held n)) (without_cr (take n held)) old (drop (n + 1) held)
-found_held old held count n h = (
+pub found_held : (all : Option (List ℕ)) (old : Reader) (held : List ℕ) (count n : ℕ) → IsHeldLine held count n →
+    IsFound all old held count (Ok (Held n)) (without_cr (take n held)) old (drop (n + 1) held)
+found_held all old held count n h = (
   take n held,
-  ([], consumes_none old, append-nil held ∙ h.2 ∙ sym (append_assoc (take n held) (10 ∷ []) (drop (n + 1) held))),
+  ([], gives_none (IsInLine held all) old, append-nil held ∙ h.2 ∙ sym (append_assoc (take n held) (10 ∷ []) (drop (n + 1) held))),
   h.1,
   omega (arith, h.0, h.3, length-take-le n held (omega (arith, h.0))),
   h.4,
@@ -342,18 +482,18 @@ found_held old held count n h = (
 )
 
 -- a line that was copied is where the text is
-pub found_copied : (old new : Option (List ℕ)) (held block text : List ℕ) (count : ℕ) (result : Result Found LogFault) →
-    IfOk result IsCopied → IsFound old held count result text new block →
-    IsFound old held count result (line_in result block text) new (rest_in result block)
-found_copied old new held block text count (Ok (Held n)) c f = absurd c
-found_copied old new held block text count (Ok Line) c f = f
-found_copied old new held block text count (Ok Last) c f = f
-found_copied old new held block text count (Ok End) c f = f
-found_copied old new held block text count (Err fault) c f = f
+pub found_copied : (all : Option (List ℕ)) (old new : Reader) (held block text : List ℕ) (count : ℕ)
+    (result : Result Found LogFault) → IfOk result IsCopied → IsFound all old held count result text new block →
+    IsFound all old held count result (line_in result block text) new (rest_in result block)
+found_copied all old new held block text count (Ok (Held n)) c f = absurd (cc)
+found_copied all old new held block text count (Ok Line) c f = f
+found_copied all old new held block text count (Ok Last) c f = f
+found_copied all old new held block text count (Ok End) c f = f
+found_copied all old new held block text count (Err fault) c f = f
 
 pub lies_copied : (block : List ℕ) (result : Result Found LogFault) → IfOk result IsCopied →
     IfOk result (λ found. LiesIn found block)
-lies_copied block (Ok (Held n)) c = absurd c
+lies_copied block (Ok (Held n)) c = absurd (cc)
 lies_copied block (Ok Line) c = tt
 lies_copied block (Ok Last) c = tt
 lies_copied block (Ok End) c = tt

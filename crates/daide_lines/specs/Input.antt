@@ -1,5 +1,5 @@
--- A log that is read: where the line lies that was found.
-use Rattle.std.specs.Prelude.{◌≡◌, ⊤, ℕ, ◌+◌, ◌<◌, ◌≤◌, List, length, take, drop, Result, Ok, Err}
+-- A log that is read: where the line lies that was found. (own)
+use Rattle.std.specs.Prelude.{◌≡◌, ℕ, ◌+◌, ◌<◌, ◌≤◌, List, length, take, drop, Option, Some, None, IfSome, Result, Ok, Err}
 use Rattle.daide_lines.specs.declared.input.Input.{Input}
 use Rattle.daide_lines.specs.declared.lines.Found.{Found}
 use Rattle.daide_lines.specs.declared.lines.Found.TheVariants.{Held, Line, Last, End}
@@ -10,33 +10,37 @@ use Rattle.daide_lines.specs.LogLine.{longest_line, without_cr}
 abbrev pub IsSameReader : {R : Type 0} → Input R → Input R → Type 0
 IsSameReader old new = new.reader.ghost_name ≡ old.reader.ghost_name
 
+-- how many bytes of the line lie in what is held, before its line feed, if it was not copied
+abbrev pub held_bytes : Found → Option ℕ
+held_bytes (Held n) = Some n
+held_bytes Line = None
+held_bytes Last = None
+held_bytes End = None
+
 -- a line that lies in what is held has its line feed there, and is not too long
 abbrev pub LiesIn : Found → List ℕ → Type 0
-LiesIn (Held n) held = (n < length held) × (n ≤ longest_line)
-LiesIn Line held = ⊤
-LiesIn Last held = ⊤
-LiesIn End held = ⊤
+LiesIn found held = IfSome (held_bytes found) (λ n. (n < length held) × (n ≤ longest_line))
 
 -- a line that was copied lies in no block
 abbrev pub IsCopied : Found → Type 0
-IsCopied (Held n) = ⊥
-IsCopied Line = ⊤
-IsCopied Last = ⊤
-IsCopied End = ⊤
+IsCopied found = held_bytes found ≡ None
 
--- the line, where it lies in what is held or was copied
+-- the bytes before the line feed, without a carriage return, or what was copied
+abbrev pub front_or : Option ℕ → List ℕ → List ℕ → List ℕ
+front_or None held text = text
+front_or (Some n) held text = without_cr (take n held)
+
+-- those behind the line feed, or all
+abbrev pub behind_or_all : Option ℕ → List ℕ → List ℕ
+behind_or_all None held = held
+behind_or_all (Some n) held = drop (n + 1) held
+
+-- the line, and what is held behind it
 abbrev pub line_at : Found → List ℕ → List ℕ → List ℕ
-line_at (Held n) held text = without_cr (take n held)
-line_at Line held text = text
-line_at Last held text = text
-line_at End held text = text
+line_at found held text = front_or (held_bytes found) held text
 
--- what is held behind it
 abbrev pub rest_at : Found → List ℕ → List ℕ
-rest_at (Held n) held = drop (n + 1) held
-rest_at Line held = held
-rest_at Last held = held
-rest_at End held = held
+rest_at found held = behind_or_all (held_bytes found) held
 
 -- the same of a search that may have failed
 abbrev pub line_in : Result Found LogFault → List ℕ → List ℕ → List ℕ

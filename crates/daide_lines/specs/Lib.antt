@@ -4,6 +4,7 @@ pub mod MatchLine
 pub mod WordLine
 pub mod Lines
 pub mod Input
+pub mod Reader
 pub mod Output
 pub mod Told
 pub mod MatchTold

@@ -1,58 +1,81 @@
--- What the parts of the code read of a log.
-use Rattle.std.specs.Prelude.{⊤, ◌≡◌, ℕ, ◌+◌, ◌<◌, ◌≤◌, ◌⊎◌, Bool, true, false, List, [], ◌∷◌, ◌++◌, length, take, drop}
+-- What the parts of the code read of a log. (own)
+use Rattle.std.specs.Prelude.{◌≡◌, ℕ, ◌+◌, ◌<◌, ◌≤◌, ◌⊎◌, Bool, true, false, List, [], ◌∷◌, ◌++◌, length, take, drop}
 use Rattle.std.specs.Prelude.{Option, Some, None, Result, Ok, Err}
 use Rattle.std.specs.Io.KnownBytes.{Consumes, Keeps, IsAtEnd}
 use Rattle.daide_lines.specs.declared.lines.Found.{Found}
 use Rattle.daide_lines.specs.declared.lines.Found.TheVariants.{Held, Line, Last, End}
 use Rattle.daide_lines.specs.declared.fault.LogFault.{LogFault}
 use Rattle.daide_lines.specs.declared.fault.LogFault.TheVariants as Faults
+use Rattle.daide_lines.specs.Reader.{Reader, AddsReads, Gives}
 use Rattle.daide_lines.specs.LogLine.{most_lines, longest_line, IsUnbroken, without_cr}
 
 -- the most bytes that are read at once
 abbrev pub block_size : ℕ
 block_size = 8192
 
--- one read: these bytes came, or the reader has none left, or it failed; or the report could not be handed over first
-abbrev pub Reads : Option (List ℕ) → Option (List ℕ) → List ℕ → Result Bool LogFault → Type 0
-Reads old new bytes (Ok true) = Consumes old new bytes × (0 < length bytes) × (length bytes ≤ block_size)
-Reads old new bytes (Ok false) = Consumes old new [] × (bytes ≡ []) × IsAtEnd new
-Reads old new bytes (Err Faults.Read) = Keeps old new × (bytes ≡ [])
-Reads old new bytes (Err Faults.Write) = ⊤
-Reads old new bytes (Err Faults.Memory) = ⊥
-Reads old new bytes (Err (Faults.BadLine n)) = ⊥
-Reads old new bytes (Err (Faults.LineTooLong n)) = ⊥
-Reads old new bytes (Err Faults.TooManyLines) = ⊥
+-- One read, before which the writer had this: these bytes came, or the reader has none left, or it failed; or there was none,
+-- as the report could not be handed over first.
+abbrev pub Reads : Option (List ℕ) → Reader → Reader → List ℕ → Result Bool LogFault → Type 0
+Reads written old new bytes (Ok true) =
+    AddsReads old.reads (record { came = bytes; written = written } ∷ []) new.reads
+    × Consumes old.remaining new.remaining bytes × (0 < length bytes) × (length bytes ≤ block_size)
+Reads written old new bytes (Ok false) =
+    AddsReads old.reads (record { came = []; written = written } ∷ []) new.reads
+    × Consumes old.remaining new.remaining [] × (bytes ≡ []) × IsAtEnd new.remaining
+Reads written old new bytes (Err Faults.Read) =
+    AddsReads old.reads (record { came = []; written = written } ∷ []) new.reads
+    × Keeps old.remaining new.remaining × (bytes ≡ [])
+Reads written old new bytes (Err Faults.Write) = new ≡ old
+Reads written old new bytes (Err Faults.Memory) = ⊥
+Reads written old new bytes (Err (Faults.BadLine n)) = ⊥
+Reads written old new bytes (Err (Faults.LineTooLong n)) = ⊥
+Reads written old new bytes (Err Faults.TooManyLines) = ⊥
 
--- Of the bytes that were held and those that the reader gave, these were looked at, and the rest is held.
-abbrev pub LooksAt : Option (List ℕ) → List ℕ → List ℕ → Option (List ℕ) → List ℕ → Type 0
-LooksAt old held bytes new rest =
-    (given : List ℕ) × Consumes old new given × (held ++ given ≡ bytes ++ rest)
+-- the same once all that was held back of the report, which is all that there is of it, was handed over
+abbrev pub ReadsOn : Option (List ℕ) → Reader → Reader → List ℕ → Result Bool LogFault → Type 0
+ReadsOn all old new bytes result = (written : Option (List ℕ)) × Reads written old new bytes result × Keeps all written
+
+-- The bytes that are held and those that came since are of a line, which is not whole and not too long; and all of the
+-- report was handed over.
+abbrev pub IsInLine : List ℕ → Option (List ℕ) → List ℕ → Option (List ℕ) → Type 0
+IsInLine held all came written =
+    IsUnbroken (held ++ came) × (length (held ++ came) ≤ longest_line) × Keeps all written
+
+-- Of the bytes that were held and those that the reader gave, these were looked at, and the rest is held; each read was
+-- made within the line, with all of the report handed over.
+abbrev pub LooksAt : Option (List ℕ) → Reader → List ℕ → List ℕ → Reader → List ℕ → Type 0
+LooksAt all old held bytes new rest =
+    (given : List ℕ) × Gives (IsInLine held all) old new given × (held ++ given ≡ bytes ++ rest)
 
 -- A line with its line feed, which may be the next in number; behind it less than a block is held.
-abbrev pub IsWhole : Option (List ℕ) → List ℕ → ℕ → List ℕ → Option (List ℕ) → List ℕ → Type 0
-IsWhole old held count text new rest =
-    (line : List ℕ) × LooksAt old held (line ++ 10 ∷ []) new rest × IsUnbroken line × (length line ≤ longest_line)
-    × (count < most_lines) × (text ≡ without_cr line) × (length rest < block_size)
+abbrev pub IsWhole : Option (List ℕ) → Reader → List ℕ → ℕ → List ℕ → Reader → List ℕ → Type 0
+IsWhole all old held count text new rest =
+    (line : List ℕ) × LooksAt all old held (line ++ 10 ∷ []) new rest × IsUnbroken line
+    × (length line ≤ longest_line) × (count < most_lines) × (text ≡ without_cr line) × (length rest < block_size)
 
 -- A line with its line feed, which lies in what was held or was copied, or the last one without, or none; and whether it
 -- may be the next in number.
-abbrev pub IsFound : Option (List ℕ) → List ℕ → ℕ → Result Found LogFault → List ℕ → Option (List ℕ) → List ℕ → Type 0
-IsFound old held count (Ok (Held n)) text new rest = IsWhole old held count text new rest
-IsFound old held count (Ok Line) text new rest = IsWhole old held count text new rest
-IsFound old held count (Ok Last) text new rest =
-    LooksAt old held text new rest × (rest ≡ []) × IsAtEnd new × IsUnbroken text × (length text ≤ longest_line)
-    × (0 < length text) × (count < most_lines)
-IsFound old held count (Ok End) text new rest = LooksAt old held [] new rest × (rest ≡ []) × IsAtEnd new
-IsFound old held count (Err (Faults.LineTooLong n)) text new rest =
-    (line : List ℕ) × LooksAt old held line new rest × IsUnbroken line × (length line ≡ longest_line + 1)
+abbrev pub IsFound : Option (List ℕ) → Reader → List ℕ → ℕ → Result Found LogFault → List ℕ → Reader → List ℕ →
+    Type 0
+IsFound all old held count (Ok (Held n)) text new rest = IsWhole all old held count text new rest
+IsFound all old held count (Ok Line) text new rest = IsWhole all old held count text new rest
+IsFound all old held count (Ok Last) text new rest =
+    LooksAt all old held text new rest × (rest ≡ []) × IsAtEnd new.remaining × IsUnbroken text
+    × (length text ≤ longest_line) × (0 < length text) × (count < most_lines)
+IsFound all old held count (Ok End) text new rest =
+    LooksAt all old held [] new rest × (rest ≡ []) × IsAtEnd new.remaining
+IsFound all old held count (Err (Faults.LineTooLong n)) text new rest =
+    (line : List ℕ) × LooksAt all old held line new rest × IsUnbroken line × (length line ≡ longest_line + 1)
     × (count < most_lines) × (n ≡ count + 1) × (length rest < block_size)
-IsFound old held count (Err Faults.TooManyLines) text new rest =
-    LooksAt old held [] new rest × (0 < length rest) × (count ≡ most_lines) × (length rest ≤ block_size)
-IsFound old held count (Err Faults.Read) text new rest =
-    (line : List ℕ) × LooksAt old held line new rest × (rest ≡ []) × IsUnbroken line × (length line ≤ longest_line)
-IsFound old held count (Err (Faults.BadLine n)) text new rest = ⊥
-IsFound old held count (Err Faults.Write) text new rest = ⊤
-IsFound old held count (Err Faults.Memory) text new rest = ⊥
+IsFound all old held count (Err Faults.TooManyLines) text new rest =
+    LooksAt all old held [] new rest × (0 < length rest) × (count ≡ most_lines) × (length rest ≤ block_size)
+IsFound all old held count (Err Faults.Read) text new rest =
+    (line : List ℕ) × LooksAt all old held line new rest × (rest ≡ []) × IsUnbroken line
+    × (length line ≤ longest_line)
+IsFound all old held count (Err (Faults.BadLine n)) text new rest = ⊥
+IsFound all old held count (Err Faults.Write) text new rest =
+    (given : List ℕ) × Gives (IsInLine held all) old new given
+IsFound all old held count (Err Faults.Memory) text new rest = ⊥
 
 -- whether the log ended, and whether its last line came
 abbrev pub is_end : Found → Bool
@@ -91,12 +114,13 @@ Scans held before false rest after =
     × ((rest ≡ []) ⊎ (longest_line < length after)) × (length before ≤ longest_line → length rest < block_size)
 
 -- whether a byte is left of what is held and what the reader has
-abbrev pub HasMore : Option (List ℕ) → List ℕ → Result Bool LogFault → Option (List ℕ) → List ℕ → Type 0
-HasMore old held (Ok true) new rest = LooksAt old held [] new rest × (0 < length rest) × (length rest ≤ block_size)
-HasMore old held (Ok false) new rest = LooksAt old held [] new rest × (rest ≡ []) × IsAtEnd new
-HasMore old held (Err Faults.Read) new rest = LooksAt old held [] new rest × (rest ≡ [])
-HasMore old held (Err (Faults.BadLine n)) new rest = ⊥
-HasMore old held (Err (Faults.LineTooLong n)) new rest = ⊥
-HasMore old held (Err Faults.TooManyLines) new rest = ⊥
-HasMore old held (Err Faults.Write) new rest = ⊤
-HasMore old held (Err Faults.Memory) new rest = ⊥
+abbrev pub HasMore : Option (List ℕ) → Reader → List ℕ → Result Bool LogFault → Reader → List ℕ → Type 0
+HasMore all old held (Ok true) new rest =
+    LooksAt all old held [] new rest × (0 < length rest) × (length rest ≤ block_size)
+HasMore all old held (Ok false) new rest = LooksAt all old held [] new rest × (rest ≡ []) × IsAtEnd new.remaining
+HasMore all old held (Err Faults.Read) new rest = LooksAt all old held [] new rest × (rest ≡ [])
+HasMore all old held (Err (Faults.BadLine n)) new rest = ⊥
+HasMore all old held (Err (Faults.LineTooLong n)) new rest = ⊥
+HasMore all old held (Err Faults.TooManyLines) new rest = ⊥
+HasMore all old held (Err Faults.Write) new rest = new ≡ old
+HasMore all old held (Err Faults.Memory) new rest = ⊥

@@ -16,6 +16,10 @@ most_lines = 1000000
 abbrev pub longest_line : ℕ
 longest_line = 2100
 
+-- the most bytes of a side in a line
+abbrev pub longest_piece : ℕ
+longest_piece = 1024
+
 -- no line feed is among the bytes
 abbrev pub IsUnbroken : List ℕ → Type 0
 IsUnbroken bytes = AllByRecursion (λ b. b ≢ 10) bytes

@@ -1,4 +1,4 @@
--- What the code holds of a line's event in the log of a match.
+-- What the code holds of a line's event in the log of a match. (own)
 use Rattle.std.specs.Prelude.{⊤, ℕ, ◌<◌, ◌≤◌, List}
 use Rattle.daide_lines.specs.declared.match_line.MatchTold.{MatchTold}
 use Rattle.daide_lines.specs.declared.match_line.MatchTold.TheVariants as Variants

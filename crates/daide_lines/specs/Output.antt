@@ -1,4 +1,4 @@
--- A report on its way out.
+-- A report on its way out. (own)
 use Rattle.std.specs.Prelude.{◌≡◌, ℕ, List, Option}
 use Rattle.std.specs.Io.KnownBytes.{append_known}
 use Rattle.daide_lines.specs.declared.output.Output.{Output}

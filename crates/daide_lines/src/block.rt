@@ -5,8 +5,9 @@ ghost use Rattle.std.specs.Io.KnownBytes.{Consumes, Keeps, IsAtEnd};
 ghost use Rattle.daide_lines.specs.Lines.{Reads, block_size};
 
 use crate::fault::LogFault;
-use crate::page::Page;
-use std::io::Read;
+use crate::output::Output;
+use crate::reader::LogReader;
+use std::io::Write;
 use std::marker::Model;
 
 /// How many bytes are read at once.
@@ -60,14 +61,18 @@ impl Block {
 
     /// Reads more, and answers whether there was any. A read may wait, so there is none while lines of the report are
     /// held back.
-    pub fn refill<R: Read>(&mut self, reader: &mut R, held_back: &Page) -> Result<bool, LogFault>
+    pub fn refill<R: LogReader, W: Write>(
+        &mut self,
+        reader: &mut R,
+        output: &Output<'_, W>,
+    ) -> Result<bool, LogFault>
         requires looked_at { self.old ≡ [] }
-        requires handed_over { held_back.now.items ≡ [] }
-        ensures { Reads (R.remaining reader.old) (R.remaining reader.new) self.new result }
+        requires handed_over { output.now.page.items ≡ [] }
+        ensures { Reads (W.contents output.now.writer.now) (R.told reader.old) (R.told reader.new) self.new result }
     {
         self.from = 0;
         self.to = 0;
-        match reader.read(&mut self.bytes) {
+        match reader.read_log(&mut self.bytes, &*output.writer) {
             Ok(count) => {
                 self.to = count;
                 Ok(count > 0)

@@ -24,6 +24,7 @@ pub enum Told {
 }
 
 /// Bytes of a side, in hexadecimal digits.
+#[inline(always)]
 fn read_traffic(side: Side, digits: &[u8], bytes: &mut [u8; MOST]) -> Option<Told>
     ensures told { option_map (event_told bytes.new) result ≡ told_traffic side digits.now }
     ensures within { IfSome result IsWithin }
@@ -60,6 +61,7 @@ fn read_word(line: &[u8], bytes: &[u8; MOST]) -> Option<Told>
 
 /// What a line tells, with the bytes of traffic at the front of the buffer.
 #[tactic(auto, unfolding(crate::specs::LogLine::event_of_line))]
+#[inline(always)]
 pub fn read_event(line: &[u8], bytes: &mut [u8; MOST]) -> Option<Told>
     ensures told { option_map (event_told bytes.new) result ≡ event_of_line line.now }
     ensures within { IfSome result IsWithin }

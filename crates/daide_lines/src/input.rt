@@ -1,12 +1,12 @@
 //! A log that is read: its reader, what was read of it, and the line that was taken.
 
-ghost use Rattle.std.specs.Prelude.{◌≡◌, []};
+ghost use Rattle.std.specs.Prelude.{◌≡◌};
 ghost use Rattle.daide_lines.specs.Input.{LiesIn, line_at};
 
 use crate::block::Block;
 use crate::lines::{Found, without_cr};
+use crate::reader::LogReader;
 use crate::text::Text;
-use std::io::Read;
 
 /// A reader, what it gave and was not looked at yet, and a line that was copied.
 #[derive(Drop)]
@@ -19,20 +19,7 @@ pub struct Input<'a, R> {
     pub reader: &'a mut R,
 }
 
-impl<'a, R: Read> Input<'a, R> {
-    /// With nothing read.
-    pub fn new(reader: &'a mut R) -> Input<'a, R>
-        ensures none { result.block ≡ [] }
-        ensures reader { result.reader.now ≡ reader.old }
-        ensures same_reader { result.reader.ghost_name ≡ reader.entry.ghost_name }
-    {
-        Input {
-            block: Block::new(),
-            text: Text::new(),
-            reader,
-        }
-    }
-
+impl<'a, R: LogReader> Input<'a, R> {
     /// The line that was found, without its line end.
     pub fn line(&self, found: Found) -> &[u8]
         requires { LiesIn found self.now.block }

@@ -14,6 +14,7 @@ pub mod match_line;
 pub mod output;
 pub mod page;
 pub mod parts;
+pub mod reader;
 pub mod text;
 pub mod word_line;
 

@@ -3,7 +3,7 @@
 ghost use Rattle.std.specs.Prelude.{◌≡◌, ◌≢◌, ◌+◌, ◌≤◌, [], drop, length, take, true, OnOk, IfErr, IfOk, IfSome};
 ghost use Rattle.std.specs.Io.KnownBytes.{Keeps};
 ghost use Rattle.daide_lines.specs.LogLine.{IsUnbroken, most_lines, without_cr as left_of_cr};
-ghost use Rattle.daide_lines.specs.Lines.{IsFound, IsHeldLine, IsLineEnd, Scans, HasMore, Reads};
+ghost use Rattle.daide_lines.specs.Lines.{IsFound, IsHeldLine, IsLineEnd, Scans, HasMore, ReadsOn};
 ghost use Rattle.daide_lines.specs.Input.{IsCopied, IsSameReader, LiesIn, line_in, rest_at, rest_in};
 ghost use Rattle.daide_lines.specs.Output.{IsSameWriter, all_of};
 
@@ -11,11 +11,12 @@ use crate::block::Block;
 use crate::fault::LogFault;
 use crate::input::Input;
 use crate::output::Output;
+use crate::reader::LogReader;
 use crate::text::{TOO_LONG, Text};
-use std::io::{Read, Write};
+use std::io::Write;
 
 /// The most lines of a log.
-const MOST_LINES: u32 = 1_000_000;
+pub const MOST_LINES: u32 = 1_000_000;
 
 /// How many bytes are looked at together.
 const TOGETHER: usize = 64;
@@ -160,31 +161,32 @@ fn drop_cr(text: &mut Text)
 }
 
 /// Hands over what is held back of the report, and reads more.
-fn read_on<R: Read, W: Write>(
+fn read_on<R: LogReader, W: Write>(
     block: &mut Block,
     reader: &mut R,
     output: &mut Output<'_, W>,
 ) -> Result<bool, LogFault>
     requires { block.old ≡ [] }
-    ensures read { Reads (R.remaining reader.old) (R.remaining reader.new) block.new result }
+    ensures read { ReadsOn (all_of W.contents output.old) (R.told reader.old) (R.told reader.new) block.new result }
     ensures kept { OnOk result (Keeps (all_of W.contents output.old) (all_of W.contents output.new)) }
     ensures kept_at_fault { IfErr result (λ fault. fault ≢ LogFault.Write →
         Keeps (all_of W.contents output.old) (all_of W.contents output.new)) }
     ensures same_writer { IsSameWriter output.old output.new }
 {
     match output.hand_over() {
-        Ok(()) => block.refill(reader, &output.page),
+        Ok(()) => block.refill(reader, output),
         Err(_) => Err(LogFault::Write),
     }
 }
 
 /// Whether any byte of a log is left, of which a first one is read if none is held.
-fn has_more<R: Read, W: Write>(
+fn has_more<R: LogReader, W: Write>(
     block: &mut Block,
     reader: &mut R,
     output: &mut Output<'_, W>,
 ) -> Result<bool, LogFault>
-    ensures more { HasMore (R.remaining reader.old) block.old result (R.remaining reader.new) block.new }
+    ensures more { HasMore (all_of W.contents output.old) (R.told reader.old) block.old result (R.told reader.new)
+        block.new }
     ensures kept { OnOk result (Keeps (all_of W.contents output.old) (all_of W.contents output.new)) }
     ensures kept_at_fault { IfErr result (λ fault. fault ≢ LogFault.Write →
         Keeps (all_of W.contents output.old) (all_of W.contents output.new)) }
@@ -199,14 +201,14 @@ fn has_more<R: Read, W: Write>(
 /// Takes the next line of a log, behind so many lines, and copies it. A line that is too long is told at the byte by
 /// which it is, and one line too many at its first byte, with nothing read further. What is held back of the report is
 /// handed over before each read.
-pub fn next_line<R: Read, W: Write>(
+pub fn next_line<R: LogReader, W: Write>(
     input: &mut Input<'_, R>,
     count: u32,
     output: &mut Output<'_, W>,
 ) -> Result<Found, LogFault>
     requires { count ≤ most_lines }
-    ensures found { IsFound (R.remaining input.old.reader.now) input.old.block count result input.new.text.items
-        (R.remaining input.new.reader.now) input.new.block }
+    ensures found { IsFound (all_of W.contents output.old) (R.told input.old.reader.now) input.old.block count result
+        input.new.text.items (R.told input.new.reader.now) input.new.block }
     ensures copied { IfOk result IsCopied }
     ensures kept { OnOk result (Keeps (all_of W.contents output.old) (all_of W.contents output.new)) }
     ensures kept_at_fault { IfErr result (λ fault. fault ≢ LogFault.Write →
@@ -242,14 +244,14 @@ pub fn next_line<R: Read, W: Write>(
 
 /// Finds the next line of a log, behind so many lines, where it lies if all of it is held.
 #[inline(always)]
-pub fn find_line<R: Read, W: Write>(
+pub fn find_line<R: LogReader, W: Write>(
     input: &mut Input<'_, R>,
     count: u32,
     output: &mut Output<'_, W>,
 ) -> Result<Found, LogFault>
     requires { count ≤ most_lines }
-    ensures found { IsFound (R.remaining input.old.reader.now) input.old.block count result
-        (line_in result input.new.block input.new.text.items) (R.remaining input.new.reader.now)
+    ensures found { IsFound (all_of W.contents output.old) (R.told input.old.reader.now) input.old.block count result
+        (line_in result input.new.block input.new.text.items) (R.told input.new.reader.now)
         (rest_in result input.new.block) }
     ensures lies { IfOk result (λ found. LiesIn found input.new.block) }
     ensures kept { OnOk result (Keeps (all_of W.contents output.old) (all_of W.contents output.new)) }

@@ -19,18 +19,6 @@ pub struct Output<'a, W> {
 }
 
 impl<'a, W: Write> Output<'a, W> {
-    /// With no line.
-    pub fn new(writer: &'a mut W) -> Output<'a, W>
-        ensures none { result.page.items ≡ [] }
-        ensures writer { result.writer.now ≡ writer.old }
-        ensures same_writer { result.writer.ghost_name ≡ writer.entry.ghost_name }
-    {
-        Output {
-            page: Page::new(),
-            writer,
-        }
-    }
-
     /// Hands all that is held to the writer.
     pub fn hand_over(&mut self) -> io::Result<()>
         ensures emptied { OnOk result (self.new.page.items ≡ []) }

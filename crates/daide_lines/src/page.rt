@@ -14,6 +14,8 @@ const PAGE: usize = 8192;
 pub type Page = ArrayVec<u8, PAGE>;
 
 /// Hands all that is held to the writer.
+#[cold]
+#[inline(never)]
 pub fn hand_over<W: Write>(page: &mut Page, writer: &mut W) -> io::Result<()>
     ensures emptied { OnOk result (page.new.items ≡ []) }
     ensures written { OnOk result (Keeps (append_known (W.contents writer.old) page.old.items)

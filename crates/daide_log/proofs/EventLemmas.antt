@@ -23,11 +23,12 @@ use Rattle.daide_machine.specs.Summary.{nothing_counted}
 use Rattle.daide_log.specs.Report.{Entry, events_of, side_of, entries_of, lines_of, counted_all, summary_line}
 use Rattle.daide_lines.specs.LogLine.{most_lines}
 use Rattle.daide_log.specs.Log.{Playing, event_in, source_in}
+use Rattle.daide_lines.specs.Reader.{Reader}
 use Rattle.daide_lines.specs.Lines.{IsFound, is_end, is_last}
-use Rattle.daide_machine.specs.Summary.{HasRoom, IsMoreBy}
+use Rattle.daide_machine.specs.Summary.{IsMoreBy}
 use Rattle.daide_log.specs.Told.{IsIdle, Tells}
-use Rattle.daide_log.specs.Progress.{HasRead, IsFaultOf, IsFaultAfter, Reported, IsPlaying, Judges, states_of}
-use Rattle.daide_lines.proofs.PageLemmas.{appends_and_keeps}
+use Rattle.daide_log.specs.Progress.{Begins, IsFaultOf, IsFaultAfter, Reported, IsPlaying, Judges, states_of}
+use Rattle.daide_lines.proofs.PageLemmas.{appends_and_keeps, keeps_appends}
 use Rattle.daide_log.proofs.PlayLemmas.{appends_more, appends_none, lines_of-append, counted_all-append}
 use Rattle.daide_log.proofs.LogLemmas.{line_read, last_read, end_read, bad_line, bad_last, fault_found, fault_after, finished}
 
@@ -129,43 +130,27 @@ one_more_opened limits items n session h new =
 -- ---- between two lines
 
 -- what is so whatever came before, and how far the log has come
-pub record Plays (start : Option (List ℕ) → Type 0) (now : Option (List ℕ)) (held : List ℕ) (number : ℕ) (version : Version)
-    (sessions : List Gateway) (count : ℕ) (summary : Summary) (before after : Option (List ℕ)) : Type 0 where
+pub record Plays (start : Reader → Option (List ℕ) → Type 0) (now : Reader) (held : List ℕ) (number : ℕ) (version : Version)
+    (sessions : List Gateway) (count : ℕ) (summary : Summary) (after : Option (List ℕ)) : Type 0 where
   pub idle : All IsIdle sessions
   pub size : length sessions ≡ count
   pub few : IsMoreBy (1024 * number) nothing_counted summary
   pub fits : number ≤ most_lines
-  pub playing : (origin : Option (List ℕ)) → start origin →
+  pub playing : (origin : Reader) (before : Option (List ℕ)) → start origin before →
       IsPlaying origin now held number version (states_of sessions) summary before after
 
-pub plays_first : (now : Option (List ℕ)) (held : List ℕ) (number : ℕ) (version : Version) (sessions : List Gateway)
+pub plays_first : (now : Reader) (held : List ℕ) (number : ℕ) (version : Version) (sessions : List Gateway)
     (summary : Summary) (a : Option (List ℕ)) → All IsIdle sessions → number ≤ most_lines → summary ≡ nothing_counted →
-    Plays (λ origin. HasRead origin now held number [] (Playing version (states_of sessions))) now held number version
-    sessions (length sessions) summary a a
+    Plays (Begins now held number version (states_of sessions) a) now held number version sessions (length sessions) summary
+    a
 plays_first now held number version sessions summary a idle fits e = record {
   idle = idle;
   size = refl;
   few = subst (IsMoreBy (1024 * number) nothing_counted) (sym e)
       (record { relayed = omega arith; prn = omega arith; huh = omega arith; faults = omega arith });
   fits = fits;
-  playing = λ origin h. record { told = []; has_read = h; counts = e; written = appends_none a };
-}
-
--- what is held back was handed over
-pub plays_kept : (start : Option (List ℕ) → Type 0) (now : Option (List ℕ)) (held : List ℕ) (n : ℕ) (version : Version)
-    (sessions : List Gateway) (count : ℕ) (s : Summary) (a b c : Option (List ℕ)) →
-    Plays start now held n version sessions count s a b → Keeps b c → Plays start now held n version sessions count s a c
-plays_kept start now held n version sessions count s a b c p k = record {
-  idle = p.idle;
-  size = p.size;
-  few = p.few;
-  fits = p.fits;
-  playing = λ origin h. let q = p.playing origin h in record {
-    told = q.told;
-    has_read = q.has_read;
-    counts = q.counts;
-    written = appends_and_keeps a b c (lines_of q.told) q.written k;
-  };
+  playing = λ origin before h.
+      record { told = []; has_read = h.0; counts = e; written = keeps_appends before a h.1 };
 }
 
 more_few : (n : ℕ) (s t : Summary) → IsMoreBy (1024 * n) nothing_counted s → IsMoreBy 1024 s t →
@@ -183,22 +168,22 @@ more_text told more a b c h k =
     subst (Appends a c) (sym (lines_of-append told more)) (appends_more a b c (lines_of told) (lines_of more) h k)
 
 -- a line was judged
-pub plays_more : (start : Option (List ℕ) → Type 0) (now new : Option (List ℕ)) (held rest line : List ℕ) (n : ℕ)
-    (version : Version) (sessions next : List Gateway) (count : ℕ) (s t : Summary) (a b c : Option (List ℕ)) →
-    Plays start now held n version sessions count s a b → IsFound now held n (Ok Line) line new rest →
+pub plays_more : (start : Reader → Option (List ℕ) → Type 0) (now new : Reader) (held rest line : List ℕ) (n : ℕ)
+    (version : Version) (sessions next : List Gateway) (count : ℕ) (s t : Summary) (all b c : Option (List ℕ)) →
+    Plays start now held n version sessions count s all → IsFound all now held n (Ok Line) line new rest → Keeps all b →
     Judges version (n + 1) (states_of sessions) line (states_of next) s t b c → IsMoreBy 1024 s t → All IsIdle next →
-    length next ≡ length sessions → Plays start new rest (n + 1) version next count t a c
-plays_more start now new held rest line n version sessions next count s t a b c p f j few idle same = record {
+    length next ≡ length sessions → Plays start new rest (n + 1) version next count t c
+plays_more start now new held rest line n version sessions next count s t all b c p f k j few idle same = record {
   idle = idle;
   size = same ∙ p.size;
   few = more_few n s t p.few few;
   fits = omega (arith, f.4);
-  playing = λ origin h. let q = p.playing origin h in record {
+  playing = λ origin before h. let q = p.playing origin before h in record {
     told = q.told ++ j.0;
-    has_read = line_read origin now new held rest line n q.told j.0 (Playing version (states_of sessions))
-        (Playing version (states_of next)) q.has_read f j.1;
+    has_read = line_read before all origin now new held rest line n q.told j.0 (Playing version (states_of sessions))
+        (Playing version (states_of next)) q.has_read q.written f j.1;
     counts = more_counts q.told j.0 s t q.counts j.2;
-    written = more_text q.told j.0 a b c q.written j.3;
+    written = more_text q.told j.0 before b c (appends_and_keeps before all b (lines_of q.told) q.written k) j.3;
   };
 }
 
@@ -217,77 +202,91 @@ at_last_line Last e = refl
 at_last_line End e = absurd (cc)
 
 -- any other that was found is a line with its line feed
-pub as_line : (now new : Option (List ℕ)) (held rest line : List ℕ) (n : ℕ) (found : Found) → is_end found ≡ false →
-    is_last found ≡ false → IsFound now held n (Ok found) line new rest → IsFound now held n (Ok Line) line new rest
-as_line now new held rest line n (Held k) e l f = f
-as_line now new held rest line n Line e l f = f
-as_line now new held rest line n Last e l f = absurd (cc)
-as_line now new held rest line n End e l f = absurd (cc)
+pub as_line : (all : Option (List ℕ)) (now new : Reader) (held rest line : List ℕ) (n : ℕ) (found : Found) → is_end found ≡ false →
+    is_last found ≡ false → IsFound all now held n (Ok found) line new rest → IsFound all now held n (Ok Line) line new rest
+as_line all now new held rest line n (Held k) e l f = f
+as_line all now new held rest line n Line e l f = f
+as_line all now new held rest line n Last e l f = absurd (cc)
+as_line all now new held rest line n End e l f = absurd (cc)
 
 -- ---- the end
 
-pub finished_at_end : (start : Option (List ℕ) → Type 0) (now new : Option (List ℕ)) (held rest line : List ℕ) (n : ℕ)
-    (version : Version) (sessions : List Gateway) (count : ℕ) (s : Summary) (a b c : Option (List ℕ))
-    (result : Result Summary LogFault) → Plays start now held n version sessions count s a b →
-    IsFound now held n (Ok End) line new rest → IfOk result (λ answer. (answer ≡ s) × Appends b c (summary_line s)) →
-    (origin : Option (List ℕ)) → start origin → IfOk result (λ answer. Reported origin a c answer)
-finished_at_end start now new held rest line n version sessions count s a b c result p f r origin h =
-    let q = p.playing origin h in
-    finished origin new n q.told version (states_of sessions) s a b c result
-    (end_read origin now new held rest line n q.told (Playing version (states_of sessions)) q.has_read f) q.counts
-    q.written r
+pub finished_at_end : (start : Reader → Option (List ℕ) → Type 0) (now new : Reader) (held rest line : List ℕ) (n : ℕ)
+    (version : Version) (sessions : List Gateway) (count : ℕ) (s : Summary) (all b c : Option (List ℕ))
+    (result : Result Summary LogFault) → Plays start now held n version sessions count s all →
+    IsFound all now held n (Ok End) line new rest → Keeps all b →
+    IfOk result (λ answer. (answer ≡ s) × Appends b c (summary_line s)) →
+    (origin : Reader) (before : Option (List ℕ)) → start origin before →
+    IfOk result (λ answer. Reported origin new before c answer)
+finished_at_end start now new held rest line n version sessions count s all b c result p f k r origin before h =
+    let q = p.playing origin before h in
+    finished origin new n q.told version (states_of sessions) s before b c result
+    (end_read before all origin now new held rest line n q.told (Playing version (states_of sessions)) q.has_read q.written f)
+    q.counts (appends_and_keeps before all b (lines_of q.told) q.written k) r
 
-pub finished_at_last : (start : Option (List ℕ) → Type 0) (now new : Option (List ℕ)) (held rest line : List ℕ) (n : ℕ)
-    (version : Version) (sessions next : List Gateway) (count : ℕ) (s t : Summary) (a b c d : Option (List ℕ))
-    (result : Result Summary LogFault) → Plays start now held n version sessions count s a b →
-    IsFound now held n (Ok Last) line new rest →
+pub finished_at_last : (start : Reader → Option (List ℕ) → Type 0) (now new : Reader) (held rest line : List ℕ) (n : ℕ)
+    (version : Version) (sessions next : List Gateway) (count : ℕ) (s t : Summary) (all b c d : Option (List ℕ))
+    (result : Result Summary LogFault) → Plays start now held n version sessions count s all →
+    IsFound all now held n (Ok Last) line new rest → Keeps all b →
     Judges version (n + 1) (states_of sessions) line (states_of next) s t b c →
     IfOk result (λ answer. (answer ≡ t) × Appends c d (summary_line t)) →
-    (origin : Option (List ℕ)) → start origin → IfOk result (λ answer. Reported origin a d answer)
-finished_at_last start now new held rest line n version sessions next count s t a b c d result p f j r origin h =
-    let q = p.playing origin h in
-    finished origin new (n + 1) (q.told ++ j.0) version (states_of next) t a c d result
-    (last_read origin now new held rest line n q.told j.0 (Playing version (states_of sessions))
-    (Playing version (states_of next)) q.has_read f j.1)
-    (more_counts q.told j.0 s t q.counts j.2) (more_text q.told j.0 a b c q.written j.3) r
+    (origin : Reader) (before : Option (List ℕ)) → start origin before →
+    IfOk result (λ answer. Reported origin new before d answer)
+finished_at_last start now new held rest line n version sessions next count s t all b c d result p f k j r origin before h =
+    let q = p.playing origin before h in
+    finished origin new (n + 1) (q.told ++ j.0) version (states_of next) t before c d result
+    (last_read before all origin now new held rest line n q.told j.0 (Playing version (states_of sessions))
+    (Playing version (states_of next)) q.has_read q.written f j.1)
+    (more_counts q.told j.0 s t q.counts j.2)
+    (more_text q.told j.0 before b c (appends_and_keeps before all b (lines_of q.told) q.written k) j.3) r
 
 -- ---- faults
 
-pub fault_in_play : (start : Option (List ℕ) → Type 0) (now new : Option (List ℕ)) (held rest line : List ℕ) (n : ℕ)
-    (version : Version) (sessions : List Gateway) (count : ℕ) (s : Summary) (a b c : Option (List ℕ)) (fault : LogFault) →
-    Plays start now held n version sessions count s a b → IsFound now held n (Err fault) line new rest →
-    (fault ≢ Faults.Write → Keeps b c) → (origin : Option (List ℕ)) → start origin → IsFaultAfter origin new a c fault
-fault_in_play start now new held rest line n version sessions count s a b c fault p f k origin h =
-    let q = p.playing origin h in
-    fault_after origin new q.told a c fault
-    (fault_found origin now new held rest line n q.told (Playing version (states_of sessions)) fault q.has_read f)
-    (λ other. appends_and_keeps a b c (lines_of q.told) q.written (k other))
+pub fault_in_play : (start : Reader → Option (List ℕ) → Type 0) (now new : Reader) (held rest line : List ℕ) (n : ℕ)
+    (version : Version) (sessions : List Gateway) (count : ℕ) (s : Summary) (all c : Option (List ℕ)) (fault : LogFault) →
+    Plays start now held n version sessions count s all → IsFound all now held n (Err fault) line new rest →
+    (fault ≢ Faults.Write → Keeps all c) → (origin : Reader) (before : Option (List ℕ)) → start origin before →
+    IsFaultAfter origin new before c fault
+fault_in_play start now new held rest line n version sessions count s all c fault p f k origin before h =
+    let q = p.playing origin before h in
+    fault_after origin new q.told before c fault
+    (fault_found before all origin now new held rest line n q.told (Playing version (states_of sessions)) fault q.has_read
+    q.written f)
+    (λ other. appends_and_keeps before all c (lines_of q.told) q.written (k other))
 
 -- a line of another form, or a failed write
-pub bad_in_play : (start : Option (List ℕ) → Type 0) (now new : Option (List ℕ)) (held rest line : List ℕ) (n : ℕ)
-    (version : Version) (sessions : List Gateway) (count : ℕ) (s : Summary) (a b c : Option (List ℕ)) (found : Found)
-    (fault : LogFault) → Plays start now held n version sessions count s a b → IsFound now held n (Ok found) line new rest →
-    is_end found ≡ false →
+pub bad_in_play : (start : Reader → Option (List ℕ) → Type 0) (now new : Reader) (held rest line : List ℕ) (n : ℕ)
+    (version : Version) (sessions : List Gateway) (count : ℕ) (s : Summary) (all b c : Option (List ℕ)) (found : Found)
+    (fault : LogFault) → Plays start now held n version sessions count s all →
+    IsFound all now held n (Ok found) line new rest → is_end found ≡ false → Keeps all b →
     (fault ≡ Faults.Write) ⊎ ((fault ≡ Faults.BadLine (n + 1)) × (event_in version (length sessions) line ≡ None)
-    × (c ≡ b)) → (origin : Option (List ℕ)) → start origin → IsFaultAfter origin new a c fault
-bad_in_play start now new held rest line n version sessions count s a b c found fault p f other (inl e) origin h =
-    subst (IsFaultAfter origin new a c) (sym e) tt
-bad_in_play start now new held rest line n version sessions count s a b c found fault p f other (inr r) origin h =
-    subst (IsFaultAfter origin new a c) (sym r.0)
-    (q.told, is_fault found f other, subst (λ (w : Option (List ℕ)). Appends a w (lines_of q.told)) (sym r.2) q.written)
+    × (c ≡ b)) → (origin : Reader) (before : Option (List ℕ)) → start origin before →
+    IsFaultAfter origin new before c fault
+bad_in_play start now new held rest line n version sessions count s all b c found fault p f other k (inl e) origin before h =
+    subst (IsFaultAfter origin new before c) (sym e) tt
+bad_in_play start now new held rest line n version sessions count s all b c found fault p f other k (inr r) origin before h =
+    subst (IsFaultAfter origin new before c) (sym r.0) (
+      q.told,
+      is_fault found f other,
+      subst (λ (w : Option (List ℕ)). Appends before w (lines_of q.told)) (sym r.2)
+          (appends_and_keeps before all b (lines_of q.told) q.written k),
+    )
   where
-    q : IsPlaying origin now held n version (states_of sessions) s a b
-    q = p.playing origin h
+    q : IsPlaying origin now held n version (states_of sessions) s before all
+    q = p.playing origin before h
 
     is_bad : event_in version (length (states_of sessions)) line ≡ None
     is_bad = ap (λ (k : ℕ). event_in version k line) (length-map sessions (λ (g : Gateway). g.state)) ∙ r.1
 
-    is_fault : (found : Found) → IsFound now held n (Ok found) line new rest → is_end found ≡ false →
-        IsFaultOf origin new q.told (Faults.BadLine (n + 1))
+    is_fault : (found : Found) → IsFound all now held n (Ok found) line new rest → is_end found ≡ false →
+        IsFaultOf before origin new q.told (Faults.BadLine (n + 1))
     is_fault (Held k) f other =
-        bad_line origin now new held rest line n q.told (Playing version (states_of sessions)) q.has_read f is_bad
+        bad_line before all origin now new held rest line n q.told (Playing version (states_of sessions)) q.has_read q.written
+        f is_bad
     is_fault Line f other =
-        bad_line origin now new held rest line n q.told (Playing version (states_of sessions)) q.has_read f is_bad
+        bad_line before all origin now new held rest line n q.told (Playing version (states_of sessions)) q.has_read q.written
+        f is_bad
     is_fault Last f other =
-        bad_last origin now new held rest line n q.told (Playing version (states_of sessions)) q.has_read f is_bad
+        bad_last before all origin now new held rest line n q.told (Playing version (states_of sessions)) q.has_read q.written
+        f is_bad
     is_fault End f other = absurd (cc)

@@ -16,12 +16,14 @@ use Rattle.daide_log.specs.declared.opening.Step.TheVariants.{More}
 use Rattle.daide_log.specs.declared.heading.Head as heads
 use Rattle.daide_log.specs.declared.heading.Heading as headings
 use Rattle.daide_log.specs.declared.heading.Heading.TheVariants as Variants
-use Rattle.daide_log.specs.Heading.{Headed, HasSessions, heading_after, is_whole}
+use Rattle.daide_log.specs.Heading.{Headed, heading_after, is_whole}
 use Rattle.daide_log.specs.Held.{head_of, heading_of, IsHeld, whole, further, at_last, after_line}
 use Rattle.std.specs.Io.KnownBytes.{Keeps}
 use Rattle.daide_lines.specs.LogLine.{most_lines}
 use Rattle.daide_log.specs.Log.{Opening, stage_at, begun}
+use Rattle.daide_lines.specs.Reader.{Reader}
 use Rattle.daide_lines.specs.Lines.{IsFound}
+use Rattle.daide_lines.proofs.PageLemmas.{keeps_appends}
 use Rattle.daide_log.specs.Progress.{HasRead, HasReadAll, IsStep, IsOpened, IsOpenedBy, IsFaultAfter, states_of}
 use Rattle.daide_log.proofs.LogLemmas.{line_read, last_read, end_read, bad_line, bad_last, ends_early, fault_found}
 
@@ -50,9 +52,9 @@ whole_begun (Variants.Headed held) head e = go (is_whole (head_of held)) e
     go false e = absurd (cc)
 
 -- so many lines of the head were read, and nothing was written
-pub record IsReading (old now : Option (List ℕ)) (held : List ℕ) (number : ℕ) (heading : headings.Heading)
+pub record IsReading (old now : Reader) (held : List ℕ) (number : ℕ) (heading : headings.Heading)
     (before after : Option (List ℕ)) : Type 0 where
-  pub has_read : HasRead old now held number [] (Opening (heading_of heading))
+  pub has_read : HasRead before old now held number [] (Opening (heading_of heading))
   pub held_well : IsHeld heading
   pub fits : number ≤ most_lines
   pub kept : Keeps before after
@@ -96,26 +98,26 @@ next_held next heading e h = subst (λ (o : Option headings.Heading). IfSome o I
 
 -- where the head ends
 
-pub opened_more : (opened : Opened) (old new : Option (List ℕ)) (held : List ℕ) → not opened.is_ended ≡ false →
-    IsOpened opened old new held → HasRead old new held opened.lines [] (begun (head_of opened.head))
-opened_more opened old new held e h = go opened.is_ended e h.0
+pub opened_more : (opened : Opened) (before : Option (List ℕ)) (old new : Reader) (held : List ℕ) → not opened.is_ended ≡ false →
+    IsOpened opened before old new held → HasRead before old new held opened.lines [] (begun (head_of opened.head))
+opened_more opened before old new held e h = go opened.is_ended e h.0
   where
-    go : (b : Bool) → not b ≡ false → IsOpenedBy b (head_of opened.head) opened.lines old new held →
-        HasRead old new held opened.lines [] (begun (head_of opened.head))
+    go : (b : Bool) → not b ≡ false → IsOpenedBy b (head_of opened.head) opened.lines before old new held →
+        HasRead before old new held opened.lines [] (begun (head_of opened.head))
     go true e k = k
     go false e k = absurd (cc)
 
-pub opened_last : (opened : Opened) (old new : Option (List ℕ)) (held : List ℕ) → not opened.is_ended ≡ true →
-    IsOpened opened old new held → HasReadAll old new opened.lines [] (begun (head_of opened.head))
-opened_last opened old new held e h = go opened.is_ended e h.0
+pub opened_last : (opened : Opened) (before : Option (List ℕ)) (old new : Reader) (held : List ℕ) → not opened.is_ended ≡ true →
+    IsOpened opened before old new held → HasReadAll before old new opened.lines [] (begun (head_of opened.head))
+opened_last opened before old new held e h = go opened.is_ended e h.0
   where
-    go : (b : Bool) → not b ≡ true → IsOpenedBy b (head_of opened.head) opened.lines old new held →
-        HasReadAll old new opened.lines [] (begun (head_of opened.head))
+    go : (b : Bool) → not b ≡ true → IsOpenedBy b (head_of opened.head) opened.lines before old new held →
+        HasReadAll before old new opened.lines [] (begun (head_of opened.head))
     go true e k = absurd (cc)
     go false e k = k
 
-pub memory_wanted : (opened : Opened) (old new : Option (List ℕ)) (held : List ℕ) (a b : Option (List ℕ))
-    (fault : LogFault) → fault ≡ Faults.Memory → IsOpened opened old new held → Keeps a b → IsFaultAfter old new a b fault
+pub memory_wanted : (opened : Opened) (old new : Reader) (held : List ℕ) (a b : Option (List ℕ))
+    (fault : LogFault) → fault ≡ Faults.Memory → IsOpened opened a old new held → Keeps a b → IsFaultAfter old new a b fault
 memory_wanted opened old new held a b fault e h k = subst (IsFaultAfter old new a b) (sym e) (opened, held, h, k)
 
 -- as many sessions were made as the head says
@@ -131,47 +133,47 @@ as_many (session ∷ sessions) (suc n) state e =
 -- ---- a line
 
 -- a line with its line feed
-line_judged : (old now new : Option (List ℕ)) (held line rest : List ℕ) (n : ℕ) (heading : headings.Heading)
-    (next : Option headings.Heading) → HasRead old now held n [] (Opening (heading_of heading)) →
-    IsFound now held n (Ok Line) line new rest → option_map heading_of next ≡ heading_after (heading_of heading) line →
-    IsStep old new rest n (after_line (Ok Line) next n)
-line_judged old now new held line rest n heading None h f e =
-    bad_line old now new held rest line n [] (Opening (heading_of heading)) h f (sym e)
-line_judged old now new held line rest n heading (Some next) h f e = go (whole next) refl
+line_judged : (before all : Option (List ℕ)) (old now new : Reader) (held line rest : List ℕ) (n : ℕ) (heading : headings.Heading)
+    (next : Option headings.Heading) → HasRead before old now held n [] (Opening (heading_of heading)) → Keeps before all →
+    IsFound all now held n (Ok Line) line new rest → option_map heading_of next ≡ heading_after (heading_of heading) line →
+    IsStep before old new rest n (after_line (Ok Line) next n)
+line_judged before all old now new held line rest n heading None h k f e =
+    bad_line before all old now new held rest line n [] (Opening (heading_of heading)) h (keeps_appends before all k) f (sym e)
+line_judged before all old now new held line rest n heading (Some next) h k f e = go (whole next) refl
   where
-    read : HasRead old new rest (n + 1) [] (stage_at (heading_of next))
-    read = line_read old now new held rest line n [] [] (Opening (heading_of heading)) (stage_at (heading_of next)) h f
+    read : HasRead before old new rest (n + 1) [] (stage_at (heading_of next))
+    read = line_read before all old now new held rest line n [] [] (Opening (heading_of heading)) (stage_at (heading_of next)) h (keeps_appends before all k) f
         (heading_of next, sym e, refl, refl)
 
-    go : (o : Option heads.Head) → whole next ≡ o → IsStep old new rest n (Ok (further next (n + 1) o))
-    go None w = (subst (HasRead old new rest (n + 1) []) (more_to_come next w) read, f.4)
-    go (Some head) w = (subst (HasRead old new rest (n + 1) []) (whole_begun next head w) read, omega (arith, f.4))
+    go : (o : Option heads.Head) → whole next ≡ o → IsStep before old new rest n (Ok (further next (n + 1) o))
+    go None w = (subst (HasRead before old new rest (n + 1) []) (more_to_come next w) read, f.4)
+    go (Some head) w = (subst (HasRead before old new rest (n + 1) []) (whole_begun next head w) read, omega (arith, f.4))
 
 -- one line of the head more
-pub head_judged : (old now new : Option (List ℕ)) (held line rest : List ℕ) (n : ℕ) (found : Result Found LogFault)
+pub head_judged : (before all : Option (List ℕ)) (old now new : Reader) (held line rest : List ℕ) (n : ℕ) (found : Result Found LogFault)
     (heading : headings.Heading) (next : Option headings.Heading) →
-    HasRead old now held n [] (Opening (heading_of heading)) → IsFound now held n found line new rest →
-    option_map heading_of next ≡ heading_after (heading_of heading) line → IsStep old new rest n (after_line found next n)
-head_judged old now new held line rest n (Err fault) heading next h f e =
-    fault_found old now new held rest line n [] (Opening (heading_of heading)) fault h f
-head_judged old now new held line rest n (Ok (Held k)) heading None h f e =
-    line_judged old now new held line rest n heading None h f e
-head_judged old now new held line rest n (Ok (Held k)) heading (Some next) h f e =
-    line_judged old now new held line rest n heading (Some next) h f e
-head_judged old now new held line rest n (Ok Line) heading next h f e =
-    line_judged old now new held line rest n heading next h f e
-head_judged old now new held line rest n (Ok Last) heading None h f e =
-    bad_last old now new held rest line n [] (Opening (heading_of heading)) h f (sym e)
-head_judged old now new held line rest n (Ok Last) heading (Some next) h f e = go (whole next) refl
+    HasRead before old now held n [] (Opening (heading_of heading)) → Keeps before all → IsFound all now held n found line new rest →
+    option_map heading_of next ≡ heading_after (heading_of heading) line → IsStep before old new rest n (after_line found next n)
+head_judged before all old now new held line rest n (Err fault) heading next h k f e =
+    fault_found before all old now new held rest line n [] (Opening (heading_of heading)) fault h (keeps_appends before all k) f
+head_judged before all old now new held line rest n (Ok (Held j)) heading None h k f e =
+    line_judged before all old now new held line rest n heading None h k f e
+head_judged before all old now new held line rest n (Ok (Held j)) heading (Some next) h k f e =
+    line_judged before all old now new held line rest n heading (Some next) h k f e
+head_judged before all old now new held line rest n (Ok Line) heading next h k f e =
+    line_judged before all old now new held line rest n heading next h k f e
+head_judged before all old now new held line rest n (Ok Last) heading None h k f e =
+    bad_last before all old now new held rest line n [] (Opening (heading_of heading)) h (keeps_appends before all k) f (sym e)
+head_judged before all old now new held line rest n (Ok Last) heading (Some next) h k f e = go (whole next) refl
   where
-    read : HasReadAll old new (n + 1) [] (stage_at (heading_of next))
-    read = last_read old now new held rest line n [] [] (Opening (heading_of heading)) (stage_at (heading_of next)) h f
+    read : HasReadAll before old new (n + 1) [] (stage_at (heading_of next))
+    read = last_read before all old now new held rest line n [] [] (Opening (heading_of heading)) (stage_at (heading_of next)) h (keeps_appends before all k) f
         (heading_of next, sym e, refl, refl)
 
-    go : (o : Option heads.Head) → whole next ≡ o → IsStep old new rest n (at_last (n + 1) o)
-    go None w = ends_early old new (n + 1) [] (Opening (heading_of next))
-        (subst (HasReadAll old new (n + 1) []) (more_to_come next w) read) tt
-    go (Some head) w = (subst (HasReadAll old new (n + 1) []) (whole_begun next head w) read, omega (arith, f.6))
-head_judged old now new held line rest n (Ok End) heading next h f e =
-    ends_early old new n [] (Opening (heading_of heading))
-    (end_read old now new held rest line n [] (Opening (heading_of heading)) h f) tt
+    go : (o : Option heads.Head) → whole next ≡ o → IsStep before old new rest n (at_last (n + 1) o)
+    go None w = ends_early before old new (n + 1) [] (Opening (heading_of next))
+        (subst (HasReadAll before old new (n + 1) []) (more_to_come next w) read) tt
+    go (Some head) w = (subst (HasReadAll before old new (n + 1) []) (whole_begun next head w) read, omega (arith, f.6))
+head_judged before all old now new held line rest n (Ok End) heading next h k f e =
+    ends_early before old new n [] (Opening (heading_of heading))
+    (end_read before all old now new held rest line n [] (Opening (heading_of heading)) h (keeps_appends before all k) f) tt

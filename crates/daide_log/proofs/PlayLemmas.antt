@@ -1,7 +1,7 @@
 -- How a session goes through the lines of a log.
 use Rattle.std.proofs.Common.{◌≡◌, ℕ, ◌+◌, ◌<◌, ◌≤◌, Bool, true, false, List, [], ◌∷◌, ◌++◌, length, Option}
 use Rattle.std.proofs.Common.{Some, None, refl, sym, ap, ◌∙◌, subst, arith, length-append, append-nil, append_assoc}
-use Rattle.std.proofs.Common.{◌⊎◌, inl, inr, cond, OnOk, Result, Ok, Err}
+use Rattle.std.proofs.Common.{◌⊎◌, inl, inr, cond}
 use Rattle.std.specs.Prelude.{◌||◌}
 use Rattle.std.specs.Io.KnownBytes.{Appends}
 use Rattle.daide_frame.specs.declared.side.Side.{Side}
@@ -9,10 +9,10 @@ use Rattle.daide_frame.specs.declared.side.Side.TheVariants.{Bot, Server}
 use Rattle.daide_frame.specs.Frames.{missing}
 use Rattle.daide_machine.specs.declared.note.Note.{Note}
 use Rattle.daide_machine.specs.declared.note.Note.TheVariants as Notes
-use Rattle.daide_machine.specs.Events.{Event, Ends, Pops, bytes_come, other}
+use Rattle.daide_machine.specs.Events.{Event, Ends, Pops, bytes_come}
 use Rattle.daide_machine.specs.Machine.{SessionState, Effect, Outcome, Sent, Runs, coming, is_over, event_outcome}
-use Rattle.daide_machine.specs.Wires.{Gateway, Goes, sent_to, waiting, bytes_of}
-use Rattle.daide_machine.specs.Wires.{first_len, room_of, is_awaited}
+use Rattle.daide_machine.specs.Wires.{Gateway, Goes, sent_to, waiting}
+use Rattle.daide_machine.specs.Wires.{room_of, is_awaited}
 use Rattle.daide_machine.proofs.OneRun.{runs_join}
 use Rattle.daide_machine.proofs.PieceRuns.{over_stays}
 use Rattle.daide_machine.proofs.WireLemmas.{bytes_come-append}

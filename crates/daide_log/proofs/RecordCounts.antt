@@ -4,8 +4,8 @@ use Rattle.daide_machine.specs.declared.note.Note.{Note}
 use Rattle.daide_machine.specs.declared.note.Note.TheVariants.{Nothing}
 use Rattle.daide_machine.specs.declared.summary.Summary.{Summary}
 use Rattle.daide_machine.specs.Machine.{Effect}
-use Rattle.daide_machine.specs.Summary.{counted, counted_moves, nothing_counted, reduced, tallied}
-use Rattle.daide_machine.proofs.SummaryLemmas.{tallied_reduced}
+use Rattle.daide_machine.specs.Summary.{counted, nothing_counted, reduced, tallied}
+use Rattle.daide_machine.proofs.SummaryLemmas.{counted_reduced}
 use Rattle.daide_log.specs.Report.{Entry, counted_all}
 use Rattle.daide_log.specs.RecordLaw.{notes_told, notes_of}
 
@@ -17,19 +17,19 @@ abbrev rest_of : List Note → List Note
 rest_of [] = []
 rest_of (note ∷ notes) = notes
 
--- the same notes are counted the same, as moves or as what is told of them
+-- the same notes are counted the same, as moves modulo 2^64 or as what is told of them
 counted_alike : (told : List Entry) (moves : List Effect) (s : Summary) → notes_told told ≡ notes_of moves →
-    counted_all told s ≡ counted_moves moves s
+    tallied moves (reduced s) ≡ reduced (counted_all told s)
 counted_alike [] [] s same = refl
 counted_alike [] (move ∷ moves) s same = absurd (cc)
 counted_alike (entry ∷ told) [] s same = absurd (cc)
 counted_alike (entry ∷ told) (move ∷ moves) s same =
     let first : entry.told ≡ move.told = ap (first_or Nothing) same in
     let later : notes_told told ≡ notes_of moves = ap rest_of same in
-    counted_alike told moves (counted entry.told s) later
-    ∙ ap (λ (note : Note). counted_moves moves (counted note s)) first
+    ap (tallied moves) (counted_reduced move.told s
+    ∙ ap (λ (note : Note). reduced (counted note s)) (sym first))
+    ∙ counted_alike told moves (counted entry.told s) later
 
 pub session_counts : (told : List Entry) (moves : List Effect) → notes_told told ≡ notes_of moves →
     tallied moves nothing_counted ≡ reduced (counted_all told nothing_counted)
-session_counts told moves same =
-    tallied_reduced moves nothing_counted ∙ ap reduced (sym (counted_alike told moves nothing_counted same))
+session_counts told moves same = counted_alike told moves nothing_counted same

@@ -20,7 +20,6 @@ use Rattle.daide_words.specs.declared.operand.Operand.TheVariants as operands
 use Rattle.daide_words.specs.declared.word.Word.{Word}
 use Rattle.daide_words.specs.WordNames.{slot_named, operand_named}
 use Rattle.daide_words.specs.Words.{word_at}
-use Rattle.daide_words.specs.Word.{names_of}
 use Rattle.daide_words.specs.Accepted.{is_capital}
 use Rattle.daide_machine.specs.declared.config.Config.{Config}
 use Rattle.daide_machine.specs.declared.config.ConfigError.{ConfigError}
@@ -410,10 +409,6 @@ pub no_word : (words : List Word) (place : ℕ) → word_at place words ≡ None
 no_word [] place e = omega arith
 no_word (first ∷ words) zero e = absurd (cc)
 no_word (first ∷ words) (suc place) e = omega (arith, no_word words place e)
-
-pub names_of-length : (words : List Word) → length (names_of words) ≡ length words
-names_of-length [] = refl
-names_of-length (word ∷ words) = ap suc (names_of-length words)
 
 pub word_put : (word : Word) (old a b c d e f new bytes slot operand : List ℕ) (level : ℕ) → bytes ≡ bytes_of word.code →
     slot ≡ 32 ∷ name_of_slot word.slot ++ 32 ∷ [] → level ≡ level_number word.level →

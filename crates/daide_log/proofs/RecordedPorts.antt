@@ -53,6 +53,7 @@ record IsOf (config : Config) (words : List Word) (answers : List PortAnswer) (w
 record IsOver (config : Config) (words : List Word) (answers : List PortAnswer) (written : Written) : Type 0 where
   text : written.text ≡ Some (record_text config words answers)
   ending : written.ending ≡ Full
+  most : most_lines ≤ record_count words answers
 
 data Outcome (config : Config) (words : List Word) (answers : List PortAnswer) (answer : PortAnswer) (new : Written) : Type 0
   where
@@ -88,7 +89,12 @@ lined config words answers answer event old new h piece told Whole e t =
       ending = e;
     })
 lined config words answers answer event old new h piece told Full e t =
-    full (record { text = kept old.text new.text (record_text config words answers) h.text t.2; ending = e })
+    let lines = h.lines in
+    full (record {
+      text = kept old.text new.text (record_text config words answers) h.text t.2;
+      ending = e;
+      most = omega (arith, t.0);
+    })
 lined config words answers answer event old new h piece told Failed e t = failed e
 
 taken : (config : Config) (words : List Word) (answers : List PortAnswer) (answer : PortAnswer) (old new : Written) →
@@ -113,6 +119,10 @@ taken config words answers answer old new h piece None e t =
 taken config words answers answer old new h piece (Some event) e t =
     lined config words answers answer event old new h piece e new.ending refl
     (subst (λ (x : RecordEnd). TakesEvent x old event new) h.ending t)
+
+-- a record that is whole is not full
+never : Whole ≡ Full → ⊥
+never e = absurd (cc)
 
 -- ---- a record that ended
 
@@ -144,6 +154,7 @@ module _ {P : Type 0} (becomes : P → PortAnswer → P → Type 0) where
         few = h.few;
         pieces = h.pieces;
         all = λ _. refl;
+        full = λ e. absurd (never (sym h.ending ∙ sym (ap (λ (w : Written). w.ending) same) ∙ e));
       }
   fronts config words (answer ∷ answers) done old new h b other =
       go (taken config words done answer old.record_of b.0.record_of h b.1.piece (told_by answer) refl b.1.taken)
@@ -167,6 +178,7 @@ module _ {P : Type 0} (becomes : P → PortAnswer → P → Type 0) where
             few = h.few;
             pieces = h.pieces;
             all = λ e. absurd (cc);
+            full = λ _. k.most;
           }
       go (failed k) later =
           let same = stays Failed answers b.0 new (λ e. absurd (cc)) k b.2 in

@@ -1,6 +1,6 @@
 -- A log has a report, whatever its bytes: it is cut at its line feeds, and each line goes on or is bad.
 use Rattle.std.proofs.Common.{◌≡◌, ℕ, zero, suc, ◌+◌, ◌-◌, ◌<◌, ◌≤◌, ◌⊎◌, inl, inr, Bool, true, false, cond, eqb, leb, ◌≢◌}
-use Rattle.std.proofs.Common.{List, [], ◌∷◌, ◌++◌, length, replicate, codes, Option, Some, None, Result, Ok, Err}
+use Rattle.std.proofs.Common.{List, [], ◌∷◌, ◌++◌, length, replicate, codes, Option, Some, None, Result}
 use Rattle.std.proofs.Common.{refl, sym, ap, ◌∙◌, subst, arith, append-nil, append_assoc, length-append}
 use Rattle.std.specs.Prelude.{◌&&◌, slice_get, slice_set, option_map, is_ok}
 use Rattle.std.proofs.lemmas.Bool.{leb-true, cases_lt}
@@ -17,7 +17,6 @@ use Rattle.daide_machine.specs.declared.config.Config.{Config}
 use Rattle.daide_machine.specs.Config.{limits_with}
 use Rattle.daide_machine.proofs.WordedRuns.{run_over}
 use Rattle.daide_lines.specs.declared.fault.LogFault.{LogFault}
-use Rattle.daide_lines.specs.declared.fault.LogFault.TheVariants.{BadLine}
 use Rattle.daide_lines.specs.LogLine.{LogEvent, Parted, IsUnbroken, longest_line, most_lines, without_cr, behind}
 use Rattle.daide_lines.specs.LogLine.{plain_number, parted_at_space, is_comment, event_of_line}
 use Rattle.daide_lines.specs.MatchLine.{MatchEvent, Of, Quiet, loud, within, event_of_session, match_event_of_parts}

@@ -1,7 +1,8 @@
--- How far a log was read and reported, and what a fault leaves.
-use Rattle.std.specs.Prelude.{◌≡◌, ⊤, ℕ, ◌+◌, ◌<◌, ◌≤◌, ◌⊎◌, Bool, true, false, List, [], ◌++◌, length, map}
+-- How far a log was read and reported, and what a fault leaves. (own)
+use Rattle.std.specs.Prelude.{◌≡◌, ⊤, ℕ, ◌+◌, ◌<◌, ◌≤◌, ◌⊎◌, Bool, true, false, List, [], ◌∷◌, ◌++◌, length, map}
 use Rattle.std.specs.Prelude.{Option, IfSome, Result, Ok, Err}
-use Rattle.std.specs.Io.KnownBytes.{Consumes, Keeps, Appends, IsAtEnd}
+use Rattle.std.specs.Io.KnownBytes.{Keeps, Appends, IsAtEnd}
+use Rattle.daide_lines.specs.Reader.{Reader, Gives}
 use Rattle.daide_machine.specs.Machine.{SessionState}
 use Rattle.daide_machine.specs.Wires.{Gateway}
 use Rattle.daide_machine.specs.declared.summary.Summary.{Summary}
@@ -20,26 +21,45 @@ use Rattle.daide_log.specs.Log.{Stage, Opening, Playing, begun, GoesOn, Reports,
 use Rattle.daide_lines.specs.LogLine.{IsUnbroken, longest_line, most_lines}
 use Rattle.daide_lines.specs.Lines.{block_size}
 
+-- A read in time: what came before it is so many whole lines, whose report is all that the writer has by then behind what
+-- it had at first, and so many bytes of the next line, which is not too long by them.
+pub record IsInTime (before : Option (List ℕ)) (came : List ℕ) (written : Option (List ℕ)) : Type 0 where
+  pub bytes : List ℕ
+  pub line : List ℕ
+  pub whole : came ≡ bytes ++ line
+  pub unbroken : IsUnbroken line
+  pub short : length line ≤ longest_line
+  pub number : ℕ
+  pub told : List Entry
+  pub stage : Stage
+  pub reports : Reports bytes number told stage
+  pub reported : Appends before written (lines_of told)
+
+-- The reader gave these bytes, by reads in time.
+abbrev pub GivesInTime : Option (List ℕ) → Reader → Reader → List ℕ → Type 0
+GivesInTime before old new given = Gives (IsInTime before) old new given
+
 -- These lines of what was read are reported, and these bytes are held.
-pub record HasRead (old new : Option (List ℕ)) (held : List ℕ) (number : ℕ) (told : List Entry) (stage : Stage) : Type 0
-  where
-    pub given : List ℕ
-    pub consumed : Consumes old new given
-    pub bytes : List ℕ
-    pub whole : given ≡ bytes ++ held
-    pub reports : Reports bytes number told stage
+pub record HasRead (before : Option (List ℕ)) (old new : Reader) (held : List ℕ) (number : ℕ) (told : List Entry)
+    (stage : Stage) : Type 0 where
+  pub given : List ℕ
+  pub gives : GivesInTime before old new given
+  pub bytes : List ℕ
+  pub whole : given ≡ bytes ++ held
+  pub reports : Reports bytes number told stage
 
 -- All lines are reported, and nothing is left.
-pub record HasReadAll (old new : Option (List ℕ)) (number : ℕ) (told : List Entry) (stage : Stage) : Type 0 where
+pub record HasReadAll (before : Option (List ℕ)) (old new : Reader) (number : ℕ) (told : List Entry) (stage : Stage) :
+    Type 0 where
   pub given : List ℕ
-  pub consumed : Consumes old new given
-  pub ended : IsAtEnd new
+  pub gives : GivesInTime before old new given
+  pub ended : IsAtEnd new.remaining
   pub reports : ReportsAll given number told stage
 
 -- The reader failed within a line, after these were reported.
-pub record IsReadTo (old new : Option (List ℕ)) (told : List Entry) : Type 0 where
+pub record IsReadTo (before : Option (List ℕ)) (old new : Reader) (told : List Entry) : Type 0 where
   pub given : List ℕ
-  pub consumed : Consumes old new given
+  pub gives : GivesInTime before old new given
   pub bytes : List ℕ
   pub line : List ℕ
   pub whole : given ≡ bytes ++ line
@@ -49,9 +69,9 @@ pub record IsReadTo (old new : Option (List ℕ)) (told : List Entry) : Type 0 w
   pub reports : Reports bytes number told stage
 
 -- What was read: so many lines with this report, so many bytes of the next line, and less than a block behind these.
-pub record StopsBehind (old new : Option (List ℕ)) (told : List Entry) (number count : ℕ) : Type 0 where
+pub record StopsBehind (before : Option (List ℕ)) (old new : Reader) (told : List Entry) (number count : ℕ) : Type 0 where
   pub given : List ℕ
-  pub consumed : Consumes old new given
+  pub gives : GivesInTime before old new given
   pub bytes : List ℕ
   pub start : List ℕ
   pub beyond : List ℕ
@@ -61,77 +81,122 @@ pub record StopsBehind (old new : Option (List ℕ)) (told : List Entry) (number
   pub stage : Stage
   pub reports : Reports bytes number told stage
 
--- The log ended, or less than a block was read behind the line of this number.
-abbrev pub StopsAtLine : Option (List ℕ) → Option (List ℕ) → List Entry → ℕ → Type 0
-StopsAtLine old new told n =
-    IsAtEnd new
-    ⊎ ((number : ℕ) × (count : ℕ) × (n ≡ number + 1) × (count ≤ longest_line + 1) × StopsBehind old new told number count)
+-- What was read: the lines before the one of this number, with this report, that line with its line feed, and less than a
+-- block behind it.
+pub record StopsBehindLine (before : Option (List ℕ)) (old new : Reader) (told : List Entry) (n : ℕ) : Type 0 where
+  pub given : List ℕ
+  pub gives : GivesInTime before old new given
+  pub bytes : List ℕ
+  pub line : List ℕ
+  pub beyond : List ℕ
+  pub whole : given ≡ bytes ++ line ++ 10 ∷ beyond
+  pub unbroken : IsUnbroken line
+  pub few : length beyond < block_size
+  pub number : ℕ
+  pub next : n ≡ number + 1
+  pub stage : Stage
+  pub reports : Reports bytes number told stage
+
+-- All of the log was read: the lines before the one of this number, with this report, and that line, which no line feed
+-- ends.
+pub record StopsAtLastLine (before : Option (List ℕ)) (old new : Reader) (told : List Entry) (n : ℕ) : Type 0 where
+  pub given : List ℕ
+  pub gives : GivesInTime before old new given
+  pub ended : IsAtEnd new.remaining
+  pub bytes : List ℕ
+  pub line : List ℕ
+  pub whole : given ≡ bytes ++ line
+  pub unbroken : IsUnbroken line
+  pub number : ℕ
+  pub next : n ≡ number + 1
+  pub stage : Stage
+  pub reports : Reports bytes number told stage
+
+-- All of the log was read, and it has no line of this number, but all before it.
+abbrev pub StopsBefore : Option (List ℕ) → Reader → Reader → List Entry → ℕ → Type 0
+StopsBefore before old new told n =
+    (number : ℕ) × (stage : Stage) × (n ≡ number + 1) × HasReadAll before old new number told stage
+
+-- How far was read where the line of this number has none of the forms that it may have, or is missing: less than a block
+-- behind its line feed, or to its end where the log ends with it, or to the end of a log without it.
+abbrev pub StopsAtLine : Option (List ℕ) → Reader → Reader → List Entry → ℕ → Type 0
+StopsAtLine before old new told n =
+    StopsBehindLine before old new told n
+    ⊎ (StopsAtLastLine before old new told n ⊎ StopsBefore before old new told n)
 
 -- The log has this fault, with these moves told before it; behind the line of another form, the byte that makes a line
 -- too long, or one line too many, a reader is asked for no more.
-abbrev pub IsFaultOf : Option (List ℕ) → Option (List ℕ) → List Entry → LogFault → Type 0
-IsFaultOf old new told (BadLine n) =
-    IfSome old (λ log. IsReport log (lines_of told) (Err (BadLine n))) × StopsAtLine old new told n
-IsFaultOf old new told (LineTooLong n) =
-    IfSome old (λ log. IsReport log (lines_of told) (Err (LineTooLong n))) × (number : ℕ) × (n ≡ number + 1)
-    × StopsBehind old new told number (longest_line + 1)
-IsFaultOf old new told TooManyLines =
-    IfSome old (λ log. IsReport log (lines_of told) (Err TooManyLines)) × StopsBehind old new told most_lines 1
-IsFaultOf old new told Read = IsReadTo old new told
-IsFaultOf old new told Write = ⊤
-IsFaultOf old new told Memory = ⊥
+abbrev pub IsFaultOf : Option (List ℕ) → Reader → Reader → List Entry → LogFault → Type 0
+IsFaultOf before old new told (BadLine n) =
+    IfSome old.remaining (λ log. IsReport log (lines_of told) (Err (BadLine n))) × StopsAtLine before old new told n
+IsFaultOf before old new told (LineTooLong n) =
+    IfSome old.remaining (λ log. IsReport log (lines_of told) (Err (LineTooLong n))) × (number : ℕ)
+    × (n ≡ number + 1) × StopsBehind before old new told number (longest_line + 1)
+IsFaultOf before old new told TooManyLines =
+    IfSome old.remaining (λ log. IsReport log (lines_of told) (Err TooManyLines))
+    × StopsBehind before old new told most_lines 1
+IsFaultOf before old new told Read = IsReadTo before old new told
+IsFaultOf before old new told Write = ⊤
+IsFaultOf before old new told Memory = ⊥
 
 -- ---- the head
 
-abbrev pub IsOpenedBy : Bool → Head → ℕ → Option (List ℕ) → Option (List ℕ) → List ℕ → Type 0
-IsOpenedBy true head lines old new held = HasRead old new held lines [] (begun head)
-IsOpenedBy false head lines old new held = HasReadAll old new lines [] (begun head)
+abbrev pub IsOpenedBy : Bool → Head → ℕ → Option (List ℕ) → Reader → Reader → List ℕ → Type 0
+IsOpenedBy true head lines before old new held = HasRead before old new held lines [] (begun head)
+IsOpenedBy false head lines before old new held = HasReadAll before old new lines [] (begun head)
 
 -- the head was read, its last line with its line feed or without
-abbrev pub IsOpened : Opened → Option (List ℕ) → Option (List ℕ) → List ℕ → Type 0
-IsOpened opened old new held =
-    IsOpenedBy opened.is_ended (head_of opened.head) opened.lines old new held × (opened.lines ≤ most_lines)
+abbrev pub IsOpened : Opened → Option (List ℕ) → Reader → Reader → List ℕ → Type 0
+IsOpened opened before old new held =
+    IsOpenedBy opened.is_ended (head_of opened.head) opened.lines before old new held × (opened.lines ≤ most_lines)
 
 -- behind so many lines of the head one more was read
-abbrev pub IsStep : Option (List ℕ) → Option (List ℕ) → List ℕ → ℕ → Result Step LogFault → Type 0
-IsStep old new held number (Ok (Steps.More heading)) =
-    HasRead old new held (number + 1) [] (Opening (heading_of heading)) × (number < most_lines)
-IsStep old new held number (Ok (Steps.Done opened)) = IsOpened opened old new held
-IsStep old new held number (Err fault) = IsFaultOf old new [] fault
+abbrev pub IsStep : Option (List ℕ) → Reader → Reader → List ℕ → ℕ → Result Step LogFault → Type 0
+IsStep before old new held number (Ok (Steps.More heading)) =
+    HasRead before old new held (number + 1) [] (Opening (heading_of heading)) × (number < most_lines)
+IsStep before old new held number (Ok (Steps.Done opened)) = IsOpened opened before old new held
+IsStep before old new held number (Err fault) = IsFaultOf before old new [] fault
 
 -- all lines of the head were read
-abbrev pub AreOpened : Option (List ℕ) → Option (List ℕ) → List ℕ → Result Opened LogFault → Type 0
-AreOpened old new held (Ok opened) = IsOpened opened old new held
-AreOpened old new held (Err fault) = IsFaultOf old new [] fault
+abbrev pub AreOpened : Option (List ℕ) → Reader → Reader → List ℕ → Result Opened LogFault → Type 0
+AreOpened before old new held (Ok opened) = IsOpened opened before old new held
+AreOpened before old new held (Err fault) = IsFaultOf before old new [] fault
 
 -- ---- faults
 
 -- the report before a fault was written
-abbrev pub IsFaultBehind : Option (List ℕ) → Option (List ℕ) → Option (List ℕ) → Option (List ℕ) → LogFault → Type 0
+abbrev pub IsFaultBehind : Reader → Reader → Option (List ℕ) → Option (List ℕ) → LogFault → Type 0
 IsFaultBehind old new before after fault =
-    (told : List Entry) × IsFaultOf old new told fault × Appends before after (lines_of told)
+    (told : List Entry) × IsFaultOf before old new told fault × Appends before after (lines_of told)
 
 -- What is known at each fault: the log has it, and the report before it was written; of a failed write nothing is said,
 -- and memory is wanted only behind the head, with nothing written.
-abbrev pub IsFaultAfter : Option (List ℕ) → Option (List ℕ) → Option (List ℕ) → Option (List ℕ) → LogFault → Type 0
+abbrev pub IsFaultAfter : Reader → Reader → Option (List ℕ) → Option (List ℕ) → LogFault → Type 0
 IsFaultAfter old new before after (BadLine n) = IsFaultBehind old new before after (BadLine n)
 IsFaultAfter old new before after (LineTooLong n) = IsFaultBehind old new before after (LineTooLong n)
 IsFaultAfter old new before after TooManyLines = IsFaultBehind old new before after TooManyLines
 IsFaultAfter old new before after Read = IsFaultBehind old new before after Read
 IsFaultAfter old new before after Write = ⊤
 IsFaultAfter old new before after Memory =
-    (opened : Opened) × (held : List ℕ) × IsOpened opened old new held × Keeps before after
+    (opened : Opened) × (held : List ℕ) × IsOpened opened before old new held × Keeps before after
 
--- the report of a log was written
-abbrev pub Reported : Option (List ℕ) → Option (List ℕ) → Option (List ℕ) → Summary → Type 0
-Reported old before after summary =
-    IfSome old (λ log. (text : List ℕ) × IsReport log text (Ok summary) × Appends before after text)
+-- the report of a log was written, which was given by reads in time
+abbrev pub Reported : Reader → Reader → Option (List ℕ) → Option (List ℕ) → Summary → Type 0
+Reported old new before after summary =
+    (given : List ℕ) × GivesInTime before old new given
+    × IfSome old.remaining (λ log. (text : List ℕ) × IsReport log text (Ok summary) × Appends before after text)
 
 -- ---- the events
 
 -- what the sessions are
 abbrev pub states_of : List Gateway → List SessionState
 states_of sessions = map (λ session. session.state) sessions
+
+-- The lines of the head were read, which are so many, and none of the report is written but what was there before.
+abbrev pub Begins : Reader → List ℕ → ℕ → Version → List SessionState → Option (List ℕ) → Reader → Option (List ℕ) →
+    Type 0
+Begins now held number version states all origin before =
+    HasRead before origin now held number [] (Playing version states) × Keeps before all
 
 -- By a line behind the head the sessions go on; the moves that are told of it are counted, and their lines written.
 abbrev pub Judges : Version → ℕ → List SessionState → List ℕ → List SessionState → Summary → Summary →
@@ -141,9 +206,9 @@ Judges version number old line new before after written_before written_after =
     × (after ≡ counted_all told before) × Appends written_before written_after (lines_of told)
 
 -- between two lines behind the head
-pub record IsPlaying (old new : Option (List ℕ)) (held : List ℕ) (number : ℕ) (version : Version)
+pub record IsPlaying (old new : Reader) (held : List ℕ) (number : ℕ) (version : Version)
     (sessions : List SessionState) (summary : Summary) (before after : Option (List ℕ)) : Type 0 where
   pub told : List Entry
-  pub has_read : HasRead old new held number told (Playing version sessions)
+  pub has_read : HasRead before old new held number told (Playing version sessions)
   pub counts : summary ≡ counted_all told nothing_counted
   pub written : Appends before after (lines_of told)

@@ -13,7 +13,7 @@ use Rattle.daide_machine.specs.Machine.{SessionState, Effect, Runs, opening}
 use Rattle.daide_machine.specs.Ports.{PortAnswer, Clock, Pulled, Offered, event_of, events_of, BecomesBy}
 use Rattle.daide_lines.specs.LogLine.{most_lines}
 use Rattle.daide_log.specs.declared.heading.Version.TheVariants.{Match}
-use Rattle.daide_log.specs.declared.record.RecordEnd.TheVariants.{Whole, Failed}
+use Rattle.daide_log.specs.declared.record.RecordEnd.TheVariants.{Whole, Failed, Full}
 use Rattle.daide_log.specs.Report.{Entry, entries_of, lines_of, counted_all, summary_line}
 use Rattle.daide_machine.specs.Summary.{nothing_counted, reduced, tallied}
 use Rattle.daide_log.specs.Log.{source_in, IsReport}
@@ -78,8 +78,8 @@ abbrev pub begun_record : Config → List Word → Written
 begun_record config words =
     record { text = Some (head_text config words); lines = head_count words; ending = Whole }
 
--- What a record has of these answers: the head, and the lines of their front, as many as a log may have; while it is whole
--- the lines of them all.
+-- What a record has of these answers: the head, and the lines of their front, no more than a log may have; while it is
+-- whole the lines of them all, and where it is full as many as a log may have.
 pub record HasFront (config : Config) (words : List Word) (answers : List PortAnswer) (written : Written) : Type 0 where
   pub front : List PortAnswer
   pub rest : List PortAnswer
@@ -88,6 +88,7 @@ pub record HasFront (config : Config) (words : List Word) (answers : List PortAn
   pub few : record_count words front ≤ most_lines
   pub pieces : AllByRecursion IsPiece front
   pub all : written.ending ≡ Whole → rest ≡ []
+  pub full : written.ending ≡ Full → most_lines ≤ record_count words front
 
 -- Ports with a record, however they were asked: unless its writer failed, the record has a front of their answers, and all
 -- of them unless it is full.

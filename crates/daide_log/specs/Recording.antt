@@ -1,14 +1,18 @@
 -- Ports that keep a record: what an answer does to the ports and to the record. (own)
-use Rattle.std.specs.Prelude.{◌≡◌, ⊤, ℕ, ◌+◌, ◌<◌, ◌≤◌, min, Bool, true, false, List, length, Option, Some, None}
+use Rattle.std.specs.Prelude.{◌≡◌, ⊤, ℕ, ◌+◌, ◌<◌, ◌≤◌, min, List, length, Option, Some, None}
 use Rattle.std.specs.Io.KnownBytes.{Appends, Keeps}
 use Rattle.hex.specs.Hex.{IsBytes}
 use Rattle.daide_machine.specs.Ports.{PortAnswer, Clock, Pulled, Offered}
-use Rattle.daide_lines.specs.LogLine.{LogEvent, most_lines}
+use Rattle.daide_lines.specs.LogLine.{LogEvent, most_lines, longest_piece}
 use Rattle.daide_log.specs.declared.record.RecordEnd.{RecordEnd}
 use Rattle.daide_log.specs.declared.record.RecordEnd.TheVariants.{Whole, Failed, Full}
 use Rattle.daide_log.specs.RecordText.{told_by, event_line}
 
 -- ---- a record
+
+-- how many bytes may be held back where the longest line still finds room behind them: 2,100 less than 8,192
+abbrev pub most_held : ℕ
+most_held = 6092
 
 -- What was written and what is held behind it, where the writer tells its bytes; how many lines that is; and whether the
 -- record is whole so far, or ended before.
@@ -16,17 +20,6 @@ pub record Written : Type 0 where
   pub text : Option (List ℕ)
   pub lines : ℕ
   pub ending : RecordEnd
-
--- what an ending is
-abbrev pub is_failed : RecordEnd → Bool
-is_failed Whole = false
-is_failed Failed = true
-is_failed Full = false
-
-abbrev pub is_full : RecordEnd → Bool
-is_full Whole = false
-is_full Failed = false
-is_full Full = true
 
 -- A whole record gets the line of an event, unless it has as many lines as a log may have: then it keeps what it has.
 -- What a writer that failed has is not said.
@@ -48,10 +41,6 @@ Takes old None new = new ≡ old
 Takes old (Some event) new = TakesEvent old.ending old event new
 
 -- ---- ports
-
--- the most bytes of a line
-abbrev pub longest_piece : ℕ
-longest_piece = 1024
 
 -- ports, and the record of their answers
 pub record Recorded (P : Type 0) : Type 0 where

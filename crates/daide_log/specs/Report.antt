@@ -1,6 +1,6 @@
 -- The lines of a report: what the moves of a session are called, by the line of the log that made them.
 -- docs/FORMATS.md, "The log". (own)
-use Rattle.std.specs.Prelude.{ℕ, ◌+◌, List, [], ◌∷◌, ◌++◌, codes, Option, Some, None}
+use Rattle.std.specs.Prelude.{ℕ, List, [], ◌∷◌, ◌++◌, codes, Option, Some, None}
 use Rattle.std.specs.Fmt.{decimal}
 use Rattle.hex.specs.Hex.{encode_upper}
 use Rattle.daide_frame.specs.declared.side.Side.{Side}

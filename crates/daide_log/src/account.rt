@@ -1,7 +1,7 @@
 //! What a check has told of a log so far.
 
-use crate::report::Summary;
 use daide_lines::output::Output;
+use daide_machine::Summary;
 
 /// What was counted, and the lines of the report, on their way out.
 #[derive(Drop)]

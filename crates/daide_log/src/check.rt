@@ -10,18 +10,17 @@ ghost use Rattle.daide_lines.specs.Input.{IsSameReader};
 ghost use Rattle.daide_lines.specs.LogLine.{most_lines};
 ghost use Rattle.daide_lines.specs.Lines.{is_end, is_last};
 ghost use Rattle.daide_lines.specs.Output.{IsSameWriter, all_of};
-ghost use Rattle.daide_log.specs.Log.{Playing};
 ghost use Rattle.daide_log.specs.Report.{summary_line};
 ghost use Rattle.daide_machine.specs.Summary.{nothing_counted};
 ghost use Rattle.daide_log.specs.Told.{IsIdle};
-ghost use Rattle.daide_log.specs.Progress.{HasRead, IsFaultAfter, Reported, states_of};
+ghost use Rattle.daide_log.specs.Progress.{Begins, IsFaultAfter, Reported, states_of};
+ghost use Rattle.daide_lines.specs.Reader.{Reader, silent};
 
 use crate::account::Account;
 use crate::heading::Version;
 use crate::judge::{Origin, judge_line};
 use crate::opening::{open_sessions, read_head};
 use crate::page::put_summary;
-use crate::report::Summary;
 use daide_lines::block::Block;
 use daide_lines::event_line::MOST;
 use daide_lines::fault::LogFault;
@@ -29,7 +28,9 @@ use daide_lines::input::Input;
 use daide_lines::lines::{Found, find_line, pass_line};
 use daide_lines::output::Output;
 use daide_lines::page::Page;
+use daide_lines::reader::LogReader;
 use daide_lines::text::Text;
+use daide_machine::Summary;
 use daide_session::Session;
 use std::alloc::Allocator;
 use std::io::{Read, Write};
@@ -68,7 +69,7 @@ fn is_last(found: Found) -> bool
 }
 
 /// Judges the lines behind so many of the head, up to the end of the log or its first fault.
-fn play<A: Allocator, R: Read, W: Write>(
+fn play<A: Allocator, R: LogReader, W: Write>(
     version: Version,
     sessions: &mut Vec<Session<A>, A>,
     lines: u32,
@@ -80,16 +81,16 @@ fn play<A: Allocator, R: Read, W: Write>(
     requires idle { All IsIdle sessions.old.items }
     requires lines { lines ≤ most_lines }
     requires nothing { account.old.summary ≡ nothing_counted }
-    ensures report { (origin : Option (List ℕ)) →
-        HasRead origin (R.remaining input.old.reader.now) input.old.block lines []
-        (Playing version (states_of sessions.old.items)) →
-        IfOk result (λ summary. Reported origin (all_of W.contents account.old.output)
+    ensures report { (origin : Reader) → (before : Option (List ℕ)) →
+        Begins (R.told input.old.reader.now) input.old.block lines version (states_of sessions.old.items)
+        (all_of W.contents account.old.output) origin before →
+        IfOk result (λ summary. Reported origin (R.told input.new.reader.now) before
         (all_of W.contents account.new.output) summary) }
-    ensures refused { (origin : Option (List ℕ)) →
-        HasRead origin (R.remaining input.old.reader.now) input.old.block lines []
-        (Playing version (states_of sessions.old.items)) →
-        IfErr result (λ fault. IsFaultAfter origin (R.remaining input.new.reader.now)
-        (all_of W.contents account.old.output) (all_of W.contents account.new.output) fault) }
+    ensures refused { (origin : Reader) → (before : Option (List ℕ)) →
+        Begins (R.told input.old.reader.now) input.old.block lines version (states_of sessions.old.items)
+        (all_of W.contents account.old.output) origin before →
+        IfErr result (λ fault. IsFaultAfter origin (R.told input.new.reader.now) before
+        (all_of W.contents account.new.output) fault) }
     ensures same_reader { IsSameReader input.old input.new }
     ensures same_writer { IsSameWriter account.old.output account.new.output }
 {
@@ -119,17 +120,17 @@ fn play<A: Allocator, R: Read, W: Write>(
 }
 
 /// Reports a log, with the end of the report held back.
-fn report<A: Allocator + Copy, R: Read, W: Write>(
+fn report<A: Allocator + Copy, R: LogReader, W: Write>(
     alloc: A,
     input: &mut Input<'_, R>,
     account: &mut Account<'_, W>,
 ) -> Result<Summary, LogFault>
     requires unread { input.old.block ≡ [] }
     requires nothing { account.old.summary ≡ nothing_counted }
-    ensures report { IfOk result (λ summary. Reported (R.remaining input.old.reader.now)
-        (all_of W.contents account.old.output) (all_of W.contents account.new.output) summary) }
-    ensures refused { IfErr result (λ fault. IsFaultAfter (R.remaining input.old.reader.now)
-        (R.remaining input.new.reader.now) (all_of W.contents account.old.output)
+    ensures report { IfOk result (λ summary. Reported (R.told input.old.reader.now)
+        (R.told input.new.reader.now) (all_of W.contents account.old.output) (all_of W.contents account.new.output) summary) }
+    ensures refused { IfErr result (λ fault. IsFaultAfter (R.told input.old.reader.now)
+        (R.told input.new.reader.now) (all_of W.contents account.old.output)
         (all_of W.contents account.new.output) fault) }
     ensures same_reader { IsSameReader input.old input.new }
     ensures same_writer { IsSameWriter account.old.output account.new.output }
@@ -150,7 +151,7 @@ fn report<A: Allocator + Copy, R: Read, W: Write>(
 }
 
 /// Reports a log, and hands over all that was held back, whether it has a fault or not.
-fn report_whole<A: Allocator + Copy, R: Read, W: Write>(
+fn report_whole<A: Allocator + Copy, R: LogReader, W: Write>(
     alloc: A,
     input: &mut Input<'_, R>,
     account: &mut Account<'_, W>,
@@ -158,10 +159,10 @@ fn report_whole<A: Allocator + Copy, R: Read, W: Write>(
     requires unread { input.old.block ≡ [] }
     requires nothing { account.old.summary ≡ nothing_counted }
     requires none_held { account.old.output.page.items ≡ [] }
-    ensures report { IfOk result (λ summary. Reported (R.remaining input.old.reader.now)
-        (W.contents account.old.output.writer.now) (W.contents account.new.output.writer.now) summary) }
-    ensures refused { IfErr result (λ fault. IsFaultAfter (R.remaining input.old.reader.now)
-        (R.remaining input.new.reader.now) (W.contents account.old.output.writer.now)
+    ensures report { IfOk result (λ summary. Reported (R.told input.old.reader.now)
+        (R.told input.new.reader.now) (W.contents account.old.output.writer.now) (W.contents account.new.output.writer.now) summary) }
+    ensures refused { IfErr result (λ fault. IsFaultAfter (R.told input.old.reader.now)
+        (R.told input.new.reader.now) (W.contents account.old.output.writer.now)
         (W.contents account.new.output.writer.now) fault) }
     ensures same_reader { IsSameReader input.old input.new }
     ensures same_writer { IsSameWriter account.old.output account.new.output }
@@ -176,20 +177,18 @@ fn report_whole<A: Allocator + Copy, R: Read, W: Write>(
     }
 }
 
-/// Reads a log, and writes its report: a line for each frame that became whole, each fault and each end, and the counts
-/// last. A fault of the log is told after the report of all lines before it, with less than a block read behind the line
-/// that has it; `Read` after that of the lines before the one that was being read. `Memory` comes at the sessions'
-/// growths, with nothing written, and no other memory is taken. After `Write` nothing is said of how much of the report
-/// went out.
-#[tactic(auto, using(crate::proofs::LogLemmas::refused_alike))]
-pub fn check_log<A: Allocator + Copy, R: Read, W: Write>(
+/// Reads a log, and writes its report, as `check_log` does. Each read is made in time: the lines that came whole before it
+/// are reported by then, all of them, and what came of the next line is not too long. So no read is made behind a line of
+/// another form or a byte that makes one too long.
+#[tactic(auto, using(crate::proofs::LogLemmas::reported_alike, crate::proofs::LogLemmas::refused_alike))]
+pub fn check_stream<A: Allocator + Copy, R: LogReader, W: Write>(
     alloc: A,
     reader: &mut R,
     writer: &mut W,
 ) -> Result<Summary, LogFault>
-    ensures report { IfOk result (λ summary.
-        Reported (R.remaining reader.old) (W.contents writer.old) (W.contents writer.new) summary) }
-    ensures refused { IfErr result (λ fault. IsFaultAfter (R.remaining reader.old) (R.remaining reader.new)
+    ensures report { IfOk result (λ summary. Reported (R.told reader.old) (R.told reader.new)
+        (W.contents writer.old) (W.contents writer.new) summary) }
+    ensures refused { IfErr result (λ fault. IsFaultAfter (R.told reader.old) (R.told reader.new)
         (W.contents writer.old) (W.contents writer.new) fault) }
 {
     let mut input = Input {
@@ -205,4 +204,23 @@ pub fn check_log<A: Allocator + Copy, R: Read, W: Write>(
         },
     };
     report_whole(alloc, &mut input, &mut account)
+}
+
+/// Reads a log, and writes its report: a line for each frame that became whole, each fault and each end, and the counts
+/// last. A fault of the log is told after the report of all lines before it. Behind the line feed of a line of another
+/// form, and behind the byte that makes a line too long or one too many, less than a block was read; a log that ends with
+/// such a line, or before its head does, was read to its end. `Read` comes after the report of the lines before the one
+/// that was being read. `Memory` comes at the sessions' growths, with nothing written, and no other memory is taken. After
+/// `Write` nothing is said of how much of the report went out.
+pub fn check_log<A: Allocator + Copy, R: Read, W: Write>(
+    alloc: A,
+    reader: &mut R,
+    writer: &mut W,
+) -> Result<Summary, LogFault>
+    ensures report { IfOk result (λ summary. Reported (silent (R.remaining reader.old)) (silent (R.remaining reader.new))
+        (W.contents writer.old) (W.contents writer.new) summary) }
+    ensures refused { IfErr result (λ fault. IsFaultAfter (silent (R.remaining reader.old))
+        (silent (R.remaining reader.new)) (W.contents writer.old) (W.contents writer.new) fault) }
+{
+    check_stream(alloc, reader, writer)
 }

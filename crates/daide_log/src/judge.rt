@@ -1,6 +1,7 @@
 //! One line of a log behind its head, judged by its session.
 
 ghost use Rattle.std.specs.Prelude.{◌≡◌, ◌⊎◌, ◌≤◌, All, length, Ok, Err, None, IfSome, OnOk, IfErr, MatchResult, option_map};
+ghost use Rattle.daide_lines.specs.LogLine.{longest_piece};
 ghost use Rattle.daide_lines.specs.Output.{IsSameWriter, all_of};
 ghost use Rattle.daide_log.specs.Report.{events_of, side_of};
 ghost use Rattle.daide_log.specs.Log.{event_in, source_in};
@@ -43,9 +44,9 @@ pub fn judge<A: Allocator, W: Write>(
 ) -> Result<(), LogFault>
     requires idle { IsIdle session.old }
     requires within { IsWithin told }
-    requires room { HasRoom 1024 account.old.summary }
+    requires room { HasRoom longest_piece account.old.summary }
     ensures idle { IsIdle session.new }
-    ensures few { IsMoreBy 1024 account.old.summary account.new.summary }
+    ensures few { IsMoreBy longest_piece account.old.summary account.new.summary }
     ensures judged { OnOk result (Tells source (side_of (event_told bytes.now told)) session.old.state
         (events_of (event_told bytes.now told)) session.new.state
         account.old.summary account.new.summary (all_of W.contents account.old.output)
@@ -116,10 +117,10 @@ pub fn judge_line<A: Allocator, W: Write>(
     requires some { 1 ≤ length sessions.old.items }
     requires few { length sessions.old.items ≤ 256 }
     requires idle { All IsIdle sessions.old.items }
-    requires room { HasRoom 1024 account.old.summary }
+    requires room { HasRoom longest_piece account.old.summary }
     ensures same { length sessions.new.items ≡ length sessions.old.items }
     ensures idle { All IsIdle sessions.new.items }
-    ensures few { IsMoreBy 1024 account.old.summary account.new.summary }
+    ensures few { IsMoreBy longest_piece account.old.summary account.new.summary }
     ensures judged { OnOk result (Judges origin.version origin.line (states_of sessions.old.items) line.now
         (states_of sessions.new.items) account.old.summary account.new.summary
         (all_of W.contents account.old.output)

@@ -19,8 +19,8 @@ mod record_text;
 pub mod recording;
 pub mod report;
 
-pub use check::check_log;
+pub use check::{check_log, check_stream};
 pub use daide_lines::LogFault;
+pub use daide_lines::reader::LogReader;
 pub use record::{Record, RecordEnd};
 pub use recording::Recording;
-pub use report::Summary;

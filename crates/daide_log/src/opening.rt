@@ -18,9 +18,10 @@ use daide_lines::fault::LogFault;
 use daide_lines::input::Input;
 use daide_lines::lines::{Found, next_line};
 use daide_lines::output::Output;
+use daide_lines::reader::LogReader;
 use daide_session::Session;
 use std::alloc::Allocator;
-use std::io::{Read, Write};
+use std::io::Write;
 
 /// A head that was read.
 #[derive(Clone, Copy)]
@@ -89,14 +90,14 @@ fn after_line(
 }
 
 /// Reads the head of a log, line by line.
-pub fn read_head<R: Read, W: Write>(
+pub fn read_head<R: LogReader, W: Write>(
     input: &mut Input<'_, R>,
     output: &mut Output<'_, W>,
 ) -> Result<Opened, LogFault>
     requires { input.old.block ≡ [] }
     ensures within { IfOk result (λ opened. HasSessions opened.head.limits) }
-    ensures opened { AreOpened (R.remaining input.old.reader.now) (R.remaining input.new.reader.now) input.new.block
-        result }
+    ensures opened { AreOpened (all_of W.contents output.old) (R.told input.old.reader.now) (R.told input.new.reader.now)
+        input.new.block result }
     ensures kept { OnOk result (Keeps (all_of W.contents output.old) (all_of W.contents output.new)) }
     ensures kept_at_fault { IfErr result (λ fault. fault ≢ LogFault.Write →
         Keeps (all_of W.contents output.old) (all_of W.contents output.new)) }

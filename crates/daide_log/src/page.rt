@@ -5,10 +5,10 @@ ghost use Rattle.std.specs.Io.KnownBytes.{Appends, Keeps};
 ghost use Rattle.daide_lines.specs.Output.{IsSameWriter, all_of};
 ghost use Rattle.daide_log.specs.Report.{move_line, summary_line};
 
-use crate::report::{LINE, Source, Summary, write_move, write_summary};
+use crate::report::{LINE, Source, write_move, write_summary};
 use daide_frame::Side;
 use daide_lines::output::Output;
-use daide_machine::Note;
+use daide_machine::{Note, Summary};
 use std::io::Write;
 
 /// The writer failed: a fault of nothing but its name, since each line of a report asks whether there is one.

@@ -5,20 +5,18 @@
 ghost use Rattle.std.specs.Prelude.{◌≡◌, ◌≢◌, ◌<◌, ◌≤◌, Some, length};
 ghost use Rattle.std.specs.Io.KnownBytes.{Keeps, append_known};
 ghost use Rattle.daide_words.specs.Words.{words_of};
-ghost use Rattle.daide_lines.specs.LogLine.{most_lines, EndOf, TimeOver};
+ghost use Rattle.daide_lines.specs.LogLine.{most_lines, longest_piece, EndOf, TimeOver};
 ghost use Rattle.daide_log.specs.RecordText.{piece_of, head_text, head_count};
-ghost use Rattle.daide_log.specs.Recording.{Takes, is_failed, is_full};
+ghost use Rattle.daide_log.specs.Recording.{Takes, most_held};
 
 use crate::record_text::{put_end, put_head, put_piece, put_timer};
 use daide_frame::Side;
+pub use daide_lines::lines::MOST_LINES;
 use daide_lines::page::{Page, hand_over};
 use daide_machine::Config;
 use daide_words::Words;
 use std::io::Write;
 use std::marker::Model;
-
-/// The most lines of a record: those that a log may have.
-pub const MOST_LINES: u32 = 1_000_000;
 
 /// How many bytes may be held where the longest line still finds room.
 const FRONT: usize = 6092;
@@ -61,7 +59,7 @@ impl<W: Write + Drop> Model for Record<W> {
 fn make_room<W: Write>(held: &mut Page, lines: u32, writer: &mut W) -> RecordEnd
     ensures kept { result ≢ RecordEnd.Failed → Keeps (append_known (W.contents writer.old) held.old.items)
         (append_known (W.contents writer.new) held.new.items) }
-    ensures whole { result ≡ RecordEnd.Whole → (lines < most_lines) × (length held.new.items ≤ 6092) }
+    ensures whole { result ≡ RecordEnd.Whole → (lines < most_lines) × (length held.new.items ≤ most_held) }
     ensures full { result ≡ RecordEnd.Full → most_lines ≤ lines }
 {
     if lines < MOST_LINES && held.len() <= FRONT {
@@ -105,23 +103,9 @@ impl<W: Write + Drop> Record<W> {
         self.ending
     }
 
-    /// Whether its writer failed.
-    pub fn has_failed(&self) -> bool
-        ensures { result ≡ is_failed self.now.ending }
-    {
-        self.ending == RecordEnd::Failed
-    }
-
-    /// Whether a line was left out since there are as many as a log may have.
-    pub fn is_full(&self) -> bool
-        ensures { result ≡ is_full self.now.ending }
-    {
-        self.ending == RecordEnd::Full
-    }
-
     /// Bytes of a side came, no more than a line has.
     pub fn came(&mut self, side: Side, bytes: &[u8])
-        requires { length bytes.now ≤ 1024 }
+        requires { length bytes.now ≤ longest_piece }
         ensures { Takes self.old (piece_of side bytes.now) self.new }
     {
         if bytes.is_empty() || self.ending != RecordEnd::Whole {

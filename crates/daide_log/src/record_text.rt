@@ -3,7 +3,8 @@
 ghost use Rattle.std.specs.Prelude.{◌≡◌, ◌≤◌, ◌+◌, ◌*◌, ◌/◌, ◌%◌, ◌∷◌, ◌++◌, [], length, slice_index};
 ghost use Rattle.hex.specs.Hex.{encode_upper, upper_digits};
 ghost use Rattle.daide_words.specs.Words.{words_of};
-ghost use Rattle.daide_lines.specs.LogLine.{Traffic, EndOf, TimeOver};
+ghost use Rattle.daide_lines.specs.LogLine.{Traffic, EndOf, TimeOver, longest_piece};
+ghost use Rattle.daide_log.specs.Recording.{most_held};
 ghost use Rattle.daide_log.specs.RecordText.{event_line, name_of_slot, name_of_operand};
 ghost use Rattle.daide_log.specs.RecordText.{word_text, config_text, head_text};
 
@@ -43,8 +44,8 @@ fn put_bytes(bytes: &[u8], line: &mut Page)
 /// Puts the line of bytes that came of a side.
 #[tactic(auto, unfolding(crate::specs::RecordText::event_line, crate::specs::RecordText::event_text))]
 pub fn put_piece(side: Side, bytes: &[u8], line: &mut Page)
-    requires few { length bytes.now ≤ 1024 }
-    requires room { length line.old.items ≤ 6092 }
+    requires few { length bytes.now ≤ longest_piece }
+    requires room { length line.old.items ≤ most_held }
     ensures { line.new.items ≡ line.old.items ++ event_line (Traffic side bytes.now) }
 {
     put(b"1 ", line);
@@ -56,7 +57,7 @@ pub fn put_piece(side: Side, bytes: &[u8], line: &mut Page)
 /// Puts the line of a side's end.
 #[tactic(auto, unfolding(crate::specs::RecordText::event_line, crate::specs::RecordText::event_text))]
 pub fn put_end(side: Side, line: &mut Page)
-    requires { length line.old.items ≤ 6092 }
+    requires { length line.old.items ≤ most_held }
     ensures { line.new.items ≡ line.old.items ++ event_line (EndOf side) }
 {
     match side {
@@ -68,7 +69,7 @@ pub fn put_end(side: Side, line: &mut Page)
 /// Puts the line of the timer.
 #[tactic(auto, unfolding(crate::specs::RecordText::event_line, crate::specs::RecordText::event_text))]
 pub fn put_timer(line: &mut Page)
-    requires { length line.old.items ≤ 6092 }
+    requires { length line.old.items ≤ most_held }
     ensures { line.new.items ≡ line.old.items ++ event_line TimeOver }
 {
     put(b"1 timer\n", line);

@@ -9,8 +9,7 @@ ghost use Rattle.daide_log.specs.Report.{summary_line as last_line};
 
 use daide_frame::{Code, Head, Side};
 use daide_lines::page::Page;
-pub use daide_machine::Summary;
-use daide_machine::{Deed, Note};
+use daide_machine::{Deed, Note, Summary};
 
 /// More bytes than any line of a report has.
 pub const LINE: usize = 128;

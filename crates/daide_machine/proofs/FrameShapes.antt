@@ -64,7 +64,7 @@ body_shape cap b v head e None a = go (eqb head.len (length v)) refl
     go false k = quiet
 
 -- nothing follows a header that is refused
-refused : (cap p q r s y : ℕ) (w : List ℕ) (code : Code) → head_of (p ∷ q ∷ r ∷ s ∷ []) cap ≡ Err code →
+pub refused : (cap p q r s y : ℕ) (w : List ℕ) (code : Code) → head_of (p ∷ q ∷ r ∷ s ∷ []) cap ≡ Err code →
     last_items cap (p ∷ q ∷ r ∷ s ∷ y ∷ w) ≡ []
 unfolding last_items first_items
 refused cap p q r s y w code e =

@@ -21,16 +21,12 @@ use Rattle.daide_machine.specs.Machine.{Limits, SessionState, Effect, Outcome, S
 use Rattle.daide_frame.specs.Head.{is_im}
 use Rattle.daide_machine.specs.Machine.{with_pending, is_over, fault, end, begun, untimely, answered}
 use Rattle.daide_machine.specs.Machine.{im_answered, whole, item_outcome, items_outcome, popped, event_outcome}
-use Rattle.daide_machine.specs.Wires.{same_side}
 use Rattle.daide_machine.specs.Heard.{bytes_from, heard_at, items_heard}
 use Rattle.daide_machine.proofs.OneRun.{one_run}
+use Rattle.daide_machine.proofs.WireLemmas.{same_self}
 use Rattle.daide_machine.proofs.PieceRuns.{over_outcome, over_stays, phase_is, limits_are}
 
 -- ---- sides and items
-
-same_is : (side : Side) → same_side side side ≡ true
-same_is Bot = refl
-same_is Server = refl
 
 items_of-placed : (n : ℕ) (items : List Item) (more : List Placed) →
     items_of (placed_at n items ++ more) ≡ items ++ items_of more
@@ -374,11 +370,11 @@ comes side k x s events effects new run o later = go (is_over run.0.phase) refl
 
     now : items_of (items_by_byte s.limits.cap k (coming s side).pending (bytes_from side (Comes side x ∷ events)))
         ≡ items ++ items_of next
-    now = rw (same_is side) (items_of-placed (k + 1) items next)
+    now = rw (same_self side) (items_of-placed (k + 1) items next)
 
     heard : items_heard side s (Comes side x ∷ events) effects new run ≡ items ++ rest
     heard =
-        let here : heard_at side s (Comes side x) ≡ items = rw (o, same_is side) refl in
+        let here : heard_at side s (Comes side x) ≡ items = rw (o, same_self side) refl in
         ap (λ (t : List Item). t ++ rest) here
 
     go : (b : Bool) → is_over run.0.phase ≡ b → IsHeard side k s (Comes side x ∷ events) effects new run

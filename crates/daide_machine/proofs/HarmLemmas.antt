@@ -26,7 +26,7 @@ use Rattle.daide_machine.specs.Machine.{answered}
 use Rattle.daide_machine.specs.Machine.{im_answered, whole, items_outcome, event_outcome, nothing}
 use Rattle.daide_machine.specs.Machine.{question_of, question_in, asked_by, IsRight, deed_of, may_reach}
 use Rattle.daide_machine.specs.Machine.{opening, fault, over}
-use Rattle.daide_machine.specs.Wires.{same_side, sent_to}
+use Rattle.daide_machine.specs.Wires.{sent_to}
 use Rattle.daide_machine.specs.Heard.{heard_at, items_heard}
 use Rattle.daide_machine.specs.Fates.{frames_among}
 use Rattle.daide_machine.specs.Harm.{without_bytes, IsRefusal, HasRefused, IsAsIfUnsent}
@@ -36,7 +36,7 @@ use Rattle.daide_machine.proofs.FateLemmas.{frames_among-append}
 use Rattle.daide_machine.proofs.FramesHeard.{not_both, over_for_good}
 use Rattle.daide_machine.proofs.PieceRuns.{over_outcome, over_stays}
 use Rattle.daide_machine.proofs.OneRun.{runs_join, one_run}
-use Rattle.daide_machine.proofs.WireLemmas.{sent_to-append}
+use Rattle.daide_machine.proofs.WireLemmas.{same_self, sent_to-append}
 use Rattle.daide_machine.proofs.BesideLemmas.{is_own, put, same_phase, event_commutes, step_beside}
 
 -- ---- a byte of the side that ends no frame
@@ -246,10 +246,6 @@ live_before s events effects m run p = go (is_over s.phase) refl
 none_of : (a b : List Item) → a ++ b ≡ [] → (a ≡ []) × (b ≡ [])
 none_of [] b e = (refl, e)
 none_of (item ∷ a) b e = absurd (cc)
-
-same_self : (side : Side) → same_side side side ≡ true
-same_self Bot = refl
-same_self Server = refl
 
 -- an event beside the side
 passes_on : (side : Side) (c : Coming) (e : Event) (events : List Event) (s : SessionState) (b : List Effect)

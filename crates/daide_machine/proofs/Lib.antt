@@ -5,11 +5,13 @@ pub mod WireLemmas
 pub mod FramesHeard
 pub mod SummaryLemmas
 pub mod EndingLemmas
+pub mod CountLemmas
 pub mod CallLemmas
 pub mod HloLemmas
 pub mod LimitsKept
 pub mod FrameShapes
 pub mod FateLemmas
+pub mod EndedLemmas
 pub mod AnswerBytes
 pub mod PassingLemmas
 pub mod BesideLemmas
@@ -18,6 +20,7 @@ pub mod StandardFacts
 pub mod GatewayFacts
 pub mod SessionFacts
 mod EndingFacts
+mod CountFacts
 mod LevelRangeFacts
 pub mod WordedVerdicts
 pub mod WordedRuns

@@ -141,7 +141,7 @@ same_is Server Bot e = absurd (cc)
 same_is Server Server e = refl
 
 -- those of some frames that are for a side
-abbrev EachTo : (Sent → Type 0) → Side → List Sent → Type 0
+abbrev pub EachTo : (Sent → Type 0) → Side → List Sent → Type 0
 EachTo P to [] = Unit {0}
 EachTo P to (frame ∷ frames) = (frame.to ≡ to → P frame) × EachTo P to frames
 
@@ -339,7 +339,7 @@ module _ (limits : Limits) (small : limits.cap ≤ longest_body) (all : List Cam
   frame_may phase side noted Em len body sent w come e =
       subst (EachTo May to) (sym e) (last_frame phase side (record { kind = Em; len = len }) body w refl)
 
-  cause_may : (phase : Phase) (cause : Cause) (sent : List Sent) → IsGood limits.cap cause →
+  pub cause_may : (phase : Phase) (cause : Cause) (sent : List Sent) → IsGood limits.cap cause →
       ((side : Side) (noted : Level) (body : List ℕ) →
       cause ≡ Frame side noted (record { kind = Dm; len = length body }) body → HasCome all side noted body) →
       IsFate limits phase cause sent → EachTo May to sent

@@ -6,7 +6,7 @@ use Rattle.daide_machine.specs.declared.note.Note.{Note}
 use Rattle.daide_machine.specs.declared.note.Note.TheVariants as Notes
 use Rattle.daide_machine.specs.declared.summary.Summary.{Summary}
 use Rattle.daide_machine.specs.Machine.{Effect}
-use Rattle.daide_machine.specs.Summary.{counted, counted_on, one_more, tallied, counted_moves, reduced}
+use Rattle.daide_machine.specs.Summary.{counted, counted_on, one_more, tallied, reduced}
 
 pub tallied-append : (a b : List Effect) (s : Summary) → tallied (a ++ b) s ≡ tallied b (tallied a s)
 tallied-append [] b s = refl
@@ -21,17 +21,10 @@ tallied_then a b old mid new first second = second ∙ (ap (tallied b) first ∙
 one_more_mod : (n : ℕ) → one_more (n % 2 ^ 64) ≡ (n + 1) % 2 ^ 64
 one_more_mod n = mod-add-mod n (2 ^ 64) 1
 
-counted_reduced : (told : Note) (s : Summary) → counted_on told (reduced s) ≡ reduced (counted told s)
+pub counted_reduced : (told : Note) (s : Summary) → counted_on told (reduced s) ≡ reduced (counted told s)
 counted_reduced Notes.Nothing s = refl
 counted_reduced (Notes.Frame head Deeds.Relayed) s = rw (one_more_mod s.relayed) refl
 counted_reduced (Notes.Frame head Deeds.Dropped) s = refl
 counted_reduced (Notes.Frame head Deeds.Prn) s = rw (one_more_mod s.prn) refl
 counted_reduced (Notes.Frame head (Deeds.Huh place)) s = rw (one_more_mod s.huh) refl
 counted_reduced (Notes.Fault code) s = rw (one_more_mod s.faults) refl
-
--- a session's counts are its moves counted, modulo 2^64
-pub tallied_reduced : (effects : List Effect) (s : Summary) →
-    tallied effects (reduced s) ≡ reduced (counted_moves effects s)
-tallied_reduced [] s = refl
-tallied_reduced (effect ∷ effects) s =
-    ap (tallied effects) (counted_reduced effect.told s) ∙ tallied_reduced effects (counted effect.told s)

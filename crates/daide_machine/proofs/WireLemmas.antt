@@ -1,9 +1,14 @@
 -- Frames for a wire, of moves in a row.
-use Rattle.std.proofs.Common.{◌≡◌, ℕ, List, [], ◌∷◌, ◌++◌, refl, sym, ap, ◌∙◌, append_assoc}
+use Rattle.std.proofs.Common.{◌≡◌, ℕ, true, List, [], ◌∷◌, ◌++◌, refl, sym, ap, ◌∙◌, append_assoc}
 use Rattle.daide_frame.specs.declared.side.Side.{Side}
+use Rattle.daide_frame.specs.declared.side.Side.TheVariants.{Bot, Server}
 use Rattle.daide_machine.specs.Events.{Event, Comes, bytes_come}
 use Rattle.daide_machine.specs.Machine.{Sent, Effect}
-use Rattle.daide_machine.specs.Wires.{frames_to, sent_to, bytes_of}
+use Rattle.daide_machine.specs.Wires.{same_side, frames_to, sent_to, bytes_of}
+
+pub same_self : (side : Side) → same_side side side ≡ true
+same_self Bot = refl
+same_self Server = refl
 
 pub sent_to-append : (side : Side) (a b : List Effect) → sent_to side (a ++ b) ≡ sent_to side a ++ sent_to side b
 sent_to-append side [] b = refl

@@ -4,10 +4,12 @@ use Rattle.daide_frame.specs.declared.side.Side.{Side}
 use Rattle.daide_frame.specs.Frames.{Item, items_of, cut, missing}
 use Rattle.daide_machine.specs.Events.{Event, bytes_come}
 use Rattle.daide_machine.specs.Machine.{Limits, SessionState, Effect, Step, Runs, coming, is_over, opening}
-use Rattle.daide_machine.specs.Summary.{nothing_counted, tallied, counted_moves, reduced}
+use Rattle.daide_machine.specs.Summary.{nothing_counted, tallied, reduced}
+use Rattle.daide_machine.specs.Counts.{frames_counted}
 use Rattle.daide_machine.specs.Wires.{Gateway, IsNew, waiting, sent_to, bytes_of}
 use Rattle.daide_machine.specs.Calls.{Call, AreCalls, Delivers, events_of, taken_by, fails}
 use Rattle.daide_machine.specs.Heard.{bytes_from, items_heard}
+use Rattle.daide_machine.specs.Ended.{IsEndedBy}
 
 -- Whatever happens in whatever state, the machine goes on: each message has a verdict, and each row of the
 -- table an outcome. This is of limits without an operator's words, since the table that reads such words stands above. (own)
@@ -66,15 +68,18 @@ abbrev pub NothingAfterTheEnd : Type 0
 NothingAfterTheEnd = (old new : SessionState) (events : List Event) (effects : List Effect) →
     is_over old.phase ≡ true → Runs old events effects new → (effects ≡ []) × (new ≡ old)
 
--- from a session's start to any time: what ended it is known exactly once it is over
+-- from a session's start to any time: what ended it is known exactly once it is over, and it is the first event that
+-- ended it
 abbrev pub EndingIsKnown : Type 0
 EndingIsKnown = (limits : Limits) (events : List Event) (effects : List Effect) (new : SessionState) →
-    Runs (opening limits) events effects new → is_some new.ending ≡ is_over new.phase
+    Runs (opening limits) events effects new →
+    (is_some new.ending ≡ is_over new.phase)
+    × (is_over new.phase ≡ true → IsEndedBy (opening limits) events new)
 
--- a session's counts are its moves counted, modulo 2^64
+-- over any run a session counts what it sent toward the two sides, modulo 2^64
 abbrev pub CountsAreTheMoves : Type 0
-CountsAreTheMoves = (effects : List Effect) →
-    tallied effects nothing_counted ≡ reduced (counted_moves effects nothing_counted)
+CountsAreTheMoves = (old : SessionState) (events : List Event) (effects : List Effect) (new : SessionState) →
+    Runs old events effects new → tallied effects nothing_counted ≡ reduced (frames_counted effects)
 
 -- The headers, frames and faults of a side by which a session goes are those of the cut of all the bytes
 -- of that side: every one of them while it is not over, and those before its end once it is.

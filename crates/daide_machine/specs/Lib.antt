@@ -6,10 +6,12 @@ pub mod Machine
 pub mod Config
 pub mod Summary
 pub mod Wires
+pub mod Counts
 pub mod Weight
 pub mod Calls
 pub mod Heard
 pub mod Fates
+pub mod Ended
 pub mod Passing
 pub mod Harm
 pub mod Laws

@@ -1,4 +1,5 @@
--- The counts of a session's moves: of each kind of note one, by what became of the frame.
+-- The counts of a session's moves: of each kind of note one, by what became of the frame. What is counted, and that it is
+-- counted modulo 2^64, is (own); `Counts` has the frames that are sent of it.
 use Rattle.std.specs.Prelude.{ℕ, ◌+◌, ◌%◌, ◌^◌, ◌<◌, ◌≤◌, List, [], ◌∷◌}
 use Rattle.daide_machine.specs.declared.note.Deed.TheVariants as Deeds
 use Rattle.daide_machine.specs.declared.note.Note.{Note}
@@ -37,11 +38,6 @@ counted_on told s = counted_by one_more told s
 abbrev pub tallied : List Effect → Summary → Summary
 tallied [] s = s
 tallied (effect ∷ effects) s = tallied effects (counted_on effect.told s)
-
--- the same in numbers without a bound
-abbrev pub counted_moves : List Effect → Summary → Summary
-counted_moves [] s = s
-counted_moves (effect ∷ effects) s = counted_moves effects (counted effect.told s)
 
 -- each count modulo 2^64
 abbrev pub reduced : Summary → Summary

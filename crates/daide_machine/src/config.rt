@@ -3,7 +3,7 @@
 ghost use Rattle.std.specs.Prelude.{◌≡◌};
 ghost use Rattle.daide_machine.specs.Config.{config_fault};
 
-use crate::bounds::{MAX_BODY, MAX_DEPTH};
+use crate::bounds::{MAX_BODY, MAX_DEPTH, MIN_BODY, MIN_DEPTH};
 use daide_grammar::level::Level;
 
 /// The limits of a session.
@@ -36,10 +36,10 @@ impl Config {
         if Level::of(self.top_level).is_none() {
             return Err(ConfigError::Level);
         }
-        if self.max_body % 2 == 1 || self.max_body < 512 || self.max_body > MAX_BODY {
+        if self.max_body % 2 == 1 || self.max_body < MIN_BODY || self.max_body > MAX_BODY {
             return Err(ConfigError::Body);
         }
-        if self.max_depth < 4 || self.max_depth > MAX_DEPTH {
+        if self.max_depth < MIN_DEPTH || self.max_depth > MAX_DEPTH {
             return Err(ConfigError::Depth);
         }
         Ok(())

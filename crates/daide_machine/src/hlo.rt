@@ -6,6 +6,7 @@
 
 ghost use Rattle.std.specs.Prelude.{◌≡◌, ℕ, ◌+◌, ◌-◌, ◌*◌, ◌/◌, ◌%◌, ◌^◌, ◌≤◌, true, List, [], ◌∷◌, ◌++◌, length, take};
 ghost use Rattle.daide_token.specs.Token.{tokens_of};
+ghost use Rattle.daide_reader.specs.Bounds.{longest_message};
 ghost use Rattle.daide_reader.specs.Reading.{IsRaised};
 ghost use Rattle.daide_machine.specs.HloLevel.{option_number as number_of_option, found_in};
 ghost use Rattle.daide_machine.specs.HloLevel.{level_told as level_of_message};
@@ -136,7 +137,7 @@ impl HloScan {
     /// at the end waits for its other half.
     pub fn read(&mut self, body: &[u8], from: usize)
         requires came_before { 2 * from ≤ length body.now }
-        requires short { length body.now ≤ 65534 }
+        requires short { length body.now ≤ longest_message }
         ensures found { self.old.found ≡ found_in (tokens_of (take (2 * from) body.now)) →
             self.new.found ≡ found_in (tokens_of body.now) }
         ensures looked_at { IsRaised (length body.now / 2 - from) self.old.looked_at self.new.looked_at }

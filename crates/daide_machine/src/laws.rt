@@ -11,7 +11,7 @@ ghost use Rattle.daide_words.specs.declared.word.Word.{Word};
 ghost use Rattle.daide_words.specs.Word.{grammar_words};
 ghost use Rattle.daide_words.specs.Accepted.{are_accepted};
 ghost use Rattle.daide_words.specs.Words.{words_of};
-ghost use Rattle.daide_machine.specs.Bounds.{longest_body, deepest};
+ghost use Rattle.daide_machine.specs.Bounds.{longest_body, least_body, deepest, least_depth, most_sessions};
 ghost use Rattle.daide_machine.specs.Answers.{prn_open, huh_open, err_word, close_word};
 ghost use Rattle.daide_machine.specs.Events.{Event};
 ghost use Rattle.daide_machine.specs.Machine.{Effect, Runs, SessionState, Step, fm_bytes};
@@ -25,7 +25,7 @@ ghost use Rattle.daide_machine.specs.Laws.{EndingIsKnown, CountsAreTheMoves};
 ghost use Rattle.daide_machine.specs.Laws.{NothingAfterTheEnd, FramesAreThoseOfTheCut, EachSideIsWaitedFor};
 
 use crate::answers::{CLOSE_WORD, ERR_WORD, FM, HUH_OPEN, PRN_OPEN};
-use crate::bounds::{MAX_BODY, MAX_DEPTH, STACK_ENTRIES};
+use crate::bounds::{MAX_BODY, MAX_DEPTH, MAX_SESSIONS, MIN_BODY, MIN_DEPTH, STACK_ENTRIES};
 use daide_grammar::predict::Predict;
 use daide_words::extended::Extended;
 use daide_words::words::Words;
@@ -43,8 +43,11 @@ pub fn words_are_those_of_the_definitions()
 /// depth may need.
 pub fn bounds_are_those_of_the_definitions()
     ensures body { MAX_BODY ≡ longest_body }
+    ensures least_body { MIN_BODY ≡ least_body }
     ensures depth { MAX_DEPTH ≡ deepest }
+    ensures least_depth { MIN_DEPTH ≡ least_depth }
     ensures entries { STACK_ENTRIES ≡ 8 * deepest + 16 }
+    ensures sessions { MAX_SESSIONS ≡ most_sessions }
 {}
 
 /// Whatever happens in whatever state has a step, so no table of the machine has a row left out, and no
@@ -103,13 +106,14 @@ pub fn nothing_after_the_end()
     ensures { NothingAfterTheEnd }
 {}
 
-/// What ended a session is known exactly once it is over, and it is the first event that ended it: once over, its state
-/// stays as it is.
+/// What ended a session is known exactly once it is over, and it is the first event that ended it: before it the session
+/// was not over, and with it came to the state in which it stays. The table of `specs/Ended` says which ending that is.
 pub fn ending_is_known()
     ensures { EndingIsKnown }
 {}
 
-/// What a session counts of its moves is each of them once, by what became of it, modulo 2^64.
+/// Over any run a session counts the frames that it sent toward the two sides, modulo 2^64: those that it passed on, its
+/// answers PRN, its answers HUH, and the EMs by which it told a fault.
 pub fn counts_are_the_moves()
     ensures { CountsAreTheMoves }
 {}

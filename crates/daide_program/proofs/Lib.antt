@@ -1,2 +1,3 @@
 mod ExchangeLemmas
+mod Reading
 mod StreamLemmas

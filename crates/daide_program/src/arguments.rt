@@ -34,13 +34,14 @@ pub(crate) struct RunOrder<'a> {
 /// What the program does without a command, and its exit statuses.
 const NOTES: &str = "\
 Without a command it does what 'show' does with its defaults. The options of 'show':
-      --side <SIDE>  bot or server [default: bot]
-      --level <N>    0, 10, 20, 30, 40, 50 or 60 [default: 0]
+      --side <SIDE>       bot or server [default: bot]
+      --level <N>         0, 10, 20, 30, 40, 50 or 60 [default: 0]
       --words <SETTINGS>  a file of settings, whose words count as words of press
 
 Exit status:
   0  the frame would be relayed; the log has no PRN, HUH or fault; all bots were served; help and version
-  1  a fault of the input, the output or memory, told in one line on standard error
+  1  a fault of the input, the output, the settings, the folder of records, the address to listen on, or memory, told in
+     one line on standard error
   2  words that are not understood
   3  the frame is shown, and would not be relayed; the log is reported, and has a PRN, HUH or fault";
 
@@ -117,7 +118,7 @@ fn run_command<'a>(alloc: Global) -> Result<Command<'a>, AllocError> {
 pub(crate) fn command<'a>(alloc: Global) -> Result<Command<'a>, AllocError> {
     Command::new(alloc, "daide-gate")
         .bin_name("daide-gate")?
-        .version("0.1.0")
+        .version("1.0.0")
         .about("A gateway between one bot and a DAIDE server")
         .after_help(NOTES)
         .subcommand(show_command(alloc)?)?
@@ -135,7 +136,7 @@ fn side_of(word: &str) -> Option<Side> {
 }
 
 /// The level that a word names, in decimal digits.
-fn level_of(word: &str) -> Option<Level> {
+fn level_named(word: &str) -> Option<Level> {
     match word {
         "0" => Some(Level::L0),
         "10" => Some(Level::L10),
@@ -170,7 +171,7 @@ pub(crate) fn order_of<'a>(matches: &ArgMatches<'a>) -> Order<'a> {
     let Some(side) = side_of(side.unwrap_or("bot")) else {
         return Order::BadSide;
     };
-    let Some(level) = level_of(level.unwrap_or("0")) else {
+    let Some(level) = level_named(level.unwrap_or("0")) else {
         return Order::BadLevel;
     };
     Order::Show(side, level, words)

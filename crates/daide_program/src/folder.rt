@@ -1,4 +1,13 @@
 //! A folder with a record of each session: a log that `check` reads.
+//!
+//! Whether there is a file of a name, whether one can be made, and what a file keeps of what is written to it are the
+//! system's to say.
+
+ghost use Rattle.std.specs.Prelude.{◌≡◌, ◌⊎◌, ℕ, List, Option, IfOk, IfErr, IfSome, string_bytes};
+ghost use Rattle.std.specs.Io.KnownBytes.{append_known};
+ghost use Rattle.daide_gate.specs.RecordText.{head_text, head_count};
+ghost use Rattle.daide_gate.specs.Words.{words_of};
+ghost use Rattle.daide_program.specs.Folder.{path_in};
 
 use daide_gate::record::MOST_LINES;
 use daide_gate::settings::Settings;
@@ -27,7 +36,8 @@ pub enum RecordNotice {
     Full(u32),
 }
 
-/// The file of a session's record; none where there isn't one, so that each write fails.
+/// The file of a session's record; none where there isn't one, so that each write fails. It holds what was written to it,
+/// as its file tells.
 #[derive(Drop)]
 pub(crate) struct SessionFile<F: Drop> {
     number: u32,
@@ -35,6 +45,10 @@ pub(crate) struct SessionFile<F: Drop> {
 }
 
 impl<F: Write + Drop> Write for SessionFile<F> {
+    ghost use Rattle.daide_program.specs.Folder.{file_contents};
+
+    ghost contents = { λ f. file_contents F.contents f.file };
+
     fn write(&mut self, bytes: &[u8]) -> io::Result<usize> {
         match &mut self.file {
             Some(file) => file.write(bytes),
@@ -65,14 +79,21 @@ pub(crate) struct Folder<'a, R: Files> {
 }
 
 /// The file of the session of this number in a folder.
-fn path_of(alloc: Global, folder: &str, number: u32) -> Result<String, AllocError> {
+fn path_of(alloc: Global, folder: &str, number: u32) -> Result<String, AllocError>
+    ensures { IfOk result (λ path. string_bytes path ≡ path_in folder.now number) }
+{
     format!(in alloc; "{folder}/session-{number:06}.log")
 }
 
 impl<'a, R: AllocGlobal + Files> Folder<'a, R> {
     /// A folder in which records of sessions with these settings are kept; none where no file can be made in it, which
-    /// is tried by one that is removed at once. No session has its number.
-    pub(crate) fn at(rt: &'a R, path: &'a str, settings: &Settings) -> Option<Folder<'a, R>> {
+    /// is tried by one that is removed at once. No session has its number. An empty word names no folder.
+    pub(crate) fn at(rt: &'a R, path: &'a str, settings: &Settings) -> Option<Folder<'a, R>>
+        ensures { IfSome result (λ folder. (folder.config ≡ settings.now.config) × (folder.words ≡ settings.now.words)) }
+    {
+        if path.is_empty() {
+            return None;
+        }
         let folder = Folder {
             rt,
             path,
@@ -94,7 +115,9 @@ impl<'a, R: AllocGlobal + Files> Folder<'a, R> {
     }
 
     /// The file of a session's record, or why there is none.
-    fn file_of(&self, number: u32) -> Result<R::File, RecordNotice> {
+    fn file_of(&self, number: u32) -> Result<R::File, RecordNotice>
+        ensures { IfErr result (λ notice. (notice ≡ RecordNotice.IsThere number) ⊎ (notice ≡ RecordNotice.Unmade number)) }
+    {
         let Ok(name) = path_of(self.rt.alloc(), self.path, number) else {
             return Err(RecordNotice::Unmade(number));
         };
@@ -105,13 +128,23 @@ impl<'a, R: AllocGlobal + Files> Folder<'a, R> {
             })
     }
 
-    /// The ports of a session of this number, recorded from here on. What is wrong of its file is told.
+    /// The ports of a session of this number, recorded from here on: the record has its head, for these settings, behind
+    /// whatever its file has, and is whole so far. What is wrong of its file is told.
     pub(crate) fn begin<P: Ports, E: Write>(
         &self,
         number: u32,
         ports: P,
         errors: &mut E,
-    ) -> Recording<P, SessionFile<R::File>> {
+    ) -> Recording<P, SessionFile<R::File>>
+        ensures { (before : Option (List ℕ)) × (result ≡ record {
+          ports = ports;
+          record_of = record {
+            text = append_known before (head_text self.now.config (words_of self.now.words));
+            lines = head_count (words_of self.now.words);
+            ending = RecordEnd.Whole;
+          };
+        }) }
+    {
         let file = match self.file_of(number) {
             Ok(file) => Some(file),
             Err(notice) => {
@@ -128,7 +161,9 @@ impl<'a, R: AllocGlobal + Files> Folder<'a, R> {
 pub(crate) fn end<P: Ports, F: Write + Drop, E: Write>(
     recorded: Recording<P, SessionFile<F>>,
     errors: &mut E,
-) -> P {
+) -> P
+    ensures { result ≡ recorded.ports }
+{
     let (ports, record) = recorded.into_parts();
     let (file, end) = record.finish();
     // Of one without a file it was told at its beginning.

@@ -4,9 +4,9 @@ ghost use Rattle.std.specs.Prelude.{◌≡◌, List, IfErr, OnOk};
 ghost use Rattle.daide_machine.specs.Ports.{Tells};
 ghost use Rattle.daide_machine.specs.System.{SystemAnswer};
 ghost use Rattle.daide_service.specs.Served.{IsWholeRun};
-ghost use Rattle.daide_service.specs.Serving.{IsServeCause};
+ghost use Rattle.daide_service.specs.Serving.{IsServeCause, IsOfSettings, GivesUp};
 ghost use Rattle.daide_settings.specs.declared.settings.Settings.{Settings};
-ghost use Rattle.daide_program.specs.Gateway.{IsBeforeServing, IsGatewayCause};
+ghost use Rattle.daide_program.specs.Gateway.{IsBeforeServing, IsGatewayCause, HasGivenUp};
 
 use daide_gate::ports::Ports;
 use daide_gate::system::System;
@@ -43,7 +43,8 @@ pub(crate) fn fault_of(fault: GroundFault) -> GatewayFault
     }
 }
 
-/// Says that it listens, and serves until all bots were served: by what the system answered, a whole run of the settings.
+/// Says that it listens, and serves until all bots were served: by what the system answered, a whole run of the settings,
+/// or one that is given up for its fault.
 pub fn serve_with<P: Ports, S: System<P>, O: Write>(
     alloc: Global,
     settings: &Settings,
@@ -53,6 +54,9 @@ pub fn serve_with<P: Ports, S: System<P>, O: Write>(
     ensures refused { IfErr result (IsServeCause settings.now) }
     ensures served { OnOk result ((answers : List (SystemAnswer P))
         × Tells (S.told system.old) answers (S.told system.new) × IsWholeRun P.becomes settings.now answers) }
+    ensures given_up { IfErr result (λ fault. (answers : List (SystemAnswer P))
+        × Tells (S.told system.old) answers (S.told system.new) × GivesUp P.becomes settings.now fault answers) }
+    ensures unasked { IfErr result (λ fault. IsOfSettings fault → system.new ≡ system.old) }
 {
     // Where nobody reads it the run goes on.
     let _ = writeln!(output, "listening");
@@ -61,8 +65,8 @@ pub fn serve_with<P: Ports, S: System<P>, O: Write>(
 }
 
 /// Listens, says so, and serves until all bots were served: by what the system answered, a whole run of the settings.
-/// `Listen` and `Memory` come before anything is printed, `Serve` after it and for the run's own cause. Whom it serves is
-/// the system's to say. Where `is_verbose`, a line is told where a session begins, and one where it ends.
+/// `Listen` and `Memory` come before anything is printed, `Serve` after it, for the run's own cause and once it did what
+/// that fault says. Whom it serves is the system's to say. Where `is_verbose`, a line is told where a session begins, and one where it ends.
 pub fn serve_at<R: AllocGlobal + Clock + Net, O: Write, E: Write>(
     rt: &R,
     settings: &Settings,
@@ -74,6 +78,7 @@ pub fn serve_at<R: AllocGlobal + Clock + Net, O: Write, E: Write>(
     ensures refused { IfErr result (IsGatewayCause settings.now) }
     ensures served { OnOk result ((answers : List (SystemAnswer _))
         × IsWholeRun ⟦<SocketPorts<'static, &'static R> as Ports>⟧.becomes settings.now answers) }
+    ensures given_up { IfErr result (HasGivenUp ⟦<SocketPorts<'static, &'static R> as Ports>⟧.becomes settings.now) }
 {
     let Ground {
         listener,

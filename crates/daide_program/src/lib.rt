@@ -1,8 +1,9 @@
 //! What `daide-gate` does with the words of its command line, over any streams.
 //!
 //! `arguments` says what the words ask for, `program` does it, `gateway` is the gateway over sockets at the addresses of
-//! settings, with its laws, `running` reads settings and runs it, `folder` has the records of sessions, `recorded` is a run that keeps them, `faults` has the line that tells a
-//! fault and the exit statuses, and `terminal` is a standard input that a person may be typing.
+//! settings, with its laws, `text` reads a text that has a bound, `running` reads settings and runs the gateway, `folder`
+//! has the records of sessions, `recorded` is a run that keeps them, `faults` has the line that tells a fault and the exit
+//! statuses, and `terminal` is a standard input that a person may be typing.
 #![tactic(auto)]
 
 mod arguments;
@@ -14,6 +15,7 @@ mod program;
 mod recorded;
 pub mod running;
 pub mod terminal;
+pub mod text;
 
 pub use folder::RecordNotice;
 pub use program::answer;

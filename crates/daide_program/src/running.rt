@@ -5,11 +5,11 @@ ghost use Rattle.std.specs.Prelude.{◌≡◌, ◌≤◌, IfOk, IfSome, string_b
 use crate::arguments::RunOrder;
 use crate::faults::{CLEAN, FAULT, tell};
 use crate::folder::Folder;
-use crate::recorded::RecordedSockets;
-use daide_gate::settings::{Settings, SettingsError, read_settings};
 use crate::gateway::{GatewayFault, fault_of, serve_at, serve_with};
+use crate::recorded::RecordedSockets;
+use crate::text::{TextFault, read_text};
+use daide_gate::settings::{Settings, SettingsError, read_settings};
 use daide_sockets::ground::{Ground, ground_of, sockets_on};
-use daide_streams::text::{TextFault, read_text};
 use std::alloc::Allocator;
 use std::io::{Read, Write};
 use std::net::Net;

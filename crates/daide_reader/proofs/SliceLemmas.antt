@@ -313,11 +313,6 @@ stands_still {T = T} table words first max_depth v old b same all h =
     (ap (λ (k : ℕ). take k (tokens_of b)) all ∙ take-length (tokens_of b))
     (stands_before table words first max_depth v old b same h))
 
--- there are more tokens than were read
-pub more_tokens : (read told bytes tokens : ℕ) → read ≡ told → 2 * told ≤ bytes → tokens ≡ bytes / 2 →
-    read ≢ bytes / 2 → read < tokens
-more_tokens read told bytes tokens same few size unread = omega arith
-
 pub counts_up : (u : Option ℕ) (a b : ℕ) → a ≤ b → IfSome u (λ n. n ≤ a) → IfSome u (λ n. n ≤ b)
 counts_up None a b le h = tt
 counts_up (Some n) a b le h = omega arith

@@ -8,6 +8,7 @@ use Rattle.daide_grammar.specs.Words.{Words}
 use Rattle.daide_grammar.specs.Table.Stacks.{StackMatches}
 use Rattle.daide_grammar.specs.Paired.{begins_with_prn}
 use Rattle.daide_grammar.specs.Depth.{depth_of}
+use Rattle.daide_reader.specs.Bounds.{most_symbols, most_tokens}
 use Rattle.daide_reader.specs.declared.outline.Outline.{Outline}
 use Rattle.daide_reader.specs.ViablePrefix.{IsMessageOf}
 use Rattle.daide_reader.specs.ErrorPlace.{IsAllowedPrefix, IsErrorPlace}
@@ -81,10 +82,10 @@ pub record StandsAfter {T : Type 0} (table : Ghosts T) (words : Words) (first : 
 -- what holds of every reader with room for `size` symbols; `lawful` is its table's
 pub record IsSteady (lawful : List Sym → ℕ → Type 0) (size max_depth : ℕ) (stack : List Sym)
     (outline : Outline) (unclosed place : Option ℕ) : Type 0 where
-  pub small : size ≤ 4096
+  pub small : size ≤ most_symbols
   pub deepest : 8 * max_depth + 16 ≤ size
   pub counts : IfSome unclosed (λ n. n ≤ outline.tokens)
-  pub tokens : outline.tokens ≤ 32767
+  pub tokens : outline.tokens ≤ most_tokens
   pub fresh : outline.tokens ≡ 0 → outline.is_prn ≡ false
   -- with no place the stack is lawful at the open brackets
   pub lawful_stack : outline.is_prn ≡ false → place ≡ None

@@ -4,6 +4,7 @@ ghost use Rattle.std.specs.Prelude.{◌≡◌, ◌-◌, ◌*◌, ◌/◌, ◌≤
 ghost use Rattle.daide_token.specs.Token.{tokens_of};
 ghost use Rattle.daide_grammar.specs.declared.symbol.Sym.{Sym};
 ghost use Rattle.daide_grammar.specs.Words.{Words};
+ghost use Rattle.daide_reader.specs.Bounds.{longest_message};
 ghost use Rattle.daide_reader.specs.Reading.{StandsAfter, tokens_read};
 ghost use Rattle.daide_reader.specs.Verdict.{HasVerdict};
 ghost use Rattle.daide_reader.specs.ViablePrefix.{IsMessageOf};
@@ -19,7 +20,7 @@ impl<T: Predict, const N: usize> Reader<T, N> {
     pub fn read_body(&mut self, body: &[u8]) -> Verdict
         requires unread { tokens_read self.old ≡ 0 }
         requires unfinished { self.old.finished ≡ false }
-        requires room { length body.now ≤ 65534 }
+        requires room { length body.now ≤ longest_message }
         ensures verdict { (words : Words) (first : Sym) (max_depth : ℕ) →
             StandsAfter T.Predict words first max_depth self.old [] →
             HasVerdict (IsMessageOf (T.language words first)) max_depth (tokens_of body.now) result }
@@ -40,7 +41,7 @@ impl<T: Predict, const N: usize> Reader<T, N> {
 #[inline(always)]
 pub fn token_at(body: &[u8], place: usize) -> Token
     requires inside { 2 * place + 1 < length body.now }
-    requires small { length body.now ≤ 65534 }
+    requires small { length body.now ≤ longest_message }
     ensures front { take (place + 1) (tokens_of body.now) ≡ take place (tokens_of body.now) ++ result ∷ [] }
     ensures rest { drop place (tokens_of body.now) ≡ result ∷ drop (place + 1) (tokens_of body.now) }
 {

@@ -4,6 +4,7 @@ ghost use Rattle.std.specs.Prelude.{◌≡◌, ◌≤◌, ◌<◌, ◌+◌, ◌%
 ghost use Rattle.daide_token.specs.Class.{class_of as known_class};
 ghost use Rattle.daide_grammar.specs.Table.Rules.{rest_of};
 ghost use Rattle.daide_grammar.specs.Table.Stacks.{stack_after};
+ghost use Rattle.daide_reader.specs.Bounds.{most_symbols};
 ghost use Rattle.daide_reader.specs.Stack.{steps_at};
 
 use daide_grammar::column::Column;
@@ -14,7 +15,7 @@ use daide_token::token::Token;
 /// Writes all eight cells from `at` on.
 #[inline(always)]
 fn put_rest<const N: usize>(cells: &mut [Symbol; N], at: usize, rest: [Symbol; 8])
-    requires size { N ≤ 4096 }
+    requires size { N ≤ most_symbols }
     requires room { at + 8 ≤ N }
     ensures { take (at + 8) cells.new ≡ take at cells.old ++ rest }
 {
@@ -28,7 +29,7 @@ fn put_rest<const N: usize>(cells: &mut [Symbol; N], at: usize, rest: [Symbol; 8
 /// Puts what a move leaves in the place of the top, and answers how many cells the stack has then.
 #[inline(always)]
 pub(crate) fn put<const N: usize>(cells: &mut [Symbol; N], top: usize, answer: &Move) -> usize
-    requires size { N ≤ 4096 }
+    requires size { N ≤ most_symbols }
     requires room { top + 8 ≤ N }
     ensures stack { reverse (take result cells.new) ≡ rest_of answer.now ++ reverse (take top cells.old) }
     ensures inside { result ≤ N }
@@ -46,7 +47,7 @@ pub(crate) fn follow<T: Predict, const N: usize>(
     count: usize,
     class: Column,
 ) -> Option<usize>
-    requires size { N ≤ 4096 }
+    requires size { N ≤ most_symbols }
     requires count { count ≤ N }
     requires room { IfSome (stack_after (T.moves (T.words table.old)) class (reverse (take count cells.old)))
         (λ after. length after ≤ N) }
@@ -85,7 +86,7 @@ pub(crate) fn follow_word<T: Predict, const N: usize>(
     token: Token,
     known: Column,
 ) -> Option<usize>
-    requires size { N ≤ 4096 }
+    requires size { N ≤ most_symbols }
     requires top { top < N }
     requires known { known ≡ known_class token }
     requires room { IfSome (stack_after (T.moves (T.words table.old)) (T.class_of (T.words table.old) token)
@@ -117,7 +118,7 @@ pub(crate) fn follow_word<T: Predict, const N: usize>(
 /// Writes the first of the symbols from `at` on.
 #[inline(always)]
 fn put_slowly<const N: usize>(cells: &mut [Symbol; N], at: usize, rest: [Symbol; 8], count: usize)
-    requires size { N ≤ 4096 }
+    requires size { N ≤ most_symbols }
     requires few { count ≤ 8 }
     requires room { at + count ≤ N }
     ensures { take (at + count) cells.new ≡ take at cells.old ++ take count rest }

@@ -8,6 +8,7 @@ ghost use Rattle.daide_token.specs.Token.{tokens_of};
 ghost use Rattle.daide_grammar.specs.declared.symbol.Sym.{Sym};
 ghost use Rattle.daide_grammar.specs.Depth.{open_brackets};
 ghost use Rattle.daide_grammar.specs.Words.{Words};
+ghost use Rattle.daide_reader.specs.Bounds.{longest_message, most_symbols, most_tokens};
 ghost use Rattle.daide_reader.specs.ViablePrefix.{IsMessageOf};
 ghost use Rattle.daide_reader.specs.Verdict.{HasVerdict};
 ghost use Rattle.daide_reader.specs.Outline.{IsOutlineOf};
@@ -15,7 +16,7 @@ ghost use Rattle.daide_reader.specs.Reading.{StandsAfter, IsSettled, IsRaised, t
 ghost use Rattle.daide_reader.specs.declared.verdict.Verdict.TheVariants.{Prn};
 
 use crate::brackets::are_open;
-use crate::outline::Outline;
+use crate::outline::{MOST_TOKENS, Outline};
 use crate::slice::{count_from, place_behind};
 use crate::stack::may_all_end;
 use crate::symbols::Symbols;
@@ -71,7 +72,7 @@ impl<T: Predict, const N: usize> Reader<T, N> {
     pub fn new(table: T, max_depth: u16) -> Reader<T, N>
         requires low { 4 ≤ max_depth }
         requires high { 8 * max_depth + 16 ≤ N }
-        requires size { N ≤ 4096 }
+        requires size { N ≤ most_symbols }
         ensures stands_after { StandsAfter T.Predict (T.words table) (T.opening Side2.Client Level.L0)
             max_depth result [] }
         ensures table { result.table ≡ table }
@@ -115,7 +116,7 @@ impl<T: Predict, const N: usize> Reader<T, N> {
 
     /// Reads a token, as a body of one token is read. A message has at most 32,767; `is_full` is the test.
     pub fn push(&mut self, token: Token)
-        requires room { tokens_read self.old < 32767 }
+        requires room { tokens_read self.old < most_tokens }
         requires unfinished { self.old.finished ≡ false }
         ensures stands_after { (words : Words) (first : Sym) (max_depth : ℕ) (p : List ℕ) →
             StandsAfter T.Predict words first max_depth self.old p →
@@ -141,7 +142,7 @@ impl<T: Predict, const N: usize> Reader<T, N> {
     pub fn read(&mut self, body: &[u8])
         requires unfinished { self.old.finished ≡ false }
         requires read_before { 2 * tokens_read self.old ≤ length body.now }
-        requires room { length body.now ≤ 65534 }
+        requires room { length body.now ≤ longest_message }
         ensures stands_after { (words : Words) (first : Sym) (max_depth : ℕ) →
             StandsAfter T.Predict words first max_depth self.old
             (tokens_of (take (2 * tokens_read self.old) body.now)) →
@@ -166,10 +167,10 @@ impl<T: Predict, const N: usize> Reader<T, N> {
     /// Reads the tokens that come next, as a body of their own. All tokens so far have the outline then.
     fn go_on(&mut self, outline: Outline, body: &[u8])
         requires unfinished { self.old.finished ≡ false }
-        requires bytes { length body.now ≤ 65534 }
+        requires bytes { length body.now ≤ longest_message }
         requires some { 2 ≤ length body.now }
         requires tokens { outline.tokens ≡ tokens_read self.old + length body.now / 2 }
-        requires room { outline.tokens ≤ 32767 }
+        requires room { outline.tokens ≤ most_tokens }
         requires plain { outline.is_prn ≡ false → self.old.outline.is_prn ≡ false }
         ensures stands_after { (words : Words) (first : Sym) (max_depth : ℕ) (p : List ℕ) →
             IsOutlineOf outline (p ++ tokens_of body.now) →
@@ -244,9 +245,9 @@ impl<T: Predict, const N: usize> Reader<T, N> {
 
     /// Whether as many tokens were read as a message may have.
     pub fn is_full(&self) -> bool
-        ensures { IsTrue result ↔ (32767 ≤ tokens_read self.now) }
+        ensures { IsTrue result ↔ (most_tokens ≤ tokens_read self.now) }
     {
-        self.outline.tokens >= 32767
+        self.outline.tokens >= MOST_TOKENS
     }
 
     /// How many brackets are open: 0 in a message that begins with PRN, and 0 once a KET came with

@@ -7,6 +7,7 @@ ghost use Rattle.std.specs.Prelude.{◌≡◌, ◌≢◌, ◌≤◌, ◌<◌, �
 ghost use Rattle.daide_token.specs.Token.{tokens_of};
 ghost use Rattle.daide_grammar.specs.Table.Brackets.{is_bra as is_bra_token, is_ket as is_ket_token, count_one};
 ghost use Rattle.daide_grammar.specs.Table.Stacks.{stack_after};
+ghost use Rattle.daide_reader.specs.Bounds.{longest_message, most_symbols, most_tokens};
 ghost use Rattle.daide_reader.specs.Outline.{count_all};
 ghost use Rattle.daide_reader.specs.Slice.{ReadsTo, place_behind};
 ghost use Rattle.daide_reader.specs.Stack.{open_count, steps_at};
@@ -40,7 +41,7 @@ fn step<T: Predict, const N: usize>(
     token: Token,
     deepest: u16,
 ) -> Option<usize>
-    requires size { N ≤ 4096 }
+    requires size { N ≤ most_symbols }
     requires count { count ≤ N }
     requires low { opened.old < 65534 }
     requires room { (is_bra_token token ≡ true → opened.old ≢ deepest) →
@@ -72,7 +73,7 @@ fn step<T: Predict, const N: usize>(
 /// Where reading ends at a token that is not taken, which is counted.
 #[inline(always)]
 fn refused(opened: u16, place: usize) -> Reached
-    requires { place < 32767 }
+    requires { place < most_tokens }
     ensures tokens { result.tokens ≡ place + 1 }
     ensures unclosed { result.unclosed ≡ open_count opened }
     ensures place { result.place ≡ Some place }
@@ -98,10 +99,10 @@ fn stretch<T: Predict, const N: usize>(
     unclosed: u16,
     max_depth: u16,
 ) -> Reached
-    requires size { N ≤ 4096 }
+    requires size { N ≤ most_symbols }
     requires count { count ≤ N }
     requires deepest { 8 * max_depth + 16 ≤ N }
-    requires room { length body.now ≤ 65534 }
+    requires room { length body.now ≤ longest_message }
     requires read { read < length body.now / 2 }
     requires deep { unclosed < max_depth }
     requires lawful { T.lawful (T.words table.old) (reverse (take count cells.old)) unclosed }
@@ -160,10 +161,10 @@ pub fn run<T: Predict, const N: usize>(
     unclosed: u16,
     max_depth: u16,
 ) -> Reached
-    requires size { N ≤ 4096 }
+    requires size { N ≤ most_symbols }
     requires count { count ≤ N }
     requires deepest { 8 * max_depth + 16 ≤ N }
-    requires room { length body.now ≤ 65534 }
+    requires room { length body.now ≤ longest_message }
     requires deep { unclosed ≤ max_depth }
     requires lawful { T.lawful (T.words table.old) (reverse (take count cells.old)) unclosed }
     ensures inside { result.count ≤ N }
@@ -205,9 +206,9 @@ pub fn run<T: Predict, const N: usize>(
 
 /// Counts the open brackets over the tokens of a body from one on.
 pub fn count_from(unclosed: Option<u16>, body: &[u8], next: usize) -> Option<u16>
-    requires room { length body.now ≤ 65534 }
+    requires room { length body.now ≤ longest_message }
     requires next { next ≤ length body.now / 2 }
-    requires few { IfSome unclosed (λ n. n ≤ 32767) }
+    requires few { IfSome unclosed (λ n. n ≤ most_tokens) }
     ensures count { result ≡ count_all unclosed (drop next (tokens_of body.now)) }
 {
     let Some(before) = unclosed else {

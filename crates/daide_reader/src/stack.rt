@@ -5,6 +5,7 @@
 ghost use Rattle.std.specs.Prelude.{◌≡◌, ◌≤◌, ◌+◌, ◌%◌, ◌^◌, false, reverse};
 ghost use Rattle.std.specs.List.{list_all};
 ghost use Rattle.daide_grammar.specs.Table.Stacks.{ends_asked};
+ghost use Rattle.daide_reader.specs.Bounds.{most_symbols};
 
 use crate::symbols::Symbols;
 use daide_grammar::predict::Predict;
@@ -12,7 +13,7 @@ use daide_grammar::symbol::Symbol;
 
 /// Whether every symbol on the stack may be empty. It asks from the top, up to the first that may not.
 pub fn may_all_end<T: Predict, const N: usize>(table: &mut T, stack: &Symbols<Symbol, N>) -> bool
-    requires { N ≤ 4096 }
+    requires { N ≤ most_symbols }
     ensures all { result ≡ list_all (T.ends (T.words table.old)) (reverse stack.now) }
     ensures words { T.words table.new ≡ T.words table.old }
     ensures steps { T.asked table.new % 2 ^ 64

@@ -4,6 +4,7 @@
 //! a local. docs/DECISIONS.md tells what that saves.
 
 ghost use Rattle.std.specs.Prelude.{◌≡◌, ◌≤◌, ◌<◌, ◌+◌, ◌*◌, ◌/◌, ◌++◌, ◌∷◌, [], None, take, length, reverse};
+ghost use Rattle.daide_reader.specs.Bounds.{longest_message, most_symbols};
 ghost use Rattle.daide_reader.specs.Slice.{ReadsTo};
 
 use crate::slice::{Reached, run};
@@ -87,9 +88,9 @@ impl<const N: usize> Symbols<Symbol, N> {
         unclosed: u16,
         max_depth: u16,
     ) -> Reached
-        requires size { N ≤ 4096 }
+        requires size { N ≤ most_symbols }
         requires deepest { 8 * max_depth + 16 ≤ N }
-        requires room { length body.now ≤ 65534 }
+        requires room { length body.now ≤ longest_message }
         requires deep { unclosed ≤ max_depth }
         requires lawful { T.lawful (T.words table.old) (reverse self.old) unclosed }
         ensures tokens { result.tokens ≤ length body.now / 2 }

@@ -1,11 +1,17 @@
--- How often a turn looks at the clock.
-use Rattle.std.proofs.Common.{◌≡◌, ℕ, ◌+◌, List, [], ◌∷◌, ◌++◌, ap, ◌∙◌, arith, inl, inr}
+-- How often a turn looks at the clock, and how many turns are left by that.
+use Rattle.std.proofs.Common.{◌≡◌, ℕ, zero, suc, ◌+◌, Bool, true, false, List, [], ◌∷◌, ◌++◌, Some, None}
+use Rattle.std.proofs.Common.{refl, sym, ap, ◌∙◌, arith, inl, inr}
+use Rattle.std.specs.Prelude.{nat_lt, is_none}
+use Rattle.std.proofs.lemmas.Bool.{lt-ltb, le-ltb, ltb-true, ltb-false}
+use Rattle.std.proofs.lemmas.Bool.Decides.{nat_tests}
 use Rattle.daide_frame.specs.declared.side.Side.{Side}
 use Rattle.daide_frame.specs.declared.side.Side.TheVariants.{Bot, Server}
 use Rattle.daide_machine.specs.Wires.{Gateway}
-use Rattle.daide_machine.specs.Ports.{PortAnswer, Clock, Pulled, Offered}
+use Rattle.daide_machine.specs.Ports.{PortAnswer, Clock, Pulled, Offered, BecomesBy}
 use Rattle.daide_turns.specs.Turn.{Then, AsksClock, Puts, Pulls, Turn}
+use Rattle.daide_service.specs.Metered.{Meter, Meters, one_less}
 use Rattle.daide_service.specs.Served.{looks_in}
+use Rattle.daide_service.specs.Serving.{fresh}
 
 looks_append : (xs ys : List PortAnswer) → looks_in (xs ++ ys) ≡ looks_in xs + looks_in ys
 looks_append [] ys = omega arith
@@ -43,3 +49,42 @@ turn_looks =
     (then_looks (Puts Bot) (Then (Puts Server) (Then (Pulls Bot) (Pulls Server))) 0 0 (put_looks Bot)
     (then_looks (Puts Server) (Then (Pulls Bot) (Pulls Server)) 0 0 (put_looks Server)
     (then_looks (Pulls Bot) (Pulls Server) 0 0 (pull_looks Bot) (pull_looks Server))))
+
+-- ---- how many turns were made
+
+pub none_below_zero : (n : ℕ) → nat_lt n 0 ≡ false
+none_below_zero n = grind (arith, nat_tests)
+
+zero_below : (n : ℕ) → nat_lt 0 (suc n) ≡ true
+zero_below n = grind (arith, nat_tests)
+
+pub below_alike : (m n : ℕ) → nat_lt m n ≡ nat_lt (suc m) (suc n)
+below_alike m n = go (nat_lt m n) refl
+  where
+    go : (b : Bool) → nat_lt m n ≡ b → nat_lt m n ≡ nat_lt (suc m) (suc n)
+    go true e = let less = ltb-true m n e in e ∙ sym (lt-ltb (suc m) (suc n) (omega (arith, less)))
+    go false e = let more = ltb-false m n e in e ∙ sym (le-ltb (suc m) (suc n) (omega (arith, more)))
+
+module _ {P : Type 0} (becomes : P → PortAnswer → P → Type 0) where
+  -- spent ports stay so
+  stays_spent : (xs : List PortAnswer) (a b : Meter P) → a.left ≡ None → BecomesBy (Meters becomes) a xs b →
+      b.left ≡ None
+  stays_spent [] a b e h = ap (λ (m : Meter P). m.left) h ∙ e
+  stays_spent (Clock popped ∷ xs) a b e h = stays_spent xs h.0 b (h.1.left ∙ ap one_less e) h.2
+  stays_spent (Pulled side buffer pull bytes ∷ xs) a b e h = stays_spent xs h.0 b (h.1.left ∙ e) h.2
+  stays_spent (Offered side bytes put ∷ xs) a b e h = stays_spent xs h.0 b (h.1.left ∙ e) h.2
+
+  pub counted_from : (xs : List PortAnswer) (turns : ℕ) (a b : Meter P) → a.left ≡ Some turns →
+      BecomesBy (Meters becomes) a xs b → is_none b.left ≡ nat_lt turns (looks_in xs)
+  counted_from [] turns a b e h =
+      ap (λ (m : Meter P). is_none m.left) h ∙ ap is_none e ∙ sym (none_below_zero turns)
+  counted_from (Clock popped ∷ xs) zero a b e h =
+      ap is_none (stays_spent xs h.0 b (h.1.left ∙ ap one_less e) h.2) ∙ sym (zero_below (looks_in xs))
+  counted_from (Clock popped ∷ xs) (suc turns) a b e h =
+      counted_from xs turns h.0 b (h.1.left ∙ ap one_less e) h.2 ∙ below_alike turns (looks_in xs)
+  counted_from (Pulled side buffer pull bytes ∷ xs) turns a b e h = counted_from xs turns h.0 b (h.1.left ∙ e) h.2
+  counted_from (Offered side bytes put ∷ xs) turns a b e h = counted_from xs turns h.0 b (h.1.left ∙ e) h.2
+
+  pub turns_counted : (xs : List PortAnswer) (turns : ℕ) (ports : P) (now : Meter P) →
+      BecomesBy (Meters becomes) (fresh ports turns) xs now → is_none now.left ≡ nat_lt turns (looks_in xs)
+  turns_counted xs turns ports now h = counted_from xs turns (fresh ports turns) now refl h

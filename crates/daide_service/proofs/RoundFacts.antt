@@ -1,5 +1,5 @@
--- What counts as a move in a turn, and in which order sessions are parted with. Worked out by hand, so that an answer
--- taken for its neighbour does not check.
+-- What counts as a move in a turn, why a session ended, and in which order sessions are parted with. Worked out by hand, so
+-- that an answer taken for its neighbour does not check.
 use Rattle.std.proofs.Common.{◌≡◌, ℕ, ◌+◌, true, false, List, [], ◌∷◌, map, replicate, Some, None, Option, refl}
 use Rattle.std.specs.List.{range_with_len}
 use Rattle.daide_frame.specs.declared.side.Side.{Side}
@@ -18,8 +18,8 @@ use Rattle.daide_turns.specs.Headline.{nothing_held}
 use Rattle.daide_machine.specs.Ports.{Clock, Pulled, Offered}
 use Rattle.daide_machine.specs.declared.system.Notice.TheVariants.{TurnsSpent}
 use Rattle.daide_machine.specs.declared.system.Cause.TheVariants as Causes
-use Rattle.daide_service.specs.Metered.{Meter, left_after, moved_after, moved_by}
-use Rattle.daide_service.specs.Serving.{farewells, remaining}
+use Rattle.daide_service.specs.Metered.{Meter, left_after, moved_after, moved_by, told_after}
+use Rattle.daide_service.specs.Serving.{cause_by, farewells, remaining}
 use Rattle.daide_machine.specs.System.{Retires, Notifies}
 
 -- ---- what moved
@@ -52,6 +52,29 @@ turns_taken : (side : Side) → (left_after (Clock false) (Some 2) ≡ Some 1) �
     × (left_after (Pulled side 4 (Got 4) []) (Some 1) ≡ Some 1) × (left_after (Offered side [] Failed) (Some 1) ≡ Some 1)
 turns_taken side = (refl, refl, refl, refl, refl, refl)
 
+-- ---- why a session ended
+
+-- spent ports tell an end or a failure; the first stays, whatever is told after it
+first_told : (one other : Side) → (told_after (Pulled one 4 Ended []) None None ≡ Some (Ended one))
+    × (told_after (Offered one [] Failed) None None ≡ Some (Lost one))
+    × (told_after (Pulled one 4 Ended []) None (Some (Lost other)) ≡ Some (Lost other))
+    × (told_after (Offered one [] Failed) None (Some (Ended other)) ≡ Some (Ended other))
+first_told one other = (refl, refl, refl, refl)
+
+-- while turns are left the ports' own ends and failures are none of these
+nothing_told : (side : Side) → (told_after (Pulled side 4 Ended []) (Some 0) None ≡ None)
+    × (told_after (Offered side [] Failed) (Some 0) None ≡ None) × (told_after (Clock false) None None ≡ None)
+nothing_told side = (refl, refl, refl)
+
+-- an event by which spent ports ended it is that its turns were spent; any other is the cause itself
+causes : (cause_by None (Some (Ended Bot)) ≡ Causes.Session (Ended Bot))
+    × (cause_by (Some (Ended Bot)) (Some (Ended Bot)) ≡ Causes.TurnsSpent)
+    × (cause_by (Some (Lost Server)) (Some (Lost Server)) ≡ Causes.TurnsSpent)
+    × (cause_by (Some (Lost Server)) (Some (Lost Bot)) ≡ Causes.Session (Lost Bot))
+    × (cause_by (Some (Lost Bot)) (Some (Ended Bot)) ≡ Causes.Session (Ended Bot))
+    × (cause_by (Some (Lost Server)) (Some (Final Server)) ≡ Causes.Session (Final Server))
+causes = (refl, refl, refl, refl, refl, refl)
+
 -- ---- the order of farewells
 
 -- counts of which each is another
@@ -77,22 +100,30 @@ waiting limits = session limits Over (Some (Final Bot)) 20 (record { to = Bot; a
 
 -- ports that go by a number, with so many turns left
 abbrev ports : ℕ → Option ℕ → Meter ℕ
-ports number left = record { ports = number; left = left; moved = false }
+ports number left = record { ports = number; left = left; moved = false; told = None }
 
--- the first is over, the second waits, the third is open, the fourth has spent its turns, the fifth is over
-abbrev five : Limits → List (Gateway × Meter ℕ)
-five limits =
+-- ports whose turns are spent, and what they told first since
+abbrev spent : ℕ → Ending → Meter ℕ
+spent number told = record { ports = number; left = None; moved = false; told = Some told }
+
+-- the first is over, the second waits, the third is open, the fourth was open till its turns were spent, the fifth is over,
+-- and so was the sixth, of which an FM waited for the bot till its turns were spent
+abbrev six : Limits → List (Gateway × Meter ℕ)
+six limits =
     (session limits Over (Some (Fault Server SecondRm)) 10 [], ports 1 (Some 9)) ∷ (waiting limits, ports 2 (Some 9))
-    ∷ (session limits Open None 30 [], ports 3 (Some 9)) ∷ (session limits Over (Some (Lost Bot)) 40 [], ports 4 None)
-    ∷ (session limits Over (Some (Ended Server)) 50 [], ports 5 (Some 0)) ∷ []
+    ∷ (session limits Open None 30 [], ports 3 (Some 9)) ∷ (session limits Over (Some (Lost Bot)) 40 [], spent 4 (Lost Bot))
+    ∷ (session limits Over (Some (Ended Server)) 50 [], ports 5 (Some 0))
+    ∷ (session limits Over (Some (Ended Server)) 60 [], spent 6 (Lost Bot)) ∷ []
 
 -- from the last place to the first, each that is over and of which nothing waits, with its own end and its own counts
 parted_from_the_last : (limits : Limits) →
-    farewells (five limits) ≡ Retires 5 (record { cause = Causes.Session (Ended Server); summary = counts 50 })
+    farewells (six limits)
+    ≡ Notifies TurnsSpent ∷ Retires 6 (record { cause = Causes.Session (Ended Server); summary = counts 60 })
+    ∷ Retires 5 (record { cause = Causes.Session (Ended Server); summary = counts 50 })
     ∷ Notifies TurnsSpent ∷ Retires 4 (record { cause = Causes.TurnsSpent; summary = counts 40 })
     ∷ Retires 1 (record { cause = Causes.Session (Fault Server SecondRm); summary = counts 10 }) ∷ []
 parted_from_the_last limits = refl
 
 others_stay : (limits : Limits) →
-    remaining (five limits) ≡ (waiting limits, ports 2 (Some 9)) ∷ (session limits Open None 30 [], ports 3 (Some 9)) ∷ []
+    remaining (six limits) ≡ (waiting limits, ports 2 (Some 9)) ∷ (session limits Open None 30 [], ports 3 (Some 9)) ∷ []
 others_stay limits = refl

@@ -1,10 +1,8 @@
 -- The sessions of a run, step after step.
 use Rattle.std.proofs.Common.{◌≡◌, ℕ, zero, suc, ◌<◌, ◌≤◌, Bool, true, false, List, [], ◌∷◌, ◌++◌, length, take, set}
 use Rattle.std.proofs.Common.{◌+◌, refl, sym, ap, ◌∙◌, subst, arith, append-nil, length-append}
-use Rattle.std.specs.Prelude.{◌==◌, ◌&&◌, ◌||◌, nat_lt, Option, Some, None, Contains, All, is_none, is_some, not}
-use Rattle.std.specs.Prelude.{unwrap_or}
-use Rattle.std.proofs.lemmas.Bool.{lt-ltb, le-ltb, ltb-true, ltb-false, eqb-true}
-use Rattle.std.proofs.lemmas.Bool.Decides.{nat_tests}
+use Rattle.std.specs.Prelude.{◌==◌, ◌&&◌, ◌||◌, Option, Some, None, Contains, All, is_none, is_some, not}
+use Rattle.std.proofs.lemmas.Bool.{eqb-true}
 use Rattle.std.proofs.lemmas.List.{take_all, length-set}
 use Rattle.std.proofs.lemmas.List.Elements.{All-nil, All-cons, All-head, All-tail, All-same, All-append, All-set}
 use Rattle.std.proofs.lemmas.List.Elements.{All-push, All-weaker, All-filter}
@@ -12,32 +10,32 @@ use Rattle.std.proofs.lemmas.List.Elements.{Contains-append_left, Contains-appen
 use Rattle.std.proofs.lemmas.Option.{slice_get_within, get_or_from_slice_get}
 use Rattle.std.proofs.Math.Dec.{eqb-suc-zero}
 use Rattle.std.proofs.Math.Seq.{take-suc-set}
-use Rattle.daide_frame.specs.declared.side.Side.TheVariants.{Bot}
 use Rattle.daide_machine.specs.declared.ending.Ending.{Ending}
-use Rattle.daide_machine.specs.declared.ending.Ending.TheVariants.{Ended}
 use Rattle.daide_machine.proofs.EndingLemmas.{runs_told}
 use Rattle.daide_machine.specs.Machine.{Limits, is_over}
 use Rattle.daide_machine.specs.Wires.{Gateway, IsNew, is_closed}
-use Rattle.daide_machine.specs.Ports.{PortAnswer, Clock, Pulled, Offered, BecomesBy, events_of}
+use Rattle.daide_machine.specs.Ports.{PortAnswer, Clock, BecomesBy, events_of}
 use Rattle.daide_turns.specs.Headline.{untouched, Stands, IsBoundedAndExact}
 use Rattle.daide_turns.specs.Hub.{Hosting, IsTurned, Changes}
 use Rattle.daide_turns.specs.HubRuns.{Turned, HubRuns}
 use Rattle.daide_turns.proofs.Stretches.{becomes_then}
 use Rattle.daide_turns.proofs.Standing.{new_stands}
 use Rattle.daide_turns.proofs.ApartLemmas.{runs_split}
+use Rattle.daide_turns.proofs.HubLemmas.{closed_over}
 use Rattle.daide_settings.specs.declared.settings.Settings.{Settings}
 use Rattle.daide_machine.specs.declared.system.Connect.{Connect}
 use Rattle.daide_machine.specs.declared.system.Connect.TheVariants.{Ready, Failed, Pending}
 use Rattle.daide_machine.specs.declared.system.Notice.TheVariants.{CannotReach, TurnsSpent}
 use Rattle.daide_service.specs.declared.tally.Tally.{Tally}
-use Rattle.daide_service.specs.Metered.{Meter, Meters, moved_by, one_less}
+use Rattle.daide_service.specs.Metered.{Meter, Meters, moved_by}
 use Rattle.daide_machine.specs.System.{SystemAnswer, Begins, Accepts, Connects, Retires, Notifies, Waits}
 use Rattle.daide_service.specs.Serving.{Serving, fresh, opening, accepts, come, AdmitsWhere, MeetsWhere, turns_below}
 use Rattle.daide_service.specs.Serving.{TurnsAll, last_words, farewell, farewell_where, farewells, remaining, parting}
 use Rattle.daide_service.specs.Serving.{cause_by, end_of}
 use Rattle.daide_service.specs.Serving.{MeetsBy, wait_where, any_stirs, any_moved, Round, Rounds, is_done}
 use Rattle.daide_service.specs.Served.{run_limits, IsSessionOfRun, IsServed, IsEndOf, LetsGo, connects, retires, counted}
-use Rattle.daide_service.specs.Served.{IsWholeRun, looks_in}
+use Rattle.daide_service.specs.Served.{IsWholeRun}
+use Rattle.daide_service.proofs.CauseLemmas.{IsCut, cut_begins, cut_turn, cut_cause}
 use Rattle.daide_service.proofs.CountLemmas.{counted_append, Counts, counts_then, admission_counts, meeting_counts}
 use Rattle.daide_service.proofs.CountLemmas.{beginning_counts, removal_counts, wait_counts}
 
@@ -62,45 +60,6 @@ module _ {P : Type 0} (becomes : P → PortAnswer → P → Type 0) where
       let order = t.exchange.session.in_order in
       answers_moved t.exchange.call a.1 b.1 t.exchange.ports
       ∙ forgotten t.exchange.call order.1 order.2 order.4.0 a.1.moved order.3 order.4.1
-
--- ---- how many turns were made
-
-none_below_zero : (n : ℕ) → nat_lt n 0 ≡ false
-none_below_zero n = grind (arith, nat_tests)
-
-zero_below : (n : ℕ) → nat_lt 0 (suc n) ≡ true
-zero_below n = grind (arith, nat_tests)
-
-below_alike : (m n : ℕ) → nat_lt m n ≡ nat_lt (suc m) (suc n)
-below_alike m n = go (nat_lt m n) refl
-  where
-    go : (b : Bool) → nat_lt m n ≡ b → nat_lt m n ≡ nat_lt (suc m) (suc n)
-    go true e = let less = ltb-true m n e in e ∙ sym (lt-ltb (suc m) (suc n) (omega (arith, less)))
-    go false e = let more = ltb-false m n e in e ∙ sym (le-ltb (suc m) (suc n) (omega (arith, more)))
-
-module _ {P : Type 0} (becomes : P → PortAnswer → P → Type 0) where
-  -- spent ports stay so
-  stays_spent : (xs : List PortAnswer) (a b : Meter P) → a.left ≡ None → BecomesBy (Meters becomes) a xs b →
-      b.left ≡ None
-  stays_spent [] a b e h = ap (λ (m : Meter P). m.left) h ∙ e
-  stays_spent (Clock popped ∷ xs) a b e h = stays_spent xs h.0 b (h.1.left ∙ ap one_less e) h.2
-  stays_spent (Pulled side buffer pull bytes ∷ xs) a b e h = stays_spent xs h.0 b (h.1.left ∙ e) h.2
-  stays_spent (Offered side bytes put ∷ xs) a b e h = stays_spent xs h.0 b (h.1.left ∙ e) h.2
-
-  counted_from : (xs : List PortAnswer) (turns : ℕ) (a b : Meter P) → a.left ≡ Some turns →
-      BecomesBy (Meters becomes) a xs b → is_none b.left ≡ nat_lt turns (looks_in xs)
-  counted_from [] turns a b e h =
-      ap (λ (m : Meter P). is_none m.left) h ∙ ap is_none e ∙ sym (none_below_zero turns)
-  counted_from (Clock popped ∷ xs) zero a b e h =
-      ap is_none (stays_spent xs h.0 b (h.1.left ∙ ap one_less e) h.2) ∙ sym (zero_below (looks_in xs))
-  counted_from (Clock popped ∷ xs) (suc turns) a b e h =
-      counted_from xs turns h.0 b (h.1.left ∙ ap one_less e) h.2 ∙ below_alike turns (looks_in xs)
-  counted_from (Pulled side buffer pull bytes ∷ xs) turns a b e h = counted_from xs turns h.0 b (h.1.left ∙ e) h.2
-  counted_from (Offered side bytes put ∷ xs) turns a b e h = counted_from xs turns h.0 b (h.1.left ∙ e) h.2
-
-  pub turns_counted : (xs : List PortAnswer) (turns : ℕ) (ports : P) (now : Meter P) →
-      BecomesBy (Meters becomes) (fresh ports turns) xs now → is_none now.left ≡ nat_lt turns (looks_in xs)
-  turns_counted xs turns ports now h = counted_from xs turns (fresh ports turns) now refl h
 
 -- ---- how many ports came and went
 
@@ -212,7 +171,7 @@ module _ {P : Type 0} where
 module _ {P : Type 0} (becomes : P → PortAnswer → P → Type 0) (settings : Settings) where
   -- ---- more answers
 
-  later : (Kind : Limits → List PortAnswer → Gateway → Type 0) (xs ys : List (SystemAnswer P)) (now : Gateway × Meter P) →
+  abbrev later : (Kind : Limits → List PortAnswer → Gateway → Type 0) (xs ys : List (SystemAnswer P)) (now : Gateway × Meter P) →
       IsSessionOfRun becomes Kind settings xs now → IsSessionOfRun becomes Kind settings (xs ++ ys) now
   later Kind xs ys now h = record {
     ports = h.ports;
@@ -224,7 +183,7 @@ module _ {P : Type 0} (becomes : P → PortAnswer → P → Type 0) (settings : 
 
   gone_later : (xs ys : List (SystemAnswer P)) (answer : SystemAnswer P) → LetsGo becomes settings xs answer →
       LetsGo becomes settings (xs ++ ys) answer
-  gone_later xs ys (Retires ports end) h = (h.0, h.1, h.2, later IsBoundedAndExact xs ys h.0 h.3, h.4)
+  gone_later xs ys (Retires ports end) h = (h.0, h.1, h.2, (later IsBoundedAndExact xs ys h.0 h.3.0, h.3.1))
   gone_later xs ys Begins h = tt
   gone_later xs ys (Accepts came) h = tt
   gone_later xs ys (Connects connect) h = tt
@@ -235,32 +194,43 @@ module _ {P : Type 0} (becomes : P → PortAnswer → P → Type 0) (settings : 
 
   module _ (all : List (SystemAnswer P)) where
     abbrev Held : Gateway × Meter P → Type 0
-    Held = IsSessionOfRun becomes Stands settings all
+    Held now = (h : IsSessionOfRun becomes Stands settings all now)
+        × IsCut becomes (run_limits settings) settings.turns h.history now
 
-    abbrev Served : Gateway × Meter P → Type 0
-    Served = IsServed becomes settings all
+    abbrev pub Served : Gateway × Meter P → Type 0
+    Served now = (h : IsServed becomes settings all now)
+        × IsCut becomes (run_limits settings) settings.turns h.history now
 
     abbrev Gone : SystemAnswer P → Type 0
     Gone = LetsGo becomes settings all
 
     still : (now : Gateway × Meter P) → Served now → Held now
-    still now h = record {
-      ports = h.ports;
-      came = h.came;
-      history = h.history;
-      answered = h.answered;
-      stands = h.stands.sends;
-    }
+    still now h = (
+      record {
+        ports = h.0.ports;
+        came = h.0.came;
+        history = h.0.history;
+        answered = h.0.answered;
+        stands = h.0.stands.sends;
+      },
+      h.1,
+    )
 
     turned : (a b : Gateway × Meter P) → IsTurned (Meters becomes) a b → Held a → Served b
-    turned a b t h = record {
-      ports = h.ports;
-      came = h.came;
-      history = h.history ++ t.exchange.call;
-      answered = becomes_then (Meters becomes) h.history t.exchange.call (fresh h.ports settings.turns) a.1 b.1 h.answered
-          t.exchange.ports;
-      stands = t.exchange.session.headline (run_limits settings) h.history h.stands;
-    }
+    turned a b t h =
+        let own = h.0 in
+        let stands = t.exchange.session.headline (run_limits settings) own.history own.stands in (
+          record {
+            ports = own.ports;
+            came = own.came;
+            history = own.history ++ t.exchange.call;
+            answered = becomes_then (Meters becomes) own.history t.exchange.call (fresh own.ports settings.turns) a.1 b.1
+                own.answered t.exchange.ports;
+            stands = stands;
+          },
+          cut_turn becomes (run_limits settings) settings.turns own.history own.ports a b t own.answered own.stands
+              stands.sends h.1,
+        )
 
     -- the places below this one had their turns
     record Below (n : ℕ) (old new : Hosting (Meter P)) : Type 0 where
@@ -355,14 +325,20 @@ module _ {P : Type 0} (becomes : P → PortAnswer → P → Type 0) (settings : 
         by (Ready ports) told e m =
             let one : answers ≡ Connects (Ready ports) ∷ [] =
             e ∙ ap (λ (l : List (SystemAnswer P)). Connects (Ready ports) ∷ l) m.0 in
-            let place : Held (m.1.0, fresh ports tally.turns) = record {
+            let stands = new_stands (run_limits settings) m.1.0 (subst (λ (l : Limits). IsNew l m.1.0) limits m.1.1) in
+            let own : IsSessionOfRun becomes Stands settings all (m.1.0, fresh ports tally.turns) = record {
               ports = ports;
               came = within ports (subst (λ (l : List (SystemAnswer P)). Contains l (Connects (Ready ports))) (sym one)
                   (0, omega arith, refl));
               history = [];
               answered = ap (fresh ports) turns;
-              stands = new_stands (run_limits settings) m.1.0 (subst (λ (l : Limits). IsNew l m.1.0) limits m.1.1);
+              stands = stands;
             } in
+            let place : Held (m.1.0, fresh ports tally.turns) = (
+              own,
+              subst (λ (n : ℕ). IsCut becomes (run_limits settings) settings.turns [] (m.1.0, fresh ports n)) (sym turns)
+                  (cut_begins becomes (run_limits settings) settings.turns m.1.0 ports stands),
+            ) in
             record {
               gone = All-same Gone answers (Connects (Ready ports) ∷ []) one
                   (All-cons Gone (Connects (Ready ports)) [] tt (All-nil Gone));
@@ -403,21 +379,19 @@ module _ {P : Type 0} (becomes : P → PortAnswer → P → Type 0) (settings : 
     some_ending None e = absurd (cc)
     some_ending (Some ending) e = (ending, refl)
 
-    closed_over : (over quiet : Bool) → (over && quiet) ≡ true → over ≡ true
-    closed_over true quiet e = refl
-    closed_over false quiet e = absurd (cc)
-
     -- what is told of a session's end is its own
-    ended : (place : Gateway × Meter P) → is_closed place.0 ≡ true → Served place → IsEndOf place (end_of place)
+    ended : (place : Gateway × Meter P) → is_closed place.0 ≡ true → (h : Served place) →
+        IsEndOf (run_limits settings) settings.turns h.0.history place.0 (end_of place)
     ended place closed h =
-        let stands = h.stands.sends in
-        let told = runs_told (untouched (run_limits settings)).state (events_of h.history) stands.effects place.0.state
-        stands.run refl in
+        let stands = h.0.stands.sends in
+        let told = runs_told (untouched (run_limits settings)).state (events_of h.0.history) stands.effects
+        place.0.state stands.run refl in
         let over = closed_over (is_over place.0.state.phase) _ closed in
         let own = some_ending place.0.state.ending (told ∙ over) in (
-          own.0,
-          own.1,
-          ap (λ (o : Option Ending). cause_by (is_none place.1.left) (unwrap_or o (Ended Bot))) own.1,
+          h.1.effects,
+          h.1.state,
+          h.1.run,
+          ap (cause_by place.1.told) own.1 ∙ cut_cause h.1.state place.0.state place.1.told own.0 h.1.cut own.1,
           refl,
         )
 
@@ -425,7 +399,7 @@ module _ {P : Type 0} (becomes : P → PortAnswer → P → Type 0) (settings : 
         All Gone (farewell_where b place)
     parted true place e h =
         All-push Gone (last_words (is_none place.1.left)) (Retires place.1.ports (end_of place))
-        (spoken (is_none place.1.left)) (place, refl, e, h, ended place e h)
+        (spoken (is_none place.1.left)) (place, refl, e, (h.0, ended place e h))
     parted false place e h = All-nil Gone
 
     all_parted : (places : List (Gateway × Meter P)) → All Served places → All Gone (farewells places)
@@ -444,7 +418,7 @@ module _ {P : Type 0} (becomes : P → PortAnswer → P → Type 0) (settings : 
   pub record Keeps (answers : List (SystemAnswer P)) (run : Serving P) : Type 0 where
     pub limits : run.hub.limits ≡ run_limits settings
     pub turns : run.tally.turns ≡ settings.turns
-    pub held : All (IsServed becomes settings answers) run.hub.places
+    pub held : All (Served answers) run.hub.places
     pub gone : All (LetsGo becomes settings answers) answers
     pub balance : counted connects answers ≡ length run.hub.places + counted retires answers
     pub counts : Counts answers (opening {P = P} settings).tally run.tally
@@ -477,7 +451,7 @@ module _ {P : Type 0} (becomes : P → PortAnswer → P → Type 0) (settings : 
       let last = wait_where {P = P} moved more in
       let come = admitted all (accepts old.tally (length old.hub.places)) old.tally r.admission r.came r.admits in
       let still_held : All (Held all) old.hub.places =
-      All-weaker (IsServed becomes settings xs) (Held all) (λ now s. still all now (later IsBoundedAndExact xs ys now s))
+      All-weaker (Served xs) (Held all) (λ now s. still all now (later IsBoundedAndExact xs ys now s.0, s.1))
       old.hub.places h.held in
       let within : (ports : P) → Contains r.meeting (Connects (Ready ports)) → Contains all (Connects (Ready ports)) =
       λ ports c. Contains-append_right xs ys (Connects (Ready ports))
@@ -537,7 +511,7 @@ module _ {P : Type 0} (becomes : P → PortAnswer → P → Type 0) (settings : 
       (subst (λ (r : Serving P). Keeps [] r) (sym h.1) (record {
         limits = refl;
         turns = refl;
-        held = All-nil (IsServed becomes settings []);
+        held = All-nil (Served []);
         gone = All-nil (LetsGo becomes settings []);
         balance = refl;
         counts = record { came = refl; met = refl; sessions = refl };

@@ -1,16 +1,21 @@
 -- Ports with so many turns: what a call does to them by its answer, and what counts as a move.
 use Rattle.std.specs.Prelude.{◌≡◌, ℕ, suc, zero, nat_lt, Bool, true, false, ◌||◌, List, [], ◌∷◌, Option, Some, None}
+use Rattle.std.specs.Option.{option_or}
+use Rattle.daide_machine.specs.declared.ending.Ending.{Ending}
+use Rattle.daide_machine.specs.declared.ending.Ending.TheVariants as Endings
 use Rattle.daide_machine.specs.Ports.{PortAnswer, Clock, Pulled, Offered}
 use Rattle.daide_machine.specs.declared.ports.Pull.{Pull}
 use Rattle.daide_machine.specs.declared.ports.Pull.TheVariants.{Got, Idle, Ended}
 use Rattle.daide_machine.specs.declared.ports.Put.{Put}
 use Rattle.daide_machine.specs.declared.ports.Put.TheVariants.{Took, Failed}
 
--- ports, the turns that are left of them, none once they are spent, and whether anything moved in the last one
+-- ports, the turns that are left of them, none once they are spent, whether anything moved in the last one, and the end or
+-- failure that was told first since they are spent
 pub record Meter (P : Type 0) : Type 0 where
   pub ports : P
   pub left : Option ℕ
   pub moved : Bool
+  pub told : Option Ending
 
 -- a look at the clock takes a turn; the one that finds none left is one too many
 abbrev pub one_less : Option ℕ → Option ℕ
@@ -51,6 +56,16 @@ IsSpentAnswer (Clock popped) = popped ≡ false
 IsSpentAnswer (Pulled side buffer pull bytes) = pull ≡ Ended
 IsSpentAnswer (Offered side bytes put) = put ≡ Failed
 
+-- the end or failure by which the session goes, where the ports are not asked: the first one stays
+abbrev pub told_where : Option ℕ → Ending → Option Ending → Option Ending
+told_where (Some turns) ending told = told
+told_where None ending told = option_or told (Some ending)
+
+abbrev pub told_after : PortAnswer → Option ℕ → Option Ending → Option Ending
+told_after (Clock popped) left told = told
+told_after (Pulled side buffer pull bytes) left told = told_where left (Endings.Ended side) told
+told_after (Offered side bytes put) left told = told_where left (Endings.Lost side) told
+
 -- while turns are left the ports are asked; once they are spent they are asked nothing more
 abbrev pub BecomesWhile : {P : Type 0} → (P → PortAnswer → P → Type 0) → Option ℕ → P → PortAnswer → P → Type 0
 BecomesWhile becomes (Some turns) old answer new = becomes old answer new
@@ -61,4 +76,5 @@ pub record Meters {P : Type 0} (becomes : P → PortAnswer → P → Type 0) (ol
     (new : Meter P) : Type 0 where
   pub left : new.left ≡ left_after answer old.left
   pub moved : new.moved ≡ moved_after answer old.moved
+  pub told : new.told ≡ told_after answer new.left old.told
   pub ports : BecomesWhile becomes new.left old.ports answer new.ports

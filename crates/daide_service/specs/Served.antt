@@ -1,20 +1,22 @@
 -- What a run makes of each of its sessions: those that it holds, and those whose ports it lets go.
-use Rattle.std.specs.Prelude.{◌≡◌, ℕ, suc, ◌+◌, nat_lt, true, false, List, [], ◌∷◌, length, Some, is_none}
-use Rattle.std.specs.Prelude.{Contains, All}
+use Rattle.std.specs.Prelude.{◌≡◌, ℕ, zero, suc, ◌+◌, nat_lt, true, false, List, [], ◌∷◌, length}
+use Rattle.std.specs.Prelude.{Option, Some, None, is_none, Contains, All}
 use Rattle.daide_machine.specs.declared.ending.Ending.{Ending}
-use Rattle.daide_machine.specs.Machine.{Limits}
+use Rattle.daide_machine.specs.Machine.{Limits, SessionState, Effect, Runs}
 use Rattle.daide_machine.specs.Wires.{Gateway, is_closed}
 use Rattle.daide_words.specs.Words.{words_of}
 use Rattle.daide_machine.specs.Config.{limits_with}
-use Rattle.daide_machine.specs.Ports.{PortAnswer, Clock, Pulled, Offered, BecomesBy}
-use Rattle.daide_turns.specs.Headline.{IsBoundedAndExact}
+use Rattle.daide_machine.specs.Ports.{PortAnswer, Clock, Pulled, Offered, BecomesBy, events_of}
+use Rattle.daide_turns.specs.Headline.{untouched, IsBoundedAndExact}
 use Rattle.daide_turns.specs.Hub.{IsTurned}
 use Rattle.daide_settings.specs.declared.settings.Settings.{Settings}
 use Rattle.daide_machine.specs.declared.system.Connect.TheVariants.{Ready, Failed, Pending}
+use Rattle.daide_machine.specs.declared.system.Cause.{Cause}
+use Rattle.daide_machine.specs.declared.system.Cause.TheVariants as Causes
 use Rattle.daide_machine.specs.declared.system.SessionEnd.{SessionEnd}
 use Rattle.daide_service.specs.Metered.{Meter, Meters, moved_by}
 use Rattle.daide_machine.specs.System.{SystemAnswer, Begins, Accepts, Connects, Retires, Notifies, Waits}
-use Rattle.daide_service.specs.Serving.{Serving, cause_by, fresh, opening, Rounds, Serves}
+use Rattle.daide_service.specs.Serving.{Serving, fresh, opening, Rounds, Serves}
 
 -- the limits of a run's sessions
 abbrev pub run_limits : Settings → Limits
@@ -36,18 +38,34 @@ abbrev pub IsServed : {P : Type 0} → (P → PortAnswer → P → Type 0) → S
     Gateway × Meter P → Type 0
 IsServed becomes = IsSessionOfRun becomes IsBoundedAndExact
 
--- how a session ended, by its turns or by the event that ended it, and its moves counted
-abbrev pub IsEndOf : {P : Type 0} → Gateway × Meter P → SessionEnd → Type 0
-IsEndOf place end =
-    (ending : Ending) × (place.0.state.ending ≡ Some ending) × (end.cause ≡ cause_by (is_none place.1.left) ending)
-    × (end.summary ≡ place.0.summary)
+-- the answers while turns were left: those before the look at the clock that was one too many
+abbrev pub while_left : ℕ → List PortAnswer → List PortAnswer
+while_left turns [] = []
+while_left zero (Clock popped ∷ answers) = []
+while_left (suc turns) (Clock popped ∷ answers) = Clock popped ∷ while_left turns answers
+while_left turns (Pulled side buffer pull bytes ∷ answers) = Pulled side buffer pull bytes ∷ while_left turns answers
+while_left turns (Offered side bytes put ∷ answers) = Offered side bytes put ∷ while_left turns answers
+
+-- the event that ended a session, if one did; else its turns were spent while it was open
+abbrev pub cause_of : Option Ending → Cause
+cause_of (Some ending) = Causes.Session ending
+cause_of None = Causes.TurnsSpent
+
+-- How a session ended, by all that its ports answered: its cause is what ended it while its turns were left, and its moves
+-- are counted.
+abbrev pub IsEndOf : Limits → ℕ → List PortAnswer → Gateway → SessionEnd → Type 0
+IsEndOf limits turns history session end =
+    (effects : List Effect) × (state : SessionState)
+    × Runs (untouched limits).state (events_of (while_left turns history)) effects state × (end.cause ≡ cause_of state.ending)
+    × (end.summary ≡ session.summary)
 
 -- ports that are let go are those of a session that is closed, and was served, and what is told of its end is its own
 abbrev pub LetsGo : {P : Type 0} → (P → PortAnswer → P → Type 0) → Settings → List (SystemAnswer P) →
     SystemAnswer P → Type 0
 LetsGo {P} becomes settings answers (Retires ports end) =
     (now : Gateway × Meter P) × (now.1.ports ≡ ports) × (is_closed now.0 ≡ true)
-    × IsServed becomes settings answers now × IsEndOf now end
+    × ((served : IsServed becomes settings answers now)
+    × IsEndOf (run_limits settings) settings.turns served.history now.0 end)
 LetsGo becomes settings answers Begins = Unit {0}
 LetsGo becomes settings answers (Accepts came) = Unit {0}
 LetsGo becomes settings answers (Connects connect) = Unit {0}

@@ -1,13 +1,12 @@
 -- The loop of a run: what each step of a round asks of the system and does to the sessions, what a round is, and
 -- what a whole run is, to its end or broken off. A step is stated with what the system answered in it, told or not.
 use Rattle.std.specs.Prelude.{◌≡◌, ℕ, zero, suc, ◌+◌, ◌-◌, ◌≤◌, nat_lt, Bool, true, false, not, ◌&&◌, ◌||◌, ◌==◌, ◌⊎◌}
-use Rattle.std.specs.Prelude.{List, [], ◌∷◌, ◌++◌, length, filter, Some, is_none, unwrap_or}
+use Rattle.std.specs.Prelude.{List, [], ◌∷◌, ◌++◌, length, filter, Option, Some, None, is_none, if◌then◌else◌}
 use Rattle.std.specs.List.{list_any}
-use Rattle.daide_frame.specs.declared.side.Side.TheVariants.{Bot}
 use Rattle.daide_machine.specs.declared.ending.Ending.{Ending}
-use Rattle.daide_machine.specs.declared.ending.Ending.TheVariants.{Ended}
+use Rattle.daide_machine.specs.declared.ending.Ending.TheVariants.{Ended, Lost}
 use Rattle.daide_machine.specs.declared.summary.Summary.{Summary}
-use Rattle.daide_machine.specs.Wires.{Gateway, is_closed}
+use Rattle.daide_machine.specs.Wires.{Gateway, is_closed, same_side}
 use Rattle.daide_turns.specs.declared.hub.HubError.{HubError}
 use Rattle.daide_turns.specs.declared.hub.HubError.TheVariants as HubErrors
 use Rattle.daide_words.specs.Words.{words_of}
@@ -82,7 +81,7 @@ Admits count old = AdmitsWhere (accepts old count) old
 
 -- ports with all their turns to come
 abbrev pub fresh : {P : Type 0} → P → ℕ → Meter P
-fresh ports turns = record { ports = ports; left = Some turns; moved = false }
+fresh ports turns = record { ports = ports; left = Some turns; moved = false; told = None }
 
 -- one that is there becomes a session in its opening state, at the last place; one that failed is told, and let go
 abbrev pub MeetsBy : {P : Type 0} → Connect P → Hosting (Meter P) → Tally → List (SystemAnswer P) →
@@ -124,21 +123,26 @@ abbrev pub last_words : {P : Type 0} → Bool → List (SystemAnswer P)
 last_words true = Notifies TurnsSpent ∷ []
 last_words false = []
 
--- why a session ended: its turns were spent, or else by this event
-abbrev pub cause_by : Bool → Ending → Cause
-cause_by true ending = Causes.TurnsSpent
-cause_by false ending = Causes.Session ending
+-- whether an event is the one that was told first since the turns are spent
+abbrev pub is_told : Option Ending → Ending → Bool
+is_told None ending = false
+is_told (Some (Ended one)) (Ended side) = same_side one side
+is_told (Some (Lost one)) (Lost side) = same_side one side
+is_told (Some told) ending = false
 
-abbrev pub end_by : Bool → Ending → Summary → SessionEnd
-end_by spent ending summary = record { cause = cause_by spent ending; summary = summary }
+-- Why a session ended: the event that ended it while its turns were left, and where none did, that these were spent. A
+-- session that was open then ends by what is told first since. One that was over before is asked for no more bytes, and
+-- nothing waits for a wire that was lost, so what ended it is not told again.
+abbrev pub cause_by : Option Ending → Option Ending → Cause
+cause_by told None = Causes.TurnsSpent
+cause_by told (Some ending) = if is_told told ending then Causes.TurnsSpent else Causes.Session ending
 
--- the event that ended a session; one that is over has one, and it is asked of no other
-abbrev pub ending_of : Gateway → Ending
-ending_of session = unwrap_or session.state.ending (Ended Bot)
+abbrev pub end_by : Option Ending → Option Ending → Summary → SessionEnd
+end_by told ending summary = record { cause = cause_by told ending; summary = summary }
 
 -- how a session ended, and its moves counted
 abbrev pub end_of : {P : Type 0} → Gateway × Meter P → SessionEnd
-end_of place = end_by (is_none place.1.left) (ending_of place.0) place.0.summary
+end_of place = end_by place.1.told place.0.state.ending place.0.summary
 
 -- that its turns are spent is told, if so, and its ports go, with how it ended
 abbrev pub parting : {P : Type 0} → Meter P → SessionEnd → List (SystemAnswer P)

@@ -1,8 +1,9 @@
 //! Ports with so many turns, which remember whether their last turn moved anything.
 
-ghost use Rattle.std.specs.Prelude.{◌≡◌, false, Some, is_none};
+ghost use Rattle.std.specs.Prelude.{◌≡◌, false, Some, None, is_none};
 
 use daide_frame::side::Side;
+use daide_machine::ending::Ending;
 use daide_machine::ports::{Ports, Pull, Put};
 use std::marker::Model;
 
@@ -14,6 +15,8 @@ pub struct Metered<P: Ports> {
     /// How many turns are left; none of ports whose turns are spent.
     left: Option<u64>,
     moved: bool,
+    /// The end or failure that was told first since the turns are spent. A session that was open till then is ended by it.
+    told: Option<Ending>,
 }
 
 impl<P: Ports> Model for Metered<P> {
@@ -21,18 +24,19 @@ impl<P: Ports> Model for Metered<P> {
 
     ghost Value = { Meter P };
 
-    ghost view = { λ m. record { ports = m.ports; left = m.left; moved = m.moved } };
+    ghost view = { λ m. record { ports = m.ports; left = m.left; moved = m.moved; told = m.told } };
 }
 
 impl<P: Ports> Metered<P> {
     /// Ports with so many turns to come.
     pub fn new(ports: P, turns: u64) -> Metered<P>
-        ensures { result ≡ record { ports = ports; left = Some turns; moved = false } }
+        ensures { result ≡ record { ports = ports; left = Some turns; moved = false; told = None } }
     {
         Metered {
             ports,
             left: Some(turns),
             moved: false,
+            told: None,
         }
     }
 
@@ -51,6 +55,13 @@ impl<P: Ports> Metered<P> {
         self.moved
     }
 
+    /// The end or failure that was told first since the turns are spent.
+    pub fn told(&self) -> Option<Ending>
+        ensures { result ≡ self.now.told }
+    {
+        self.told
+    }
+
     /// The ports themselves.
     pub fn into_ports(self) -> P
         ensures { result ≡ self.ports }
@@ -59,6 +70,7 @@ impl<P: Ports> Metered<P> {
             ports,
             left: _,
             moved: _,
+            told: _,
         } = self;
         ports
     }
@@ -72,7 +84,10 @@ impl<P: Ports> Ports for Metered<P> {
     fn pull(&mut self, side: Side, buffer: &mut [u8]) -> Pull {
         let pull = match self.left {
             Some(_turns) => self.ports.pull(side, buffer),
-            None => Pull::Ended,
+            None => {
+                self.told = self.told.or(Some(Ending::Ended(side)));
+                Pull::Ended
+            }
         };
         self.moved = self.moved
             || match pull {
@@ -86,7 +101,10 @@ impl<P: Ports> Ports for Metered<P> {
     fn put(&mut self, side: Side, bytes: &[u8]) -> Put {
         let put = match self.left {
             Some(_turns) => self.ports.put(side, bytes),
-            None => Put::Failed,
+            None => {
+                self.told = self.told.or(Some(Ending::Lost(side)));
+                Put::Failed
+            }
         };
         self.moved = self.moved
             || match put {

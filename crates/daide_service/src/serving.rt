@@ -2,26 +2,26 @@
 //!
 //! It knows no socket. What the system gives is a parameter, so that whole runs can be driven in memory.
 
-ghost use Rattle.std.specs.Prelude.{◌≡◌, ◌+◌, ◌≤◌, ◌==◌, false, List, [], ◌∷◌, length, is_none};
+ghost use Rattle.std.specs.Prelude.{◌≡◌, ◌+◌, ◌≤◌, ◌==◌, false, List, [], ◌∷◌, length, Some};
 ghost use Rattle.std.specs.Prelude.{Ok, OnOk, OnErr, IfOk, IfErr};
 ghost use Rattle.daide_machine.specs.Config.{config_fault};
 ghost use Rattle.daide_turns.specs.Hub.{IsHubSize};
 ghost use Rattle.daide_machine.specs.System.{SystemAnswer, Connects};
 ghost use Rattle.daide_machine.specs.Ports.{Tells};
 ghost use Rattle.daide_service.specs.Serving.{IsWithin, Admits, Meets, TurnsAll, any_moved, RemovesClosed, parting};
-ghost use Rattle.daide_service.specs.Serving.{cause_by, end_by};
+ghost use Rattle.daide_service.specs.Serving.{is_told, cause_by, end_by};
 ghost use Rattle.daide_service.specs.Serving.{wait_where, any_stirs, Round, is_done, opening, fault_of};
 ghost use Rattle.daide_service.specs.Served.{IsWholeRun};
 ghost use Rattle.daide_service.specs.Serving.{IsServeCause, IsOpeningCause, IsOfSettings, BreaksOff, GivesUp, arrived};
 
 use crate::metered::Metered;
-use daide_machine::system::{Cause, Connect, Notice, SessionEnd, System};
 use crate::tally::Tally;
 use daide_machine::config::ConfigError;
 use daide_machine::ending::Ending;
+use daide_machine::ports::Ports;
+use daide_machine::system::{Cause, Connect, Notice, SessionEnd, System};
 use daide_settings::settings::Settings;
 use daide_turns::hub::{AddFault, Hub, HubError, Removed};
-use daide_machine::ports::Ports;
 use std::alloc::{Allocator, Global};
 use std::marker::Model;
 use thiserror::Error;
@@ -153,11 +153,22 @@ fn has_moved<P: Ports, A: Allocator + Copy>(hub: &Hub<Metered<P>, A>) -> bool
     moved
 }
 
-/// Why a session ended, whose turns are spent or not, by which event it did.
-fn cause_of(is_spent: bool, ending: Ending) -> Cause
-    ensures { result ≡ cause_by is_spent ending }
+/// Whether an event is the one that was told first since the turns are spent.
+fn is_told(told: Option<Ending>, ending: Ending) -> bool
+    ensures { result ≡ is_told told ending }
 {
-    if is_spent {
+    match (told, ending) {
+        (Some(Ending::Ended(one)), Ending::Ended(side)) => one == side,
+        (Some(Ending::Lost(one)), Ending::Lost(side)) => one == side,
+        _ => false,
+    }
+}
+
+/// Why a session ended by this event, where that was told first since its turns are spent.
+fn cause_of(told: Option<Ending>, ending: Ending) -> Cause
+    ensures { result ≡ cause_by told (Some ending) }
+{
+    if is_told(told, ending) {
         Cause::TurnsSpent
     } else {
         Cause::Session(ending)
@@ -167,19 +178,18 @@ fn cause_of(is_spent: bool, ending: Ending) -> Cause
 /// Lets ports go, with how their session ended, and tells where their turns are spent.
 fn part_with<P: Ports, S: System<P>>(removed: Removed<Metered<P>>, system: &mut S)
     ensures { Tells (S.told system.old) (parting removed.ports
-        (end_by (is_none removed.ports.left) removed.ending removed.summary)) (S.told system.new) }
+        (end_by removed.ports.told (Some removed.ending) removed.summary)) (S.told system.new) }
 {
     let Removed {
         ports,
         summary,
         ending,
     } = removed;
-    let is_spent = ports.is_spent();
-    if is_spent {
+    if ports.is_spent() {
         system.tell(Notice::TurnsSpent);
     }
     let end = SessionEnd {
-        cause: cause_of(is_spent, ending),
+        cause: cause_of(ports.told(), ending),
         summary,
     };
     system.retire(ports.into_ports(), end);

@@ -26,11 +26,11 @@ use Rattle.daide_machine.specs.Fates.{Came, IsJudged}
 use Rattle.daide_machine.specs.Passing.{IsFrame, HasCome, IsPassed, IsWithinPrn, IsWithinHuh, MayBeSent, no_message}
 use Rattle.daide_machine.specs.Passing.{passed, within_prn, within_huh}
 use Rattle.daide_machine.proofs.PassingLemmas.{not_report}
-use Rattle.daide_session.specs.InARow.{IsVerdictOfNext, passes, lower, too_deep}
+use Rattle.daide_session.specs.InARow.{IsVerdictAtOneLevel, passes, too_deep, IsVerdictOfNext, at_one_level, lower}
 
 -- ---- a frame has one kind and one body
 
-same_frame : (k l : Kind) (a b bytes : List ℕ) → IsFrame k a bytes → IsFrame l b bytes →
+pub same_frame : (k l : Kind) (a b bytes : List ℕ) → IsFrame k a bytes → IsFrame l b bytes →
     (kind_number k ≡ kind_number l) × (a ≡ b)
 unfolding head_bytes
 same_frame k l a b bytes f g =
@@ -39,7 +39,7 @@ same_frame k l a b bytes f g =
     let bodies : a ≡ b = cc in
     (kinds, bodies)
 
-no_dm : (kind : Kind) → is_dm kind ≡ false → kind_number kind ≡ 2 → ⊥
+pub no_dm : (kind : Kind) → is_dm kind ≡ false → kind_number kind ≡ 2 → ⊥
 no_dm Im n e = absurd (omega arith)
 no_dm Rm n e = absurd (omega arith)
 no_dm Dm n e = absurd (cc)
@@ -49,7 +49,7 @@ no_dm Em n e = absurd (omega arith)
 -- ---- a verdict of a message that is paired
 
 -- is to pass it on, or HUH where it is not passed on
-paired_verdict : (message : List ℕ → Type 0) (max_depth : ℕ) (m : List ℕ) (v : Verdict) → IsPaired m →
+pub paired_verdict : (message : List ℕ → Type 0) (max_depth : ℕ) (m : List ℕ) (v : Verdict) → IsPaired m →
     HasVerdict message max_depth m v →
     (v ≡ Relay) ⊎ ((place : ℕ) × (v ≡ Huh place) × (¬ IsRelayed message max_depth m))
 unfolding HasVerdict
@@ -70,6 +70,9 @@ module _ (words : Words) (free : are_free words ≡ true) (limits : Limits) (sam
   abbrev Next : Type 0
   Next = IsVerdictOfNext limits came to level body v
 
+  abbrev AtOne : Type 0
+  AtOne = IsVerdictAtOneLevel limits came to body v
+
   passed_next : (noted : Level) → HasCome came (other to) noted body →
       IsPassed limits (other to) noted (tokens_of body) → IsJudged limits (other to) level body v → Next
   passed_next noted come p h = go (paired_verdict (Message level) limits.max_depth (tokens_of body) v p.paired h)
@@ -83,12 +86,12 @@ module _ (words : Words) (free : are_free words ≡ true) (limits : Limits) (sam
 
       go : (v ≡ Relay) ⊎ ((place : ℕ) × (v ≡ Huh place)
           × (¬ IsRelayed (Message level) limits.max_depth (tokens_of body))) → Next
-      go (inl e) = passes e
+      go (inl e) = at_one_level (passes e)
       go (inr q) =
           lower noted q.0 come (not_within (level_number noted) (level_number level) (λ l. q.2 (higher l))) q.1
 
-  prn_next : (own : List ℕ) → IsWithinPrn (tokens_of own) (tokens_of body) →
-      IsJudged limits (other to) level body v → Next
+  pub prn_next : (own : List ℕ) → IsWithinPrn (tokens_of own) (tokens_of body) →
+      IsJudged limits (other to) level body v → AtOne
   prn_next own w h = go (paired_verdict (Message level) limits.max_depth (tokens_of body) v report h)
     where
       report : IsPaired (tokens_of body)
@@ -101,13 +104,13 @@ module _ (words : Words) (free : are_free words ≡ true) (limits : Limits) (sam
       }
 
       go : (v ≡ Relay) ⊎ ((place : ℕ) × (v ≡ Huh place)
-          × (¬ IsRelayed (Message level) limits.max_depth (tokens_of body))) → Next
+          × (¬ IsRelayed (Message level) limits.max_depth (tokens_of body))) → AtOne
       go (inl e) = passes e
       go (inr q) = absurd (q.2 relayed)
 
-  huh_next : (noted : Level) (place : ℕ) (own : List ℕ) → HasCome came to noted own →
+  pub huh_next : (noted : Level) (place : ℕ) (own : List ℕ) → HasCome came to noted own →
       IsWithinHuh limits to noted place (tokens_of own) (tokens_of body) →
-      IsJudged limits (other to) level body v → Next
+      IsJudged limits (other to) level body v → AtOne
   huh_next noted place own come w h =
       go (paired_verdict (Message level) limits.max_depth (tokens_of body) v paired h)
     where
@@ -128,7 +131,7 @@ module _ (words : Words) (free : are_free words ≡ true) (limits : Limits) (sam
       shallow l = record { is_message = message; shallow = omega (arith, w.deeper, l) }
 
       go : (v ≡ Relay) ⊎ ((at : ℕ) × (v ≡ Huh at)
-          × (¬ IsRelayed (Message level) limits.max_depth (tokens_of body))) → Next
+          × (¬ IsRelayed (Message level) limits.max_depth (tokens_of body))) → AtOne
       go (inl e) = passes e
       go (inr q) =
           too_deep noted place q.0 own come w
@@ -144,11 +147,11 @@ module _ (words : Words) (free : are_free words ≡ true) (limits : Limits) (sam
       (subst (λ (b : List ℕ). IsPassed limits (other to) noted (tokens_of b)) e p) h
   sent_next bytes (within_prn noted own same_body f come w) g h =
       let e = (same_frame Dm Dm same_body body bytes f g).1 in
-      prn_next own (subst (λ (b : List ℕ). IsWithinPrn (tokens_of own) (tokens_of b)) e w) h
+      at_one_level (prn_next own (subst (λ (b : List ℕ). IsWithinPrn (tokens_of own) (tokens_of b)) e w) h)
   sent_next bytes (within_huh noted place own same_body f come w) g h =
       let e = (same_frame Dm Dm same_body body bytes f g).1 in
-      huh_next noted place own come
-      (subst (λ (b : List ℕ). IsWithinHuh limits to noted place (tokens_of own) (tokens_of b)) e w) h
+      at_one_level (huh_next noted place own come
+      (subst (λ (b : List ℕ). IsWithinHuh limits to noted place (tokens_of own) (tokens_of b)) e w) h)
 
 -- each of the frames that a side is sent
 pub all_next : (words : Words) → are_free words ≡ true → (limits : Limits) → limits.words ≡ words → (came : List Came)

@@ -9,7 +9,6 @@ use Rattle.std.proofs.lemmas.List.Elements.{All-head, All-tail, All-weaker}
 use Rattle.std.proofs.lemmas.Nat.{from_be_bytes-to_be_bytes_2}
 use Rattle.std.proofs.lemmas.Bool.{leb-true}
 use Rattle.daide_frame.specs.declared.side.Side.{Side}
-use Rattle.daide_frame.specs.declared.side.Side.TheVariants.{Bot, Server}
 use Rattle.daide_frame.specs.declared.head.Kind.{Kind}
 use Rattle.daide_frame.specs.declared.head.Kind.TheVariants.{Im, Rm, Dm, Fm, Em}
 use Rattle.daide_frame.specs.declared.head.Head.{Head}
@@ -38,14 +37,11 @@ use Rattle.daide_machine.specs.Passing.{IsFrame, MayBeSent, no_message, passed, 
 use Rattle.daide_machine.proofs.FrameShapes.{IsWholeFrame}
 use Rattle.daide_machine.proofs.AnswerBytes.{frame_whole}
 use Rattle.daide_machine.proofs.FateLemmas.{run_fates, frames_come}
+use Rattle.daide_machine.proofs.WireLemmas.{same_self}
 use Rattle.daide_machine.proofs.PassingLemmas.{IsGood, AreGood, run_good, only_messages}
 use Rattle.daide_session.specs.InARow.{IsVerdictOfNext, InARowOver}
 use Rattle.daide_session.specs.Joined.{AreFirst, IsFateAtNext, HaveFatesAtNext}
 use Rattle.daide_session.specs.Joined.{JoinedGatewaysOver}
-
-same_self : (side : Side) → same_side side side ≡ true
-same_self Bot = refl
-same_self Server = refl
 
 -- ---- the frames that are sent are whole
 
@@ -287,7 +283,7 @@ module _ (limits : Limits) (small : limits.cap ≤ longest_body) (one : List Cam
       (sent : List Sent) → IsWholeFrame limits.cap (record { kind = kind; len = len }) body →
       IsFrameFate kind limits phase side noted (record { kind = kind; len = len }) body sent →
       (side ≡ other to → Next (head_bytes (record { kind = kind; len = len }) ++ body)) →
-      IsFateAtNext limits one to (Frame side noted (record { kind = kind; len = len }) body) sent
+      IsFateAtNext (IsVerdictOfNext limits one to) to (Frame side noted (record { kind = kind; len = len }) body) sent
   frame_fate phase side noted Im len body sent w f next e k = absurd (cc)
   frame_fate phase side noted Rm len body sent w f next e k = absurd (cc)
   frame_fate phase side noted Dm len body sent w f next e k =
@@ -297,7 +293,8 @@ module _ (limits : Limits) (small : limits.cap ≤ longest_body) (one : List Cam
 
   -- the messages of the side where the one stands
   cause_fate : (phase : Phase) (cause : Cause) (sent : List Sent) → IsGood limits.cap cause →
-      IsFate limits phase cause sent → EachNext (frame_of (other to) cause) → IsFateAtNext limits one to cause sent
+      IsFate limits phase cause sent → EachNext (frame_of (other to) cause) →
+      IsFateAtNext (IsVerdictOfNext limits one to) to cause sent
   cause_fate phase (Frame side noted head body) sent g f next =
       frame_fate phase side noted head.kind head.len body sent g f (λ e. here e next)
     where
@@ -317,7 +314,7 @@ module _ (limits : Limits) (small : limits.cap ≤ longest_body) (one : List Cam
   each_part (Whole head body ∷ a) b n = let rest = each_part a b n.1 in ((n.0, rest.0), rest.1)
 
   all_fates : (next : List Came) (effects : List Effect) → AreGood limits.cap next → HaveFates limits next effects →
-      EachNext (frames_from (other to) next) → HaveFatesAtNext limits one to next effects
+      EachNext (frames_from (other to) next) → HaveFatesAtNext (IsVerdictOfNext limits one to) to next effects
   all_fates [] effects g f n = f
   all_fates (c ∷ more) [] g f n = absurd f
   all_fates (c ∷ more) (effect ∷ effects) g f n =
@@ -349,7 +346,7 @@ joined_over words row limits to events next_events effects next_effects new next
         (subst (λ (items : List Item). AreFirst items (sent_to to effects)) come.1
         (cut_front limits.cap (bytes_from (other to) next_events) joined.0 (sent_to to effects) some joined.1))
 
-    fates : HaveFatesAtNext limits one to next next_effects
+    fates : HaveFatesAtNext (IsVerdictOfNext limits one to) to next next_effects
     fates =
         all_fates limits small one to next next_effects
         (run_good (opening limits) next_events next_effects next_new next_run)

@@ -10,3 +10,5 @@ pub mod WrittenLemmas
 pub mod WorkLemmas
 pub mod InARowLemmas
 pub mod JoinedRuns
+pub mod LevelRuns
+pub mod LevelsAgree

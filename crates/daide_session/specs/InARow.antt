@@ -1,4 +1,5 @@
--- Two gateways in a row: what one sends, and what the next makes of it.
+-- Two gateways in a row: what one sends, and what the next makes of it, as docs/PROTOCOL.md, "Verdicts", has it of
+-- each; that a gateway may stand behind another is (own).
 use Rattle.std.specs.Prelude.{◌≡◌, ℕ, ◌+◌, ◌≤◌, ◌<◌, true, List}
 use Rattle.std.specs.List.{All}
 use Rattle.daide_token.specs.Token.{tokens_of}
@@ -19,18 +20,22 @@ use Rattle.daide_machine.specs.Wires.{sent_to}
 use Rattle.daide_machine.specs.Fates.{Came, came_in, IsJudged}
 use Rattle.daide_machine.specs.Passing.{IsFrame, HasCome, IsWithinHuh}
 
--- What the next gateway makes of a message that one sends it, by this level: it is passed on; unless the one passed it
--- on by a higher level, or it is the one's own answer HUH, too deep by the bracket that the answer adds. It is never
--- answered with PRN.
-pub data IsVerdictOfNext (limits : Limits) (came : List Came) (to : Side) (level : Level) (body : List ℕ)
-    (verdict : Verdict) : Type 0 where
-  passes : verdict ≡ Relay → IsVerdictOfNext limits came to level body verdict
-  lower : (noted : Level) (place : ℕ) → HasCome came (other to) noted body →
-      level_number level < level_number noted → verdict ≡ Huh place →
-      IsVerdictOfNext limits came to level body verdict
+-- What the next gateway makes of a message that one sends it, where no level is between them: it is passed on; unless
+-- it is the one's own answer HUH, too deep by the bracket that the answer adds. It is never answered with PRN.
+pub data IsVerdictAtOneLevel (limits : Limits) (came : List Came) (to : Side) (body : List ℕ) (verdict : Verdict) :
+    Type 0 where
+  passes : verdict ≡ Relay → IsVerdictAtOneLevel limits came to body verdict
   too_deep : (noted : Level) (place at : ℕ) (own : List ℕ) → HasCome came to noted own →
       IsWithinHuh limits to noted place (tokens_of own) (tokens_of body) →
       limits.max_depth < depth_of (tokens_of own) + 1 → verdict ≡ Huh at →
+      IsVerdictAtOneLevel limits came to body verdict
+
+-- And by whatever level: the same, or HUH where the one passed it on by a higher level.
+pub data IsVerdictOfNext (limits : Limits) (came : List Came) (to : Side) (level : Level) (body : List ℕ)
+    (verdict : Verdict) : Type 0 where
+  at_one_level : IsVerdictAtOneLevel limits came to body verdict → IsVerdictOfNext limits came to level body verdict
+  lower : (noted : Level) (place : ℕ) → HasCome came (other to) noted body →
+      level_number level < level_number noted → verdict ≡ Huh place →
       IsVerdictOfNext limits came to level body verdict
 
 -- Of two gateways with the same limits and these words, over any run of the one: each message that it sends toward the

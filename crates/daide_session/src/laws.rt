@@ -2,6 +2,7 @@
 
 ghost use Rattle.daide_session.specs.InARow.{InARowOver, TwoGatewaysInARow};
 ghost use Rattle.daide_session.specs.Joined.{JoinedGateways, JoinedGatewaysOver};
+ghost use Rattle.daide_session.specs.Joined.{LevelsAgreeTowardTheBot, LevelsAgreeTowardTheBotOver};
 ghost use Rattle.daide_words.specs.Words.{words_of};
 
 use daide_words::words::Words;
@@ -38,4 +39,21 @@ pub fn joined_gateways_over(words: &Words)
 {
     words.are_accepted();
     joined_gateways();
+}
+
+/// Where the next of two joined gateways stands nearer the bot, no level of it is lower: it hears each HLO that the one
+/// passed on, in its place, so it judges each message by the level by which the one passed it on. Of what it hears it
+/// passes on each message, but for a HUH of the one's own, too deep by one bracket, which it answers with HUH.
+pub fn levels_agree_toward_the_bot()
+    ensures { LevelsAgreeTowardTheBot }
+{
+    joined_gateways();
+}
+
+/// So it is with the words of who holds `Words`, which are accepted.
+pub fn levels_agree_toward_the_bot_over(words: &Words)
+    ensures { LevelsAgreeTowardTheBotOver (words_of words.now) }
+{
+    words.are_accepted();
+    levels_agree_toward_the_bot();
 }

@@ -11,4 +11,4 @@ pub mod session;
 mod stage;
 
 pub use daide_machine::config::{Config, ConfigError};
-pub use session::{Deed, Ending, Note, Phase, Session, SessionError, Summary};
+pub use session::{Deed, Ending, Note, Phase, Session, SessionError};

@@ -131,16 +131,16 @@ fn writer_that_fails_changes_no_answer(rt: HostRuntime) -> Result<(), Fail> {
     let record = Record::new(broken, LIMITS, Words::new());
     let mut ports = Recording::new(ports, record);
     let mut buffer = [0; 2000];
-    for (pull, has_failed) in [
-        (Pull::Got(1024), false),
-        (Pull::Got(1024), false),
-        (Pull::Got(1024), false),
-        (Pull::Got(1024), true),
-        (Pull::Got(904), true),
-        (Pull::Idle, true),
+    for (pull, ending) in [
+        (Pull::Got(1024), RecordEnd::Whole),
+        (Pull::Got(1024), RecordEnd::Whole),
+        (Pull::Got(1024), RecordEnd::Whole),
+        (Pull::Got(1024), RecordEnd::Failed),
+        (Pull::Got(904), RecordEnd::Failed),
+        (Pull::Idle, RecordEnd::Failed),
     ] {
         same(&ports.pull(Side::Bot, &mut buffer), &pull, &"the answer")?;
-        same(&ports.record().has_failed(), &has_failed, &"the record")?;
+        same(&ports.record().ending(), &ending, &"the record")?;
     }
     let (_, record) = ports.into_parts();
     same(&record.finish().1, &RecordEnd::Failed, &"the end")

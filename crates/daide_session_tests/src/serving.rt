@@ -3,13 +3,14 @@
 use crate::hubs::{Growths, NO_GROWTHS};
 use crate::relays::{NEVER, QUIET, assert_sent};
 use crate::script::counts_of;
+use daide_frame::code::Code;
 use daide_frame::side::Side::{Bot, Server};
 use daide_gate::serving::{ServeFault, serve};
 use daide_gate::settings::{Settings, read_settings};
 use daide_gate::system::{Cause, Connect, Notice, SessionEnd, System};
 use daide_machine::config::ConfigError;
 use daide_machine::ending::Ending;
-use daide_tests::memory_ports::{Arrival, MemoryPorts, Script};
+use daide_tests::memory_ports::{Acceptance, Arrival, MemoryPorts, Script};
 use daide_tests::rows::{holds, same};
 use linked_list_allocator::LocalHeap;
 use std::alloc::Global;
@@ -375,10 +376,21 @@ fn spent_turns_end_an_open_wire(rt: HostRuntime) -> Result<(), Fail> {
     assert_spent(rt.alloc(), &stage)
 }
 
-/// Runs of one bot, with why its session ended, and how many frames it relayed.
-const ENDS_OF_RUNS: &[(Scene, Limits, Cause, u64)] = &[
-    (ENDING, (1, 1, 9), Cause::Session(Ending::Ended(Bot)), 0),
-    (OPENING, (1, 1, 5), Cause::TurnsSpent, 1),
+/// A bot that begins with no IM and takes nothing, so that its EM waits.
+const WRONG_AND_FULL: Script<'static> = Script {
+    pulls: &[Arrival::Bytes(&[2, 0, 0, 0])],
+    puts: &[Acceptance::Takes(0); 9],
+};
+
+/// Runs of one bot, with why its session ended, and what it counted. Of the last an EM waits until its turns are spent.
+const ENDS_OF_RUNS: &[(Scene, Limits, Cause, [u64; 4])] = &[
+    (
+        ENDING,
+        (1, 1, 9),
+        Cause::Session(Ending::Ended(Bot)),
+        [0; 4],
+    ),
+    (OPENING, (1, 1, 5), Cause::TurnsSpent, [1, 0, 0, 0]),
     (
         Scene {
             bot: QUIET,
@@ -386,17 +398,26 @@ const ENDS_OF_RUNS: &[(Scene, Limits, Cause, u64)] = &[
         },
         (1, 1, 3),
         Cause::TurnsSpent,
-        0,
+        [0; 4],
+    ),
+    (
+        Scene {
+            bot: WRONG_AND_FULL,
+            ..ENDING
+        },
+        (1, 1, 4),
+        Cause::Session(Ending::Fault(Bot, Code::ImNotFirst)),
+        [0, 0, 0, 1],
     ),
 ];
 
 /// The system is told that end of one session.
-fn assert_end(alloc: Global, row: &(Scene, Limits, Cause, u64)) -> Result<(), Fail> {
-    let (scene, limits, cause, relayed) = row;
+fn assert_end(alloc: Global, row: &(Scene, Limits, Cause, [u64; 4])) -> Result<(), Fail> {
+    let (scene, limits, cause, counts) = row;
     let stage = stage_after(alloc, *scene, *limits)?;
     match stage.ends.as_slice() {
         [end] => holds(
-            end.cause == *cause && counts_of(end.summary) == [*relayed, 0, 0, 0],
+            end.cause == *cause && counts_of(end.summary) == *counts,
             "the end",
         ),
         _ => Err(Fail::new("there is one end")),

@@ -4,6 +4,7 @@ use Rattle.std.specs.Prelude.{ℕ, ℤ, pos, negsuc, ◌&&◌, ◌||◌, nat_le,
 use Rattle.std.specs.Prelude.{List, length, codes, Option, Some, None, Result, Ok, Err}
 use Rattle.std.specs.Str.{bytes_eq}
 use Rattle.toml.specs.Data.{Data, as_str, as_integer, Members, get_member}
+use Rattle.daide_machine.specs.Bounds.{longest_body, most_sessions}
 use Rattle.daide_machine.specs.Config.{is_level, is_body, is_depth}
 use Rattle.daide_settings.specs.declared.settings.key.Key.{Key}
 use Rattle.daide_settings.specs.declared.settings.key.Key.TheVariants.{Listen, Server, TopLevel, MaxBody, MaxDepth}
@@ -42,7 +43,7 @@ is_in_range TopLevel n = is_level n
 is_in_range MaxBody n = is_body n
 is_in_range MaxDepth n = is_depth n
 is_in_range ImSeconds n = is_within 1 3600 n
-is_in_range MaxSessions n = is_within 1 256 n
+is_in_range MaxSessions n = is_within 1 most_sessions n
 is_in_range Sessions n = is_within 1 1000000 n
 is_in_range Turns n = is_within 1 1000000000000 n
 is_in_range IdleSeconds n = is_within 0 86400 n
@@ -53,7 +54,7 @@ abbrev pub default_of : Key → Option ℕ
 default_of Listen = None
 default_of Server = None
 default_of TopLevel = Some 60
-default_of MaxBody = Some 65526
+default_of MaxBody = Some longest_body
 default_of MaxDepth = Some 62
 default_of ImSeconds = Some 30
 default_of MaxSessions = Some 16

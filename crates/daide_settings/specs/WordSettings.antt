@@ -8,10 +8,8 @@ use Rattle.toml.specs.Data.{Data, as_str, as_integer, as_array, as_table, Items,
 use Rattle.toml.specs.Data.{member, get_member}
 use Rattle.daide_grammar.specs.declared.level.Level.{Level}
 use Rattle.daide_grammar.specs.Level.{level_of_number}
-use Rattle.daide_words.specs.declared.slot.Slot.{Slot}
-use Rattle.daide_words.specs.declared.operand.Operand.{Operand}
 use Rattle.daide_words.specs.declared.word.Word.{Word}
-use Rattle.daide_words.specs.WordNames.{slot_named, operand_named}
+use Rattle.daide_words.specs.WordNames.{word_of_parts, slot_named, operand_named}
 use Rattle.daide_words.specs.Accepted.{are_accepted}
 use Rattle.daide_settings.specs.declared.settings.key.Key.TheVariants.{Words}
 use Rattle.daide_settings.specs.declared.settings.SettingsError.{SettingsError}
@@ -72,12 +70,6 @@ code_of (negsuc n) = None
 abbrev pub level_of : ℤ → Option Level
 level_of (pos n) = level_of_number n
 level_of (negsuc n) = None
-
--- a word by its parts, if each is in its range
-abbrev pub word_of_parts : Option (List ℕ) → Option ℕ → Option Slot → Option Level → Option Operand → Option Word
-word_of_parts (Some name) (Some code) (Some slot) (Some level) (Some operand) =
-    Some (record { name = name; code = code; slot = slot; level = level; operand = operand })
-word_of_parts _ _ _ _ _ = None
 
 -- the word of an entry's members
 abbrev pub word_of_members : Members → Option Word

@@ -18,6 +18,8 @@ use Rattle.daide_frame.specs.Frames.{further, is_alien, first_alien, alien_in, I
 use Rattle.daide_frame.specs.Frames.{items_of_body, items_from_head, first_items, items_of, is_nothing, last_items, fed}
 use Rattle.daide_frame.specs.Frames.{fed_items, told, IsFault, head_part, head_in, missing_of_body, missing}
 use Rattle.daide_frame.proofs.CutsAgree.{cut_piece}
+use Rattle.daide_frame.proofs.FramesLemmas.{take-nothing}
+use Rattle.daide_frame.proofs.ListLemmas.{leb_yes}
 use Rattle.daide_show.specs.Shown.{whole, not_one, found_among, found_in}
 use Rattle.daide_show.specs.Found.{found_of, found_by}
 use Rattle.daide_show.specs.declared.frame_view.one_frame.Found.{Found}
@@ -68,9 +70,6 @@ alien_in_stays head w more n e = go (eqb (kind_number head.kind) 2) e
 
 leb_is : (a b : ℕ) → leb a b ≡ true → a ≤ b
 leb_is a b e = grind (arith, nat_tests)
-
-leb_yes : (a b : ℕ) → a ≤ b → leb a b ≡ true
-leb_yes a b h = grind (arith, nat_tests)
 
 leb_not : (a b : ℕ) → leb a b ≡ false → b < a
 leb_not a b e = grind (arith, nat_tests)
@@ -189,12 +188,8 @@ wanted_body head w open_end = go (alien_in head w) open_end
     go (Some n) e = absurd cc
     go None e = by_length (leb head.len (length w)) refl e
 
-take_nothing : (n : ℕ) → ◌≡◌ {A = List ℕ} (take n []) []
-take_nothing zero = refl
-take_nothing (suc n) = refl
-
 missing_header : (head : Head) → missing_of_body (Some head) [] ≡ head.len
-missing_header head = rw (take_nothing head.len) (go (eqb (kind_number head.kind) 2))
+missing_header head = rw (take-nothing head.len) (go (eqb (kind_number head.kind) 2))
   where
     go : (dm : Bool) → cond (is_some (cond dm (first_alien []) None)) 0 (head.len - 0) ≡ head.len
     go true = omega arith

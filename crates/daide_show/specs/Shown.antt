@@ -4,7 +4,6 @@ use Rattle.std.specs.Prelude.{List, [], ◌∷◌, ◌++◌, length, codes, Opti
 use Rattle.std.specs.Bool.{MatchBool}
 use Rattle.std.specs.Fmt.{decimal}
 use Rattle.std.specs.Io.KnownBytes.{Appends}
-use Rattle.hex.specs.Hex.{encode_upper}
 use Rattle.daide_token.specs.Token.{tokens_of}
 use Rattle.daide_token.specs.Text.{text_with}
 use Rattle.daide_frame.specs.declared.side.Side.{Side}
@@ -12,7 +11,7 @@ use Rattle.daide_frame.specs.declared.code.Code.{Code}
 use Rattle.daide_frame.specs.declared.head.Head.{Head}
 use Rattle.daide_frame.specs.declared.head.Kind.{Kind}
 use Rattle.daide_frame.specs.declared.head.Kind.TheVariants.{Im, Rm, Dm, Fm, Em}
-use Rattle.daide_frame.specs.Code.{code_number}
+use Rattle.daide_frame.specs.Code.{code_digits}
 use Rattle.daide_frame.specs.Kind.{name_of_kind}
 use Rattle.daide_frame.specs.InitialMessage.{im_of}
 use Rattle.daide_frame.specs.Frames.{Item, Begun, Whole, Wrong, first_items, items_of}
@@ -73,7 +72,7 @@ kind_line kind len = line (name_of_kind kind ++ 32 ∷ decimal len)
 
 -- a frame at fault: its code in two digits, upper case
 abbrev pub fault_shown : Code → Shown
-fault_shown code = record { text = line (codes "fault " ++ encode_upper (code_number code ∷ [])); relayed = false }
+fault_shown code = record { text = line (codes "fault " ++ code_digits code); relayed = false }
 
 -- a frame that holds no message and is good
 abbrev pub relayed_shown : Kind → ℕ → Shown

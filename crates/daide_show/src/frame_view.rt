@@ -70,7 +70,7 @@ fn show_bytes<A: Allocator + Copy>(
     let mut text = Vec::new(alloc);
     let written = match find_frame(&mut cutter, bytes) {
         Found::NotOneFrame => return Err(ShowFault::NotOneFrame),
-        Found::Fault(code) => write_fault(alloc, code, &mut text),
+        Found::Fault(code) => write_fault(code, &mut text),
         Found::Whole(head) => write_frame(
             alloc,
             words,

@@ -1,5 +1,9 @@
 //! What a run stands on: where bots come, where the server is, and the table of the run's sockets.
 
+ghost use Rattle.std.specs.Prelude.{◌≡◌, ◌+◌, ◌*◌, ◌^◌, ◌<◌, IfOk, IfSome, false, vec_len};
+ghost use Rattle.daide_sockets.specs.Times.{IsSeconds, IsIdleTime};
+
+use crate::closing::MOST_CLOSING;
 use crate::system::{Sockets, most_sockets};
 use crate::watch::{Watch, WatchFault};
 use daide_settings::Settings;
@@ -65,11 +69,15 @@ pub struct Ground<'r, R: Clock> {
     pub watch: Watch<&'r R>,
 }
 
-/// Listens at the address of settings, and looks up the server's.
+/// Listens at the address of settings, and looks up the server's. The table has a row for each socket of the run; which
+/// listener it is and what the server's name means are the system's to say.
 pub fn ground_of<'r, R: AllocGlobal + Clock + Net>(
     rt: &'r R,
     settings: &Settings,
-) -> Result<Ground<'r, R>, GroundFault> {
+) -> Result<Ground<'r, R>, GroundFault>
+    ensures rows { IfOk result (λ ground. settings.now.max_sessions < 2 ^ 62 →
+        vec_len ground.watch.flags ≡ 2 * settings.now.max_sessions + MOST_CLOSING + 1) }
+{
     let Some(listener) = listener_at(rt, settings.listen.as_str()) else {
         return Err(GroundFault::Listen);
     };
@@ -88,13 +96,19 @@ pub fn ground_of<'r, R: AllocGlobal + Clock + Net>(
 }
 
 /// The sockets of a run of these settings on its ground, which tell their lines there; none where memory is refused or
-/// the listener can't be followed.
+/// the listener can't be followed. No bot came yet, and nothing is told of sessions.
 pub fn sockets_on<'w, R: AllocGlobal + Clock + Net, E: Write + Drop>(
     rt: &'w R,
     settings: &Settings,
-    (listener, servers, watch): (TcpListener, &'w [SocketAddr], &'w Watch<&'w R>),
+    ground: (TcpListener, &'w [SocketAddr], &'w Watch<&'w R>),
     errors: E,
-) -> Option<Sockets<'w, R, E>> {
+) -> Option<Sockets<'w, R, E>>
+    ensures none_came { IfSome result (λ sockets. (sockets.came ≡ 0) × (sockets.is_verbose ≡ false)) }
+    ensures im_time { IfSome result (λ sockets. IsSeconds settings.now.im_seconds sockets.im_time) }
+    ensures idle_time { IfSome result (λ sockets. IsIdleTime settings.now.idle_seconds sockets.idle_time) }
+    ensures connect_time { IfSome result (λ sockets. IsSeconds CONNECT_SECONDS sockets.connect_time) }
+{
+    let (listener, servers, watch) = ground;
     Sockets::new(
         rt.alloc(),
         rt,

@@ -5,19 +5,20 @@
 //! their answers what these gave and took. Of the system's own connections nothing is known, so there it is what the
 //! system's read and write answered.
 
-ghost use Rattle.std.specs.Prelude.{◌≡◌, [], length, take};
+ghost use Rattle.std.specs.Prelude.{◌≡◌, ◌≢◌, IsNone, [], length, take, true, false};
 ghost use Rattle.daide_machine.specs.Ports.{IsPullWithin, IsPutWithin, pulled_len};
 ghost use Rattle.daide_streams.specs.Buffers.{Passes, IsUnread};
 ghost use Rattle.daide_streams.specs.Streams.{Moves};
 ghost use Rattle.daide_streams.specs.Taking.{front_of};
+ghost use Rattle.daide_sockets.specs.Lines.{silent_of};
 
 use crate::connection::Connection;
 use crate::watch::{Flags, Place, Watch};
 use daide_frame::side::Side;
+use daide_machine::ports::{Ports, Pull, Put};
 use daide_streams::buffered::Buffered;
 use daide_streams::duplex::Duplex;
 use daide_streams::pool::Pool;
-use daide_machine::ports::{Ports, Pull, Put};
 use mio::Interest;
 use mio::net::TcpStream;
 use std::rt::Clock;
@@ -57,6 +58,7 @@ impl<'w, S: Drop> Socket<'w, S> {
     /// Any stream, of which nothing is held yet, and its row of the table.
     pub fn over<R: Clock>(watch: &'w Watch<R>, stream: S, place: Place<'w>) -> Socket<'w, S>
         ensures stream { result.stream ≡ record { stream = stream; ahead = []; behind = [] } }
+        ensures silent { result.is_silent ≡ false }
     {
         Socket {
             stream: Buffered::new(stream),
@@ -83,6 +85,7 @@ impl<S: Duplex + Drop> Socket<'_, S> {
         ensures len { length buffer.new ≡ length buffer.old }
         ensures passes { Passes S.to_give S.taken self.old.stream (take (pulled_len result) buffer.new) []
             self.new.stream }
+        ensures silent { self.new.is_silent ≡ self.old.is_silent }
     {
         let flags = self.place.flags;
         let mut readiness = flags.readiness.get();
@@ -100,6 +103,7 @@ impl<S: Duplex + Drop> Socket<'_, S> {
     pub fn put(&mut self, bytes: &[u8]) -> Put
         ensures within { IsPutWithin result (length bytes.now) }
         ensures passes { Passes S.to_give S.taken self.old.stream [] (front_of result bytes.now) self.new.stream }
+        ensures silent { self.new.is_silent ≡ self.old.is_silent }
     {
         let flags = self.place.flags;
         let mut readiness = flags.readiness.get();
@@ -113,6 +117,7 @@ impl<S: Duplex + Drop> Socket<'_, S> {
     pub fn flush(&mut self)
         ensures passes { Passes S.to_give S.taken self.old.stream [] [] self.new.stream }
         ensures unread { IsUnread S.to_give self.old.stream self.new.stream }
+        ensures silent { self.new.is_silent ≡ self.old.is_silent }
     {
         if !self.stream.is_behind() {
             return;
@@ -140,8 +145,11 @@ impl<R: Clock> Patience<'_, R> {
         flags.silent_from.set(self.watch.after(time));
     }
 
-    /// Whether nothing came of a socket for too long.
-    fn is_over(&self, flags: &Flags) -> bool {
+    /// Whether nothing came of a socket for too long: never, where its peer may be silent for ever. What the time is, the
+    /// system's clock says.
+    fn is_over(&self, flags: &Flags) -> bool
+        ensures { IsNone self.now.time → result ≡ false }
+    {
         self.time.is_some() && self.watch.is_over(flags.silent_from.get())
     }
 }
@@ -160,6 +168,11 @@ fn pull_past<R: Clock, S: Duplex + Drop>(
     ensures own { Passes S.to_give S.taken own.old.stream (take (pulled_len result) buffer.new) [] own.new.stream }
     ensures other { Passes S.to_give S.taken other.old.stream [] [] other.new.stream }
     ensures unread { IsUnread S.to_give other.old.stream other.new.stream }
+    // a side is taken as silent by an end alone, and of what may be silent for ever none is
+    ensures silent { result ≢ Pull.Ended → own.new.is_silent ≡ own.old.is_silent }
+    ensures patient { IsNone patience.now.time → own.new.is_silent ≡ own.old.is_silent }
+    ensures stays { own.old.is_silent ≡ true → own.new.is_silent ≡ true }
+    ensures other_silent { other.new.is_silent ≡ other.old.is_silent }
 {
     let is_late = patience.is_over(own.place.flags);
     if is_late {
@@ -189,6 +202,7 @@ fn put_past<S: Duplex + Drop>(
     ensures own { Passes S.to_give S.taken own.old.stream [] (front_of result bytes.now) own.new.stream }
     ensures other { Passes S.to_give S.taken other.old.stream [] [] other.new.stream }
     ensures unread { IsUnread S.to_give other.old.stream other.new.stream }
+    ensures silent { (own.new.is_silent ≡ own.old.is_silent) × (other.new.is_silent ≡ other.old.is_silent) }
 {
     let put = own.put(bytes);
     if put != Put::Took(0) {
@@ -219,6 +233,10 @@ impl<'w, R: Clock, S: Drop> SocketPorts<'w, R, S> {
     ) -> SocketPorts<'w, R, S>
         ensures bot { result.bot.stream ≡ bot.entry.stream }
         ensures server { result.server.stream ≡ server.entry.stream }
+        ensures number { result.number ≡ 0 }
+        ensures patient { IsNone result.patience.time }
+        ensures silent { (result.bot.is_silent ≡ bot.entry.is_silent)
+            × (result.server.is_silent ≡ server.entry.is_silent) }
     {
         let patience = Patience { watch, time: None };
         SocketPorts {
@@ -235,6 +253,10 @@ impl<'w, R: Clock, S: Drop> SocketPorts<'w, R, S> {
     pub(crate) fn of_session(self, number: u32, time: Option<Duration>) -> SocketPorts<'w, R, S>
         ensures bot { result.bot.stream ≡ self.entry.bot.stream }
         ensures server { result.server.stream ≡ self.entry.server.stream }
+        ensures number { result.number ≡ number }
+        ensures time { result.patience.time ≡ time }
+        ensures silent { (result.bot.is_silent ≡ self.entry.bot.is_silent)
+            × (result.server.is_silent ≡ self.entry.server.is_silent) }
     {
         let SocketPorts {
             number: _,
@@ -259,12 +281,16 @@ impl<'w, R: Clock, S: Drop> SocketPorts<'w, R, S> {
     }
 
     /// The number of their session.
-    pub fn number(&self) -> u32 {
+    pub fn number(&self) -> u32
+        ensures { result ≡ self.now.number }
+    {
         self.number
     }
 
-    /// The side that was taken as ended, since nothing came of it for too long.
-    pub fn silent_side(&self) -> Option<Side> {
+    /// The side that was taken as ended, since nothing came of it for too long; the bot, where that is both.
+    pub fn silent_side(&self) -> Option<Side>
+        ensures { result ≡ silent_of self.now.bot.is_silent self.now.server.is_silent }
+    {
         if self.bot.is_silent {
             return Some(Side::Bot);
         }

@@ -1,5 +1,9 @@
 //! The lines that a run tells of each of its sessions, where it is asked to.
 
+ghost use Rattle.std.specs.Prelude.{◌≡◌};
+ghost use Rattle.daide_machine.specs.Summary.{nothing_counted};
+ghost use Rattle.daide_sockets.specs.Lines.{why_by};
+
 use daide_frame::code::Code;
 use daide_frame::side::Side;
 use daide_machine::ending::Ending;
@@ -29,7 +33,9 @@ pub enum SessionNotice {
 
 impl SessionNotice {
     /// The line of a session that is over; its side that was taken as ended for its silence is this, if there is one.
-    pub fn of_end(number: u32, end: SessionEnd, silent: Option<Side>) -> SessionNotice {
+    pub fn of_end(number: u32, end: SessionEnd, silent: Option<Side>) -> SessionNotice
+        ensures { result ≡ SessionNotice.Ended number (why_by end.cause silent) (record { 0 = end.summary }) }
+    {
         SessionNotice::Ended {
             number,
             why: why_of(end.cause, silent),
@@ -38,7 +44,9 @@ impl SessionNotice {
     }
 
     /// The line of a session whose server couldn't be reached.
-    pub fn of_no_server(number: u32) -> SessionNotice {
+    pub fn of_no_server(number: u32) -> SessionNotice
+        ensures { result ≡ SessionNotice.Ended number Why.NoServer (record { 0 = nothing_counted }) }
+    {
         SessionNotice::Ended {
             number,
             why: Why::NoServer,
@@ -59,7 +67,9 @@ pub enum Why {
 }
 
 /// Why a session is over, of which this is told and whose side is silent, if one is.
-pub fn why_of(cause: Cause, silent: Option<Side>) -> Why {
+pub fn why_of(cause: Cause, silent: Option<Side>) -> Why
+    ensures { result ≡ why_by cause silent }
+{
     match (cause, silent) {
         (Cause::Session(Ending::Ended(side)), Some(silent)) if silent == side => Why::Silent(side),
         _ => Why::Ended(cause),

@@ -1,6 +1,7 @@
 //! What a run asks of the system, over sockets.
 
-ghost use Rattle.std.specs.Prelude.{◌≡◌, ◌↔◌, ◌+◌, ◌*◌, ◌^◌, ◌<◌, IsNone, None};
+ghost use Rattle.std.specs.Prelude.{◌≡◌, ◌+◌, ◌*◌, ◌^◌, ◌<◌, IfSome, None, false};
+ghost use Rattle.daide_sockets.specs.Times.{IsSeconds, IsIdleTime};
 
 use crate::admission::{Arrival, Door, Outcome};
 use crate::closing::{Closings, MOST_CLOSING};
@@ -28,7 +29,7 @@ pub fn most_sockets(max_sessions: usize) -> usize
 
 /// How long a side may be silent, by so many seconds of the settings; none where they say for ever.
 fn idle_time_of(seconds: u32) -> Option<Duration>
-    ensures { IsNone result ↔ (seconds ≡ 0) }
+    ensures { IsIdleTime seconds result }
 {
     if seconds == 0 {
         return None;
@@ -63,11 +64,17 @@ impl<'w, R: Clock + Net, E: Write + Drop> Sockets<'w, R, E> {
         alloc: Global,
         runtime: &'w R,
         watch: &'w Watch<&'w R>,
-        (listener, servers): (TcpListener, &'w [SocketAddr]),
+        at: (TcpListener, &'w [SocketAddr]),
         settings: &Settings,
         connect_time: Duration,
         errors: E,
-    ) -> Option<Sockets<'w, R, E>> {
+    ) -> Option<Sockets<'w, R, E>>
+        ensures none_came { IfSome result (λ sockets. (sockets.came ≡ 0) × (sockets.is_verbose ≡ false)) }
+        ensures im_time { IfSome result (λ sockets. IsSeconds settings.now.im_seconds sockets.im_time) }
+        ensures idle_time { IfSome result (λ sockets. IsIdleTime settings.now.idle_seconds sockets.idle_time) }
+        ensures connect_time { IfSome result (λ sockets. sockets.connect_time ≡ connect_time) }
+    {
+        let (listener, servers) = at;
         let door = Door::new(watch, listener)?;
         let Ok(arrivals) = Vec::with_capacity(alloc, settings.max_sessions) else {
             return None;
@@ -92,7 +99,9 @@ impl<'w, R: Clock + Net, E: Write + Drop> Sockets<'w, R, E> {
     }
 
     /// Says whether a line is told where a session begins, and one where it ends.
-    pub fn set_verbose(&mut self, is_verbose: bool) {
+    pub fn set_verbose(&mut self, is_verbose: bool)
+        ensures { self.new ≡ record self.old { is_verbose = is_verbose } }
+    {
         self.is_verbose = is_verbose;
     }
 

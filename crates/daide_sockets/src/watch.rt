@@ -4,7 +4,7 @@
 //! The table is shared by `&`, so that the ports in a hub see what the loop's wait was told. An idle session reads
 //! two flags of it, and makes no call to the system. Beside the table stands the room for what the sockets hold.
 
-ghost use Rattle.std.specs.Prelude.{◌≡◌, IsNone, false};
+ghost use Rattle.std.specs.Prelude.{◌≡◌, IsNone, IfOk, false, vec_len};
 
 use daide_streams::pool::Pool;
 use daide_streams::readiness::Readiness;
@@ -95,7 +95,9 @@ impl Flags {
     }
 
     /// So many rows that no socket has.
-    fn free_rows(alloc: Global, count: usize) -> Result<Vec<Flags>, AllocError> {
+    fn free_rows(alloc: Global, count: usize) -> Result<Vec<Flags>, AllocError>
+        ensures { IfOk result (λ rows. vec_len rows ≡ count) }
+    {
         let mut rows = Vec::with_capacity(alloc, count)?;
         for _ in 0..count {
             rows.push(Flags::new())?;
@@ -169,7 +171,9 @@ impl<R: Clock + Drop> Watch<R> {
         clock: R,
         net: &N,
         sockets: usize,
-    ) -> Result<Watch<R>, WatchFault> {
+    ) -> Result<Watch<R>, WatchFault>
+        ensures rows { IfOk result (λ watch. vec_len watch.flags ≡ sockets) }
+    {
         let Ok(poll) = Poll::new(net) else {
             return Err(WatchFault::System);
         };

@@ -41,10 +41,6 @@ gathered xs ys rest from to n below within size =
     ∙ take_at (held ++ ys) rest ((to + n) - from) all
     ∙ ap (λ (l : List ℕ). l ++ ys) (sym (between_is xs from to))
 
-pub none_of : (l : List ℕ) → length l ≡ 0 → l ≡ []
-none_of [] e = refl
-none_of (x ∷ l) e = absurd (omega (arith, e))
-
 -- ---- one call
 
 module _ {S : Type 0} (to_give got : S → Option (List ℕ)) where
@@ -123,12 +119,6 @@ module _ {S : Type 0} (to_give got : S → Option (List ℕ)) where
   straight_passes old new bytes Failed none still takes unread =
       drain_passes old new Failed [] [] none still takes refl unread
 
-  -- bytes were held behind the others
-  pub hold_passes : (old new : Buffer S) (over : List ℕ) → got new.stream ≡ got old.stream →
-      new.behind ≡ old.behind ++ over → IsUnread to_give old new → Passes to_give got old [] over new
-  hold_passes old new over takes behind unread =
-      write_passes old new [] over (same_takes old.stream new.stream takes) (sym behind) unread
-
   -- ---- one call, by the values that it made on its way
 
   -- what is known of a value is known of what a call sees of it
@@ -179,8 +169,3 @@ module _ {S : Type 0} (to_give got : S → Option (List ℕ)) where
   pub flush_then : (a b c : Buffer S) (over : List ℕ) → Passes to_give got a [] [] b → Passes to_give got b [] over c →
       Passes to_give got a [] over c
   flush_then a b c over first next = passes_then a b c [] [] [] over first next
-
-  -- a call that hands out bytes, behind one that moved nothing
-  pub still_then : (a b c : Buffer S) (out : List ℕ) → Passes to_give got a [] [] b → Passes to_give got b out [] c →
-      Passes to_give got a out [] c
-  still_then a b c out first next = passes_then a b c [] [] out [] first next

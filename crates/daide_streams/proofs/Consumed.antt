@@ -1,12 +1,6 @@
 -- Known bytes behind reads and writes that moved none.
-use Rattle.std.proofs.Common.{ℕ, List, [], Option, Some, None, sym, ◌∙◌}
+use Rattle.std.proofs.Common.{ℕ, List, Option, Some, None, sym, ◌∙◌}
 use Rattle.std.specs.Io.KnownBytes.{Consumes, Keeps}
-
--- what was kept was consumed by no byte
-pub consumes_none : (old new : Option (List ℕ)) → Keeps old new → Consumes old new []
-consumes_none None new kept = tt
-consumes_none (Some before) None kept = absurd kept
-consumes_none (Some before) (Some after) kept = sym kept
 
 -- a read behind others that took nothing
 pub consumes_after : (old mid new : Option (List ℕ)) (bytes : List ℕ) → Keeps old mid → Consumes mid new bytes

@@ -1,4 +1,3 @@
-mod Reading
 mod Consumed
 pub mod BufferLemmas
 pub mod CallLemmas

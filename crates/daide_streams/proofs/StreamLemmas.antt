@@ -1,11 +1,11 @@
 -- One answer moves the two streams behind a session's ports.
-use Rattle.std.proofs.Common.{◌≡◌, ℕ, Bool, true, false, List, [], ◌∷◌, ◌++◌, Option, take, refl, sym, ap}
-use Rattle.std.proofs.Common.{◌∙◌, subst, append_assoc, append-nil}
+use Rattle.std.proofs.Common.{◌≡◌, ℕ, Bool, true, false, List, [], Option, take, refl, sym}
+use Rattle.std.proofs.Common.{◌∙◌, subst}
 use Rattle.daide_frame.specs.declared.side.Side.{Side}
 use Rattle.daide_frame.specs.declared.side.Side.TheVariants.{Bot, Server}
 use Rattle.daide_machine.specs.Events.{other}
 use Rattle.daide_machine.specs.Ports.{PortAnswer, Clock, Pulled, Offered, took, pulled_len}
-use Rattle.daide_machine.specs.Wires.{same_side}
+use Rattle.daide_machine.proofs.WireLemmas.{same_self}
 use Rattle.daide_machine.specs.declared.ports.Pull.{Pull}
 use Rattle.daide_machine.specs.declared.ports.Pull.TheVariants.{Got, Idle, Ended}
 use Rattle.daide_machine.specs.declared.ports.Put.{Put}
@@ -51,10 +51,6 @@ of_both Holds Bot own rest Server = rest
 of_both Holds Server own rest Bot = rest
 of_both Holds Server own rest Server = own
 
-own_answer : (side : Side) → same_side side side ≡ true
-own_answer Bot = refl
-own_answer Server = refl
-
 module _ {S : Type 0} (to_give got : S → Option (List ℕ)) where
   passes_as : (old new : Buffer S) (out over more further : List ℕ) → more ≡ out → further ≡ over →
       Passes to_give got old out over new → Passes to_give got old more further new
@@ -85,7 +81,7 @@ module _ {S : Type 0} (to_give got : S → Option (List ℕ)) where
               (none_given side buffer pull (take (pulled_len pull) bytes)) refl rest);
           unread = of_both
               (λ one. is_of one call ≡ false → IsUnread to_give (stream_of old one) (stream_of new one)) side
-              (λ f. absurd (true_not_false (sym (own_answer side) ∙ f))) (λ f. unread);
+              (λ f. absurd (true_not_false (sym (same_self side) ∙ f))) (λ f. unread);
         }
 
     pub offered_moves : (side : Side) (bytes : List ℕ) (put : Put) →
@@ -102,7 +98,7 @@ module _ {S : Type 0} (to_give got : S → Option (List ℕ)) where
               refl (none_taken side bytes put) rest);
           unread = of_both
               (λ one. is_of one call ≡ false → IsUnread to_give (stream_of old one) (stream_of new one)) side
-              (λ f. absurd (true_not_false (sym (own_answer side) ∙ f))) (λ f. unread);
+              (λ f. absurd (true_not_false (sym (same_self side) ∙ f))) (λ f. unread);
         }
 
     -- an answer that gives nothing and takes nothing moves none

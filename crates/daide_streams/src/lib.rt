@@ -1,5 +1,5 @@
 //! What the program takes of streams, whichever they are: calls that never wait, what is read ahead and what is held to
-//! be written, what is dropped of a stream that closes, and a text that has a bound.
+//! be written, and what is dropped of a stream that closes.
 #![tactic(auto)]
 
 pub mod buffered;
@@ -10,4 +10,3 @@ pub mod held;
 pub mod outcome;
 pub mod pool;
 pub mod readiness;
-pub mod text;

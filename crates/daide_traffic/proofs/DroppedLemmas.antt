@@ -325,13 +325,16 @@ module _ (f : Fields) (b : Both Inbound) (to : Side) (i : IsSound f)
 pub dropped_first : (f n : Fields) (t : Traffic) (to : Side) (gone : Option Waiting) → traffic_of f ≡ t → IsSound f →
     gone ≡ first_of (at f.wires to).items →
     n.wires ≡ put f.wires to (record { written = 0; items = tail_of (at f.wires to).items }) →
-    IsReleased (answered_by gone) Bot f.sides.bot n.sides.bot →
-    IsReleased (answered_by gone) Server f.sides.server n.sides.server → IsLeft t n to
-dropped_first f n t to gone is i e wires b s =
+    ((one : Side) → IsReleased (answered_by gone) one (at f.sides one) (at n.sides one)) → IsLeft t n to
+dropped_first f n t to gone is i e wires sides =
     subst (λ (v : Traffic). IsLeft v n to) is
     (subst (λ (w : Both Queue). IsLeft (traffic_of f) (record { sides = n.sides; wires = w }) to) (sym wires)
     (left f n.sides to i (rw e at sides)))
-  where
-    sides : (one : Side) → IsReleased (answered_by gone) one (at f.sides one) (at n.sides one)
-    sides Bot = b
-    sides Server = s
+
+-- a side whose answer is gone begins its next frame, and the other is as it was
+pub released : (b : Both Inbound) (side one : Side) (x : Inbound) → Begins (at b side) (at b side).level [] x →
+    IsReleased (Some side) one (at b one) (at (put b side x) one)
+released b Bot Bot x begins = record { its = λ _. begins; kept = λ its. absurd (cc) }
+released b Bot Server x begins = record { its = λ its. absurd (cc); kept = λ _. refl }
+released b Server Bot x begins = record { its = λ its. absurd (cc); kept = λ _. refl }
+released b Server Server x begins = record { its = λ _. begins; kept = λ its. absurd (cc) }

@@ -8,6 +8,7 @@ use Rattle.daide_frame.specs.declared.code.Code.{Code}
 use Rattle.daide_frame.specs.declared.head.Head.{Head}
 use Rattle.daide_frame.specs.Head.{head_bytes}
 use Rattle.daide_reader.specs.declared.verdict.Verdict.{Verdict}
+use Rattle.daide_machine.specs.Events.{other}
 use Rattle.daide_machine.specs.Machine.{Sent, destination}
 use Rattle.daide_machine.specs.Wires.{parts_after}
 use Rattle.daide_traffic.specs.declared.wire.Waiting.{Waiting}
@@ -250,3 +251,14 @@ advanced_front f t to one n q is its wire =
     })).parts one ≡ parts_after n (at (traffic_of f).parts one)
     go Bot = parts_more f.sides f.wires.bot.written n f.wires.bot.items
     go Server = parts_more f.sides f.wires.server.written n f.wires.server.items
+
+-- what the other wire is handed stays
+pub advanced_other : (f : Fields) (t : Traffic) (to : Side) (q : Queue) → traffic_of f ≡ t →
+    at (traffic_of (record { sides = f.sides; wires = put f.wires to q })).parts (other to) ≡ at t.parts (other to)
+advanced_other f t to q is = go to ∙ ap (λ (v : Traffic). at v.parts (other to)) is
+  where
+    go : (one : Side) →
+        at (traffic_of (record { sides = f.sides; wires = put f.wires one q })).parts (other one)
+        ≡ at (traffic_of f).parts (other one)
+    go Bot = refl
+    go Server = refl

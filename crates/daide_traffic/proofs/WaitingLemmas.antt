@@ -124,6 +124,13 @@ replied_waiting f side to x i free =
     after : Side → List ℕ
     after = answer_at (put f.sides side x)
 
+-- the answer is behind the others on the wire toward which it goes
+pub answer_waits : (w : Both Queue) (side to aim : Side) (own queue : Queue) → queue ≡ pushed own (Answer side) →
+    own ≡ at w to → to ≡ aim → put w to queue ≡ put w aim (pushed (at w aim) (Answer side))
+answer_waits w side to aim own queue e here is =
+    ap (put w to) (e ∙ ap (λ (q : Queue). pushed q (Answer side)) here)
+    ∙ ap (λ (s : Side). put w s (pushed (at w s) (Answer side))) is
+
 -- the side's frame is answered, and the wires are as they were but for the answer
 pub post_sound : {f : Fields} {t : Traffic} {side one : Side} (to : Side) {head : Head} {verdict : Verdict} {x : Inbound}
     {w : Both Queue} → IsSeenFree f t side one → Answers (at f.sides one) head verdict x →

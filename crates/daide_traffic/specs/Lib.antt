@@ -1,4 +1,5 @@
 pub mod Both
+pub mod Lends
 pub mod Inbound
 pub mod Wire
 pub mod Traffic

@@ -133,11 +133,8 @@ pub record Fields : Type 0 where
   pub sides : Both Inbound
   pub wires : Both Queue
 
-abbrev pub fields : Inbound → Inbound → Queue → Queue → Fields
-fields bot server to_bot to_server = record {
-  sides = record { bot = bot; server = server };
-  wires = record { bot = to_bot; server = to_server };
-}
+abbrev pub fields : Both Inbound → Both Queue → Fields
+fields sides wires = record { sides = sides; wires = wires }
 
 -- the bytes of a side's answer
 abbrev pub answer_at : Both Inbound → Side → List ℕ

@@ -2,10 +2,11 @@
 //! levels.
 //!
 //! Each message is cut and read as its bytes come, and is answered from where it lies. `inbound` is one side: its
-//! frame, the reader of its messages, and its answer in place. `traffic` is both sides, with the frames that wait
-//! for the two wires (`wire`). Which frames come to wait, and at which level a message is read, its caller decides.
+//! frame, the reader of its messages, and its answer in place. `traffic` is both sides (`both`), with the frames that
+//! wait for the two wires (`wire`). Which frames come to wait, and at which level a message is read, its caller decides.
 #![tactic(auto)]
 
+mod both;
 mod inbound;
 pub mod traffic;
 mod wire;

@@ -7,8 +7,8 @@ use Rattle.daide_frame.specs.declared.side.Side.{Side}
 use Rattle.daide_frame.specs.declared.side.Side.TheVariants.{Bot, Server}
 use Rattle.daide_machine.specs.Events.{Event, other}
 use Rattle.daide_machine.specs.Machine.{Sent}
-use Rattle.daide_machine.specs.Wires.{Gateway, waiting, same_side, sent_to, bytes_of, front_of}
-use Rattle.daide_machine.proofs.WireLemmas.{bytes_of-append}
+use Rattle.daide_machine.specs.Wires.{Gateway, waiting, sent_to, bytes_of, front_of}
+use Rattle.daide_machine.proofs.WireLemmas.{same_self, bytes_of-append}
 use Rattle.daide_machine.specs.declared.ports.Pull.{Pull}
 use Rattle.daide_machine.specs.declared.ports.Pull.TheVariants.{Got, Idle, Ended}
 use Rattle.daide_machine.specs.declared.ports.Put.{Put}
@@ -118,10 +118,6 @@ put_beside side old answers new (inr h) =
 -- a put to this wire takes something where something waits
 abbrev Gains : Side → Gateway → List PortAnswer → Gateway → Type 0
 Gains side old answers new = 0 < due old side → 0 < length (taken side answers)
-
-pub same_self : (side : Side) → same_side side side ≡ true
-same_self Bot = refl
-same_self Server = refl
 
 pub own_taken : (side : Side) (bytes : List ℕ) (n : ℕ) → n ≤ length bytes →
     length (taken side (Offered side bytes (Took n) ∷ [])) ≡ n

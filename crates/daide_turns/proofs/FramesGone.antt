@@ -14,6 +14,7 @@ use Rattle.daide_machine.specs.Events.{other}
 use Rattle.daide_machine.specs.Machine.{Sent}
 use Rattle.daide_machine.specs.Wires.{Gateway, waiting, parts_of, next_part, parts_after, front_of, no_frame}
 use Rattle.daide_machine.specs.Wires.{without, first_len, sent_to}
+use Rattle.daide_machine.proofs.WireLemmas.{same_self}
 use Rattle.daide_traffic.specs.Inbound.{parts_by}
 use Rattle.daide_traffic.specs.Fronts.{AreFresh, ArePartsOf, KeepsFront}
 use Rattle.daide_traffic.proofs.PartsLemmas.{below}
@@ -24,7 +25,7 @@ use Rattle.daide_machine.specs.declared.ports.Put.TheVariants.{Took, Failed}
 use Rattle.daide_machine.specs.Ports.{PortAnswer, Offered, taken}
 use Rattle.daide_turns.specs.Turn.{Then, Hears, AsksClock, Hands, Puts, Gets, Pulls, Turn}
 use Rattle.daide_turns.specs.Due.{AreTurns, TakesAll, EachTakesAll, EachTurnTakesAll, taken_in}
-use Rattle.daide_turns.proofs.DueLemmas.{own_taken, same_self, taken-append}
+use Rattle.daide_turns.proofs.DueLemmas.{own_taken, taken-append}
 
 -- ---- parts
 

@@ -1,5 +1,7 @@
--- The names of slots and operands in an operator's settings. (own)
+-- The names of slots and operands in an operator's settings, and a word by its parts. (own)
 use Rattle.std.specs.Prelude.{ℕ, List, codes, bytes_eq, Option, Some, None, if◌then◌else◌}
+use Rattle.daide_grammar.specs.declared.level.Level.{Level}
+use Rattle.daide_words.specs.declared.word.Word.{Word}
 use Rattle.daide_words.specs.declared.slot.Slot.{Slot}
 use Rattle.daide_words.specs.declared.slot.Slot.TheVariants as slots
 use Rattle.daide_words.specs.declared.operand.Operand.{Operand}
@@ -22,3 +24,9 @@ operand_named name =
     if bytes_eq name (codes "arrangement") then Some operands.Arrangement else
     if bytes_eq name (codes "press") then Some operands.Press else
     None
+
+-- a word by its parts, if each is there
+abbrev pub word_of_parts : Option (List ℕ) → Option ℕ → Option Slot → Option Level → Option Operand → Option Word
+word_of_parts (Some name) (Some code) (Some slot) (Some level) (Some operand) =
+    Some (record { name = name; code = code; slot = slot; level = level; operand = operand })
+word_of_parts _ _ _ _ _ = None

@@ -65,12 +65,16 @@ const WORDED_REPORT: &str =
 const UNWORDED_REPORT: &str =
     "3 1 bot IM 4 relay/4 1 server RM 0 relay/5 1 server DM 26 relay/6 1 bot DM 20 huh 5/relayed 3 prn 0 huh 1 faults 0/";
 
+/// A log has this report.
+fn check_reported(alloc: Global, log: &str, report: &str) -> Result<(), Fail> {
+    let (written, _) = checked_row(alloc, log)?;
+    same(&written.as_str(), &report, &log)
+}
+
 #[test]
 fn words_are_of_each_session(rt: HostRuntime) -> Result<(), Fail> {
-    let (worded, _) = checked_row(rt.alloc(), WORDED)?;
-    same(&worded.as_str(), &WORDED_REPORT, &"with XYZ")?;
-    let (unworded, _) = checked_row(rt.alloc(), UNWORDED)?;
-    same(&unworded.as_str(), &UNWORDED_REPORT, &"without")
+    check_reported(rt.alloc(), WORDED, WORDED_REPORT)?;
+    check_reported(rt.alloc(), UNWORDED, UNWORDED_REPORT)
 }
 
 /// What the sessions of a match are told in turn: a session goes on as far as its number modulo 5 says.

@@ -2,7 +2,7 @@
 
 use daide_log::LogFault;
 use daide_log::check::check_log;
-use daide_log::report::Summary;
+use daide_machine::Summary;
 use daide_tests::fakes::{FailsAtRead, FailsAtWrite};
 use daide_tests::rows::{holds, same};
 use linked_list_allocator::LocalHeap;
@@ -111,8 +111,11 @@ fn assert_lines(alloc: Global, lines: usize, want: &Result<Summary, LogFault>) -
     };
     let mut report = Vec::new(alloc);
     let answer = check_log(alloc, &mut log, &mut report);
-    same(&answer, want, &lines)?;
-    same(&report.is_empty(), &want.is_err(), &lines)
+    same(
+        &(answer, report.is_empty()),
+        &(*want, want.is_err()),
+        &lines,
+    )
 }
 
 #[test]
@@ -152,8 +155,9 @@ fn assert_endless(alloc: Global, opening: &[u8], number: u32) -> Result<(), Fail
     let mut log = Endless { opening, given: 0 };
     let mut report = Vec::new(alloc);
     let answer = check_log(alloc, &mut log, &mut report);
-    same(&answer, &Err(LogFault::LineTooLong(number)), &number)?;
-    holds(report.is_empty() && log.given == 2101, "its bytes")
+    let told = (answer, report.is_empty(), log.given);
+    let want = (Err(LogFault::LineTooLong(number)), true, 2101);
+    same(&told, &want, &"the line, and its bytes")
 }
 
 #[test]
@@ -177,6 +181,18 @@ fn lines_for(count: usize) -> usize {
 /// How many reads are enough for the log.
 const ENOUGH_READS: usize = LOG.len() / 3 + 2;
 
+/// Whether these are the first lines of the report, and no more.
+fn are_first_lines(report: &[u8], count: usize) -> bool {
+    let mut left = report;
+    for line in REPORT.iter().take(count) {
+        match left.strip_prefix(line.as_bytes()) {
+            Some(rest) => left = rest,
+            None => return false,
+        }
+    }
+    left.is_empty()
+}
+
 /// Where a read fails, that is told, after the report of all lines before it.
 fn assert_read(alloc: Global, reads: usize) -> Result<(), Fail> {
     let mut log = FailsAtRead {
@@ -187,14 +203,16 @@ fn assert_read(alloc: Global, reads: usize) -> Result<(), Fail> {
     let mut report = Vec::new(alloc);
     let answer = check_log(alloc, &mut log, &mut report);
     let is_enough = reads >= ENOUGH_READS;
-    same(&(answer != Err(LogFault::Read)), &is_enough, &reads)?;
     let lines = if is_enough {
         6
     } else {
         lines_for(reads.saturating_mul(3))
     };
-    let expected = first_lines(alloc, lines)?;
-    same(&report.as_slice(), &expected.as_bytes(), &reads)
+    let told = (
+        answer != Err(LogFault::Read),
+        are_first_lines(report.as_slice(), lines),
+    );
+    same(&told, &(is_enough, true), &reads)
 }
 
 #[test]
@@ -217,9 +235,12 @@ fn assert_write(alloc: Global, writes: usize, whole: &[u8]) -> Result<(), Fail> 
     };
     let answer = check_log(alloc, &mut log, &mut report);
     let is_enough = writes == ENOUGH_WRITES;
-    same(&(answer != Err(LogFault::Write)), &is_enough, &writes)?;
-    holds(whole.starts_with(report.taken.as_slice()), "its start")?;
-    same(&(report.taken.len() == whole.len()), &is_enough, &writes)
+    let told = (
+        answer != Err(LogFault::Write),
+        whole.starts_with(report.taken.as_slice()),
+        report.taken.len() == whole.len(),
+    );
+    same(&told, &(is_enough, true, is_enough), &writes)
 }
 
 #[test]
@@ -280,15 +301,12 @@ fn busy_log(alloc: Global) -> Result<Vec<u8>, Fail> {
 
 #[test]
 fn report_goes_out_in_blocks(rt: HostRuntime) -> Result<(), Fail> {
-    // before the read that finds the end, and at the end
-    same(&writes_for(rt.alloc(), LOG), &(2, 120), &"at the end")?;
-    // and where a line more might not find room: 37 bytes, 512 lines of 17, and 33
     let busy = busy_log(rt.alloc())?;
-    same(
-        &writes_for(rt.alloc(), busy.as_slice()),
-        &(3, 8774),
-        &"no room",
-    )
+    let of_busy = writes_for(rt.alloc(), busy.as_slice());
+    // before the read that finds the end, and at the end; and where a line more might not find room: 37 bytes, 512 lines
+    // of 17, and 33
+    let told = (writes_for(rt.alloc(), LOG), of_busy);
+    same(&told, &((2, 120), (3, 8774)), &"at the end, and no room")
 }
 
 /// A line of so many empty messages of the last server of a match, or one that says nothing.
@@ -336,16 +354,21 @@ const SMALL: &[u8] = b"daide-log 1\nconfig 60 512 16\ntimer\nbad\n";
 const SMALL_MATCH: &[u8] =
     b"daide-log 2\nconfig 60 512 16 2 1\nword XYZ 4A40 press 20 power\n2 timer\nbad\n";
 
-/// A log whose memory lies in a heap of so many bytes, which is given back: its answer, and the report.
-fn checked_within(alloc: Global, bytes: usize, log: &[u8]) -> Result<(LogFault, Vec<u8>), Fail> {
-    let heap = LocalHeap::new(alloc, bytes)?;
+/// The fault of a log whose memory lies in a heap, and the report.
+fn checked_on(alloc: Global, heap: &LocalHeap, log: &[u8]) -> (Option<LogFault>, Vec<u8>) {
     let mut rest = log;
     let mut report = Vec::new(alloc);
-    let answer = check_log(&heap, &mut rest, &mut report);
-    same(&heap.used(), &0, &bytes)?;
-    match answer {
-        Ok(_) => Err(Fail::new("no fault")),
-        Err(fault) => Ok((fault, report)),
+    let answer = check_log(heap, &mut rest, &mut report);
+    (answer.err(), report)
+}
+
+/// The same in a heap of so many bytes, which is given back.
+fn checked_within(alloc: Global, bytes: usize, log: &[u8]) -> Result<(LogFault, Vec<u8>), Fail> {
+    let heap = LocalHeap::new(alloc, bytes)?;
+    let (fault, report) = checked_on(alloc, &heap, log);
+    match fault {
+        Some(fault) if heap.used() == 0 => Ok((fault, report)),
+        _ => Err(Fail::new("a fault, and the heap")),
     }
 }
 
@@ -361,9 +384,11 @@ fn is_refused_within(
     let (fault, report) = checked_within(alloc, bytes, log)?;
     let is_refused = fault == LogFault::Memory;
     let expected = if is_refused { b"" } else { report_before };
-    holds(is_refused || fault == want, "the fault")?;
-    same(&report.as_slice(), &expected, &bytes)?;
-    Ok(is_refused)
+    if (is_refused || fault == want) && report.as_slice() == expected {
+        Ok(is_refused)
+    } else {
+        Err(Fail::new("the fault, and the report"))
+    }
 }
 
 /// Over heaps from empty to ample a log is refused for want of memory up to some size.
@@ -419,8 +444,7 @@ const WITHOUT_MEMORY: &[(&[u8], LogFault)] = &[
 fn memory_is_wanted_behind_the_head_alone(rt: HostRuntime) -> Result<(), Fail> {
     for (log, want) in WITHOUT_MEMORY {
         let (fault, report) = checked_within(rt.alloc(), 0, log)?;
-        same(&fault, want, log)?;
-        same(&report.len(), &0, log)?;
+        same(&(fault, report.len()), &(*want, 0), log)?;
     }
     Ok(())
 }

@@ -5,6 +5,7 @@ ghost use Rattle.daide_settings.specs.Settings.{key_text, default_of};
 ghost use Rattle.daide_settings.specs.Settings.{is_known as is_known_key, is_in_range as is_in_keys_range};
 
 use daide_grammar::level::Level;
+use daide_machine::{MAX_BODY, MAX_DEPTH, MAX_SESSIONS, MIN_BODY, MIN_DEPTH};
 use std::fmt;
 
 /// A key of the settings, in the order in which they are judged.
@@ -79,7 +80,7 @@ impl Key {
         match self {
             Key::Listen | Key::Server | Key::Words => None,
             Key::TopLevel => Some(60),
-            Key::MaxBody => Some(65_526),
+            Key::MaxBody => Some(MAX_BODY as u64),
             Key::MaxDepth => Some(62),
             Key::ImSeconds => Some(30),
             Key::MaxSessions => Some(16),
@@ -99,10 +100,12 @@ impl Key {
                 Ok(number) => Level::of(number).is_some(),
                 Err(_) => false,
             },
-            Key::MaxBody => number % 2 == 0 && 512 <= number && number <= 65_526,
-            Key::MaxDepth => 4 <= number && number <= 254,
+            Key::MaxBody => number % 2 == 0
+                && MIN_BODY as u64 <= number
+                && number <= MAX_BODY as u64,
+            Key::MaxDepth => MIN_DEPTH as u64 <= number && number <= MAX_DEPTH as u64,
             Key::ImSeconds => 1 <= number && number <= 3_600,
-            Key::MaxSessions => 1 <= number && number <= 256,
+            Key::MaxSessions => 1 <= number && number <= MAX_SESSIONS as u64,
             Key::Sessions => 1 <= number && number <= 1_000_000,
             Key::Turns => 1 <= number && number <= 1_000_000_000_000,
             Key::IdleSeconds => number <= 86_400,

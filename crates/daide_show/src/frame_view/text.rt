@@ -103,14 +103,10 @@ fn write_verdict<A: Allocator + Copy>(
 }
 
 /// Writes that a frame is at fault.
-pub(super) fn write_fault<A: Allocator>(
-    alloc: A,
-    code: Code,
-    text: &mut Vec<u8, A>,
-) -> io::Result<bool>
+pub(super) fn write_fault<A: Allocator>(code: Code, text: &mut Vec<u8, A>) -> io::Result<bool>
     ensures { IfOk result (λ relayed. Adds text.old.items text.new.items relayed (fault_shown code)) }
 {
-    let digits = hex::encode_upper(alloc, [code.number()])?;
+    let digits = code.digits();
     writeln!(text, "fault {digits}")?;
     Ok(false)
 }
@@ -125,19 +121,14 @@ fn write_relayed<A: Allocator>(head: Head, text: &mut Vec<u8, A>) -> io::Result<
 }
 
 /// Writes what becomes of an IM.
-fn write_im<A: Allocator>(
-    alloc: A,
-    head: Head,
-    body: &[u8],
-    text: &mut Vec<u8, A>,
-) -> io::Result<bool>
+fn write_im<A: Allocator>(head: Head, body: &[u8], text: &mut Vec<u8, A>) -> io::Result<bool>
     requires im { head.kind ≡ Kind.Im }
     requires four { length body.now ≡ 4 }
     ensures { IfOk result (λ relayed. Adds text.old.items text.new.items relayed (im_shown head.len (im_of body.now))) }
 {
     match check_im([body[0], body[1], body[2], body[3]]) {
         Ok(()) => write_relayed(head, text),
-        Err(code) => write_fault(alloc, code, text),
+        Err(code) => write_fault(code, text),
     }
 }
 
@@ -181,7 +172,7 @@ pub(super) fn write_frame<A: Allocator + Copy>(
         × Adds text.old.items text.new.items relayed shown) }
 {
     match head.kind {
-        Kind::Im => write_im(alloc, head, body, text),
+        Kind::Im => write_im(head, body, text),
         Kind::Dm => write_message(alloc, words, end, level, head, body, text),
         Kind::Rm | Kind::Fm | Kind::Em => write_relayed(head, text),
     }

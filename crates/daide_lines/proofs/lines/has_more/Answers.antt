@@ -1,10 +1,11 @@
 use Rattle.std.proofs.Common.{sym, ◌∙◌}
+use Rattle.daide_lines.specs.Output.{all_of}
 use Rattle.daide_lines.proofs.LineLemmas.{more_read, none_left}
 use Rattle.daide_lines.proofs.lines.has_more.Goals as goal
 
 pub returns-clause-more : goal.returns-clause-more
 returns-clause-more g c =
-    more_read (g.R.Read.remaining c.args.reader.now) (g.R.Read.remaining c.read_on.new.reader) c.args.block.now
+    more_read (all_of g.W.Write.contents c.args.output.now) (g.R.LogReader.told c.args.reader.now) (g.R.LogReader.told c.read_on.new.reader) c.args.block.now
     c.read_on.new.block c.read_on.result
     (sym c.as_slice.ensures.value
     ∙ none_left c.as_slice.result.now (sym c.is_empty.ensures ∙ c.if-not-is_empty.false))

@@ -7,14 +7,14 @@ use Rattle.daide_lines.specs.Lines.{IsFound}
 use Rattle.daide_lines.specs.Output.{all_of}
 use Rattle.daide_log.specs.Log.{event_in}
 use Rattle.daide_log.specs.Progress.{Judges, states_of}
-use Rattle.daide_log.proofs.EventLemmas.{plays_first, plays_more, plays_kept, finished_at_end, finished_at_last, fault_in_play}
+use Rattle.daide_log.proofs.EventLemmas.{plays_first, plays_more, finished_at_end, finished_at_last, fault_in_play}
 use Rattle.daide_log.proofs.EventLemmas.{bad_in_play, at_end, at_last_line, as_line}
 use Rattle.daide_log.proofs.LogLemmas.{write_failed}
 use Rattle.daide_log.proofs.check.play.Goals as goal
 
 pub lines-init : goal.lines-init
 lines-init g c = (
-  plays_first (g.R.Read.remaining c.args.input.now.reader.now) c.args.input.now.block c.args.lines c.args.version
+  plays_first (g.R.LogReader.told c.args.input.now.reader.now) c.args.input.now.block c.args.lines c.args.version
       c.args.sessions.now.items c.args.account.now.summary (all_of g.W.Write.contents c.args.account.now.output)
       c.requires.idle c.requires.lines c.requires.nothing,
   refl,
@@ -23,41 +23,39 @@ lines-init g c = (
 
 pub returns-in-Err-clause-refused : goal.returns-in-Err-clause-refused
 returns-in-Err-clause-refused g c =
-    fault_in_play _ (g.R.Read.remaining c.lines.input.reader.now) (g.R.Read.remaining c.find_line.new.input.reader.now)
+    fault_in_play _ (g.R.LogReader.told c.lines.input.reader.now) (g.R.LogReader.told c.find_line.new.input.reader.now)
     c.lines.input.block c.find_line.new.input.block c.find_line.new.input.text.items c.lines.count c.args.version
-    c.lines.sessions.items (length c.args.sessions.now.items) c.lines.account.summary _
+    c.lines.sessions.items (length c.args.sessions.now.items) c.lines.account.summary
     (all_of g.W.Write.contents c.lines.account.output) (all_of g.W.Write.contents c.find_line.new.output) c.in-Err.fault
     c.lines.invariant.0 c.in-Err.ensures.found c.in-Err.ensures.kept_at_fault
 
 pub returns-then-is_end-clause-report : goal.returns-then-is_end-clause-report
 returns-then-is_end-clause-report g c =
-    finished_at_end _ (g.R.Read.remaining c.lines.input.reader.now) (g.R.Read.remaining c.find_line.new.input.reader.now)
+    finished_at_end _ (g.R.LogReader.told c.lines.input.reader.now) (g.R.LogReader.told c.find_line.new.input.reader.now)
     c.lines.input.block c.find_line.new.input.block c.find_line.new.input.text.items c.lines.count c.args.version
-    c.lines.sessions.items (length c.args.sessions.now.items) c.lines.account.summary _
-    (all_of g.W.Write.contents c.find_line.new.output) (all_of g.W.Write.contents c.finish.new.output) c.finish.result
-    (plays_kept _ _ _ _ _ _ _ _ _ _ _ c.lines.invariant.0 c.in-Ok.ensures.kept)
-    (subst (λ (f : Found). IsFound (g.R.Read.remaining c.lines.input.reader.now) c.lines.input.block c.lines.count (Ok f)
+    c.lines.sessions.items (length c.args.sessions.now.items) c.lines.account.summary
+    (all_of g.W.Write.contents c.lines.account.output) (all_of g.W.Write.contents c.find_line.new.output) (all_of g.W.Write.contents c.finish.new.output)
+    c.finish.result c.lines.invariant.0
+    (subst (λ (f : Found). IsFound (all_of g.W.Write.contents c.lines.account.output) (g.R.LogReader.told c.lines.input.reader.now) c.lines.input.block c.lines.count (Ok f)
     (line_at f c.find_line.new.input.block c.find_line.new.input.text.items)
-    (g.R.Read.remaining c.find_line.new.input.reader.now) (rest_at f c.find_line.new.input.block))
+    (g.R.LogReader.told c.find_line.new.input.reader.now) (rest_at f c.find_line.new.input.block))
     (at_end c.in-Ok.found (sym c.is_end.ensures ∙ c.if-is_end.true)) c.in-Ok.ensures.found)
-    c.finish.ensures.written
+    c.in-Ok.ensures.kept c.finish.ensures.written
 
 pub returns-then-is_end-clause-refused : goal.returns-then-is_end-clause-refused
-returns-then-is_end-clause-refused g c origin _ =
-    write_failed origin (g.R.Read.remaining c.find_line.new.input.reader.now)
-    (all_of g.W.Write.contents c.args.account.now.output) (all_of g.W.Write.contents c.finish.new.output) c.finish.result
-    c.finish.ensures.refused
+returns-then-is_end-clause-refused g c origin before _ =
+    write_failed origin (g.R.LogReader.told c.find_line.new.input.reader.now)
+    before (all_of g.W.Write.contents c.finish.new.output) c.finish.result c.finish.ensures.refused
 
 pub returns-in-Err-judge_line-clause-refused : goal.returns-in-Err-judge_line-clause-refused
 returns-in-Err-judge_line-clause-refused g c =
-    bad_in_play _ (g.R.Read.remaining c.lines.input.reader.now) (g.R.Read.remaining c.find_line.new.input.reader.now)
+    bad_in_play _ (g.R.LogReader.told c.lines.input.reader.now) (g.R.LogReader.told c.find_line.new.input.reader.now)
     c.lines.input.block (rest_at c.in-Ok.found c.find_line.new.input.block)
     (line_at c.in-Ok.found c.find_line.new.input.block c.find_line.new.input.text.items) c.lines.count c.args.version
-    c.lines.sessions.items (length c.args.sessions.now.items) c.lines.account.summary _
-    (all_of g.W.Write.contents c.find_line.new.output) (all_of g.W.Write.contents c.judge_line.new.account.output)
-    c.in-Ok.found c.in-Err-judge_line.fault
-    (plays_kept _ _ _ _ _ _ _ _ _ _ _ c.lines.invariant.0 c.in-Ok.ensures.kept) c.in-Ok.ensures.found
-    (sym c.is_end.ensures ∙ c.if-is_end.false)
+    c.lines.sessions.items (length c.args.sessions.now.items) c.lines.account.summary
+    (all_of g.W.Write.contents c.lines.account.output) (all_of g.W.Write.contents c.find_line.new.output) (all_of g.W.Write.contents c.judge_line.new.account.output)
+    c.in-Ok.found c.in-Err-judge_line.fault c.lines.invariant.0 c.in-Ok.ensures.found
+    (sym c.is_end.ensures ∙ c.if-is_end.false) c.in-Ok.ensures.kept
     (subst (λ (l : List ℕ). (c.in-Err-judge_line.fault ≡ Write) ⊎ ((c.in-Err-judge_line.fault ≡ BadLine (c.lines.count + 1))
     × (event_in c.args.version (length c.lines.sessions.items) l ≡ None)
     × (all_of g.W.Write.contents c.judge_line.new.account.output ≡ all_of g.W.Write.contents c.find_line.new.output)))
@@ -65,17 +63,17 @@ returns-in-Err-judge_line-clause-refused g c =
 
 pub returns-then-is_last-clause-report : goal.returns-then-is_last-clause-report
 returns-then-is_last-clause-report g c =
-    finished_at_last _ (g.R.Read.remaining c.lines.input.reader.now) (g.R.Read.remaining c.find_line.new.input.reader.now)
+    finished_at_last _ (g.R.LogReader.told c.lines.input.reader.now) (g.R.LogReader.told c.find_line.new.input.reader.now)
     c.lines.input.block c.find_line.new.input.block c.find_line.new.input.text.items c.lines.count c.args.version
     c.lines.sessions.items c.judge_line.new.sessions.items (length c.args.sessions.now.items) c.lines.account.summary
-    c.judge_line.new.account.summary _ (all_of g.W.Write.contents c.find_line.new.output)
+    c.judge_line.new.account.summary (all_of g.W.Write.contents c.lines.account.output) (all_of g.W.Write.contents c.find_line.new.output)
     (all_of g.W.Write.contents c.judge_line.new.account.output)
-    (all_of g.W.Write.contents c.finish-then-is_last.new.output) c.finish-then-is_last.result
-    (plays_kept _ _ _ _ _ _ _ _ _ _ _ c.lines.invariant.0 c.in-Ok.ensures.kept)
-    (subst (λ (f : Found). IsFound (g.R.Read.remaining c.lines.input.reader.now) c.lines.input.block c.lines.count (Ok f)
+    (all_of g.W.Write.contents c.finish-then-is_last.new.output) c.finish-then-is_last.result c.lines.invariant.0
+    (subst (λ (f : Found). IsFound (all_of g.W.Write.contents c.lines.account.output) (g.R.LogReader.told c.lines.input.reader.now) c.lines.input.block c.lines.count (Ok f)
     (line_at f c.find_line.new.input.block c.find_line.new.input.text.items)
-    (g.R.Read.remaining c.find_line.new.input.reader.now) (rest_at f c.find_line.new.input.block))
+    (g.R.LogReader.told c.find_line.new.input.reader.now) (rest_at f c.find_line.new.input.block))
     (at_last_line c.in-Ok.found (sym c.is_last.ensures ∙ c.if-is_last.true)) c.in-Ok.ensures.found)
+    c.in-Ok.ensures.kept
     (subst (λ (l : List ℕ). Judges c.args.version (c.lines.count + 1) (states_of c.lines.sessions.items) l
     (states_of c.judge_line.new.sessions.items) c.lines.account.summary c.judge_line.new.account.summary
     (all_of g.W.Write.contents c.find_line.new.output) (all_of g.W.Write.contents c.judge_line.new.account.output))
@@ -86,27 +84,26 @@ returns-then-is_last-clause-report g c =
     c.finish-then-is_last.ensures.written
 
 pub returns-then-is_last-clause-refused : goal.returns-then-is_last-clause-refused
-returns-then-is_last-clause-refused g c origin _ =
-    write_failed origin (g.R.Read.remaining c.find_line.new.input.reader.now)
-    (all_of g.W.Write.contents c.args.account.now.output) (all_of g.W.Write.contents c.finish-then-is_last.new.output)
+returns-then-is_last-clause-refused g c origin before _ =
+    write_failed origin (g.R.LogReader.told c.find_line.new.input.reader.now)
+    before (all_of g.W.Write.contents c.finish-then-is_last.new.output)
     c.finish-then-is_last.result c.finish-then-is_last.ensures.refused
 
 pub lines-preserved : goal.lines-preserved
 lines-preserved g c =
-    let now = g.R.Read.remaining c.lines.input.reader.now in
-    let new = g.R.Read.remaining c.find_line.new.input.reader.now in
+    let now = g.R.LogReader.told c.lines.input.reader.now in
+    let new = g.R.LogReader.told c.find_line.new.input.reader.now in
     let line = line_at c.in-Ok.found c.find_line.new.input.block c.find_line.new.input.text.items in (
       plays_more _ now new c.lines.input.block c.pass_line.new.block line c.lines.count c.args.version
           c.lines.sessions.items c.judge_line.new.sessions.items (length c.args.sessions.now.items)
-          c.lines.account.summary c.judge_line.new.account.summary _
-          (all_of g.W.Write.contents c.find_line.new.output)
-          (all_of g.W.Write.contents c.judge_line.new.account.output)
-          (plays_kept _ _ _ _ _ _ _ _ _ _ _ c.lines.invariant.0 c.in-Ok.ensures.kept)
-          (subst (λ (rest : List ℕ). IsFound now c.lines.input.block c.lines.count (Ok Line) line new rest)
+          c.lines.account.summary c.judge_line.new.account.summary (all_of g.W.Write.contents c.lines.account.output)
+          (all_of g.W.Write.contents c.find_line.new.output) (all_of g.W.Write.contents c.judge_line.new.account.output) c.lines.invariant.0
+          (subst (λ (rest : List ℕ). IsFound (all_of g.W.Write.contents c.lines.account.output) now c.lines.input.block c.lines.count (Ok Line) line new rest)
           (sym c.pass_line.ensures)
-          (as_line now new c.lines.input.block (rest_at c.in-Ok.found c.find_line.new.input.block) line c.lines.count
+          (as_line (all_of g.W.Write.contents c.lines.account.output) now new c.lines.input.block (rest_at c.in-Ok.found c.find_line.new.input.block) line c.lines.count
           c.in-Ok.found (sym c.is_end.ensures ∙ c.if-is_end.false) (sym c.is_last.ensures ∙ c.if-is_last.false)
           c.in-Ok.ensures.found))
+          c.in-Ok.ensures.kept
           (subst (λ (l : List ℕ). Judges c.args.version (c.lines.count + 1) (states_of c.lines.sessions.items) l
           (states_of c.judge_line.new.sessions.items) c.lines.account.summary c.judge_line.new.account.summary
           (all_of g.W.Write.contents c.find_line.new.output)

@@ -1,20 +1,17 @@
-use Rattle.std.proofs.Common.{◌-◌, [], List, ℕ, Option, length}
+use Rattle.std.proofs.Common.{◌-◌, length}
 use Rattle.daide_lines.specs.Input.{IsSameReader}
 use Rattle.daide_lines.specs.Output.{IsSameWriter, all_of}
-use Rattle.daide_log.specs.Log.{Playing}
-use Rattle.daide_log.specs.Progress.{HasRead, states_of}
+use Rattle.daide_log.specs.Progress.{Begins, states_of}
 use Rattle.daide_log.proofs.EventLemmas.{Plays}
 use Rattle.daide_log.proofs.check.play.Given as goal
 
 -- all lines so far are reported
 abbrev pub invariant-lines : goal.invariant-lines
 invariant-lines g l =
-    Plays (λ (origin : Option (List ℕ)).
-    HasRead origin (g.R.Read.remaining l.fn.input.reader.now) l.fn.input.block l.lines []
-    (Playing l.version (states_of l.fn.sessions.items)))
-    (g.R.Read.remaining l.input.reader.now) l.input.block l.count l.version l.sessions.items
-    (length l.fn.sessions.items) l.account.summary (all_of g.W.Write.contents l.fn.account.output)
-    (all_of g.W.Write.contents l.account.output)
+    Plays (Begins (g.R.LogReader.told l.fn.input.reader.now) l.fn.input.block l.lines l.version
+    (states_of l.fn.sessions.items) (all_of g.W.Write.contents l.fn.account.output))
+    (g.R.LogReader.told l.input.reader.now) l.input.block l.count l.version l.sessions.items
+    (length l.fn.sessions.items) l.account.summary (all_of g.W.Write.contents l.account.output)
     × IsSameReader l.fn.input l.input × IsSameWriter l.fn.account.output l.account.output
 
 -- how many lines there may still be

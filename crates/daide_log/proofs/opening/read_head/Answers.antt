@@ -12,9 +12,11 @@ use Rattle.daide_log.proofs.opening.read_head.Goals as goal
 
 pub lines-init : goal.lines-init
 lines-init g c =
-    let old = g.R.Read.remaining c.args.input.now.reader.now in (
+    let old = g.R.LogReader.told c.args.input.now.reader.now in
+    let first = all_of g.W.Write.contents c.args.output.now in (
       record {
-        has_read = subst (λ (held : List ℕ). HasRead old old held 0 [] (Opening Unnamed)) (sym c.requires) (nothing_read old);
+        has_read = subst (λ (held : List ℕ). HasRead first old old held 0 [] (Opening Unnamed)) (sym c.requires)
+            (nothing_read first old);
         held_well = tt;
         fits = omega arith;
         kept = keeps_all (all_of g.W.Write.contents c.args.output.now);
@@ -25,12 +27,12 @@ lines-init g c =
 
 pub returns-in-Err-clause-opened : goal.returns-in-Err-clause-opened
 returns-in-Err-clause-opened g c =
-    let old = g.R.Read.remaining c.args.input.now.reader.now in
-    let now = g.R.Read.remaining c.lines.input.reader.now in
-    let new = g.R.Read.remaining c.next_line-found.new.input.reader.now in
-    subst (IsStep old new c.next_line-found.new.input.block c.lines.count) (sym c.after_line.ensures ∙ c.in-Err.is)
-    (head_judged old now new c.lines.input.block c.next_line-found.new.input.text.items c.next_line-found.new.input.block c.lines.count
-    c.next_line-found.result c.lines.heading c.with_line-more.result c.lines.invariant.0.has_read
+    let old = g.R.LogReader.told c.args.input.now.reader.now in
+    let now = g.R.LogReader.told c.lines.input.reader.now in
+    let new = g.R.LogReader.told c.next_line-found.new.input.reader.now in
+    subst (IsStep (all_of g.W.Write.contents c.args.output.now) old new c.next_line-found.new.input.block c.lines.count) (sym c.after_line.ensures ∙ c.in-Err.is)
+    (head_judged (all_of g.W.Write.contents c.args.output.now) (all_of g.W.Write.contents c.lines.output) old now new c.lines.input.block c.next_line-found.new.input.text.items c.next_line-found.new.input.block c.lines.count
+    c.next_line-found.result c.lines.heading c.with_line-more.result c.lines.invariant.0.has_read c.lines.invariant.0.kept
     c.next_line-found.ensures.found
     (c.with_line-more.ensures.heading ∙ ap (heading_after (heading_of c.lines.heading)) c.as_slice.ensures.value))
 
@@ -45,29 +47,29 @@ returns-in-Err-clause-kept_at_fault g c other =
 
 pub returns-in-Ok-Done-clause-opened : goal.returns-in-Ok-Done-clause-opened
 returns-in-Ok-Done-clause-opened g c =
-    let old = g.R.Read.remaining c.args.input.now.reader.now in
-    let now = g.R.Read.remaining c.lines.input.reader.now in
-    let new = g.R.Read.remaining c.next_line-found.new.input.reader.now in
-    subst (IsStep old new c.next_line-found.new.input.block c.lines.count)
+    let old = g.R.LogReader.told c.args.input.now.reader.now in
+    let now = g.R.LogReader.told c.lines.input.reader.now in
+    let new = g.R.LogReader.told c.next_line-found.new.input.reader.now in
+    subst (IsStep (all_of g.W.Write.contents c.args.output.now) old new c.next_line-found.new.input.block c.lines.count)
     (sym c.after_line.ensures ∙ c.in-Ok-Done.is ∙ ap Ok c.in-Ok-Done.field-0-is)
-    (head_judged old now new c.lines.input.block c.next_line-found.new.input.text.items c.next_line-found.new.input.block c.lines.count
-    c.next_line-found.result c.lines.heading c.with_line-more.result c.lines.invariant.0.has_read
+    (head_judged (all_of g.W.Write.contents c.args.output.now) (all_of g.W.Write.contents c.lines.output) old now new c.lines.input.block c.next_line-found.new.input.text.items c.next_line-found.new.input.block c.lines.count
+    c.next_line-found.result c.lines.heading c.with_line-more.result c.lines.invariant.0.has_read c.lines.invariant.0.kept
     c.next_line-found.ensures.found
     (c.with_line-more.ensures.heading ∙ ap (heading_after (heading_of c.lines.heading)) c.as_slice.ensures.value))
 
 pub lines-preserved : goal.lines-preserved
 lines-preserved g c =
-    let old = g.R.Read.remaining c.args.input.now.reader.now in
-    let now = g.R.Read.remaining c.lines.input.reader.now in
-    let new = g.R.Read.remaining c.next_line-found.new.input.reader.now in
+    let old = g.R.LogReader.told c.args.input.now.reader.now in
+    let now = g.R.LogReader.told c.lines.input.reader.now in
+    let new = g.R.LogReader.told c.next_line-found.new.input.reader.now in
     let first = all_of g.W.Write.contents c.args.output.now in
     let mid = all_of g.W.Write.contents c.lines.output in
     let last = all_of g.W.Write.contents c.next_line-found.new.output in
     let is = sym c.after_line.ensures ∙ c.in-Ok-More.is ∙ ap Ok c.in-Ok-More.field-0-is in
-    let step : IsStep old new c.next_line-found.new.input.block c.lines.count (Ok (More c.in-Ok-More.next)) =
-    subst (IsStep old new c.next_line-found.new.input.block c.lines.count) is
-    (head_judged old now new c.lines.input.block c.next_line-found.new.input.text.items c.next_line-found.new.input.block c.lines.count
-    c.next_line-found.result c.lines.heading c.with_line-more.result c.lines.invariant.0.has_read
+    let step : IsStep (all_of g.W.Write.contents c.args.output.now) old new c.next_line-found.new.input.block c.lines.count (Ok (More c.in-Ok-More.next)) =
+    subst (IsStep (all_of g.W.Write.contents c.args.output.now) old new c.next_line-found.new.input.block c.lines.count) is
+    (head_judged (all_of g.W.Write.contents c.args.output.now) (all_of g.W.Write.contents c.lines.output) old now new c.lines.input.block c.next_line-found.new.input.text.items c.next_line-found.new.input.block c.lines.count
+    c.next_line-found.result c.lines.heading c.with_line-more.result c.lines.invariant.0.has_read c.lines.invariant.0.kept
     c.next_line-found.ensures.found
     (c.with_line-more.ensures.heading ∙ ap (heading_after (heading_of c.lines.heading)) c.as_slice.ensures.value)) in (
       record {

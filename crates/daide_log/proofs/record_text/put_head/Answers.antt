@@ -1,7 +1,8 @@
 use Rattle.std.proofs.Common.{◌≡◌, [], ◌∷◌, ◌++◌, codes, length, sym, ap, ◌∙◌, arith, None}
 use Rattle.daide_words.specs.Words.{words_of, word_at}
 use Rattle.daide_log.specs.RecordText.{config_text}
-use Rattle.daide_log.proofs.RecordHead.{head_more, no_word, names_of-length}
+use Rattle.daide_words.proofs.WordLists.{names-length}
+use Rattle.daide_log.proofs.RecordHead.{head_more, no_word}
 use Rattle.daide_log.proofs.record_text.put_head.Goals as goal
 use Rattle.daide_log.proofs.record_text.put_head.Goals.{in-Some, in_default}
 
@@ -19,6 +20,6 @@ loop-place-preserved c =
       | in_default w ↦
           let none : word_at c.loop-place.place words ≡ None = sym c.get.ensures ∙ w.in_default.is in
           let few = no_word words c.loop-place.place none in
-          let size = ap length c.names-count.ensures.names ∙ names_of-length words in
+          let size = ap length c.names-count.ensures.names ∙ names-length words in
           absurd (omega arith)
     ]

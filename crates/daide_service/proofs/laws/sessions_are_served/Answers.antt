@@ -1,5 +1,7 @@
 use Rattle.std.proofs.Common.{arith}
-use Rattle.daide_service.proofs.ServedLemmas.{rounds_serve}
+use Rattle.std.proofs.lemmas.List.Elements.{All-weaker}
+use Rattle.daide_service.specs.Served.{IsServed}
+use Rattle.daide_service.proofs.ServedLemmas.{Served, rounds_serve}
 use Rattle.daide_service.proofs.laws.sessions_are_served.Goals as goal
 
 pub returns : goal.returns
@@ -7,4 +9,6 @@ returns g c = λ settings n answers run h.
     let kept = rounds_serve g.P.Ports.becomes settings n answers run h in
     let came = kept.counts.came in
     let met = kept.counts.met in
-    (kept.held, kept.gone, kept.balance, omega (arith, came), omega (arith, met))
+    let held = All-weaker (Served g.P.Ports.becomes settings answers) (IsServed g.P.Ports.becomes settings answers)
+    (λ now s. s.0) run.hub.places kept.held in
+    (held, kept.gone, kept.balance, omega (arith, came), omega (arith, met))

@@ -4,17 +4,17 @@ use Rattle.daide_traffic.proofs.traffic.Traffic.body.Goals as goal
 
 pub returns-clause-value : goal.returns-clause-value
 returns-clause-value g c =
-    let h = picked c.self.invariant c.self.view_is c.of_side.ensures in
+    let h = picked c.self.invariant c.self.view_is c.at.ensures in
     rw h.arrival c.body.ensures.value
 
 pub returns-clause-within : goal.returns-clause-within
 returns-clause-within g c =
-    let h = picked c.self.invariant c.self.view_is c.of_side.ensures in
+    let h = picked c.self.invariant c.self.view_is c.at.ensures in
     rw (h.cap, h.arrival) c.body.ensures.within
 
 pub returns-clause-capped : goal.returns-clause-capped
 returns-clause-capped g c =
-    let h = picked c.self.invariant c.self.view_is c.of_side.ensures in
+    let h = picked c.self.invariant c.self.view_is c.at.ensures in
     rw (h.cap, h.arrival) c.body.ensures.capped
 
 pub returns-clause-short : goal.returns-clause-short

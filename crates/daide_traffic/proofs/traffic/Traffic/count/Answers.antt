@@ -5,7 +5,7 @@ use Rattle.daide_traffic.proofs.traffic.Traffic.count.Goals as goal
 
 pub returns-clause-value : goal.returns-clause-value
 returns-clause-value g c =
-    c.len.ensures.value ∙ ap (λ (q : Queue). length q.items) c.toward.ensures
+    c.len.ensures.value ∙ ap (λ (q : Queue). length q.items) c.at.ensures
     ∙ waits_len (seen c.self.invariant c.self.view_is refl)
 
 pub returns-clause-at_most_three : goal.returns-clause-at_most_three

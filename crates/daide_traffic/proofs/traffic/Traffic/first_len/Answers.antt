@@ -9,22 +9,22 @@ use Rattle.daide_traffic.proofs.traffic.Traffic.first_len.Goals as goal
 pub overflow_sub-result : goal.overflow_sub-result
 overflow_sub-result g c =
     let d = c.self.inside in
-    let f = fields d.bot d.server d.to_bot d.to_server in
+    let f = fields d.inbound d.wires in
     let within = begun_within f c.args.to c.self.invariant in
     let size : c.first_frame_len.result ≡ size_of_first (answer_at f.sides) (at f.wires c.args.to).items =
-    c.first_frame_len.ensures ∙ ap (λ (q : Queue). size_of_first (answer_at f.sides) q.items) c.toward-wire.ensures in
+    c.first_frame_len.ensures ∙ ap (λ (q : Queue). size_of_first (answer_at f.sides) q.items) c.at-wire.ensures in
     let written : c.written.result ≡ (at f.wires c.args.to).written =
-    c.written.ensures ∙ ap (λ (q : Queue). q.written) c.toward-wire.ensures in
+    c.written.ensures ∙ ap (λ (q : Queue). q.written) c.at-wire.ensures in
     omega arith
 
 pub returns-clause-value : goal.returns-clause-value
 returns-clause-value g c =
     let d = c.self.inside in
-    let f = fields d.bot d.server d.to_bot d.to_server in
+    let f = fields d.inbound d.wires in
     let size : c.first_frame_len.result ≡ size_of_first (answer_at f.sides) (at f.wires c.args.to).items =
-    c.first_frame_len.ensures ∙ ap (λ (q : Queue). size_of_first (answer_at f.sides) q.items) c.toward-wire.ensures in
+    c.first_frame_len.ensures ∙ ap (λ (q : Queue). size_of_first (answer_at f.sides) q.items) c.at-wire.ensures in
     let written : c.written.result ≡ (at f.wires c.args.to).written =
-    c.written.ensures ∙ ap (λ (q : Queue). q.written) c.toward-wire.ensures in
+    c.written.ensures ∙ ap (λ (q : Queue). q.written) c.at-wire.ensures in
     ap (λ (n : ℕ). n - c.written.result) size
     ∙ ap (λ (n : ℕ). size_of_first (answer_at f.sides) (at f.wires c.args.to).items - n) written
     ∙ first_len_is f c.args.to
@@ -33,10 +33,10 @@ returns-clause-value g c =
 pub returns-clause-none : goal.returns-clause-none
 returns-clause-none g c e =
     let d = c.self.inside in
-    let f = fields d.bot d.server d.to_bot d.to_server in
+    let f = fields d.inbound d.wires in
     let size : c.first_frame_len.result ≡ size_of_first (answer_at f.sides) (at f.wires c.args.to).items =
-    c.first_frame_len.ensures ∙ ap (λ (q : Queue). size_of_first (answer_at f.sides) q.items) c.toward-wire.ensures in
+    c.first_frame_len.ensures ∙ ap (λ (q : Queue). size_of_first (answer_at f.sides) q.items) c.at-wire.ensures in
     let written : c.written.result ≡ (at f.wires c.args.to).written =
-    c.written.ensures ∙ ap (λ (q : Queue). q.written) c.toward-wire.ensures in
+    c.written.ensures ∙ ap (λ (q : Queue). q.written) c.at-wire.ensures in
     ap (λ (v : Traffic). at v.waiting c.args.to) (sym c.self.view_is) ∙ waits_at f c.args.to
     ∙ none_left f c.args.to c.self.invariant (omega (arith, size, written, e))

@@ -4,7 +4,7 @@ use Rattle.daide_traffic.proofs.traffic.Traffic.is_awaited.Goals as goal
 
 pub returns-clause-value : goal.returns-clause-value
 returns-clause-value g c =
-    let h = picked c.self.invariant c.self.view_is c.of_side.ensures in
+    let h = picked c.self.invariant c.self.view_is c.at.ensures in
     c.is_awaited.ensures ∙ sym h.awaited
 
 pub returns-clause-tied : goal.returns-clause-tied

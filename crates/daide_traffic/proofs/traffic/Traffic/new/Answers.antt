@@ -1,17 +1,19 @@
 use Rattle.daide_words.specs.Word.{grammar_words}
 use Rattle.daide_words.specs.Words.{words_of}
+use Rattle.daide_traffic.specs.Both.{both}
 use Rattle.daide_traffic.specs.Traffic.{fields}
 use Rattle.daide_traffic.proofs.NewLemmas.{AreNew, are_new, new_sound, quiet_of}
 use Rattle.daide_traffic.proofs.traffic.Traffic.new.Given as given
 use Rattle.daide_traffic.proofs.traffic.Traffic.new.Goals as goal
 
-made : (g : given.Over) (c : goal.After-new-4 g) → AreNew c.args.cap
+made : (g : given.Over) (c : goal.After-new-6 g) → AreNew c.args.cap
     (record { max_depth = c.args.max_depth; words = grammar_words (words_of c.args.words) })
-    (fields c.in_ok-new.field-0 c.in_ok-new-2.field-0 c.new-3.result c.new-4.result)
+    (fields c.new-3.result c.new-6.result)
 made g c =
     let bot = c.in_ok-new.ensures in
     let server = c.in_ok-new-2.ensures in
-    are_new _ (record {
+    let new = are_new (fields (both c.in_ok-new.field-0 c.in_ok-new-2.field-0) (both c.new-4.result c.new-5.result))
+    (record {
       its_side = bot.side;
       its_cap = bot.limits.0;
       its_rules = bot.rules;
@@ -30,7 +32,8 @@ made g c =
       unanswered = server.empty.1;
       unasked = server.unasked;
       unlooked = server.unlooked;
-    }) c.new-3.ensures c.new-4.ensures
+    }) c.new-4.ensures c.new-5.ensures in
+    rw (c.new-3.ensures, c.new-6.ensures) new
 
 pub invariant_of-result : goal.invariant_of-result
 invariant_of-result g c = new_sound (made g c)

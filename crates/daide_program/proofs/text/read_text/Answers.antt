@@ -1,6 +1,6 @@
 use Rattle.std.proofs.Common.{rules}
-use Rattle.daide_streams.proofs.Reading.{whole_text}
-use Rattle.daide_streams.proofs.text.read_text.Goals as goal
+use Rattle.daide_program.proofs.Reading.{whole_text}
+use Rattle.daide_program.proofs.text.read_text.Goals as goal
 
 pub returns-in-Ok-from_utf8-clause-whole : goal.returns-in-Ok-from_utf8-clause-whole
 returns-in-Ok-from_utf8-clause-whole g c =

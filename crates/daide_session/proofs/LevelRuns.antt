@@ -1,0 +1,564 @@
+-- The level of press over a run: a server's message is judged by the level that holds, which follows the HLOs that are
+-- passed on.
+use Rattle.std.proofs.Common.{◌≡◌, ℕ, ◌<◌, Bool, true, false, cond, eqb, List, [], ◌∷◌, ◌++◌, length}
+use Rattle.std.proofs.Common.{Option, Some, None, Result, Ok, Err, refl, sym, ◌∙◌, ap, subst, arith, append-nil}
+use Rattle.std.proofs.Common.{length-append}
+use Rattle.daide_token.specs.Token.{tokens_of}
+use Rattle.daide_frame.specs.declared.side.Side.{Side}
+use Rattle.daide_frame.specs.declared.side.Side.TheVariants.{Bot, Server}
+use Rattle.daide_frame.specs.declared.head.Kind.{Kind}
+use Rattle.daide_frame.specs.declared.head.Kind.TheVariants.{Im, Rm, Dm, Fm, Em}
+use Rattle.daide_frame.specs.declared.head.Head.{Head}
+use Rattle.daide_frame.specs.declared.code.Code.{Code}
+use Rattle.daide_frame.specs.declared.code.Code.TheVariants.{InvalidToken}
+use Rattle.daide_frame.specs.Head.{head_of}
+use Rattle.daide_frame.specs.InitialMessage.{im_of}
+use Rattle.daide_frame.specs.Frames.{Item, Begun, Whole, Wrong, alien_in, head_part, head_in, last_items}
+use Rattle.daide_frame.proofs.FramesLemmas.{last_items-short, head_in-short, head_in-whole, at_head, at_body}
+use Rattle.daide_frame.proofs.FramesLemmas.{last_items-head4, last_items-body4, head_of-append4}
+use Rattle.daide_grammar.specs.declared.level.Level.{Level}
+use Rattle.daide_grammar.specs.declared.level.Level.TheVariants.{L0}
+use Rattle.daide_reader.specs.declared.verdict.Verdict.{Verdict}
+use Rattle.daide_machine.specs.declared.phase.Phase.{Phase}
+use Rattle.daide_machine.specs.declared.phase.Phase.TheVariants.{WaitIm, WaitRm, Open, Over}
+use Rattle.daide_machine.specs.Events.{Event, Comes, Ends, Loses, Pops}
+use Rattle.daide_machine.specs.Machine.{Limits, SessionState, Sent, Effect, Outcome, Step, Runs, IsRight}
+use Rattle.daide_machine.specs.Machine.{with_pending, with_noted, is_over, untimely, level_after, answer_to, answered}
+use Rattle.daide_machine.specs.Machine.{im_answered, whole, begun, items_outcome, popped, event_outcome, asked_by}
+use Rattle.daide_machine.specs.Machine.{question_of, question, opening}
+use Rattle.daide_machine.specs.Fates.{Cause, Frame, Fault, End, Timeout, Came, checked_frame, frame_cause, fault_or}
+use Rattle.daide_machine.specs.Fates.{items_cause, cause_at, timeout_in, came_in_phase, came_in, IsJudged, HaveFates}
+use Rattle.daide_machine.proofs.FrameShapes.{refused}
+use Rattle.daide_machine.proofs.FramesHeard.{not_both}
+use Rattle.daide_machine.proofs.FateLemmas.{run_fates}
+use Rattle.daide_machine.proofs.LimitsKept.{runs_limits}
+use Rattle.daide_machine.proofs.OneRun.{one_run}
+use Rattle.daide_machine.proofs.PieceRuns.{over_stays}
+
+-- ---- what a byte does to a side's header
+
+-- the items that end with a byte, with the header before it and the header after it
+pub data Turn (before after : Option Head) : List Item → Type 0 where
+  quiet : after ≡ before → Turn before after []
+  headed : (head : Head) → after ≡ Some head → Turn before after (Begun head ∷ [])
+  at_once : (head : Head) → Turn before after (Begun head ∷ Whole head [] ∷ [])
+  ended : (head : Head) (body : List ℕ) → before ≡ Some head → Turn before after (Whole head body ∷ [])
+  wrong : (code : Code) → Turn before after (Wrong code ∷ [])
+
+abbrev TurnBy : ℕ → List ℕ → ℕ → Type 0
+TurnBy cap b x = Turn (head_in cap b) (head_in cap (b ++ x ∷ [])) (last_items cap (b ++ x ∷ []))
+
+-- three bytes at most
+short_turn : (cap : ℕ) (b : List ℕ) (x : ℕ) → length b < 3 → TurnBy cap b x
+short_turn cap b x l =
+    let few : length (b ++ x ∷ []) < 4 = omega (arith, l, length-append b (x ∷ [])) in
+    subst (Turn (head_in cap b) (head_in cap (b ++ x ∷ []))) (sym (last_items-short cap (b ++ x ∷ []) few))
+    (quiet (head_in-short cap (b ++ x ∷ []) few ∙ sym (head_in-short cap b (omega (arith, l)))))
+
+-- the fourth byte
+head_turn : (before : Option Head) (r : Result Head Code) → Turn before (head_part r) (at_head r)
+head_turn before (Err code) = wrong code
+head_turn before (Ok head) = go (eqb head.len 0)
+  where
+    go : (k : Bool) → Turn before (Some head) (Begun head ∷ (cond k (Whole head [] ∷ []) []))
+    go true = at_once head
+    go false = headed head refl
+
+-- a later one
+body_turn : (head : Head) (v : List ℕ) (alien : Option ℕ) → Turn (Some head) (Some head) (at_body head v alien)
+body_turn head v (Some n) = go (eqb n (length v))
+  where
+    go : (k : Bool) → Turn (Some head) (Some head) (cond k (Wrong InvalidToken ∷ []) [])
+    go true = wrong InvalidToken
+    go false = quiet refl
+body_turn head v None = go (eqb head.len (length v))
+  where
+    go : (k : Bool) → Turn (Some head) (Some head) (cond k (Whole head v ∷ []) [])
+    go true = ended head v refl
+    go false = quiet refl
+
+later_turn : (cap p q r s y : ℕ) (w : List ℕ) (o : Result Head Code) → head_of (p ∷ q ∷ r ∷ s ∷ []) cap ≡ o →
+    Turn (head_part o) (head_part o) (last_items cap (p ∷ q ∷ r ∷ s ∷ y ∷ w))
+later_turn cap p q r s y w (Ok head) e =
+    subst (Turn (Some head) (Some head)) (sym (last_items-body4 cap p q r s (y ∷ w) head e (omega arith)))
+    (body_turn head (y ∷ w) (alien_in head (y ∷ w)))
+later_turn cap p q r s y w (Err code) e =
+    subst (Turn None None) (sym (refused cap p q r s y w code e)) (quiet refl)
+
+-- the header of four bytes and more
+long_head : (cap p q r s : ℕ) (v : List ℕ) →
+    head_in cap (p ∷ q ∷ r ∷ s ∷ v) ≡ head_part (head_of (p ∷ q ∷ r ∷ s ∷ []) cap)
+long_head cap p q r s v =
+    head_in-whole cap (p ∷ q ∷ r ∷ s ∷ v) (omega arith) ∙ ap head_part (head_of-append4 cap p q r s v)
+
+turn : (cap : ℕ) (b : List ℕ) (x : ℕ) → TurnBy cap b x
+turn cap [] x = short_turn cap [] x (omega arith)
+turn cap (p ∷ []) x = short_turn cap (p ∷ []) x (omega arith)
+turn cap (p ∷ q ∷ []) x = short_turn cap (p ∷ q ∷ []) x (omega arith)
+turn cap (p ∷ q ∷ r ∷ []) x =
+    subst (λ (a : Option Head). Turn (head_in cap (p ∷ q ∷ r ∷ [])) a (last_items cap (p ∷ q ∷ r ∷ x ∷ [])))
+    (sym (long_head cap p q r x []))
+    (subst (Turn (head_in cap (p ∷ q ∷ r ∷ [])) (head_part (head_of (p ∷ q ∷ r ∷ x ∷ []) cap)))
+    (sym (last_items-head4 cap p q r x))
+    (head_turn (head_in cap (p ∷ q ∷ r ∷ [])) (head_of (p ∷ q ∷ r ∷ x ∷ []) cap)))
+turn cap (p ∷ q ∷ r ∷ s ∷ []) x =
+    rw (long_head cap p q r s [], long_head cap p q r s (x ∷ []))
+    (later_turn cap p q r s x [] (head_of (p ∷ q ∷ r ∷ s ∷ []) cap) refl)
+turn cap (p ∷ q ∷ r ∷ s ∷ y ∷ w) x =
+    rw (long_head cap p q r s (y ∷ w), long_head cap p q r s (y ∷ w ++ x ∷ []))
+    (later_turn cap p q r s y (w ++ x ∷ []) (head_of (p ∷ q ∷ r ∷ s ∷ []) cap) refl)
+
+-- ---- what is so of a state that is not over
+
+-- level 0 but in the phase Open
+abbrev IsCalm : Phase → Level → Type 0
+IsCalm WaitIm level = level ≡ L0
+IsCalm WaitRm level = level ≡ L0
+IsCalm Open level = Unit {0}
+IsCalm Over level = Unit {0}
+
+-- a side's header that came may come in this phase
+abbrev IsTimely : Phase → Side → Option Head → Type 0
+IsTimely phase side header = (head : Head) → header ≡ Some head → untimely phase side head.kind ≡ None
+
+-- the level was noted at the server's header
+abbrev IsNoted : Option Head → Level → Level → Type 0
+IsNoted header noted level = (head : Head) → header ≡ Some head → noted ≡ level
+
+pub record Ready (s : SessionState) : Type 0 where
+  calm : IsCalm s.phase s.level
+  bot : IsTimely s.phase Bot (head_in s.limits.cap s.bot.pending)
+  server : IsTimely s.phase Server (head_in s.limits.cap s.server.pending)
+  noted : IsNoted (head_in s.limits.cap s.server.pending) s.server.noted s.level
+
+no_head : (cap : ℕ) → head_in cap [] ≡ None
+no_head cap = head_in-short cap [] (omega arith)
+
+none_timely : (cap : ℕ) (phase : Phase) (side : Side) → IsTimely phase side (head_in cap [])
+none_timely cap phase side head e = (let bad = sym (no_head cap) ∙ e in absurd (cc))
+
+none_noted : (cap : ℕ) (noted level : Level) → IsNoted (head_in cap []) noted level
+none_noted cap noted level head e = (let bad = sym (no_head cap) ∙ e in absurd (cc))
+
+pub ready_first : (limits : Limits) → Ready (opening limits)
+ready_first limits = record {
+  calm = refl;
+  bot = none_timely limits.cap WaitIm Bot;
+  server = none_timely limits.cap WaitIm Server;
+  noted = none_noted limits.cap L0 L0;
+}
+
+-- a header that may come before the IM, or before the RM, may come after it: an FM or an EM
+still_timely : (kind : Kind) → untimely WaitIm Server kind ≡ None → untimely WaitRm Server kind ≡ None
+still_timely Im e = absurd (cc)
+still_timely Rm e = absurd (cc)
+still_timely Dm e = absurd (cc)
+still_timely Fm e = refl
+still_timely Em e = refl
+
+and_then : (kind : Kind) → untimely WaitRm Bot kind ≡ None → untimely Open Bot kind ≡ None
+and_then Im e = absurd (cc)
+and_then Rm e = absurd (cc)
+and_then Dm e = refl
+and_then Fm e = refl
+and_then Em e = refl
+
+-- ---- what came, and the level
+
+-- a message of the server is judged by the level that holds, and makes this of it
+abbrev pub IsLevelled : Kind → Limits → Level → Level → Head → List ℕ → List Sent → Level → Type 0
+IsLevelled Im limits level noted head body sent then = then ≡ level
+IsLevelled Rm limits level noted head body sent then = then ≡ level
+IsLevelled Dm limits level noted head body sent then =
+    (verdict : Verdict) × (noted ≡ level) × IsJudged limits Server level body verdict
+    × (then ≡ level_after limits.top_level Dm Server verdict (tokens_of body) level)
+    × (sent ≡ answer_to Server head body verdict ∷ [])
+IsLevelled Fm limits level noted head body sent then = then ≡ level
+IsLevelled Em limits level noted head body sent then = then ≡ level
+
+-- nothing else changes it
+abbrev pub LevelAt : Limits → Level → Cause → List Sent → Level → Type 0
+LevelAt limits level (Frame Bot noted head body) sent then = then ≡ level
+LevelAt limits level (Frame Server noted head body) sent then =
+    IsLevelled head.kind limits level noted head body sent then
+LevelAt limits level (Fault side code) sent then = then ≡ level
+LevelAt limits level (End side) sent then = then ≡ level
+LevelAt limits level Timeout sent then = then ≡ level
+
+-- from one level to another, by what came and its moves
+abbrev pub HaveLevels : Limits → Level → List Came → List Effect → Level → Type 0
+HaveLevels limits level [] effects then = (effects ≡ []) × (then ≡ level)
+HaveLevels limits level (came ∷ more) [] then = ⊥
+HaveLevels limits level (came ∷ more) (effect ∷ effects) then =
+    (next : Level) × LevelAt limits level came.cause effect.sent next × HaveLevels limits next more effects then
+
+levels_join : (limits : Limits) (a b : List Came) (x y : List Effect) (l m n : Level) → HaveLevels limits l a x m →
+    HaveLevels limits m b y n → HaveLevels limits l (a ++ b) (x ++ y) n
+levels_join limits [] b x y l m n h k = rw h.0 (subst (λ (j : Level). HaveLevels limits j b y n) h.1 k)
+levels_join limits (c ∷ a) b [] y l m n h k = absurd h
+levels_join limits (c ∷ a) b (e ∷ x) y l m n h k = (h.0, h.1, levels_join limits a b x y h.0 m n h.2 k)
+
+-- what an event makes of a state
+record Follows (limits : Limits) (level : Level) (came : List Came) (o : Outcome) : Type 0 where
+  next : Level
+  levels : HaveLevels limits level came o.effects next
+  ready : is_over o.state.phase ≡ false → (o.state.level ≡ next) × Ready o.state
+
+-- where the session is over
+over_follows : (limits : Limits) (level : Level) (came : List Came) (o : Outcome) → is_over o.state.phase ≡ true →
+    HaveLevels limits level came o.effects level → Follows limits level came o
+over_follows limits level came o e h = record {
+  next = level;
+  levels = h;
+  ready = λ live. absurd (not_both (is_over o.state.phase) e live);
+}
+
+-- ---- a whole frame
+
+abbrev one : Phase → Cause → List Came
+one phase cause = record { phase = phase; cause = cause } ∷ []
+
+abbrev made : Kind → ℕ → Head
+made kind len = record { kind = kind; len = len }
+
+-- of the bot, whose IM comes first
+bot_frame : (phase : Phase) (t : SessionState) (noted : Level) (kind : Kind) (len : ℕ) (body : List ℕ) (v : Verdict) →
+    t.phase ≡ phase → is_over phase ≡ false → untimely phase Bot kind ≡ None → IsCalm phase t.level →
+    IsTimely phase Server (head_in t.limits.cap t.server.pending) →
+    IsNoted (head_in t.limits.cap t.server.pending) t.server.noted t.level →
+    Follows t.limits t.level (one t.phase (frame_cause Bot noted (made kind len) body))
+    (whole t Bot (made kind len) body v)
+bot_frame WaitIm t noted Im len body v e o u c s n = checked (im_of body)
+  where
+    checked : (r : Result (Unit {0}) Code) →
+        Follows t.limits t.level (one t.phase (checked_frame Bot noted (made Im len) body r))
+        (im_answered (answered t Bot (made Im len) body v) t Bot r)
+    checked (Ok ok) = record {
+      next = t.level;
+      levels = (t.level, refl, (refl, refl));
+      ready = λ live. (
+        sym c,
+        record {
+          calm = refl;
+          bot = none_timely t.limits.cap WaitRm Bot;
+          server = λ head h. still_timely head.kind (s head h);
+          noted = λ head h. n head h ∙ c;
+        },
+      );
+    }
+    checked (Err code) = over_follows t.limits t.level _ _ refl (t.level, refl, (refl, refl))
+bot_frame WaitRm t noted Im len body v e o u c s n = absurd (cc)
+bot_frame Open t noted Im len body v e o u c s n = absurd (cc)
+bot_frame Over t noted Im len body v e o u c s n = absurd (cc)
+bot_frame WaitIm t noted Rm len body v e o u c s n = absurd (cc)
+bot_frame WaitRm t noted Rm len body v e o u c s n = absurd (cc)
+bot_frame Open t noted Rm len body v e o u c s n = absurd (cc)
+bot_frame Over t noted Rm len body v e o u c s n = absurd (cc)
+bot_frame phase t noted Dm len body v e o u c s n = record {
+  next = t.level;
+  levels = (t.level, refl, (refl, refl));
+  ready = λ live. (
+    refl,
+    record {
+      calm = subst (λ (p : Phase). IsCalm p t.level) (sym e) c;
+      bot = none_timely t.limits.cap t.phase Bot;
+      server = subst (λ (p : Phase). IsTimely p Server (head_in t.limits.cap t.server.pending)) (sym e) s;
+      noted = n;
+    },
+  );
+}
+bot_frame phase t noted Fm len body v e o u c s n =
+    over_follows t.limits t.level _ _ refl (t.level, refl, (refl, refl))
+bot_frame phase t noted Em len body v e o u c s n =
+    over_follows t.limits t.level _ _ refl (t.level, refl, (refl, refl))
+
+-- of the server
+server_frame : (phase : Phase) (t : SessionState) (noted : Level) (kind : Kind) (len : ℕ) (body : List ℕ)
+    (v : Verdict) → t.phase ≡ phase → is_over phase ≡ false → untimely phase Server kind ≡ None →
+    IsCalm phase t.level → IsTimely phase Bot (head_in t.limits.cap t.bot.pending) → noted ≡ t.level →
+    IsRight t.limits.words t.limits.max_depth (question_of Server noted (made kind len) body) v →
+    Follows t.limits t.level (one t.phase (frame_cause Server noted (made kind len) body))
+    (whole t Server (made kind len) body v)
+server_frame WaitIm t noted Im len body v e o u c b n r = absurd (cc)
+server_frame WaitRm t noted Im len body v e o u c b n r = absurd (cc)
+server_frame Open t noted Im len body v e o u c b n r = absurd (cc)
+server_frame Over t noted Im len body v e o u c b n r = absurd (cc)
+server_frame WaitIm t noted Rm len body v e o u c b n r = absurd (cc)
+server_frame WaitRm t noted Rm len body v e o u c b n r = record {
+  next = t.level;
+  levels = (t.level, refl, (refl, refl));
+  ready = λ live. (
+    sym c,
+    record {
+      calm = tt;
+      bot = λ head h. and_then head.kind (b head h);
+      server = none_timely t.limits.cap Open Server;
+      noted = none_noted t.limits.cap t.server.noted L0;
+    },
+  );
+}
+server_frame Open t noted Rm len body v e o u c b n r = absurd (cc)
+server_frame Over t noted Rm len body v e o u c b n r = absurd (cc)
+server_frame WaitIm t noted Dm len body v e o u c b n r = absurd (cc)
+server_frame WaitRm t noted Dm len body v e o u c b n r = absurd (cc)
+server_frame Open t noted Dm len body v e o u c b n r =
+    let after = level_after t.limits.top_level Dm Server v (tokens_of body) t.level in
+    record {
+      next = after;
+      levels = (
+        after,
+        (v, n, subst (λ (l : Level). IsJudged t.limits Server l body v) n r, refl, refl),
+        (refl, refl),
+      );
+      ready = λ live. (
+        refl,
+        record {
+          calm = subst (λ (p : Phase). IsCalm p after) (sym e) tt;
+          bot = subst (λ (p : Phase). IsTimely p Bot (head_in t.limits.cap t.bot.pending)) (sym e) b;
+          server = none_timely t.limits.cap t.phase Server;
+          noted = none_noted t.limits.cap t.server.noted after;
+        },
+      );
+    }
+server_frame Over t noted Dm len body v e o u c b n r = absurd (cc)
+server_frame phase t noted Fm len body v e o u c b n r =
+    over_follows t.limits t.level _ _ refl (t.level, refl, (refl, refl))
+server_frame phase t noted Em len body v e o u c b n r =
+    over_follows t.limits t.level _ _ refl (t.level, refl, (refl, refl))
+
+-- ---- the items that end with one byte
+
+-- nothing follows a whole frame
+alone : (limits : Limits) (level : Level) (came : List Came) (t : SessionState) (side : Side) (head : Head)
+    (body : List ℕ) (v : Verdict) → is_over t.phase ≡ false → Follows limits level came (whole t side head body v) →
+    Follows limits level came (items_outcome t side (Whole head body ∷ []) v)
+alone limits level came t side head body v o h =
+    let w = whole t side head body v in
+    rw o (subst (λ (effects : List Effect). Follows limits level came (record { state = w.state; effects = effects }))
+    (sym (append-nil w.effects)) h)
+
+head_or : Head → Option Head → Head
+head_or head None = head
+head_or head (Some other_head) = other_head
+
+same_head : (header : Option Head) (head other_head : Head) → header ≡ Some head → header ≡ Some other_head →
+    head ≡ other_head
+unfolding head_or
+same_head header head other_head a b = ap (head_or head) (sym a ∙ b)
+
+now_timely : (phase : Phase) (side : Side) (header : Option Head) (head : Head) → header ≡ Some head →
+    untimely phase side head.kind ≡ None → IsTimely phase side header
+now_timely phase side header head a e other_head b =
+    subst (λ (h : Head). untimely phase side h.kind ≡ None) (same_head header head other_head a b) e
+
+bot_items : (s : SessionState) (bytes : List ℕ) (items : List Item) (v : Verdict) → is_over s.phase ≡ false → Ready s →
+    Turn (head_in s.limits.cap s.bot.pending) (head_in s.limits.cap bytes) items →
+    Follows s.limits s.level
+    (came_in_phase s.phase (items_cause Bot s.bot.noted s.level (untimely s.phase Bot) items))
+    (items_outcome (with_pending s Bot bytes) Bot items v)
+bot_items s bytes items v o h (quiet e) = record {
+  next = s.level;
+  levels = (refl, refl);
+  ready = λ live. (
+    refl,
+    record {
+      calm = h.calm;
+      bot = λ head k. h.bot head (sym e ∙ k);
+      server = h.server;
+      noted = h.noted;
+    },
+  );
+}
+bot_items s bytes items v o h (headed head a) = rw o (go (untimely s.phase Bot head.kind) refl)
+  where
+    t : SessionState
+    t = with_pending s Bot bytes
+
+    go : (code : Option Code) → untimely s.phase Bot head.kind ≡ code →
+        Follows s.limits s.level (came_in_phase s.phase (fault_or Bot code None))
+        (record { state = (begun t Bot code).state; effects = (begun t Bot code).effects ++ [] })
+    go None e = record {
+      next = s.level;
+      levels = (refl, refl);
+      ready = λ live. (
+        refl,
+        record {
+          calm = h.calm;
+          bot = now_timely s.phase Bot (head_in s.limits.cap bytes) head a e;
+          server = h.server;
+          noted = h.noted;
+        },
+      );
+    }
+    go (Some code) e = over_follows s.limits s.level _ _ refl (s.level, refl, (refl, refl))
+bot_items s bytes items v o h (at_once head) = rw o (go (untimely s.phase Bot head.kind) refl)
+  where
+    t : SessionState
+    t = with_pending s Bot bytes
+
+    go : (code : Option Code) → untimely s.phase Bot head.kind ≡ code →
+        Follows s.limits s.level
+        (came_in_phase s.phase (fault_or Bot code (Some (frame_cause Bot s.level head []))))
+        (let more = items_outcome (begun t Bot code).state Bot (Whole head [] ∷ []) v in
+        record { state = more.state; effects = (begun t Bot code).effects ++ more.effects })
+    go None e =
+        alone s.limits s.level (one s.phase (frame_cause Bot s.level head [])) (with_noted t Bot s.level) Bot head [] v o
+        (bot_frame s.phase (with_noted t Bot s.level) s.level head.kind head.len [] v refl o e h.calm h.server h.noted)
+    go (Some code) e = over_follows s.limits s.level _ _ refl (s.level, refl, (refl, refl))
+bot_items s bytes items v o h (ended head body b) =
+    alone s.limits s.level (one s.phase (frame_cause Bot s.bot.noted head body)) (with_pending s Bot bytes) Bot head body
+    v o
+    (bot_frame s.phase (with_pending s Bot bytes) s.bot.noted head.kind head.len body v refl o (h.bot head b) h.calm
+    h.server h.noted)
+bot_items s bytes items v o h (wrong code) =
+    rw o (over_follows s.limits s.level _ _ refl (s.level, refl, (refl, refl)))
+
+server_items : (s : SessionState) (bytes : List ℕ) (items : List Item) (v : Verdict) → is_over s.phase ≡ false →
+    Ready s → Turn (head_in s.limits.cap s.server.pending) (head_in s.limits.cap bytes) items →
+    IsRight s.limits.words s.limits.max_depth (asked_by s Server items) v →
+    Follows s.limits s.level
+    (came_in_phase s.phase (items_cause Server s.server.noted s.level (untimely s.phase Server) items))
+    (items_outcome (with_pending s Server bytes) Server items v)
+server_items s bytes items v o h (quiet e) r = record {
+  next = s.level;
+  levels = (refl, refl);
+  ready = λ live. (
+    refl,
+    record {
+      calm = h.calm;
+      bot = h.bot;
+      server = λ head k. h.server head (sym e ∙ k);
+      noted = λ head k. h.noted head (sym e ∙ k);
+    },
+  );
+}
+server_items s bytes items v o h (headed head a) r = rw o (go (untimely s.phase Server head.kind) refl)
+  where
+    t : SessionState
+    t = with_pending s Server bytes
+
+    go : (code : Option Code) → untimely s.phase Server head.kind ≡ code →
+        Follows s.limits s.level (came_in_phase s.phase (fault_or Server code None))
+        (record { state = (begun t Server code).state; effects = (begun t Server code).effects ++ [] })
+    go None e = record {
+      next = s.level;
+      levels = (refl, refl);
+      ready = λ live. (
+        refl,
+        record {
+          calm = h.calm;
+          bot = h.bot;
+          server = now_timely s.phase Server (head_in s.limits.cap bytes) head a e;
+          noted = λ other_head b. refl;
+        },
+      );
+    }
+    go (Some code) e = over_follows s.limits s.level _ _ refl (s.level, refl, (refl, refl))
+server_items s bytes items v o h (at_once head) r = rw o (go (untimely s.phase Server head.kind) refl)
+  where
+    t : SessionState
+    t = with_pending s Server bytes
+
+    go : (code : Option Code) → untimely s.phase Server head.kind ≡ code →
+        Follows s.limits s.level
+        (came_in_phase s.phase (fault_or Server code (Some (frame_cause Server s.level head []))))
+        (let more = items_outcome (begun t Server code).state Server (Whole head [] ∷ []) v in
+        record { state = more.state; effects = (begun t Server code).effects ++ more.effects })
+    go None e =
+        alone s.limits s.level (one s.phase (frame_cause Server s.level head [])) (with_noted t Server s.level) Server
+        head [] v o
+        (server_frame s.phase (with_noted t Server s.level) s.level head.kind head.len [] v refl o e h.calm h.bot refl
+        (let q = rw e at r in q))
+    go (Some code) e = over_follows s.limits s.level _ _ refl (s.level, refl, (refl, refl))
+server_items s bytes items v o h (ended head body b) r =
+    alone s.limits s.level (one s.phase (frame_cause Server s.server.noted head body)) (with_pending s Server bytes)
+    Server head body v o
+    (server_frame s.phase (with_pending s Server bytes) s.server.noted head.kind head.len body v refl o (h.server head b)
+    h.calm h.bot (h.noted head b) r)
+server_items s bytes items v o h (wrong code) r =
+    rw o (over_follows s.limits s.level _ _ refl (s.level, refl, (refl, refl)))
+
+-- ---- one event
+
+timer_follows : (phase : Phase) (s : SessionState) → Ready s →
+    Follows s.limits s.level (came_in_phase s.phase (timeout_in phase)) (popped phase s)
+timer_follows WaitIm s h = over_follows s.limits s.level _ _ refl (s.level, refl, (refl, refl))
+timer_follows WaitRm s h = record { next = s.level; levels = (refl, refl); ready = λ live. (refl, h) }
+timer_follows Open s h = record { next = s.level; levels = (refl, refl); ready = λ live. (refl, h) }
+timer_follows Over s h = record { next = s.level; levels = (refl, refl); ready = λ live. (refl, h) }
+
+event_follows : (s : SessionState) (event : Event) (v : Verdict) → is_over s.phase ≡ false → Ready s →
+    IsRight s.limits.words s.limits.max_depth (question s event) v →
+    Follows s.limits s.level (came_in_phase s.phase (cause_at s event)) (event_outcome s event v)
+event_follows s (Comes Bot x) v o h r =
+    let bytes = s.bot.pending ++ x ∷ [] in
+    rw o (bot_items s bytes (last_items s.limits.cap bytes) v o h (turn s.limits.cap s.bot.pending x))
+event_follows s (Comes Server x) v o h r =
+    let bytes = s.server.pending ++ x ∷ [] in
+    rw o (server_items s bytes (last_items s.limits.cap bytes) v o h (turn s.limits.cap s.server.pending x)
+    (let q = rw o at r in q))
+event_follows s (Ends side) v o h r =
+    rw o (over_follows s.limits s.level _ _ refl (s.level, refl, (refl, refl)))
+event_follows s (Loses side) v o h r =
+    rw o (over_follows s.limits s.level _ _ refl (s.level, refl, (refl, refl)))
+event_follows s Pops v o h r = timer_follows s.phase s h
+
+step_follows : (s : SessionState) (event : Event) (effects : List Effect) (m : SessionState) → Step s event effects m →
+    is_over s.phase ≡ false → Ready s →
+    Follows s.limits s.level (came_in_phase s.phase (cause_at s event)) (record { state = m; effects = effects })
+step_follows s event effects m t o h =
+    subst (Follows s.limits s.level (came_in_phase s.phase (cause_at s event))) t.outcome
+    (event_follows s event t.verdict o h t.right)
+
+-- ---- a run
+
+none_came : (limits : Limits) (came : List Came) → HaveFates limits came [] → came ≡ []
+none_came limits [] f = refl
+none_came limits (c ∷ more) f = absurd f
+
+-- nothing comes once it is over
+over_levels : (s : SessionState) (events : List Event) (effects : List Effect) (new : SessionState)
+    (run : Runs s events effects new) (limits : Limits) (level : Level) → is_over s.phase ≡ true →
+    HaveLevels limits level (came_in s events effects new run) effects level
+over_levels s events effects new run limits level e =
+    let no_moves : effects ≡ [] = (one_run events s effects [] new s run (over_stays s events e)).0 in
+    let none : came_in s events effects new run ≡ [] = none_came s.limits (came_in s events effects new run)
+    (subst (HaveFates s.limits (came_in s events effects new run)) no_moves (run_fates s events effects new run)) in
+    rw none (no_moves, refl)
+
+pub run_levels : (s : SessionState) (events : List Event) (effects : List Effect) (new : SessionState)
+    (run : Runs s events effects new) → is_over s.phase ≡ false → Ready s →
+    (end : Level) × HaveLevels s.limits s.level (came_in s events effects new run) effects end
+run_levels s [] effects new run o h = (s.level, (run.0, refl))
+run_levels s (event ∷ events) effects new run o h =
+    go (is_over run.0.phase) refl (λ e k. run_levels run.0 events run.2 new run.4 e k)
+  where
+    f : Follows s.limits s.level (came_in_phase s.phase (cause_at s event)) (record { state = run.0; effects = run.1 })
+    f = step_follows s event run.1 run.0 run.3 o h
+
+    kept : run.0.limits ≡ s.limits
+    kept =
+        runs_limits (event ∷ []) s run.0 run.1 (run.0, run.1, [], run.3, (refl, refl), sym (append-nil run.1))
+
+    later : List Came
+    later = came_in run.0 events run.2 new run.4
+
+    both : (end : Level) → HaveLevels s.limits f.next later run.2 end →
+        (end : Level) × HaveLevels s.limits s.level (came_in s (event ∷ events) effects new run) effects end
+    both end k = (
+      end,
+      subst (λ (es : List Effect). HaveLevels s.limits s.level (came_in s (event ∷ events) effects new run) es end)
+          (sym run.5)
+          (levels_join s.limits (came_in_phase s.phase (cause_at s event)) later run.1 run.2 s.level f.next end f.levels
+          k),
+    )
+
+    go : (b : Bool) → is_over run.0.phase ≡ b → (is_over run.0.phase ≡ false → Ready run.0 →
+        (end : Level) × HaveLevels run.0.limits run.0.level later run.2 end) →
+        (end : Level) × HaveLevels s.limits s.level (came_in s (event ∷ events) effects new run) effects end
+    go true e rest = both f.next (over_levels run.0 events run.2 new run.4 s.limits f.next e)
+    go false e rest =
+        let ready = f.ready e in
+        let r = rest e ready.1 in
+        both r.0 (subst (λ (l : Level). HaveLevels s.limits l later run.2 r.0) ready.0
+        (subst (λ (l : Limits). HaveLevels l run.0.level later run.2 r.0) kept r.1))

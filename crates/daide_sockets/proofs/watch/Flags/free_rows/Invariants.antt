@@ -1,0 +1,7 @@
+use Rattle.std.proofs.Common.{◌≡◌}
+use Rattle.std.specs.Prelude.{vec_len}
+use Rattle.daide_sockets.proofs.watch.Flags.free_rows.Given as goal
+
+-- a row for each step
+abbrev pub invariant-loop : goal.invariant-loop
+invariant-loop l = vec_len l.rows ≡ l.counter
