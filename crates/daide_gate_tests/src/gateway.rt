@@ -6,9 +6,9 @@ use crate::stage::Act::{
 };
 use crate::stage::Who::{Bot, Server};
 use crate::stage::{Act, Report, any_port, run_beside};
+use daide_program::gateway::GatewayFault;
 use daide_program::running::{RunFault, run_text};
 use daide_sockets::admission::Door;
-use daide_program::gateway::GatewayFault;
 use daide_sockets::watch::Watch;
 use daide_tests::rows::holds;
 use std::alloc::Global;

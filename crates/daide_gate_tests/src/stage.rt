@@ -7,11 +7,11 @@
 use daide_gate::serving::Service;
 use daide_gate::settings::{Settings, read_settings};
 use daide_gate::system::System;
+use daide_machine::ports::{Pull, Put};
 use daide_sockets::ports::{Socket, SocketPorts};
 use daide_sockets::system::{Sockets, most_sockets};
 use daide_sockets::watch::{Place, Watch};
 use daide_sockets::{Interest, TcpListener, TcpStream};
-use daide_machine::ports::{Pull, Put};
 use std::alloc::Global;
 use std::net::{Net, Shutdown, SocketAddr, UdpSocket};
 use std::rt::Clock;

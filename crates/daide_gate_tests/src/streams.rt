@@ -2,6 +2,7 @@
 //! whether a call may do something behind it.
 
 use crate::streams::Answer::{Fails, Gives, Takes};
+use daide_machine::ports::{Pull, Put};
 use daide_streams::buffered::Buffered;
 use daide_streams::calls::{pull_from, put_to};
 use daide_streams::dropping::Dropping;
@@ -9,7 +10,6 @@ use daide_streams::duplex::Duplex;
 use daide_streams::pool::Pool;
 use daide_streams::readiness::Readiness;
 use daide_tests::rows::{holds, same};
-use daide_machine::ports::{Pull, Put};
 use std::alloc::Global;
 use std::io;
 use std::io::ErrorKind;

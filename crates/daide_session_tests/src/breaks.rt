@@ -7,10 +7,10 @@
 use crate::relays::{NEVER, sent};
 use crate::script::WIDEST;
 use daide_frame::side::Side::{self, Bot, Server};
+use daide_machine::ports::{Ports, Pull, Put};
 use daide_session::session::Session;
 use daide_tests::memory_ports::{Arrival, MemoryPorts, Script};
 use daide_tests::rows::holds;
-use daide_machine::ports::{Ports, Pull, Put};
 use daide_turns::relaying::{RelayEnd, relay};
 use std::alloc::Global;
 use std::test::Fail;

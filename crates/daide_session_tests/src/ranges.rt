@@ -4,11 +4,11 @@ use crate::relays::{NEVER, QUIET};
 use crate::script::{WIDEST, bytes_of, script_of};
 use daide_frame::side::Side::{self, Bot, Server};
 use daide_machine::config::Config;
+use daide_machine::ports::Ports;
 use daide_tests::memory_ports::MemoryPorts;
 use daide_tests::rows::{holds, same};
 use daide_tests::words::two_words;
 use daide_turns::hub::{AddFault, Hub};
-use daide_machine::ports::Ports;
 use std::alloc::Global;
 use std::test::Fail;
 

@@ -14,8 +14,8 @@ ghost use Rattle.daide_turns.specs.Record.{Carries, Working};
 ghost use Rattle.daide_turns.specs.Turn.{AsksClock, Puts, Pulls, AsksAtMost, turn_steps};
 ghost use Rattle.daide_turns.specs.Headline.{WholeTurn};
 
-use daide_machine::ports::{Ports, Pull, Put};
 use daide_frame::side::Side;
+use daide_machine::ports::{Ports, Pull, Put};
 use daide_session::session::Session;
 use std::alloc::Allocator;
 

@@ -13,9 +13,9 @@ ghost use Rattle.daide_turns.specs.Hub.{Hosting, IsHubSize, IsHubCause, IsAddCau
 ghost use Rattle.daide_turns.specs.Hub.{IsToldOf, weight_at, session_bound};
 
 use crate::exchange::{BUFFER, turn_through};
-use daide_machine::ports::Ports;
 use daide_machine::config::{Config, ConfigError};
 use daide_machine::ending::Ending;
+use daide_machine::ports::Ports;
 use daide_machine::summary::Summary;
 use daide_session::session::Session;
 use daide_words::words::Words;
