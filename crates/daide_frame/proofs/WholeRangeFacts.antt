@@ -1,7 +1,7 @@
 -- Headers and initial messages over the whole range of their bytes. Written from the protocol's table of frames, so
 -- that a rule that is right in one row and wrong in its neighbour does not check.
 use Rattle.std.proofs.Common.{◌≡◌, ℕ, zero, suc, ◌+◌, List, [], ◌∷◌, ◌++◌, map, replicate, refl}
-use Rattle.std.specs.Prelude.{Result, Ok, Err}
+use Rattle.std.specs.Prelude.{Result, Ok, Err, codes}
 use Rattle.std.specs.List.{range_with_len}
 use Rattle.daide_frame.specs.declared.head.Kind.{Kind}
 use Rattle.daide_frame.specs.declared.head.Kind.TheVariants.{Im, Rm, Dm, Fm, Em}
@@ -11,7 +11,7 @@ use Rattle.daide_frame.specs.declared.code.Code.TheVariants.{ImTimeout, ImNotFir
 use Rattle.daide_frame.specs.declared.code.Code.TheVariants.{WrongVersion, SecondIm, ImFromServer, UnknownMessage}
 use Rattle.daide_frame.specs.declared.code.Code.TheVariants.{WrongLength, DmBeforeRm, RmNotFirst, SecondRm}
 use Rattle.daide_frame.specs.declared.code.Code.TheVariants.{RmFromClient, InvalidToken}
-use Rattle.daide_frame.specs.Code.{code_number}
+use Rattle.daide_frame.specs.Code.{code_digits, code_number}
 use Rattle.daide_frame.specs.Head.{head_of}
 use Rattle.daide_frame.specs.InitialMessage.{im_of}
 
@@ -133,7 +133,15 @@ magic_before_versions = (refl, refl)
 
 -- ---- error codes
 
-codes_in_order : map code_number (ImTimeout ∷ ImNotFirst ∷ WrongEndian ∷ WrongMagic ∷ WrongVersion ∷ SecondIm
-    ∷ ImFromServer ∷ UnknownMessage ∷ WrongLength ∷ DmBeforeRm ∷ RmNotFirst ∷ SecondRm ∷ RmFromClient ∷ InvalidToken ∷ [])
+abbrev all_codes : List Code
+all_codes = ImTimeout ∷ ImNotFirst ∷ WrongEndian ∷ WrongMagic ∷ WrongVersion ∷ SecondIm ∷ ImFromServer
+    ∷ UnknownMessage ∷ WrongLength ∷ DmBeforeRm ∷ RmNotFirst ∷ SecondRm ∷ RmFromClient ∷ InvalidToken ∷ []
+
+codes_in_order : map code_number all_codes
     ≡ 0x01 ∷ 0x02 ∷ 0x03 ∷ 0x04 ∷ 0x05 ∷ 0x06 ∷ 0x07 ∷ 0x08 ∷ 0x09 ∷ 0x0A ∷ 0x0B ∷ 0x0C ∷ 0x0D ∷ 0x0E ∷ []
 codes_in_order = refl
+
+-- as people read them, with letters of upper case
+digits_in_order : map code_digits all_codes ≡ codes "01" ∷ codes "02" ∷ codes "03" ∷ codes "04" ∷ codes "05" ∷ codes "06"
+    ∷ codes "07" ∷ codes "08" ∷ codes "09" ∷ codes "0A" ∷ codes "0B" ∷ codes "0C" ∷ codes "0D" ∷ codes "0E" ∷ []
+digits_in_order = refl

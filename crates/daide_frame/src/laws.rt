@@ -13,7 +13,7 @@ pub fn head_comes_back()
 {}
 
 /// However a frame's bytes are cut into pieces, what is told of them is the items of the frame.
-pub fn however_cut()
+pub fn any_pieces_agree()
     ensures { (cap : ℕ) (bytes piece : List ℕ) → length piece ≤ missing cap bytes
         → items_of (first_items cap (fed cap bytes piece))
         ≡ items_of (first_items cap bytes) ++ fed_items cap bytes piece }

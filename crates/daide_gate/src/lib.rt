@@ -30,7 +30,9 @@ pub use daide_turns::{
 };
 
 // What the program does with its input.
-pub use daide_log::{LogFault, Record, RecordEnd, Recording, check_log, record};
+pub use daide_log::{
+    LogFault, LogReader, Record, RecordEnd, Recording, check_log, check_stream, record,
+};
 pub use daide_service::{ServeFault, Service, metered, serve, serving};
 pub use daide_settings::{Address, Key, Settings, SettingsError, read_settings, settings};
 pub use daide_show::{ShowFault, frame_view, show, show_with};

@@ -3,8 +3,8 @@
 use crate::gateway::{FM, IM, check, plays};
 use crate::runtimes::Halted;
 use crate::stage::Act::{
-    Comes, Ends, FindsClosed, FindsOpen, Frees, Hears, HearsEnd, Hoards, Meets, MeetsNobody,
-    Passes, Says,
+    Comes, Ends, FindsClosed, FindsOpen, FinishesConnect, Frees, Hears, HearsEnd, Hoards,
+    MeetsNobody, Passes, Says,
 };
 use crate::stage::Who::{Bot, Server};
 use crate::stage::{Act, all_descriptors, run_beside};
@@ -19,7 +19,7 @@ const SESSIONS: usize = 150;
 fn ends_silently(acts: &mut Vec<Act>, number: usize) -> Result<(), AllocError> {
     acts.extend_from_slice(&[
         Comes,
-        Meets,
+        FinishesConnect,
         Says(Bot(number), IM),
         Hears(Server(number), IM),
         Says(Bot(number), FM),
@@ -75,7 +75,7 @@ const ONE_IS_LEFT: &[Act] = &[
     Passes(250),
     MeetsNobody,
     Frees,
-    Meets,
+    FinishesConnect,
     Says(Bot(0), IM),
     Hears(Server(0), IM),
     Ends(Bot(0)),

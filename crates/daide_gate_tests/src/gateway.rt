@@ -2,14 +2,14 @@
 
 use crate::runtimes::Named;
 use crate::stage::Act::{
-    Comes, Ends, Flooded, Floods, Hears, HearsEnd, Leave, Meets, MeetsNobody, Rests, Says,
+    Comes, Ends, FinishesConnect, Flooded, Floods, Hears, HearsEnd, Leave, MeetsNobody, Rests, Says,
 };
 use crate::stage::Who::{Bot, Server};
 use crate::stage::{Act, Report, any_port, run_beside};
 use daide_program::gateway::GatewayFault;
 use daide_program::running::{RunFault, run_text};
-use daide_sockets::admission::Door;
-use daide_sockets::watch::Watch;
+use daide_sockets::admission::Acceptor;
+use daide_sockets::poller::Poller;
 use daide_tests::rows::holds;
 use std::alloc::Global;
 use std::io;
@@ -58,7 +58,7 @@ pub fn plays(rt: &HostRuntime, settings: &str, acts: &[Act]) -> Result<(), Fail>
 
 const OPENS_AND_ENDS: &[Act] = &[
     Comes,
-    Meets,
+    FinishesConnect,
     Says(Bot(0), IM),
     Hears(Server(0), IM),
     Says(Server(0), RM),
@@ -76,7 +76,7 @@ fn opens_with_im_and_rm_over_sockets(rt: HostRuntime) -> Result<(), Fail> {
 
 const GETS_PRN: &[Act] = &[
     Comes,
-    Meets,
+    FinishesConnect,
     Says(Bot(0), IM),
     Hears(Server(0), IM),
     Says(Server(0), RM),
@@ -116,7 +116,7 @@ const WITH_XYZ: &str =
 
 const WORD_GOES_ON: &[Act] = &[
     Comes,
-    Meets,
+    FinishesConnect,
     Says(Bot(0), IM),
     Hears(Server(0), IM),
     Says(Server(0), RM),
@@ -136,7 +136,7 @@ fn word_of_the_settings_goes_on(rt: HostRuntime) -> Result<(), Fail> {
 
 const WORD_IS_UNKNOWN: &[Act] = &[
     Comes,
-    Meets,
+    FinishesConnect,
     Says(Bot(0), IM),
     Hears(Server(0), IM),
     Says(Server(0), RM),
@@ -183,7 +183,7 @@ const OBS_FM: &[u8] = b"\x02\x00\x00\x02\x48\x0f\x03\x00\x00\x00";
 
 const ENDS_WITH_ITS_LAST: &[Act] = &[
     Comes,
-    Meets,
+    FinishesConnect,
     Says(Bot(0), IM),
     Hears(Server(0), IM),
     Says(Server(0), RM),
@@ -203,9 +203,9 @@ fn end_that_comes_with_the_last_bytes_is_heard(rt: HostRuntime) -> Result<(), Fa
 
 const TWO_AT_ONCE: &[Act] = &[
     Comes,
-    Meets,
+    FinishesConnect,
     Comes,
-    Meets,
+    FinishesConnect,
     Says(Bot(1), IM),
     Hears(Server(1), IM),
     Says(Bot(0), IM),
@@ -235,9 +235,9 @@ fn two_sessions_at_once(rt: HostRuntime) -> Result<(), Fail> {
 
 const ONE_FLOODS: &[Act] = &[
     Comes,
-    Meets,
+    FinishesConnect,
     Comes,
-    Meets,
+    FinishesConnect,
     Says(Bot(0), IM),
     Hears(Server(0), IM),
     Says(Server(0), RM),
@@ -269,7 +269,7 @@ fn messages_pass_beside_a_flood(rt: HostRuntime) -> Result<(), Fail> {
 const SECOND_WAITS: &[Act] = &[
     Comes,
     Comes,
-    Meets,
+    FinishesConnect,
     Says(Bot(1), IM),
     Says(Bot(0), IM),
     Hears(Server(0), IM),
@@ -278,7 +278,7 @@ const SECOND_WAITS: &[Act] = &[
     MeetsNobody,
     Says(Bot(0), FM),
     Hears(Server(0), FM),
-    Meets,
+    FinishesConnect,
     Hears(Server(1), IM),
     Says(Bot(1), FM),
     Hears(Server(1), FM),
@@ -296,7 +296,7 @@ fn each_is_greeted_beside_idle_ones(rt: HostRuntime) -> Result<(), Fail> {
     for number in 0..60 {
         acts.extend_from_slice(&[
             Comes,
-            Meets,
+            FinishesConnect,
             Says(Bot(number), IM),
             Hears(Server(number), IM),
             Says(Server(number), RM),
@@ -309,7 +309,7 @@ fn each_is_greeted_beside_idle_ones(rt: HostRuntime) -> Result<(), Fail> {
 
 const STAYS_SILENT: &[Act] = &[
     Comes,
-    Meets,
+    FinishesConnect,
     Rests,
     Hears(Bot(0), EM_01),
     HearsEnd(Bot(0)),
@@ -324,7 +324,12 @@ fn silent_bot_gets_em_01_after_its_time(rt: HostRuntime) -> Result<(), Fail> {
     check(&report, "")
 }
 
-const HEARS_THE_END: &[Act] = &[Comes, Meets, HearsEnd(Bot(0)), HearsEnd(Server(0))];
+const HEARS_THE_END: &[Act] = &[
+    Comes,
+    FinishesConnect,
+    HearsEnd(Bot(0)),
+    HearsEnd(Server(0)),
+];
 
 #[test]
 fn spent_turns_are_told(rt: HostRuntime) -> Result<(), Fail> {
@@ -333,19 +338,19 @@ fn spent_turns_are_told(rt: HostRuntime) -> Result<(), Fail> {
 }
 
 /// After an accept that fails none is made for a while, and then the bot that came is taken.
-fn check_door(watch: &Watch<&HostRuntime>, door: &Door<'_>) -> Result<(), Fail> {
-    watch.wait();
-    door.refused(watch, ErrorKind::Other);
-    holds(door.accept(watch).is_none(), "none is made")?;
-    watch.wait();
-    holds(door.accept(watch).is_some(), "the bot that came")
+fn check_acceptor(poller: &Poller<&HostRuntime>, acceptor: &Acceptor<'_>) -> Result<(), Fail> {
+    poller.wait();
+    acceptor.refused(poller, ErrorKind::Other);
+    holds(acceptor.accept(poller).is_none(), "none is made")?;
+    poller.wait();
+    holds(acceptor.accept(poller).is_some(), "the bot that came")
 }
 
 /// The same of a listener, in the one row of a table.
 fn check_listener(rt: &HostRuntime, listener: daide_sockets::TcpListener) -> Result<(), Fail> {
-    let watch = Watch::new(rt.alloc(), rt, rt, 1)?;
-    match Door::new(&watch, listener) {
-        Some(door) => check_door(&watch, &door),
+    let poller = Poller::new(rt.alloc(), rt, rt, 1)?;
+    match Acceptor::new(&poller, listener) {
+        Some(acceptor) => check_acceptor(&poller, &acceptor),
         None => Err(Fail::new("no row")),
     }
 }

@@ -1,16 +1,16 @@
 //! A server that accepts late, and small writes.
 
 use crate::gateway::{EM_01, FM, IM, check};
-use crate::stage::Act::{Comes, Empties, Hears, HearsEnd, Meets, Passes, Says};
+use crate::stage::Act::{Comes, Empties, FinishesConnect, Hears, HearsEnd, Passes, Says};
 use crate::stage::Who::{Bot, Server};
 use crate::stage::{Act, any_port, run_towards};
 use crate::wires::two_doors;
 use daide_gate::settings::{Settings, read_settings};
 use daide_gate::system::{Connect, System};
 use daide_sockets::Interest;
+use daide_sockets::poller::{Flags, Poller};
 use daide_sockets::ports::SocketPorts;
 use daide_sockets::system::Sockets;
-use daide_sockets::watch::{Flags, Watch};
 use daide_tests::rows::holds;
 use std::alloc::Global;
 use std::net::{SocketAddr, TcpListener};
@@ -42,7 +42,7 @@ const IS_MET_LATE: &[Act] = &[
     Comes,
     Passes(1_100),
     Empties,
-    Meets,
+    FinishesConnect,
     Says(Bot(0), IM),
     Hears(Bot(0), EM_01),
     HearsEnd(Bot(0)),
@@ -64,7 +64,7 @@ const FIRST_IS_GIVEN_UP: &[Act] = &[
     Comes,
     HearsEnd(Bot(0)),
     Empties,
-    Meets,
+    FinishesConnect,
     Says(Bot(1), IM),
     Hears(Server(0), IM),
     Says(Bot(1), FM),
@@ -103,7 +103,7 @@ fn first_ports<'w>(
 /// A run's sockets at this listener, towards these addresses.
 fn sockets_of<'w, 't>(
     rt: &'w HostRuntime,
-    watch: &'w Watch<&'w HostRuntime>,
+    poller: &'w Poller<&'w HostRuntime>,
     (listener, servers): (daide_sockets::TcpListener, &'w [SocketAddr]),
     settings: &Settings,
     told: &'t mut Vec<u8>,
@@ -112,7 +112,7 @@ fn sockets_of<'w, 't>(
     Sockets::new(
         rt.alloc(),
         rt,
-        watch,
+        poller,
         (listener, servers),
         settings,
         time,
@@ -155,12 +155,12 @@ fn are_first_undelayed<'w>(system: &mut Sockets<'w, HostRuntime, &mut Vec<u8>>) 
 /// The same of the first bot that comes to this listener, towards these addresses.
 fn sends_at_once<'w>(
     rt: &'w HostRuntime,
-    watch: &'w Watch<&'w HostRuntime>,
+    poller: &'w Poller<&'w HostRuntime>,
     ends: (daide_sockets::TcpListener, &'w [SocketAddr]),
     settings: &Settings,
 ) -> bool {
     let mut told = Vec::new(rt.alloc());
-    match sockets_of(rt, watch, ends, settings, &mut told) {
+    match sockets_of(rt, poller, ends, settings, &mut told) {
         Some(mut system) => are_first_undelayed(&mut system),
         None => false,
     }
@@ -170,8 +170,8 @@ fn sends_at_once<'w>(
 fn sends_at_once_towards(rt: &HostRuntime, servers: &[SocketAddr]) -> Result<bool, Fail> {
     let settings = plain_settings(rt.alloc())?;
     let (listener, _bot) = door_with_bot(rt)?;
-    let watch = Watch::new(rt.alloc(), rt, rt, 8)?;
-    Ok(sends_at_once(rt, &watch, (listener, servers), &settings))
+    let poller = Poller::new(rt.alloc(), rt, rt, 8)?;
+    Ok(sends_at_once(rt, &poller, (listener, servers), &settings))
 }
 
 /// A short frame is not kept back by the system until the one before it was acknowledged.
@@ -184,27 +184,27 @@ fn small_writes_are_not_delayed(rt: HostRuntime) -> Result<(), Fail> {
 
 /// What is known of the socket in the third row of a table, if there are three, in which no row is taken.
 fn third_free<'w>(
-    watch: &'w Watch<&'w HostRuntime>,
-    doors: &mut (daide_sockets::TcpListener, daide_sockets::TcpListener),
-    door: &mut daide_sockets::TcpListener,
+    poller: &'w Poller<&'w HostRuntime>,
+    acceptors: &mut (daide_sockets::TcpListener, daide_sockets::TcpListener),
+    acceptor: &mut daide_sockets::TcpListener,
 ) -> Option<&'w Flags> {
-    let _first = watch.follow(&mut doors.0, Interest::READABLE)?;
-    let _second = watch.follow(&mut doors.1, Interest::READABLE)?;
-    let third = watch.follow(door, Interest::READABLE)?;
+    let _first = poller.follow(&mut acceptors.0, Interest::READABLE)?;
+    let _second = poller.follow(&mut acceptors.1, Interest::READABLE)?;
+    let third = poller.follow(acceptor, Interest::READABLE)?;
     Some(third.flags)
 }
 
-/// The same for doors of its own.
+/// The same for acceptors of its own.
 fn third_row<'w>(
     rt: &HostRuntime,
-    watch: &'w Watch<&'w HostRuntime>,
+    poller: &'w Poller<&'w HostRuntime>,
 ) -> Result<Option<&'w Flags>, Fail> {
-    let mut doors = two_doors(rt)?;
-    let mut door = daide_sockets::TcpListener::bind(rt, any_port())?;
-    Ok(third_free(watch, &mut doors, &mut door))
+    let mut acceptors = two_doors(rt)?;
+    let mut acceptor = daide_sockets::TcpListener::bind(rt, any_port())?;
+    Ok(third_free(poller, &mut acceptors, &mut acceptor))
 }
 
-/// Whether a connect is under way though its socket, in the row behind the door's and the bot's, is told to take bytes.
+/// Whether a connect is under way though its socket, in the row behind the acceptor's and the bot's, is told to take bytes.
 fn is_under_way(system: &mut Sockets<'_, HostRuntime, &mut Vec<u8>>, flags: &Flags) -> bool {
     for _ in 0..MOST_WAITS {
         system.begin_round();
@@ -220,13 +220,13 @@ fn is_under_way(system: &mut Sockets<'_, HostRuntime, &mut Vec<u8>>, flags: &Fla
 /// The same of the first bot that comes to this listener, towards these addresses.
 fn is_first_under_way<'w>(
     rt: &'w HostRuntime,
-    watch: &'w Watch<&'w HostRuntime>,
+    poller: &'w Poller<&'w HostRuntime>,
     ends: (daide_sockets::TcpListener, &'w [SocketAddr]),
     settings: &Settings,
     flags: &Flags,
 ) -> bool {
     let mut told = Vec::new(rt.alloc());
-    match sockets_of(rt, watch, ends, settings, &mut told) {
+    match sockets_of(rt, poller, ends, settings, &mut told) {
         Some(mut system) => is_under_way(&mut system, flags),
         None => false,
     }
@@ -235,23 +235,23 @@ fn is_first_under_way<'w>(
 /// The same in this table, of which no row is taken.
 fn is_under_way_at<'w>(
     rt: &'w HostRuntime,
-    watch: &'w Watch<&'w HostRuntime>,
+    poller: &'w Poller<&'w HostRuntime>,
     servers: &'w [SocketAddr],
     settings: &Settings,
 ) -> Result<bool, Fail> {
-    let Some(flags) = third_row(rt, watch)? else {
+    let Some(flags) = third_row(rt, poller)? else {
         return Err(Fail::new("no row"));
     };
     let (listener, _bot) = door_with_bot(rt)?;
     let ends = (listener, servers);
-    Ok(is_first_under_way(rt, watch, ends, settings, flags))
+    Ok(is_first_under_way(rt, poller, ends, settings, flags))
 }
 
 /// The same in a table of its own.
 fn is_under_way_towards(rt: &HostRuntime, servers: &[SocketAddr]) -> Result<bool, Fail> {
     let settings = plain_settings(rt.alloc())?;
-    let watch = Watch::new(rt.alloc(), rt, rt, 3)?;
-    is_under_way_at(rt, &watch, servers, &settings)
+    let poller = Poller::new(rt.alloc(), rt, rt, 3)?;
+    is_under_way_at(rt, &poller, servers, &settings)
 }
 
 /// A connect that isn't done is no connection, whatever the system tells of its socket.

@@ -6,8 +6,8 @@ use crate::gateway::{FM, IM, ITS_PRN, OBS, RM, UNCLOSED};
 use crate::wires::two_rows;
 use daide_machine::config::Config;
 use daide_session::session::Session;
+use daide_sockets::poller::{Flags, Poller, Registration};
 use daide_sockets::ports::{Socket, SocketPorts};
-use daide_sockets::watch::{Flags, Place, Watch};
 use daide_streams::duplex::Duplex;
 use daide_tests::rows::same;
 use daide_turns::relaying::{RelayEnd, relay};
@@ -171,16 +171,16 @@ fn has_taken(line: &Line, wanted: &[&[u8]]) -> bool {
 /// The ports of a session between the two ends of a talk, in these rows.
 fn ports_of<'w>(
     alloc: Global,
-    watch: &'w Watch<&'w HostRuntime>,
+    poller: &'w Poller<&'w HostRuntime>,
     flags: (&'w Flags, &'w Flags),
     talk: &Talk,
 ) -> SocketPorts<'w, &'w HostRuntime, Line> {
     let bot = Line::new(alloc, talk.bot);
     let server = Line::new(alloc, talk.server);
     SocketPorts::new(
-        watch,
-        Socket::over(watch, bot, Place { flags: flags.0 }),
-        Socket::over(watch, server, Place { flags: flags.1 }),
+        poller,
+        Socket::over(poller, bot, Registration { flags: flags.0 }),
+        Socket::over(poller, server, Registration { flags: flags.1 }),
     )
 }
 
@@ -214,12 +214,12 @@ fn is_talked<'w>(
 /// A session between the two ends of a talk, until it is closed, in the rows of this table.
 fn talks_at<'w>(
     rt: &HostRuntime,
-    watch: &'w Watch<&'w HostRuntime>,
+    poller: &'w Poller<&'w HostRuntime>,
     talk: &Talk,
 ) -> Result<(), Fail> {
-    let flags = two_rows(rt, watch)?;
+    let flags = two_rows(rt, poller)?;
     let mut session = Session::new(rt.alloc(), CONFIG)?;
-    let ports = ports_of(rt.alloc(), watch, flags, talk);
+    let ports = ports_of(rt.alloc(), poller, flags, talk);
     let told = is_talked(&mut session, ports, flags, talk);
     same(
         &told,
@@ -230,8 +230,8 @@ fn talks_at<'w>(
 
 /// The same in a table of its own.
 fn talks(rt: &HostRuntime, talk: &Talk) -> Result<(), Fail> {
-    let watch = Watch::new(rt.alloc(), rt, rt, 2)?;
-    talks_at(rt, &watch, talk)
+    let poller = Poller::new(rt.alloc(), rt, rt, 2)?;
+    talks_at(rt, &poller, talk)
 }
 
 /// A message whose bracket never closes goes back to the bot in a `PRN`, and the server sees nothing of it.

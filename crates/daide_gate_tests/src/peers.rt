@@ -2,8 +2,8 @@
 
 use crate::gateway::{EM_08, FM, IM, OBS, RM, check, plays};
 use crate::stage::Act::{
-    Comes, Ends, FindsClosed, Flooded, Floods, Hears, HearsEnd, HearsEndAlone, HearsTimes, Leave,
-    Meets, Passes, Pours, Rests, Says,
+    Comes, Ends, FindsClosed, FinishesConnect, Flooded, Floods, Hears, HearsEnd, HearsEndAlone,
+    HearsTimes, Leave, Passes, Pours, Rests, Says,
 };
 use crate::stage::Who::{Bot, Server};
 use crate::stage::{Act, any_port, run_beside};
@@ -32,7 +32,7 @@ const MEGABYTE: usize = 1_100;
 
 const READS_LATE: &[Act] = &[
     Comes,
-    Meets,
+    FinishesConnect,
     Says(Bot(0), IM),
     Hears(Server(0), IM),
     Says(Server(0), RM),
@@ -53,7 +53,7 @@ fn late_reader_gets_every_byte(rt: HostRuntime) -> Result<(), Fail> {
 
 const STAYS_QUIET: &[Act] = &[
     Comes,
-    Meets,
+    FinishesConnect,
     Says(Bot(0), IM),
     Hears(Server(0), IM),
     Says(Server(0), RM),
@@ -78,7 +78,7 @@ const UNKNOWN: &[u8] = &[5; 1024];
 
 const IS_FLOODED: &[Act] = &[
     Comes,
-    Meets,
+    FinishesConnect,
     Pours(Bot(0), UNKNOWN, 100),
     Passes(200),
     Hears(Bot(0), EM_08),
@@ -97,7 +97,7 @@ fn unread_bytes_leave_the_em_whole(rt: HostRuntime) -> Result<(), Fail> {
 
 const CLOSES_SLOWLY: &[Act] = &[
     Comes,
-    Meets,
+    FinishesConnect,
     Says(Bot(0), IM),
     Hears(Server(0), IM),
     Ends(Bot(0)),
@@ -106,7 +106,7 @@ const CLOSES_SLOWLY: &[Act] = &[
     HearsEnd(Bot(0)),
     HearsEnd(Server(0)),
     Comes,
-    Meets,
+    FinishesConnect,
     Ends(Bot(1)),
     HearsEnd(Server(1)),
     Rests,
@@ -122,9 +122,9 @@ fn few_rounds_while_a_socket_closes(rt: HostRuntime) -> Result<(), Fail> {
 
 const CLOSES_BESIDE: &[Act] = &[
     Comes,
-    Meets,
+    FinishesConnect,
     Comes,
-    Meets,
+    FinishesConnect,
     Says(Bot(0), IM),
     Hears(Server(0), IM),
     Says(Bot(1), IM),
@@ -148,9 +148,9 @@ fn sockets_close_beside_an_idle_session(rt: HostRuntime) -> Result<(), Fail> {
 
 const CLOSES_BESIDE_A_FLOOD: &[Act] = &[
     Comes,
-    Meets,
+    FinishesConnect,
     Comes,
-    Meets,
+    FinishesConnect,
     Says(Bot(0), IM),
     Hears(Server(0), IM),
     Says(Server(0), RM),
@@ -206,7 +206,7 @@ fn many_bots_one_after_another(rt: HostRuntime) -> Result<(), Fail> {
     for number in 0..150 {
         acts.extend_from_slice(&[
             Comes,
-            Meets,
+            FinishesConnect,
             Says(Bot(number), IM),
             Hears(Server(number), IM),
             Says(Bot(number), FM),

@@ -1,7 +1,7 @@
 //! Peers of which nothing comes for as long as the settings allow, over real sockets on loopback.
 
 use crate::gateway::{FM, IM, OBS, RM, check};
-use crate::stage::Act::{Comes, Hears, HearsEnd, Meets, Passes, Says};
+use crate::stage::Act::{Comes, FinishesConnect, Hears, HearsEnd, Passes, Says};
 use crate::stage::Who::{Bot, Server};
 use crate::stage::{Act, run_beside};
 use daide_tests::rows::holds;
@@ -13,11 +13,11 @@ const YES: &[u8] = b"\x02\x00\x00\x08\x48\x1c\x40\x00\x48\x0f\x40\x01";
 /// In the first session the server falls silent, and in the second the bot; in the third both speak now and then.
 const FALL_SILENT: &[Act] = &[
     Comes,
-    Meets,
+    FinishesConnect,
     Comes,
-    Meets,
+    FinishesConnect,
     Comes,
-    Meets,
+    FinishesConnect,
     Says(Bot(0), IM),
     Hears(Server(0), IM),
     Says(Server(0), RM),

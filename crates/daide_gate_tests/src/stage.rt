@@ -8,9 +8,9 @@ use daide_gate::serving::Service;
 use daide_gate::settings::{Settings, read_settings};
 use daide_gate::system::System;
 use daide_machine::ports::{Pull, Put};
+use daide_sockets::poller::{Poller, Registration};
 use daide_sockets::ports::{Socket, SocketPorts};
 use daide_sockets::system::{Sockets, most_sockets};
-use daide_sockets::watch::{Place, Watch};
 use daide_sockets::{Interest, TcpListener, TcpStream};
 use std::alloc::Global;
 use std::net::{Net, Shutdown, SocketAddr, UdpSocket};
@@ -31,7 +31,7 @@ pub enum Act {
     /// A bot connects.
     Comes,
     /// The server accepts a connection.
-    Meets,
+    FinishesConnect,
     /// Nobody connects to the server.
     MeetsNobody,
     /// The server accepts all connections that wait, and lets them go.
@@ -302,13 +302,13 @@ fn pour_one(peers: &mut Vec<Peer<'_>>, number: usize, pour: Pour) -> Pour {
 
 /// The bots and the server, and what they do.
 #[derive(Drop)]
-struct Stage<'s, 'w, R: Clock + Net + AllocGlobal> {
+struct Harness<'s, 'w, R: Clock + Net + AllocGlobal> {
     rt: &'w R,
-    watch: &'w Watch<&'w R>,
+    poller: &'w Poller<&'w R>,
     gate: SocketAddr,
     server: TcpListener,
     /// The row of the server's listener, whose moment is the end of the play's time.
-    door: Place<'w>,
+    acceptor: Registration<'w>,
     bots: Vec<Peer<'w>>,
     servers: Vec<Peer<'w>>,
     flood: Option<Flood>,
@@ -347,40 +347,40 @@ fn done_where(is_done: bool) -> Played {
 
 /// The row of the server's listener, whose moment is the end of the play's time.
 fn door_of<'w, R: Clock>(
-    watch: &'w Watch<&'w R>,
+    poller: &'w Poller<&'w R>,
     server: &mut TcpListener,
-) -> Result<Place<'w>, Fail> {
-    let Some(door) = watch.follow(server, Interest::READABLE) else {
+) -> Result<Registration<'w>, Fail> {
+    let Some(acceptor) = poller.follow(server, Interest::READABLE) else {
         return Err(Fail::new("no row"));
     };
-    let end = watch.after(Duration::from_secs(MOST_SECONDS));
-    door.flags.due.set(end);
-    Ok(door)
+    let end = poller.after(Duration::from_secs(MOST_SECONDS));
+    acceptor.flags.due.set(end);
+    Ok(acceptor)
 }
 
-impl<'s, 'w, R: Clock + Net + AllocGlobal> Stage<'s, 'w, R> {
+impl<'s, 'w, R: Clock + Net + AllocGlobal> Harness<'s, 'w, R> {
     /// Nobody came yet.
     fn new(
         rt: &'w R,
-        watch: &'w Watch<&'w R>,
+        poller: &'w Poller<&'w R>,
         server: TcpListener,
         gate: SocketAddr,
         acts: &'s [Act],
-    ) -> Result<Stage<'s, 'w, R>, Fail> {
+    ) -> Result<Harness<'s, 'w, R>, Fail> {
         let mut server = server;
-        let door = door_of(watch, &mut server)?;
-        Ok(Stage {
+        let acceptor = door_of(poller, &mut server)?;
+        Ok(Harness {
             rt,
-            watch,
+            poller,
             gate,
             server,
-            door,
+            acceptor,
             bots: Vec::new(rt.alloc()),
             servers: Vec::new(rt.alloc()),
             flood: None,
             pour: None,
             hoard: Vec::new(rt.alloc()),
-            end: watch.after(Duration::from_secs(MOST_SECONDS)),
+            end: poller.after(Duration::from_secs(MOST_SECONDS)),
             pause: None,
             acts,
             at: 0,
@@ -390,7 +390,7 @@ impl<'s, 'w, R: Clock + Net + AllocGlobal> Stage<'s, 'w, R> {
 
     /// An end of a connection, if there is a row for it.
     fn peer(&self, stream: TcpStream) -> Option<Peer<'w>> {
-        match Socket::new(self.watch, stream) {
+        match Socket::new(self.poller, stream) {
             Some(socket) => peer_of(self.rt.alloc(), socket),
             None => None,
         }
@@ -443,26 +443,26 @@ impl<'s, 'w, R: Clock + Net + AllocGlobal> Stage<'s, 'w, R> {
         self.flood = Some(Flood {
             bot,
             sent: 0,
-            until: self.watch.after(Duration::from_secs(1)),
+            until: self.poller.after(Duration::from_secs(1)),
         });
     }
 
     /// Whether the flood lasted long enough.
     fn has_flooded(&self) -> bool {
         self.flood
-            .is_some_and(|flood| self.watch.is_over(flood.until))
+            .is_some_and(|flood| self.poller.is_over(flood.until))
     }
 
     /// Whether so many milliseconds passed since this was first asked. A wait ends then.
     fn has_passed(&mut self, millis: u64) -> bool {
         if self.pause.is_none() {
-            self.pause = self.watch.after(Duration::from_millis(millis));
+            self.pause = self.poller.after(Duration::from_millis(millis));
         }
-        let is_over = self.watch.is_over(self.pause);
+        let is_over = self.poller.is_over(self.pause);
         if is_over {
             self.pause = None;
         }
-        self.door
+        self.acceptor
             .flags
             .due
             .set(if is_over { self.end } else { self.pause });
@@ -479,7 +479,7 @@ impl<'s, 'w, R: Clock + Net + AllocGlobal> Stage<'s, 'w, R> {
     fn play(&mut self, act: Act, is_served: bool) -> Played {
         let is_done = match act {
             Act::Comes => return self.comes(),
-            Act::Meets => return self.meets(),
+            Act::FinishesConnect => return self.meets(),
             Act::MeetsNobody => return done_where(self.meets() == Played::NotYet),
             Act::Empties => return self.empty(),
             Act::Hoards(left) => return self.hoard(left),
@@ -575,7 +575,7 @@ impl<'s, 'w, R: Clock + Net + AllocGlobal> Stage<'s, 'w, R> {
             };
             match self.play(*act, is_served) {
                 Played::Done => self.at = self.at.saturating_add(1),
-                Played::NotYet if !self.watch.is_over(self.end) => return false,
+                Played::NotYet if !self.poller.is_over(self.end) => return false,
                 _ => {
                     self.is_wrong = true;
                     return false;
@@ -615,7 +615,7 @@ pub fn any_port() -> SocketAddr {
 
 /// Makes rounds until all was acted and all were served, or an act went wrong, and answers how many.
 fn play_rounds<'w, R: Clock + Net + AllocGlobal>(
-    stage: &mut Stage<'_, 'w, R>,
+    stage: &mut Harness<'_, 'w, R>,
     system: &mut Sockets<'w, R, &mut Vec<u8>>,
     service: &mut Service<SocketPorts<'w, &'w R>>,
 ) -> Result<u64, Fail> {
@@ -644,7 +644,7 @@ pub struct Report {
 
 /// Plays beside a run at this listener, which ends before this does.
 fn play_beside<'w, R: Clock + Net + AllocGlobal>(
-    stage: &mut Stage<'_, 'w, R>,
+    stage: &mut Harness<'_, 'w, R>,
     (listener, server): (TcpListener, &'w Met),
     settings: &Settings,
     told: &mut Vec<u8>,
@@ -653,7 +653,7 @@ fn play_beside<'w, R: Clock + Net + AllocGlobal>(
     let system = Sockets::new(
         rt.alloc(),
         rt,
-        stage.watch,
+        stage.poller,
         (listener, server.addresses.as_slice()),
         settings,
         Duration::from_millis(server.millis),
@@ -680,14 +680,14 @@ struct Met {
 /// Plays with the rows of a table.
 fn play_at<R: Clock + Net + AllocGlobal>(
     rt: &R,
-    watch: &Watch<&R>,
+    poller: &Poller<&R>,
     settings: &Settings,
     acts: &[Act],
     (own, met): (TcpListener, &Met),
 ) -> Result<Report, Fail> {
     let listener = TcpListener::bind(rt, any_port())?;
     let gate = listener.local_addr()?;
-    let mut stage = Stage::new(rt, watch, own, gate, acts)?;
+    let mut stage = Harness::new(rt, poller, own, gate, acts)?;
     let mut told = Vec::new(rt.alloc());
     let rounds = play_beside(&mut stage, (listener, met), settings, &mut told)?;
     Ok(Report {
@@ -707,8 +707,8 @@ fn play<R: Clock + Net + AllocGlobal>(
     let text = format!(in rt.alloc(); "listen = 'a'\nserver = 'b'\n{settings}")?;
     let settings = read_settings(rt.alloc(), text.as_str())?;
     let rows = most_sockets(settings.max_sessions).saturating_add(MOST_PEERS);
-    let watch = Watch::new(rt.alloc(), rt, rt, rows)?;
-    play_at(rt, &watch, &settings, acts, (own, met))
+    let poller = Poller::new(rt.alloc(), rt, rt, rows)?;
+    play_at(rt, &poller, &settings, acts, (own, met))
 }
 
 /// Runs a gateway with these settings, beside its addresses, while all is acted; towards this server in place of the

@@ -11,8 +11,8 @@ use crate::wires::Step::{Idles, Puts, Turns};
 use daide_frame::side::Side;
 use daide_machine::ports::{Ports, Pull, Put};
 use daide_sockets::closing::Closings;
+use daide_sockets::poller::{Flags, Poller, Registration};
 use daide_sockets::ports::{Socket, SocketPorts};
-use daide_sockets::watch::{Flags, Place, Watch};
 use daide_sockets::{Interest, TcpListener};
 use daide_streams::duplex::Duplex;
 use daide_streams::readiness::Readiness;
@@ -113,8 +113,11 @@ impl Duplex for Wire {
 type WirePorts<'w> = SocketPorts<'w, Steps, Wire>;
 
 /// A row of the table for a stream in memory: a listener's, since the system must know what it follows.
-fn row_for<'w, R: Clock>(watch: &'w Watch<R>, door: &mut TcpListener) -> Result<Place<'w>, Fail> {
-    match watch.follow(door, Interest::READABLE) {
+fn row_for<'w, R: Clock>(
+    poller: &'w Poller<R>,
+    acceptor: &mut TcpListener,
+) -> Result<Registration<'w>, Fail> {
+    match poller.follow(acceptor, Interest::READABLE) {
         Some(place) => Ok(place),
         None => Err(Fail::new("no row")),
     }
@@ -122,21 +125,21 @@ fn row_for<'w, R: Clock>(watch: &'w Watch<R>, door: &mut TcpListener) -> Result<
 
 /// The next two rows of a table, if there are two, which stay free.
 fn free_rows<'w, R: Clock>(
-    watch: &'w Watch<R>,
-    doors: &mut (TcpListener, TcpListener),
+    poller: &'w Poller<R>,
+    acceptors: &mut (TcpListener, TcpListener),
 ) -> Option<(&'w Flags, &'w Flags)> {
-    let first = watch.follow(&mut doors.0, Interest::READABLE)?;
-    let second = watch.follow(&mut doors.1, Interest::READABLE)?;
+    let first = poller.follow(&mut acceptors.0, Interest::READABLE)?;
+    let second = poller.follow(&mut acceptors.1, Interest::READABLE)?;
     Some((first.flags, second.flags))
 }
 
 /// What is known of the sockets in the next two rows of a table, which stay free.
 pub fn two_rows<'w, R: Clock>(
     rt: &HostRuntime,
-    watch: &'w Watch<R>,
+    poller: &'w Poller<R>,
 ) -> Result<(&'w Flags, &'w Flags), Fail> {
-    let mut doors = two_doors(rt)?;
-    match free_rows(watch, &mut doors) {
+    let mut acceptors = two_doors(rt)?;
+    match free_rows(poller, &mut acceptors) {
         Some(flags) => Ok(flags),
         None => Err(Fail::new("no rows")),
     }
@@ -149,13 +152,13 @@ pub fn two_doors(rt: &HostRuntime) -> Result<(TcpListener, TcpListener), Fail> {
 }
 
 /// A table of three sockets.
-fn table(rt: &HostRuntime) -> Result<Watch<Steps>, Fail> {
-    Ok(Watch::new(rt.alloc(), Steps(Cell::new(0)), rt, 3)?)
+fn table(rt: &HostRuntime) -> Result<Poller<Steps>, Fail> {
+    Ok(Poller::new(rt.alloc(), Steps(Cell::new(0)), rt, 3)?)
 }
 
 /// A socket over this stream, in this row.
-fn socket_over<'w>(watch: &'w Watch<Steps>, wire: Wire, flags: &'w Flags) -> Socket<'w, Wire> {
-    Socket::over(watch, wire, Place { flags })
+fn socket_over<'w>(poller: &'w Poller<Steps>, wire: Wire, flags: &'w Flags) -> Socket<'w, Wire> {
+    Socket::over(poller, wire, Registration { flags })
 }
 
 /// What is done with a session's ports.
@@ -265,14 +268,14 @@ fn does_all(ports: &mut WirePorts<'_>, flags: (&Flags, &Flags), steps: &[Step]) 
 
 /// What the streams of a row took, where each call did what it should.
 fn took_of<'w>(
-    watch: &'w Watch<Steps>,
+    poller: &'w Poller<Steps>,
     flags: (&'w Flags, &'w Flags),
     written: &Written,
 ) -> Option<(usize, usize)> {
     let (bot_takes, server_takes, steps, _) = *written;
-    let bot = socket_over(watch, Wire::new(bot_takes, 0), flags.0);
-    let server = socket_over(watch, Wire::new(server_takes, 0), flags.1);
-    let mut ports = SocketPorts::new(watch, bot, server);
+    let bot = socket_over(poller, Wire::new(bot_takes, 0), flags.0);
+    let server = socket_over(poller, Wire::new(server_takes, 0), flags.1);
+    let mut ports = SocketPorts::new(poller, bot, server);
     let are_right = does_all(&mut ports, flags, steps);
     let (bot, server) = ports.into_sockets();
     let took = (bot.connection().took, server.connection().took);
@@ -280,18 +283,18 @@ fn took_of<'w>(
 }
 
 /// Each row holds, in the rows of this table.
-fn are_written(rt: &HostRuntime, watch: &Watch<Steps>) -> Result<(), Fail> {
-    let flags = two_rows(rt, watch)?;
+fn are_written(rt: &HostRuntime, poller: &Poller<Steps>) -> Result<(), Fail> {
+    let flags = two_rows(rt, poller)?;
     for (row, written) in WRITTEN.iter().enumerate() {
-        same(&took_of(watch, flags, written), &Some(written.3), &row)?;
+        same(&took_of(poller, flags, written), &Some(written.3), &row)?;
     }
     Ok(())
 }
 
 #[test]
 fn bytes_are_held_and_written_by_rows(rt: HostRuntime) -> Result<(), Fail> {
-    let watch = table(&rt)?;
-    are_written(&rt, &watch)
+    let poller = table(&rt)?;
+    are_written(&rt, &poller)
 }
 
 /// What is done with one socket: bytes are put, it is flushed, or it is pulled from.
@@ -331,9 +334,9 @@ fn calls(socket: &mut Socket<'_, Wire>, call: Call) {
 }
 
 /// What is known behind the calls of a row.
-fn known_of<'w>(watch: &'w Watch<Steps>, flags: &'w Flags, flagged: &Flagged) -> (bool, bool) {
+fn known_of<'w>(poller: &'w Poller<Steps>, flags: &'w Flags, flagged: &Flagged) -> (bool, bool) {
     let (takes, gives, done, _) = *flagged;
-    let mut socket = socket_over(watch, Wire::new(takes, gives), flags);
+    let mut socket = socket_over(poller, Wire::new(takes, gives), flags);
     flags.readiness.set(Readiness::UNKNOWN);
     flags.note(true, true);
     for call in done.iter() {
@@ -344,18 +347,18 @@ fn known_of<'w>(watch: &'w Watch<Steps>, flags: &'w Flags, flagged: &Flagged) ->
 }
 
 /// Each row holds, in the rows of this table.
-fn are_flagged(rt: &HostRuntime, watch: &Watch<Steps>) -> Result<(), Fail> {
-    let (flags, _) = two_rows(rt, watch)?;
+fn are_flagged(rt: &HostRuntime, poller: &Poller<Steps>) -> Result<(), Fail> {
+    let (flags, _) = two_rows(rt, poller)?;
     for (row, flagged) in FLAGGED.iter().enumerate() {
-        same(&known_of(watch, flags, flagged), &flagged.3, &row)?;
+        same(&known_of(poller, flags, flagged), &flagged.3, &row)?;
     }
     Ok(())
 }
 
 #[test]
 fn flags_by_rows(rt: HostRuntime) -> Result<(), Fail> {
-    let watch = table(&rt)?;
-    are_flagged(&rt, &watch)
+    let poller = table(&rt)?;
+    are_flagged(&rt, &poller)
 }
 
 /// A stream whose writes fail.
@@ -377,31 +380,31 @@ fn puts_of(socket: &mut Socket<'_, Wire>) -> ((Put, bool), (Put, bool)) {
 /// The same of a stream whose writes fail.
 fn failing_puts(
     rt: &HostRuntime,
-    watch: &Watch<Steps>,
+    poller: &Poller<Steps>,
 ) -> Result<((Put, bool), (Put, bool)), Fail> {
-    let (flags, _) = two_rows(rt, watch)?;
+    let (flags, _) = two_rows(rt, poller)?;
     flags.note(true, true);
-    Ok(puts_of(&mut socket_over(watch, broken(), flags)))
+    Ok(puts_of(&mut socket_over(poller, broken(), flags)))
 }
 
 /// A write that fails is told by the next put, and what it left is no reason to write again.
 #[test]
 fn failed_flush_is_told_by_the_next_put(rt: HostRuntime) -> Result<(), Fail> {
-    let watch = table(&rt)?;
-    let told = failing_puts(&rt, &watch)?;
+    let poller = table(&rt)?;
+    let told = failing_puts(&rt, &poller)?;
     let wanted = ((Put::Took(3), true), (Put::Failed, false));
     holds(told == wanted, "held and may be written, then the failure")
 }
 
 /// Whether a row that is taken anew knows nothing of the socket before.
-fn is_taken_anew(watch: &Watch<Steps>, doors: &mut (TcpListener, TcpListener)) -> bool {
-    let Some(first) = watch.follow(&mut doors.0, Interest::READABLE) else {
+fn is_taken_anew(poller: &Poller<Steps>, acceptors: &mut (TcpListener, TcpListener)) -> bool {
+    let Some(first) = poller.follow(&mut acceptors.0, Interest::READABLE) else {
         return false;
     };
     first.flags.note(true, true);
-    first.flags.due.set(watch.after(Duration::ZERO));
+    first.flags.due.set(poller.after(Duration::ZERO));
     drop(first);
-    let Some(second) = watch.follow(&mut doors.1, Interest::READABLE) else {
+    let Some(second) = poller.follow(&mut acceptors.1, Interest::READABLE) else {
         return false;
     };
     second.flags.readiness.get() == Readiness::UNKNOWN && second.flags.due.get().is_none()
@@ -409,10 +412,10 @@ fn is_taken_anew(watch: &Watch<Steps>, doors: &mut (TcpListener, TcpListener)) -
 
 #[test]
 fn row_of_the_table_is_taken_anew(rt: HostRuntime) -> Result<(), Fail> {
-    let mut doors = two_doors(&rt)?;
-    let watch = table(&rt)?;
+    let mut acceptors = two_doors(&rt)?;
+    let poller = table(&rt)?;
     holds(
-        is_taken_anew(&watch, &mut doors),
+        is_taken_anew(&poller, &mut acceptors),
         "no flag and no moment is left",
     )
 }
@@ -437,10 +440,10 @@ const CLOSES: &[Closes] = &[
 ];
 
 /// Goes on with what closes, where a call of the socket in this row may do something.
-fn goes_on(watch: &Watch<Steps>, closings: &mut Closings<'_, Wire>, flags: &Flags) -> Closes {
-    watch.wait();
+fn goes_on(poller: &Poller<Steps>, closings: &mut Closings<'_, Wire>, flags: &Flags) -> Closes {
+    poller.wait();
     flags.note(true, true);
-    closings.advance(watch);
+    closings.advance(poller);
     (
         flags.due.get().is_some(),
         closings.is_ready(),
@@ -450,12 +453,12 @@ fn goes_on(watch: &Watch<Steps>, closings: &mut Closings<'_, Wire>, flags: &Flag
 
 /// The first step that comes to something else, if there is one.
 fn wrong_step(
-    watch: &Watch<Steps>,
+    poller: &Poller<Steps>,
     closings: &mut Closings<'_, Wire>,
     flags: &Flags,
 ) -> Option<usize> {
     for (row, closes) in CLOSES.iter().enumerate() {
-        if goes_on(watch, closings, flags) != *closes {
+        if goes_on(poller, closings, flags) != *closes {
             return Some(row);
         }
     }
@@ -463,45 +466,48 @@ fn wrong_step(
 }
 
 /// A socket that holds three bytes, and that waited for a moment that is long over.
-fn holding<'w>(watch: &'w Watch<Steps>, wire: Wire, flags: &'w Flags) -> Socket<'w, Wire> {
-    flags.due.set(watch.after(Duration::ZERO));
+fn holding<'w>(poller: &'w Poller<Steps>, wire: Wire, flags: &'w Flags) -> Socket<'w, Wire> {
+    flags.due.set(poller.after(Duration::ZERO));
     flags.note(true, true);
-    let mut socket = socket_over(watch, wire, flags);
+    let mut socket = socket_over(poller, wire, flags);
     socket.put(b"abc");
     socket
 }
 
 /// Takes a row whose moment is over, so that each wait is a look.
-fn hurries<'w>(watch: &'w Watch<Steps>, door: &mut TcpListener) -> Result<Place<'w>, Fail> {
-    let place = row_for(watch, door)?;
-    place.flags.due.set(watch.after(Duration::ZERO));
+fn hurries<'w>(
+    poller: &'w Poller<Steps>,
+    acceptor: &mut TcpListener,
+) -> Result<Registration<'w>, Fail> {
+    let place = row_for(poller, acceptor)?;
+    place.flags.due.set(poller.after(Duration::ZERO));
     Ok(place)
 }
 
 /// One socket closes, step by step.
-fn closes_one(rt: &HostRuntime, watch: &Watch<Steps>) -> Result<(), Fail> {
-    let (flags, _) = two_rows(rt, watch)?;
+fn closes_one(rt: &HostRuntime, poller: &Poller<Steps>) -> Result<(), Fail> {
+    let (flags, _) = two_rows(rt, poller)?;
     let mut closings = Closings::new(rt.alloc())?;
-    closings.begin(watch, holding(watch, Wire::new(TAKES, 0), flags));
-    same(&wrong_step(watch, &mut closings, flags), &None, &"a step")
+    closings.begin(poller, holding(poller, Wire::new(TAKES, 0), flags));
+    same(&wrong_step(poller, &mut closings, flags), &None, &"a step")
 }
 
 /// The same in a table that never waits.
 fn closes_one_beside(
     rt: &HostRuntime,
-    watch: &Watch<Steps>,
-    door: &mut TcpListener,
+    poller: &Poller<Steps>,
+    acceptor: &mut TcpListener,
 ) -> Result<(), Fail> {
-    let _place = hurries(watch, door)?;
-    closes_one(rt, watch)
+    let _place = hurries(poller, acceptor)?;
+    closes_one(rt, poller)
 }
 
 /// What a socket holds is waited for, and its end for a second; until it is written, no moment is.
 #[test]
 fn closing_socket_writes_what_it_holds(rt: HostRuntime) -> Result<(), Fail> {
-    let mut door = TcpListener::bind(&rt, any_port())?;
-    let watch = table(&rt)?;
-    closes_one_beside(&rt, &watch, &mut door)
+    let mut acceptor = TcpListener::bind(&rt, any_port())?;
+    let poller = table(&rt)?;
+    closes_one_beside(&rt, &poller, &mut acceptor)
 }
 
 /// What writes of the first of two take: all that is held, once the second is closed.
@@ -509,126 +515,134 @@ const LATE: &[usize] = &[0, 0, 0, 0, 0, 3];
 
 /// Whether of two the second alone is closed after so many steps, and whether the first's end is waited for a step later.
 fn closes_second(
-    watch: &Watch<Steps>,
+    poller: &Poller<Steps>,
     closings: &mut Closings<'_, Wire>,
     (first, second): (&Flags, &Flags),
 ) -> (bool, bool) {
     for _ in 0..4 {
         first.note(true, true);
-        goes_on(watch, closings, second);
+        goes_on(poller, closings, second);
     }
     let is_alone = !closings.is_ready() && !closings.is_empty() && first.due.get().is_none();
-    (is_alone, goes_on(watch, closings, first).0)
+    (is_alone, goes_on(poller, closings, first).0)
 }
 
 /// Two sockets close, of which the second's writing fails.
-fn closes_two(rt: &HostRuntime, watch: &Watch<Steps>) -> Result<(), Fail> {
-    let flags = two_rows(rt, watch)?;
+fn closes_two(rt: &HostRuntime, poller: &Poller<Steps>) -> Result<(), Fail> {
+    let flags = two_rows(rt, poller)?;
     let mut closings = Closings::new(rt.alloc())?;
-    closings.begin(watch, holding(watch, Wire::new(LATE, 0), flags.0));
-    closings.begin(watch, holding(watch, broken(), flags.1));
-    let told = closes_second(watch, &mut closings, flags);
+    closings.begin(poller, holding(poller, Wire::new(LATE, 0), flags.0));
+    closings.begin(poller, holding(poller, broken(), flags.1));
+    let told = closes_second(poller, &mut closings, flags);
     holds(told == (true, true), "the second, then the first")
 }
 
 /// The same in a table that never waits.
 fn closes_two_beside(
     rt: &HostRuntime,
-    watch: &Watch<Steps>,
-    door: &mut TcpListener,
+    poller: &Poller<Steps>,
+    acceptor: &mut TcpListener,
 ) -> Result<(), Fail> {
-    let _place = hurries(watch, door)?;
-    closes_two(rt, watch)
+    let _place = hurries(poller, acceptor)?;
+    closes_two(rt, poller)
 }
 
 /// Two sockets close; the second's writing fails, and it is closed at its end. The first goes on.
 #[test]
 fn one_closes_before_another(rt: HostRuntime) -> Result<(), Fail> {
-    let mut door = TcpListener::bind(&rt, any_port())?;
-    let watch = table(&rt)?;
-    closes_two_beside(&rt, &watch, &mut door)
+    let mut acceptor = TcpListener::bind(&rt, any_port())?;
+    let poller = table(&rt)?;
+    closes_two_beside(&rt, &poller, &mut acceptor)
 }
 
-/// So many sessions take turns; at which of these turns, counted from 1, it is known that somebody is at the door, and at
+/// So many sessions take turns; at which of these turns, counted from 1, it is known that somebody is at the acceptor, and at
 /// which that somebody else is.
 type Asked = (usize, usize, usize);
 
 const ASKED: &[Asked] = &[(1, 33, 65), (2, 33, 65), (3, 34, 67), (40, 41, 81)];
 
-/// At which turn it is known that somebody is at the door, behind so many. A round begins where all of so many had a turn.
+/// At which turn it is known that somebody is at the acceptor, behind so many. A round begins where all of so many had a turn.
 fn turn_that_knows(
     ports: &mut WirePorts<'_>,
-    watch: &Watch<Steps>,
-    door: &Flags,
+    poller: &Poller<Steps>,
+    acceptor: &Flags,
     (count, behind): (usize, usize),
 ) -> usize {
     let count = count.max(1);
     for turn in behind..199 {
         if turn % count == 0 {
-            watch.look_by_turns();
+            poller.look_by_turns();
         }
         ports.clock_popped();
-        if door.readiness.get().may_read {
+        if acceptor.readiness.get().may_read {
             return turn.saturating_add(1);
         }
     }
     199
 }
 
-/// At which turn it is known that one came to the door, and at which that another came once that was known.
+/// At which turn it is known that one came to the acceptor, and at which that another came once that was known.
 fn knowing_turns(
     rt: &HostRuntime,
     ports: &mut WirePorts<'_>,
-    watch: &Watch<Steps>,
-    (door, at): (&Flags, SocketAddr),
+    poller: &Poller<Steps>,
+    (acceptor, at): (&Flags, SocketAddr),
     count: usize,
 ) -> Result<(usize, usize), Fail> {
-    watch.wait();
-    door.readiness.set(Readiness::UNKNOWN);
+    poller.wait();
+    acceptor.readiness.set(Readiness::UNKNOWN);
     let _caller = TcpStream::connect(rt, at)?;
-    let first = turn_that_knows(ports, watch, door, (count, 0));
-    door.readiness.set(Readiness::UNKNOWN);
+    let first = turn_that_knows(ports, poller, acceptor, (count, 0));
+    acceptor.readiness.set(Readiness::UNKNOWN);
     let _other = TcpStream::connect(rt, at)?;
-    Ok((first, turn_that_knows(ports, watch, door, (count, first))))
+    Ok((
+        first,
+        turn_that_knows(ports, poller, acceptor, (count, first)),
+    ))
 }
 
 /// The ports of a session in two rows, that has nothing to do.
-fn idle_ports<'w>(watch: &'w Watch<Steps>, flags: (&'w Flags, &'w Flags)) -> WirePorts<'w> {
-    let bot = socket_over(watch, Wire::new(&[], 0), flags.0);
-    let server = socket_over(watch, Wire::new(&[], 0), flags.1);
-    SocketPorts::new(watch, bot, server)
+fn idle_ports<'w>(poller: &'w Poller<Steps>, flags: (&'w Flags, &'w Flags)) -> WirePorts<'w> {
+    let bot = socket_over(poller, Wire::new(&[], 0), flags.0);
+    let server = socket_over(poller, Wire::new(&[], 0), flags.1);
+    SocketPorts::new(poller, bot, server)
 }
 
-/// Each row holds at this door.
+/// Each row holds at this acceptor.
 fn are_known(
     rt: &HostRuntime,
     ports: &mut WirePorts<'_>,
-    watch: &Watch<Steps>,
-    door: (&Flags, SocketAddr),
+    poller: &Poller<Steps>,
+    acceptor: (&Flags, SocketAddr),
 ) -> Result<(), Fail> {
     for (count, first, second) in ASKED.iter() {
-        let known = knowing_turns(rt, ports, watch, door, *count)?;
+        let known = knowing_turns(rt, ports, poller, acceptor, *count)?;
         same(&known, &(*first, *second), count)?;
     }
     Ok(())
 }
 
-/// The same of a door in the first row of a table.
+/// The same of a acceptor in the first row of a table.
 fn are_known_at(
     rt: &HostRuntime,
-    watch: &Watch<Steps>,
-    (door, at): (&mut TcpListener, SocketAddr),
+    poller: &Poller<Steps>,
+    (acceptor, at): (&mut TcpListener, SocketAddr),
 ) -> Result<(), Fail> {
-    let place = hurries(watch, door)?;
-    let flags = two_rows(rt, watch)?;
-    are_known(rt, &mut idle_ports(watch, flags), watch, (place.flags, at))
+    let place = hurries(poller, acceptor)?;
+    let flags = two_rows(rt, poller)?;
+    are_known(
+        rt,
+        &mut idle_ports(poller, flags),
+        poller,
+        (place.flags, at),
+    )
 }
 
 /// The system is asked after 32 turns, though all of them move something, and at the next round where that is later.
 #[test]
 fn system_is_asked_after_32_turns(rt: HostRuntime) -> Result<(), Fail> {
-    let mut door = TcpListener::bind(&rt, any_port())?;
-    let at = door.local_addr()?;
-    let watch = table(&rt)?;
-    are_known_at(&rt, &watch, (&mut door, at))
+    let mut acceptor = TcpListener::bind(&rt, any_port())?;
+    let at = acceptor.local_addr()?;
+    let poller = table(&rt)?;
+    are_known_at(&rt, &poller, (&mut acceptor, at))
 }

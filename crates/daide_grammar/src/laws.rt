@@ -125,7 +125,7 @@ pub fn stacks_stay_lawful()
 
 /// A lawful stack has at most eight entries for each open bracket, and sixteen; a rest has at most
 /// twelve symbols.
-pub fn stacks_are_short()
+pub fn stack_is_bounded()
     ensures entries { (stack : List Sym) (open_brackets : ℕ) → IsLawful table_answer stack open_brackets →
         length stack ≤ 8 * open_brackets + 16 }
     ensures rests { (sym : Sym) (class : Class) (rest : List Sym) →
@@ -134,7 +134,7 @@ pub fn stacks_are_short()
 
 /// On a lawful stack a token meets at most three symbols that are empty before one takes or stops
 /// it; where no bracket is open, at most four answers decide whether all that is left may be empty.
-pub fn few_questions()
+pub fn lookups_are_bounded()
     ensures skips { (stack : List Sym) (open_brackets : ℕ) (class : Class) → IsLawful table_answer stack open_brackets →
         skips_before table_answer class stack ≤ 3 }
     ensures ends { (stack : List Sym) → IsLawful table_answer stack 0 → ends_asked may_end_of stack ≤ 4 }

@@ -297,8 +297,8 @@ fn listed(number: u8) -> Sym
     SYMBOLS[number as usize]
 }
 
-/// The level's place among the levels.
-pub(crate) fn level_place(level: Level) -> u8
+/// The level's place among the levels, from 0 to 6.
+pub fn level_place(level: Level) -> u8
     ensures place { result ≡ level_place level }
     ensures few { result < 7 }
 {

@@ -1,12 +1,13 @@
 -- Digits are read to the bytes that they stand for.
 use Rattle.std.proofs.Common.{◌≡◌, ℕ, zero, suc, ◌+◌, ◌*◌, ◌%◌, ◌<◌, ◌≤◌, ◌-◌, ◌==◌, ◌&&◌, ◌⊎◌, inl, inr, Bool, true, false, if◌then◌else◌, List, [], ◌∷◌, ◌++◌, length, take, drop, get_or, set, drop-cons, Option, Some, None, Result, Ok, Err, refl, sym, ap, ◌∙◌, subst, arith, add-one, append_assoc}
-use Rattle.std.proofs.Common.{append-nil, map, nat_lt}
-use Rattle.std.specs.Prelude.{unwrap_or, is_some, slice_range, bit_and, min, max}
+use Rattle.std.proofs.Common.{append-nil, map}
+use Rattle.std.specs.Prelude.{unwrap_or, is_some, slice_range, bit_and, bit_or, min, max}
 use Rattle.std.proofs.Math.Seq.{take-add}
 use Rattle.std.proofs.lemmas.Bool.{and_parts, cases_eq}
 use Rattle.std.proofs.lemmas.Bool.Decides.{nat_tests}
 use Rattle.std.proofs.lemmas.List.{take_more_set, get_or-set_same, get_or-set_other, take-take, take-append-drop, length-take, length-take-le, length-drop}
 use Rattle.std.proofs.lemmas.List.{take_all, drop_all}
+use Rattle.std.proofs.lemmas.Nat.{le_or_l, le_or_r}
 use Rattle.std.proofs.lemmas.List.Folds.{list_all-append, list_all_more}
 use Rattle.std.specs.List.{list_all, range_with_len}
 use Rattle.hex.specs.Hex.{◌>>=◌, decode_of, decode_pairs, digit_or_error, hex_digit_value, is_hex_digit}
@@ -101,11 +102,21 @@ reading_is byte decimal letter value d l v =
     v ∙ ap (λ (n : ℕ). min (n + 10) ((decimal + 10) % 256)) l
     ∙ ap (λ (n : ℕ). min (min ((bit_and byte 223 + 191) % 256) 245 + 10) ((n + 10) % 256)) d
 
-readings : map (λ byte. nat_lt (reading byte) 16) (range_with_len 0 256) ≡ map is_hex_digit (range_with_len 0 256)
+readings : map (λ byte. bit_and (reading byte) 240 == 0) (range_with_len 0 256) ≡
+    map is_hex_digit (range_with_len 0 256)
 readings = refl
 
-pub read_exactly : (byte : ℕ) → byte < 256 → nat_lt (reading byte) 16 ≡ is_hex_digit byte
-read_exactly byte less = alike (λ byte. nat_lt (reading byte) 16) is_hex_digit 256 readings byte less
+pub read_exactly : (byte : ℕ) → byte < 256 → (bit_and (reading byte) 240 == 0) ≡ is_hex_digit byte
+read_exactly byte less = alike (λ byte. bit_and (reading byte) 240 == 0) is_hex_digit 256 readings byte less
+
+-- the excess of several bytes is 0 where each one's is
+pub no_excess : (one other : ℕ) → (bit_or one other == 0) ≡ ((one == 0) && (other == 0))
+no_excess one other =
+    let first = le_or_l one other in
+    let second = le_or_r one other in
+    let neither : one ≡ 0 → other ≡ 0 → bit_or one other ≡ 0 = λ e f.
+    ap (λ (n : ℕ). bit_or n other) e ∙ ap (λ (n : ℕ). bit_or 0 n) f in
+    grind (arith, nat_tests, neither)
 
 values : map (λ byte. if is_hex_digit byte then reading byte else 0) (range_with_len 0 256) ≡
     map value_of (range_with_len 0 256)

@@ -1,5 +1,6 @@
 -- Lines of a log, computed from the definitions, so that a wrong one does not check.
-use Rattle.std.proofs.Common.{◌≡◌, ℕ, true, false, [], ◌∷◌, ◌++◌, map, replicate, Option, Some, None, refl, codes}
+use Rattle.std.proofs.Common.{◌≡◌, ℕ, zero, suc, true, false, [], ◌∷◌, ◌++◌, List, length, map, replicate, Option, Some, None}
+use Rattle.std.proofs.Common.{refl, arith, codes}
 use Rattle.std.specs.List.{range_with_len}
 use Rattle.hex.specs.Hex.{decode_pairs}
 use Rattle.daide_frame.specs.declared.side.Side.TheVariants.{Bot, Server}
@@ -8,7 +9,7 @@ use Rattle.daide_words.specs.declared.slot.Slot.TheVariants.{Press}
 use Rattle.daide_words.specs.declared.operand.Operand.TheVariants.{Power}
 use Rattle.daide_words.specs.declared.word.Word.{Word}
 use Rattle.daide_lines.specs.LogLine.{LogEvent, Traffic, EndOf, TimeOver, Silence, without_cr, is_name, plain_number}
-use Rattle.daide_lines.specs.LogLine.{parted_at_space, event_of_line}
+use Rattle.daide_lines.specs.LogLine.{parted_at_space, event_of_line, IsUnbroken, MayBeginLine}
 use Rattle.daide_lines.specs.MatchLine.{Of, Quiet, match_event_of_line}
 use Rattle.daide_lines.specs.WordLine.{word_of_line}
 
@@ -62,6 +63,35 @@ other_lines = (refl, refl, refl, refl, refl, refl, refl, refl)
 carriage_returns : (without_cr (codes "timer" ++ 13 ∷ []) ≡ codes "timer") × (without_cr (13 ∷ []) ≡ [])
     × (without_cr (13 ∷ 13 ∷ []) ≡ 13 ∷ []) × (without_cr (13 ∷ 65 ∷ []) ≡ 13 ∷ 65 ∷ [])
 carriage_returns = (refl, refl, refl, refl)
+
+-- ---- where a line may begin
+
+-- behind one line fewer than may be, and behind no more
+last_lines : MayBeginLine 999999 (35 ∷ []) × MayBeginLine 1000000 [] × (MayBeginLine 1000000 (35 ∷ []) → ⊥)
+last_lines = (
+  ((λ e. absurd (omega (arith, e)), tt), omega arith, λ some. omega arith),
+  (tt, omega arith, λ some. absurd (omega (arith, some))),
+  λ h. absurd (omega (arith, h.2 (omega arith))),
+)
+
+-- with no line feed
+line_feeds : MayBeginLine 0 (10 ∷ []) → ⊥
+line_feeds h = h.0.0 refl
+
+unbroken_replicate : (n : ℕ) → IsUnbroken (replicate n 35)
+unbroken_replicate zero = tt
+unbroken_replicate (suc n) = (λ e. absurd (omega (arith, e)), unbroken_replicate n)
+
+-- with 2,100 bytes, and no more
+longest_lines : MayBeginLine 0 (replicate 2100 35) × (MayBeginLine 0 (replicate 2101 35) → ⊥)
+longest_lines =
+    let line : List ℕ = replicate 2100 35 in
+    let more : List ℕ = replicate 2101 35 in
+    let longest : length line ≡ 2100 = refl in
+    let longer : length more ≡ 2101 = refl in (
+      (unbroken_replicate 2100, omega (arith, longest), λ some. omega arith),
+      λ h. absurd (omega (arith, longer, h.1)),
+    )
 
 -- ---- words
 

@@ -8,7 +8,7 @@ use Rattle.std.specs.Prelude.{IfSome, IfOk}
 use Rattle.std.proofs.Math.Seq.{take-append-add}
 use Rattle.std.specs.Io.KnownBytes.{Consumes, Keeps, append_known}
 use Rattle.daide_lines.specs.Reader.{Reader, LogRead, AddsReads, all_came, AtEach, Gives}
-use Rattle.daide_lines.specs.LogLine.{IsUnbroken, longest_line, most_lines, without_cr}
+use Rattle.daide_lines.specs.LogLine.{IsUnbroken, MayBeginLine, longest_line, most_lines, without_cr}
 use Rattle.daide_lines.specs.declared.fault.LogFault.{LogFault}
 use Rattle.daide_lines.specs.declared.fault.LogFault.TheVariants as Faults
 use Rattle.daide_lines.specs.declared.lines.Found.{Found}
@@ -116,11 +116,13 @@ gives_read P old now new a b written h r k p =
 
 -- ---- a line
 
--- Of what was held and given so far the text was taken, and this is held; each turn but the first took a byte.
-pub record HasScanned (all : Option (List ℕ)) (old : Reader) (held : List ℕ) (now : Reader) (text block : List ℕ)
-    (turn : ℕ) : Type 0 where
+-- Behind so many lines, of what was held and given so far the text was taken, and this is held; each turn but the first
+-- took a byte.
+pub record HasScanned (all : Option (List ℕ)) (old : Reader) (held : List ℕ) (count : ℕ) (now : Reader)
+    (text block : List ℕ) (turn : ℕ) : Type 0 where
+  pub fewer : count < most_lines
   pub given : List ℕ
-  pub gives : Gives (IsInLine held all) old now given
+  pub gives : Gives (IsInLine all held count) old now given
   pub whole : held ++ given ≡ text ++ block
   pub unbroken : IsUnbroken text
   pub short : length text ≤ longest_line
@@ -128,21 +130,23 @@ pub record HasScanned (all : Option (List ℕ)) (old : Reader) (held : List ℕ)
   pub some : 0 < turn → 0 < length block
 
 -- and nothing is held any more
-pub record HasEmptied (all : Option (List ℕ)) (old : Reader) (held : List ℕ) (now : Reader) (text : List ℕ) (turn : ℕ) :
-    Type 0 where
+pub record HasEmptied (all : Option (List ℕ)) (old : Reader) (held : List ℕ) (count : ℕ) (now : Reader) (text : List ℕ)
+    (turn : ℕ) : Type 0 where
+  pub fewer : count < most_lines
   pub given : List ℕ
-  pub gives : Gives (IsInLine held all) old now given
+  pub gives : Gives (IsInLine all held count) old now given
   pub whole : held ++ given ≡ text
   pub unbroken : IsUnbroken text
   pub short : length text ≤ longest_line
   pub turns : turn ≤ length text
 
-pub emptied : (all : Option (List ℕ)) (old : Reader) (held : List ℕ) (now : Reader) (text block after rest : List ℕ)
-    (turn : ℕ) → HasScanned all old held now text block turn → Scans block text false rest after →
-    (length after ≡ 2101 → ⊥) → length after ≤ 2101 → HasEmptied all old held now after turn
-emptied all old held now text block after rest turn h s short fits = go s.4
+pub emptied : (all : Option (List ℕ)) (old : Reader) (held : List ℕ) (count : ℕ) (now : Reader)
+    (text block after rest : List ℕ) (turn : ℕ) → HasScanned all old held count now text block turn →
+    Scans block text false rest after → (length after ≡ 2101 → ⊥) → length after ≤ 2101 →
+    HasEmptied all old held count now after turn
+emptied all old held count now text block after rest turn h s short fits = go s.4
   where
-    go : (rest ≡ []) ⊎ (longest_line < length after) → HasEmptied all old held now after turn
+    go : (rest ≡ []) ⊎ (longest_line < length after) → HasEmptied all old held count now after turn
     go (inr long) = absurd (short (omega arith))
     go (inl none) =
         let whole : block ≡ s.0 = s.1 ∙ ap (λ (l : List ℕ). s.0 ++ l) none ∙ append-nil s.0 in
@@ -151,6 +155,7 @@ emptied all old held now text block after rest turn h s short fits = go s.4
         let turns = h.turns in
         let grown = ap length whole in
         record {
+          fewer = h.fewer;
           given = h.given;
           gives = h.gives;
           whole = h.whole ∙ ap (λ (l : List ℕ). text ++ l) whole ∙ sym s.3;
@@ -164,38 +169,37 @@ emptied all old held now text block after rest turn h s short fits = go s.4
         later zero t k e f = omega arith
         later (suc n) t k e f = let b = k (omega arith) in omega arith
 
-pub begun : (all : Option (List ℕ)) (old : Reader) (held text : List ℕ) → text ≡ [] →
-    HasScanned all old held old text held 0
-begun all old held [] none = record {
+pub begun : (all : Option (List ℕ)) (old : Reader) (held : List ℕ) (count : ℕ) (text : List ℕ) → count < most_lines →
+    text ≡ [] → HasScanned all old held count old text held 0
+begun all old held count [] fewer none = record {
+  fewer = fewer;
   given = [];
-  gives = gives_none (IsInLine held all) old;
+  gives = gives_none (IsInLine all held count) old;
   whole = append-nil held;
   unbroken = tt;
   short = omega arith;
   turns = omega arith;
   some = λ started. absurd (omega (arith, started));
 }
-begun all old held (x ∷ text) none = absurd (cc)
+begun all old held count (x ∷ text) fewer none = absurd (cc)
 
 -- a read is made within the line
-in_line : (all : Option (List ℕ)) (old : Reader) (held : List ℕ) (now : Reader) (text : List ℕ) (turn : ℕ)
-    (h : HasEmptied all old held now text turn) (written : Option (List ℕ)) → Keeps all written →
-    IsInLine held all h.given written
-in_line all old held now text turn h written k = (
-  subst IsUnbroken (sym h.whole) h.unbroken,
-  subst (λ (l : List ℕ). length l ≤ longest_line) (sym h.whole) h.short,
-  k,
-)
+in_line : (all : Option (List ℕ)) (old : Reader) (held : List ℕ) (count : ℕ) (now : Reader) (text : List ℕ) (turn : ℕ)
+    (h : HasEmptied all old held count now text turn) (written : Option (List ℕ)) → Keeps all written →
+    IsInLine all held count h.given written
+in_line all old held count now text turn h written k =
+    (subst (MayBeginLine count) (sym h.whole) (h.unbroken, h.short, λ some. h.fewer), k)
 
-pub scanned_on : (all : Option (List ℕ)) (old : Reader) (held : List ℕ) (now : Reader) (text : List ℕ) (turn : ℕ)
-    (new : Reader) (block : List ℕ) → HasEmptied all old held now text turn → ReadsOn all now new block (Ok true) →
-    HasScanned all old held new text block (turn + 1)
-scanned_on all old held now text turn new block h r =
+pub scanned_on : (all : Option (List ℕ)) (old : Reader) (held : List ℕ) (count : ℕ) (now : Reader) (text : List ℕ)
+    (turn : ℕ) (new : Reader) (block : List ℕ) → HasEmptied all old held count now text turn →
+    ReadsOn all now new block (Ok true) → HasScanned all old held count new text block (turn + 1)
+scanned_on all old held count now text turn new block h r =
     let turns = h.turns in
     record {
+      fewer = h.fewer;
       given = h.given ++ block;
-      gives = gives_read (IsInLine held all) old now new h.given block r.0 h.gives r.1.0 r.1.1
-          (in_line all old held now text turn h r.0 r.2);
+      gives = gives_read (IsInLine all held count) old now new h.given block r.0 h.gives r.1.0 r.1.1
+          (in_line all old held count now text turn h r.0 r.2);
       whole = sym (append_assoc held h.given block) ∙ ap (λ (l : List ℕ). l ++ block) h.whole;
       unbroken = h.unbroken;
       short = h.short;
@@ -204,11 +208,10 @@ scanned_on all old held now text turn new block h r =
     }
 
 -- the line's line feed came
-pub found_line : (all : Option (List ℕ)) (old : Reader) (held : List ℕ) (now : Reader)
-    (text block after rest line : List ℕ) (turn count : ℕ) → HasScanned all old held now text block turn →
-    Scans block text true rest after → count < most_lines → line ≡ without_cr after →
-    IsFound all old held count (Ok Line) line now rest
-found_line all old held now text block after rest line turn count h s fits same = (
+pub found_line : (all : Option (List ℕ)) (old : Reader) (held : List ℕ) (count : ℕ) (now : Reader)
+    (text block after rest line : List ℕ) (turn : ℕ) → HasScanned all old held count now text block turn →
+    Scans block text true rest after → line ≡ without_cr after → IsFound all old held count (Ok Line) line now rest
+found_line all old held count now text block after rest line turn h s same = (
   after,
   (
     h.given,
@@ -218,17 +221,17 @@ found_line all old held now text block after rest line turn count h s fits same 
   ),
   subst IsUnbroken (sym s.3) (unbroken_append text s.0 h.unbroken s.2),
   s.4,
-  fits,
+  h.fewer,
   same,
   s.5,
 )
 
 -- the line has a byte too many
-pub found_too_long : (all : Option (List ℕ)) (old : Reader) (held : List ℕ) (now : Reader)
-    (text block after rest : List ℕ) (turn count : ℕ) → HasScanned all old held now text block turn →
-    Scans block text false rest after → length after ≡ 2101 → count < most_lines →
+pub found_too_long : (all : Option (List ℕ)) (old : Reader) (held : List ℕ) (count : ℕ) (now : Reader)
+    (text block after rest : List ℕ) (turn : ℕ) → HasScanned all old held count now text block turn →
+    Scans block text false rest after → length after ≡ 2101 →
     IsFound all old held count (Err (Faults.LineTooLong (count + 1))) after now rest
-found_too_long all old held now text block after rest turn count h s long fits = (
+found_too_long all old held count now text block after rest turn h s long = (
   after,
   (
     h.given,
@@ -238,30 +241,29 @@ found_too_long all old held now text block after rest turn count h s long fits =
   ),
   subst IsUnbroken (sym s.3) (unbroken_append text s.0 h.unbroken s.2),
   long,
-  fits,
+  h.fewer,
   refl,
   s.5 h.short,
 )
 
 -- a read gave nothing more
-none_given : (all : Option (List ℕ)) (old : Reader) (held : List ℕ) (now : Reader) (text : List ℕ) (turn : ℕ)
-    (new : Reader) (h : HasEmptied all old held now text turn) (written : Option (List ℕ)) →
+none_given : (all : Option (List ℕ)) (old : Reader) (held : List ℕ) (count : ℕ) (now : Reader) (text : List ℕ) (turn : ℕ)
+    (new : Reader) (h : HasEmptied all old held count now text turn) (written : Option (List ℕ)) →
     AddsReads now.reads (record { came = []; written = written } ∷ []) new.reads →
-    Consumes now.remaining new.remaining [] → Keeps all written → Gives (IsInLine held all) old new h.given
-none_given all old held now text turn new h written r k kept =
-    subst (Gives (IsInLine held all) old new) (append-nil h.given)
-    (gives_read (IsInLine held all) old now new h.given [] written h.gives r k
-    (in_line all old held now text turn h written kept))
+    Consumes now.remaining new.remaining [] → Keeps all written → Gives (IsInLine all held count) old new h.given
+none_given all old held count now text turn new h written r k kept =
+    subst (Gives (IsInLine all held count) old new) (append-nil h.given)
+    (gives_read (IsInLine all held count) old now new h.given [] written h.gives r k
+    (in_line all old held count now text turn h written kept))
 
 -- the log ended behind a line without a line feed
-pub found_last : (all : Option (List ℕ)) (old : Reader) (held : List ℕ) (now : Reader) (text : List ℕ) (turn : ℕ)
-    (new : Reader) (block : List ℕ) (count : ℕ) → HasEmptied all old held now text turn →
-    ReadsOn all now new block (Ok false) → 0 < length text → count < most_lines →
-    IsFound all old held count (Ok Last) text new block
-found_last all old held now text turn new block count h r some fits = (
+pub found_last : (all : Option (List ℕ)) (old : Reader) (held : List ℕ) (count : ℕ) (now : Reader) (text : List ℕ)
+    (turn : ℕ) (new : Reader) (block : List ℕ) → HasEmptied all old held count now text turn →
+    ReadsOn all now new block (Ok false) → 0 < length text → IsFound all old held count (Ok Last) text new block
+found_last all old held count now text turn new block h r some = (
   (
     h.given,
-    none_given all old held now text turn new h r.0 r.1.0 r.1.1 r.2,
+    none_given all old held count now text turn new h r.0 r.1.0 r.1.1 r.2,
     h.whole ∙ sym (append-nil text) ∙ ap (λ (l : List ℕ). text ++ l) (sym r.1.2),
   ),
   r.1.2,
@@ -269,7 +271,7 @@ found_last all old held now text turn new block count h r some fits = (
   h.unbroken,
   h.short,
   some,
-  fits,
+  h.fewer,
 )
 
 pub none_left : (l : List ℕ) → (length l == 0) ≡ true → l ≡ []
@@ -277,59 +279,78 @@ none_left [] e = refl
 none_left (x ∷ l) e = let none : length (x ∷ l) ≡ 0 = eqb-true (length (x ∷ l)) 0 e in absurd (omega arith)
 
 -- the log ended behind a line feed
-pub found_end : (all : Option (List ℕ)) (old : Reader) (held : List ℕ) (now : Reader) (text : List ℕ) (turn : ℕ)
-    (new : Reader) (block : List ℕ) (count : ℕ) → HasEmptied all old held now text turn →
+pub found_end : (all : Option (List ℕ)) (old : Reader) (held : List ℕ) (count : ℕ) (now : Reader) (text : List ℕ)
+    (turn : ℕ) (new : Reader) (block : List ℕ) → HasEmptied all old held count now text turn →
     ReadsOn all now new block (Ok false) → (length text == 0) ≡ true → IsFound all old held count (Ok End) text new block
-found_end all old held now text turn new block count h r none = (
+found_end all old held count now text turn new block h r none = (
   (
     h.given,
-    none_given all old held now text turn new h r.0 r.1.0 r.1.1 r.2,
+    none_given all old held count now text turn new h r.0 r.1.0 r.1.1 r.2,
     h.whole ∙ none_left text none ∙ sym r.1.2,
   ),
   r.1.2,
   r.1.3,
 )
 
-pub failed_read : (all : Option (List ℕ)) (old : Reader) (held : List ℕ) (now : Reader) (text : List ℕ) (turn : ℕ)
-    (new : Reader) (block : List ℕ) (count : ℕ) (fault : LogFault) → HasEmptied all old held now text turn →
+pub failed_read : (all : Option (List ℕ)) (old : Reader) (held : List ℕ) (count : ℕ) (now : Reader) (text : List ℕ)
+    (turn : ℕ) (new : Reader) (block : List ℕ) (fault : LogFault) → HasEmptied all old held count now text turn →
     ReadsOn all now new block (Err fault) → IsFound all old held count (Err fault) text new block
-failed_read all old held now text turn new block count (Faults.BadLine n) h r = absurd r.1
-failed_read all old held now text turn new block count (Faults.LineTooLong n) h r = absurd r.1
-failed_read all old held now text turn new block count Faults.TooManyLines h r = absurd r.1
-failed_read all old held now text turn new block count Faults.Write h r =
-    (h.given, subst (λ (x : Reader). Gives (IsInLine held all) old x h.given) (sym r.1) h.gives)
-failed_read all old held now text turn new block count Faults.Memory h r = absurd r.1
-failed_read all old held now text turn new block count Faults.Read h r = (
+failed_read all old held count now text turn new block (Faults.BadLine n) h r = absurd r.1
+failed_read all old held count now text turn new block (Faults.LineTooLong n) h r = absurd r.1
+failed_read all old held count now text turn new block Faults.TooManyLines h r = absurd r.1
+failed_read all old held count now text turn new block Faults.Write h r =
+    (h.given, subst (λ (x : Reader). Gives (IsInLine all held count) old x h.given) (sym r.1) h.gives)
+failed_read all old held count now text turn new block Faults.Memory h r = absurd r.1
+failed_read all old held count now text turn new block Faults.Read h r = (
   text,
   (
     h.given,
-    none_given all old held now text turn new h r.0 r.1.0 (keeps_consumes now.remaining new.remaining r.1.1) r.2,
+    none_given all old held count now text turn new h r.0 r.1.0 (keeps_consumes now.remaining new.remaining r.1.1) r.2,
     h.whole ∙ sym (append-nil text) ∙ ap (λ (l : List ℕ). text ++ l) (sym r.1.2),
   ),
   r.1.2,
-  h.unbroken,
-  h.short,
+  (h.unbroken, h.short, λ some. h.fewer),
 )
 
--- no byte was found behind as many lines as there may be
-pub no_byte : (all : Option (List ℕ)) (old : Reader) (held : List ℕ) (count : ℕ) (text : List ℕ) (new : Reader)
-    (rest : List ℕ) (fault : LogFault) → HasMore all old held (Err fault) new rest →
-    IsFound all old held count (Err fault) text new rest
-no_byte all old held count text new rest (Faults.BadLine n) h = absurd h
-no_byte all old held count text new rest (Faults.LineTooLong n) h = absurd h
-no_byte all old held count text new rest Faults.TooManyLines h = absurd h
-no_byte all old held count text new rest Faults.Write h =
-    ([], subst (λ (x : Reader). Gives (IsInLine held all) old x []) (sym h) (gives_none (IsInLine held all) old))
-no_byte all old held count text new rest Faults.Memory h = absurd h
-no_byte all old held count text new rest Faults.Read h = ([], h.0, h.1, tt, omega arith)
+-- ---- behind as many lines as may be
+
+no_line : (count : ℕ) → MayBeginLine count []
+no_line count = (tt, omega arith, λ some. absurd (omega arith))
+
+-- what is found there, by whether a byte is left
+abbrev pub found_there : Result Bool LogFault → Result Found LogFault
+found_there (Ok true) = Err Faults.TooManyLines
+found_there (Ok false) = Ok End
+found_there (Err fault) = Err fault
+
+pub found_behind_all : (all : Option (List ℕ)) (old : Reader) (held : List ℕ) (count : ℕ) (text : List ℕ) (new : Reader)
+    (rest : List ℕ) (more : Result Bool LogFault) → count ≡ most_lines → HasMore all old held more new rest →
+    IsFound all old held count (found_there more) text new rest
+found_behind_all all old held count text new rest more e h =
+    subst (λ (n : ℕ). IsFound all old held n (found_there more) text new rest) (sym e) (go more h)
+  where
+    go : (more : Result Bool LogFault) → HasMore all old held more new rest →
+        IsFound all old held most_lines (found_there more) text new rest
+    go (Ok true) k = (k.0, k.1, refl, k.2)
+    go (Ok false) k = k
+    go (Err (Faults.BadLine n)) k = absurd k
+    go (Err (Faults.LineTooLong n)) k = absurd k
+    go (Err Faults.TooManyLines) k = absurd k
+    go (Err Faults.Write) k = (
+      [],
+      subst (λ (x : Reader). Gives (IsInLine all held most_lines) old x []) (sym k)
+          (gives_none (IsInLine all held most_lines) old),
+    )
+    go (Err Faults.Memory) k = absurd k
+    go (Err Faults.Read) k = ([], k.0, k.1, no_line most_lines)
 
 -- one read where nothing was held
 read_first : (all : Option (List ℕ)) (old new : Reader) (held block : List ℕ) (written : Option (List ℕ)) → held ≡ [] →
     AddsReads old.reads (record { came = block; written = written } ∷ []) new.reads →
-    Consumes old.remaining new.remaining block → Keeps all written → Gives (IsInLine held all) old new block
+    Consumes old.remaining new.remaining block → Keeps all written → Gives (IsInLine all held most_lines) old new block
 read_first all old new held block written e r k kept =
-    gives_read (IsInLine held all) old old new [] block written (gives_none (IsInLine held all) old) r k
-    (subst (λ (l : List ℕ). IsInLine l all [] written) (sym e) (tt, omega arith, kept))
+    gives_read (IsInLine all held most_lines) old old new [] block written (gives_none (IsInLine all held most_lines) old)
+    r k (subst (λ (l : List ℕ). IsInLine all l most_lines [] written) (sym e) (no_line most_lines, kept))
 
 -- what is held where nothing was, and a byte is looked for
 pub more_read : (all : Option (List ℕ)) (old new : Reader) (held block : List ℕ) (more : Result Bool LogFault) → held ≡ [] →
@@ -361,7 +382,7 @@ more_read all old new held block (Err Faults.Read) e r = (
 -- what was held of a first byte, with nothing read
 pub more_held : (all : Option (List ℕ)) (old : Reader) (held : List ℕ) → 0 < length held → length held ≤ block_size →
     HasMore all old held (Ok true) old held
-more_held all old held some few = (([], gives_none (IsInLine held all) old, append-nil held), some, few)
+more_held all old held some few = (([], gives_none (IsInLine all held most_lines) old, append-nil held), some, few)
 
 -- what is held back was handed over before
 pub reads_kept : (all now : Option (List ℕ)) (old new : Reader) (block : List ℕ) (result : Result Bool LogFault) →
@@ -473,7 +494,7 @@ pub found_held : (all : Option (List ℕ)) (old : Reader) (held : List ℕ) (cou
     IsFound all old held count (Ok (Held n)) (without_cr (take n held)) old (drop (n + 1) held)
 found_held all old held count n h = (
   take n held,
-  ([], gives_none (IsInLine held all) old, append-nil held ∙ h.2 ∙ sym (append_assoc (take n held) (10 ∷ []) (drop (n + 1) held))),
+  ([], gives_none (IsInLine all held count) old, append-nil held ∙ h.2 ∙ sym (append_assoc (take n held) (10 ∷ []) (drop (n + 1) held))),
   h.1,
   omega (arith, h.0, h.3, length-take-le n held (omega (arith, h.0))),
   h.4,

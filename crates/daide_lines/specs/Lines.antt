@@ -7,7 +7,7 @@ use Rattle.daide_lines.specs.declared.lines.Found.TheVariants.{Held, Line, Last,
 use Rattle.daide_lines.specs.declared.fault.LogFault.{LogFault}
 use Rattle.daide_lines.specs.declared.fault.LogFault.TheVariants as Faults
 use Rattle.daide_lines.specs.Reader.{Reader, AddsReads, Gives}
-use Rattle.daide_lines.specs.LogLine.{most_lines, longest_line, IsUnbroken, without_cr}
+use Rattle.daide_lines.specs.LogLine.{most_lines, longest_line, IsUnbroken, MayBeginLine, without_cr}
 
 -- the most bytes that are read at once
 abbrev pub block_size : ℕ
@@ -35,22 +35,21 @@ Reads written old new bytes (Err Faults.TooManyLines) = ⊥
 abbrev pub ReadsOn : Option (List ℕ) → Reader → Reader → List ℕ → Result Bool LogFault → Type 0
 ReadsOn all old new bytes result = (written : Option (List ℕ)) × Reads written old new bytes result × Keeps all written
 
--- The bytes that are held and those that came since are of a line, which is not whole and not too long; and all of the
--- report was handed over.
-abbrev pub IsInLine : List ℕ → Option (List ℕ) → List ℕ → Option (List ℕ) → Type 0
-IsInLine held all came written =
-    IsUnbroken (held ++ came) × (length (held ++ came) ≤ longest_line) × Keeps all written
+-- The next line, behind so many, may begin with the bytes that are held and those that came since; and all of the report
+-- was handed over.
+abbrev pub IsInLine : Option (List ℕ) → List ℕ → ℕ → List ℕ → Option (List ℕ) → Type 0
+IsInLine all held count came written = MayBeginLine count (held ++ came) × Keeps all written
 
--- Of the bytes that were held and those that the reader gave, these were looked at, and the rest is held; each read was
--- made within the line, with all of the report handed over.
-abbrev pub LooksAt : Option (List ℕ) → Reader → List ℕ → List ℕ → Reader → List ℕ → Type 0
-LooksAt all old held bytes new rest =
-    (given : List ℕ) × Gives (IsInLine held all) old new given × (held ++ given ≡ bytes ++ rest)
+-- Behind so many lines, of the bytes that were held and those that the reader gave these were looked at, and the rest is
+-- held; each read was made within the next line, with all of the report handed over.
+abbrev pub LooksAt : Option (List ℕ) → Reader → List ℕ → ℕ → List ℕ → Reader → List ℕ → Type 0
+LooksAt all old held count bytes new rest =
+    (given : List ℕ) × Gives (IsInLine all held count) old new given × (held ++ given ≡ bytes ++ rest)
 
 -- A line with its line feed, which may be the next in number; behind it less than a block is held.
 abbrev pub IsWhole : Option (List ℕ) → Reader → List ℕ → ℕ → List ℕ → Reader → List ℕ → Type 0
 IsWhole all old held count text new rest =
-    (line : List ℕ) × LooksAt all old held (line ++ 10 ∷ []) new rest × IsUnbroken line
+    (line : List ℕ) × LooksAt all old held count (line ++ 10 ∷ []) new rest × IsUnbroken line
     × (length line ≤ longest_line) × (count < most_lines) × (text ≡ without_cr line) × (length rest < block_size)
 
 -- A line with its line feed, which lies in what was held or was copied, or the last one without, or none; and whether it
@@ -60,21 +59,20 @@ abbrev pub IsFound : Option (List ℕ) → Reader → List ℕ → ℕ → Resul
 IsFound all old held count (Ok (Held n)) text new rest = IsWhole all old held count text new rest
 IsFound all old held count (Ok Line) text new rest = IsWhole all old held count text new rest
 IsFound all old held count (Ok Last) text new rest =
-    LooksAt all old held text new rest × (rest ≡ []) × IsAtEnd new.remaining × IsUnbroken text
+    LooksAt all old held count text new rest × (rest ≡ []) × IsAtEnd new.remaining × IsUnbroken text
     × (length text ≤ longest_line) × (0 < length text) × (count < most_lines)
 IsFound all old held count (Ok End) text new rest =
-    LooksAt all old held [] new rest × (rest ≡ []) × IsAtEnd new.remaining
+    LooksAt all old held count [] new rest × (rest ≡ []) × IsAtEnd new.remaining
 IsFound all old held count (Err (Faults.LineTooLong n)) text new rest =
-    (line : List ℕ) × LooksAt all old held line new rest × IsUnbroken line × (length line ≡ longest_line + 1)
+    (line : List ℕ) × LooksAt all old held count line new rest × IsUnbroken line × (length line ≡ longest_line + 1)
     × (count < most_lines) × (n ≡ count + 1) × (length rest < block_size)
 IsFound all old held count (Err Faults.TooManyLines) text new rest =
-    LooksAt all old held [] new rest × (0 < length rest) × (count ≡ most_lines) × (length rest ≤ block_size)
+    LooksAt all old held count [] new rest × (0 < length rest) × (count ≡ most_lines) × (length rest ≤ block_size)
 IsFound all old held count (Err Faults.Read) text new rest =
-    (line : List ℕ) × LooksAt all old held line new rest × (rest ≡ []) × IsUnbroken line
-    × (length line ≤ longest_line)
+    (line : List ℕ) × LooksAt all old held count line new rest × (rest ≡ []) × MayBeginLine count line
 IsFound all old held count (Err (Faults.BadLine n)) text new rest = ⊥
 IsFound all old held count (Err Faults.Write) text new rest =
-    (given : List ℕ) × Gives (IsInLine held all) old new given
+    (given : List ℕ) × Gives (IsInLine all held count) old new given
 IsFound all old held count (Err Faults.Memory) text new rest = ⊥
 
 -- whether the log ended, and whether its last line came
@@ -113,12 +111,12 @@ Scans held before false rest after =
     (front : List ℕ) × (held ≡ front ++ rest) × IsUnbroken front × (after ≡ before ++ front)
     × ((rest ≡ []) ⊎ (longest_line < length after)) × (length before ≤ longest_line → length rest < block_size)
 
--- whether a byte is left of what is held and what the reader has
+-- whether a byte is left of what is held and what the reader has, behind as many lines as may be
 abbrev pub HasMore : Option (List ℕ) → Reader → List ℕ → Result Bool LogFault → Reader → List ℕ → Type 0
 HasMore all old held (Ok true) new rest =
-    LooksAt all old held [] new rest × (0 < length rest) × (length rest ≤ block_size)
-HasMore all old held (Ok false) new rest = LooksAt all old held [] new rest × (rest ≡ []) × IsAtEnd new.remaining
-HasMore all old held (Err Faults.Read) new rest = LooksAt all old held [] new rest × (rest ≡ [])
+    LooksAt all old held most_lines [] new rest × (0 < length rest) × (length rest ≤ block_size)
+HasMore all old held (Ok false) new rest = LooksAt all old held most_lines [] new rest × (rest ≡ []) × IsAtEnd new.remaining
+HasMore all old held (Err Faults.Read) new rest = LooksAt all old held most_lines [] new rest × (rest ≡ [])
 HasMore all old held (Err (Faults.BadLine n)) new rest = ⊥
 HasMore all old held (Err (Faults.LineTooLong n)) new rest = ⊥
 HasMore all old held (Err Faults.TooManyLines) new rest = ⊥

@@ -1,5 +1,5 @@
 -- What a line of a log is, by its bytes alone: docs/FORMATS.md, "The log". (own)
-use Rattle.std.specs.Prelude.{◌≢◌, ℕ, ◌+◌, ◌-◌, ◌*◌, ◌==◌, Bool, true, ◌&&◌, nat_le, if◌then◌else◌}
+use Rattle.std.specs.Prelude.{◌≢◌, ℕ, ◌+◌, ◌-◌, ◌*◌, ◌<◌, ◌≤◌, ◌==◌, Bool, true, ◌&&◌, nat_le, if◌then◌else◌}
 use Rattle.std.specs.Prelude.{List, [], ◌∷◌, length, take, drop, codes, Option, Some, None, Result, Ok, Err}
 use Rattle.std.specs.Str.{bytes_eq}
 use Rattle.std.specs.List.{AllByRecursion}
@@ -23,6 +23,12 @@ longest_piece = 1024
 -- no line feed is among the bytes
 abbrev pub IsUnbroken : List ℕ → Type 0
 IsUnbroken bytes = AllByRecursion (λ b. b ≢ 10) bytes
+
+-- The next line, behind so many, may begin with these bytes: no line feed is among them, they do not make it too long, and
+-- there is none of them where there are as many lines as may be.
+abbrev pub MayBeginLine : ℕ → List ℕ → Type 0
+MayBeginLine count bytes =
+    IsUnbroken bytes × (length bytes ≤ longest_line) × (0 < length bytes → count < most_lines)
 
 -- what follows a prefix, of what begins with it
 abbrev pub behind : List ℕ → List ℕ → Option (List ℕ)
@@ -81,10 +87,10 @@ abbrev pub decoded : Side → Result (List ℕ) FromHexError → Option LogEvent
 decoded side (Ok bytes) = Some (Traffic side bytes)
 decoded side (Err fault) = None
 
--- hexadecimal digits of either case, two for a byte, from 2 to 2,048 of them
+-- hexadecimal digits of either case, two for a byte, of one byte to as many as a piece has
 abbrev pub traffic_of : Side → List ℕ → Option LogEvent
 traffic_of side digits =
-    if nat_le 2 (length digits) && nat_le (length digits) 2048 then decoded side (decode_of digits) else None
+    if nat_le 2 (length digits) && nat_le (length digits) (2 * longest_piece) then decoded side (decode_of digits) else None
 
 -- a line that has no bytes, or begins with `#`
 abbrev pub is_comment : List ℕ → Bool

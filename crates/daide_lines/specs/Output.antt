@@ -3,6 +3,10 @@ use Rattle.std.specs.Prelude.{◌≡◌, ℕ, List, Option}
 use Rattle.std.specs.Io.KnownBytes.{append_known}
 use Rattle.daide_lines.specs.declared.output.Output.{Output}
 
+-- the most bytes of a report that are held back
+abbrev pub page_size : ℕ
+page_size = 8192
+
 -- what the writer holds, and behind it what is held back from it
 abbrev pub all_of : {W : Type 0} → (W → Option (List ℕ)) → Output W → Option (List ℕ)
 all_of contents output = append_known (contents output.writer.now) output.page.items

@@ -23,12 +23,13 @@ pub struct Block {
 
 impl Model for Block {
     ghost use Rattle.std.specs.Prelude.{ℕ, List, ◌≤◌, ◌-◌, take, drop, length};
+    ghost use Rattle.daide_lines.specs.Lines.{block_size};
 
     ghost Value = { List ℕ };
 
     ghost view = { λ b. take (b.to - b.from) (drop b.from b.bytes) };
 
-    ghost invariant = { λ b. (b.from ≤ b.to) × (b.to ≤ 8192) };
+    ghost invariant = { λ b. (b.from ≤ b.to) × (b.to ≤ block_size) };
 }
 
 impl Block {

@@ -3,7 +3,7 @@
 //! Sixteen bytes are read together, whatever their digits are, in two plain loops of a length that the compiler knows:
 //! it reads all thirty-two digits in a few wide instructions.
 
-ghost use Rattle.std.specs.Prelude.{◌≡◌, ◌+◌, ◌*◌, ◌<◌, ◌≤◌, length, min, max, true};
+ghost use Rattle.std.specs.Prelude.{◌≡◌, ◌==◌, ◌+◌, ◌*◌, ◌<◌, ◌≤◌, length, min, max, true};
 ghost use Rattle.std.specs.List.{list_all};
 ghost use Rattle.hex.specs.Hex.{decode_of, is_hex_digit};
 ghost use Rattle.daide_lines.specs.Digits.{IsRead, bytes_in, value_of};
@@ -26,9 +26,10 @@ fn greater(one: u8, other: u8) -> u8
     if one < other { other } else { one }
 }
 
-/// Whether a byte is a digit, of either case, and its value. The value of what is none means nothing.
-fn read_digit(byte: u8) -> (bool, u8)
-    ensures digit { result.0 ≡ is_hex_digit byte }
+/// The excess of a byte over a digit, 0 at digits of either case alone, and its value, which means nothing where there
+/// is an excess.
+fn read_digit(byte: u8) -> (u8, u8)
+    ensures digit { (result.0 == 0) ≡ is_hex_digit byte }
     ensures value { is_hex_digit byte ≡ true → result.1 ≡ value_of byte }
 {
     // `0` to `9` are the ten greatest, which become 0 to 9, and all others 16 or more
@@ -36,7 +37,7 @@ fn read_digit(byte: u8) -> (bool, u8)
     // `A` to `F` and `a` to `f` become 10 to 15, and all others 16 or more
     let letter = lesser((byte & 0xDF).wrapping_add(0xBF), 0xF5) + 10;
     let value = lesser(letter, decimal);
-    (value < 16, value)
+    (value & 0xF0, value)
 }
 
 /// The byte of two digits' values, the high one first: the digits lie side by side in a number of sixteen bits, whose
@@ -57,17 +58,17 @@ fn read_together(digits: &[u8], bytes: &mut [u8]) -> bool
     ensures all { result ≡ list_all is_hex_digit digits.now }
     ensures bytes { list_all is_hex_digit digits.now ≡ true → bytes.new ≡ bytes_in digits.now }
 {
-    let mut all = true;
+    let mut excess = 0;
     let mut values = [0; 2 * TOGETHER];
     for j in 0..digits.len() {
-        let (is_digit, value) = read_digit(digits[j]);
-        all &= is_digit;
+        let (more, value) = read_digit(digits[j]);
+        excess |= more;
         values[j] = value;
     }
     for i in 0..bytes.len() {
         bytes[i] = byte_of(values[2 * i], values[2 * i + 1]);
     }
-    all
+    excess == 0
 }
 
 /// Reads two digits for each byte, if all are digits. Where the bytes end within some that are read together, the last

@@ -47,9 +47,23 @@ fn are_unbroken(bytes: &[u8], first: usize, count: usize) -> bool
     unbroken
 }
 
-/// Past so many bytes from one on, if there are as many and none is a line feed, else there.
+/// Past so many bytes from one on, if none is a line feed, else there.
 #[inline(always)]
 fn past_unbroken(bytes: &[u8], first: usize, count: usize) -> usize
+    requires within { first + count ≤ length bytes.now }
+    requires so_far { IsUnbroken (take first bytes.now) }
+    ensures within { result ≤ first + count }
+    ensures unbroken { IsUnbroken (take result bytes.now) }
+{
+    if are_unbroken(bytes, first, count) {
+        return first + count;
+    }
+    first
+}
+
+/// Past so many bytes from one on, if there are as many and none is a line feed, else there.
+#[inline(always)]
+fn past_unbroken_if_held(bytes: &[u8], first: usize, count: usize) -> usize
     requires within { first ≤ length bytes.now }
     requires so_far { IsUnbroken (take first bytes.now) }
     ensures within { result ≤ length bytes.now }
@@ -58,10 +72,7 @@ fn past_unbroken(bytes: &[u8], first: usize, count: usize) -> usize
     if bytes.len() - first < count {
         return first;
     }
-    if are_unbroken(bytes, first, count) {
-        return first + count;
-    }
-    first
+    past_unbroken(bytes, first, count)
 }
 
 /// How many bytes stand before the first line feed, at least: as many as were looked at together with no line feed
@@ -81,17 +92,44 @@ fn unbroken_blocks(bytes: &[u8]) -> usize
     i
 }
 
-/// How many bytes stand before the first line feed, but for three at most: those behind the last block are looked at by
-/// fewer and fewer together.
+/// How many bytes stand before the first line feed, but for three at most, where it is one of the next sixty-four: these
+/// are looked at by fewer and fewer together.
+#[inline(always)]
+fn unbroken_in_block(bytes: &[u8], first: usize) -> usize
+    requires within { first + 64 ≤ length bytes.now }
+    requires so_far { IsUnbroken (take first bytes.now) }
+    ensures within { result ≤ length bytes.now }
+    ensures unbroken { IsUnbroken (take result bytes.now) }
+{
+    let thirty_two = past_unbroken(bytes, first, 32);
+    let sixteen = past_unbroken(bytes, thirty_two, 16);
+    let eight = past_unbroken(bytes, sixteen, 8);
+    past_unbroken(bytes, eight, 4)
+}
+
+/// How many bytes stand before the first line feed, but for three at most, where fewer than sixty-four are left.
+fn unbroken_in_rest(bytes: &[u8], first: usize) -> usize
+    requires within { first ≤ length bytes.now }
+    requires so_far { IsUnbroken (take first bytes.now) }
+    ensures within { result ≤ length bytes.now }
+    ensures unbroken { IsUnbroken (take result bytes.now) }
+{
+    let thirty_two = past_unbroken_if_held(bytes, first, 32);
+    let sixteen = past_unbroken_if_held(bytes, thirty_two, 16);
+    let eight = past_unbroken_if_held(bytes, sixteen, 8);
+    past_unbroken_if_held(bytes, eight, 4)
+}
+
+/// How many bytes stand before the first line feed, but for three at most.
 fn unbroken_front(bytes: &[u8]) -> usize
     ensures within { result ≤ length bytes.now }
     ensures unbroken { IsUnbroken (take result bytes.now) }
 {
     let blocks = unbroken_blocks(bytes);
-    let thirty_two = past_unbroken(bytes, blocks, 32);
-    let sixteen = past_unbroken(bytes, thirty_two, 16);
-    let eight = past_unbroken(bytes, sixteen, 8);
-    past_unbroken(bytes, eight, 4)
+    if bytes.len() - blocks >= TOGETHER {
+        return unbroken_in_block(bytes, blocks);
+    }
+    unbroken_in_rest(bytes, blocks)
 }
 
 /// Where the first line feed of some bytes stands.

@@ -8,7 +8,7 @@ use std::io;
 use std::io::Write;
 
 /// How many bytes are held back at most.
-const PAGE: usize = 8192;
+pub const PAGE: usize = 8192;
 
 /// The lines of a report that were not handed to the writer yet.
 pub type Page = ArrayVec<u8, PAGE>;

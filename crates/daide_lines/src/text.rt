@@ -4,11 +4,15 @@
 //! work as to copy a line; here only the count goes back.
 
 ghost use Rattle.std.specs.Prelude.{◌≡◌, ◌+◌, ◌-◌, ◌≤◌, ◌==◌, [], ◌++◌, length, take};
+ghost use Rattle.daide_lines.specs.LogLine.{longest_line};
 
 use std::marker::Model;
 
-/// One byte more than the most bytes of a line.
-pub const TOO_LONG: usize = 2101;
+/// The most bytes of a line.
+pub const LONGEST_LINE: usize = 2100;
+
+/// One byte more, by which a line is too long.
+pub const TOO_LONG: usize = LONGEST_LINE + 1;
 
 /// As many bytes as make a line too long, at most. Contracts see their list.
 #[derive(Drop)]
@@ -18,20 +22,21 @@ pub struct Text {
 }
 
 impl Model for Text {
-    ghost use Rattle.std.specs.Prelude.{ℕ, ◌≤◌, take};
+    ghost use Rattle.std.specs.Prelude.{ℕ, ◌+◌, ◌≤◌, take};
     ghost use Rattle.arrayvec.specs.ArrayVec.{ArrayVec as Items};
+    ghost use Rattle.daide_lines.specs.LogLine.{longest_line};
 
     ghost Value = { Items ℕ };
 
     ghost view = { λ t. record { items = take t.count t.bytes } };
 
-    ghost invariant = { λ t. t.count ≤ 2101 };
+    ghost invariant = { λ t. t.count ≤ longest_line + 1 };
 }
 
 /// Writes bytes behind those that are held.
 #[inline(always)]
 fn put_behind(bytes: &mut [u8; TOO_LONG], count: usize, more: &[u8])
-    requires { count + length more.now ≤ 2101 }
+    requires { count + length more.now ≤ longest_line + 1 }
     ensures { take (count + length more.now) bytes.new ≡ take count bytes.old ++ more.now }
 {
     let all = &mut bytes[..];
@@ -52,7 +57,7 @@ impl Text {
     /// How many bytes there are.
     pub fn len(&self) -> usize
         ensures value { result ≡ length self.now.items }
-        ensures fits { result ≤ 2101 }
+        ensures fits { result ≤ longest_line + 1 }
     {
         self.count
     }
@@ -67,7 +72,7 @@ impl Text {
     /// The bytes.
     pub fn as_slice(&self) -> &[u8]
         ensures value { result.now ≡ self.now.items }
-        ensures fits { length result.now ≤ 2101 }
+        ensures fits { length result.now ≤ longest_line + 1 }
     {
         &self.bytes[..self.count]
     }
@@ -81,7 +86,7 @@ impl Text {
 
     /// Puts bytes behind those that are there.
     pub fn put(&mut self, more: &[u8])
-        requires { length self.old.items + length more.now ≤ 2101 }
+        requires { length self.old.items + length more.now ≤ longest_line + 1 }
         ensures { self.new.items ≡ self.old.items ++ more.now }
     {
         put_behind(&mut self.bytes, self.count, more);

@@ -23,10 +23,10 @@ use Rattle.daide_log.specs.ConfigLine.{config_of_line}
 use Rattle.daide_lines.specs.MatchLine.{MatchEvent, Of, Quiet, loud, within, event_of_session, match_event_of_parts}
 use Rattle.daide_lines.specs.MatchLine.{match_event_of_line}
 use Rattle.daide_log.specs.ConfigLine.{match_config_of_line}
-use Rattle.daide_log.specs.Heading.{Head, Heading, Unnamed, Named, Headed, alone, heading_after}
+use Rattle.daide_log.specs.Heading.{Preamble, Heading, Unnamed, Named, Headed, alone, heading_after}
 use Rattle.daide_machine.specs.Summary.{nothing_counted}
 use Rattle.daide_log.specs.Report.{Entry, events_of, side_of, entries_of, lines_of, counted_all, summary_line}
-use Rattle.daide_log.specs.Log.{Stage, Opening, Playing, begun, stage_at, source_in, IsPlayed, GoesOn, Reports, ReportsAll, IsReport}
+use Rattle.daide_log.specs.Log.{LogState, Opening, Playing, begun, stage_at, source_in, IsPlayed, GoesOn, Reports, ReportsAll, IsReport}
 use Rattle.daide_log.specs.Laws.{is_number, own_of, own_line, unnumbered, own_told, SessionsAreAlone}
 use Rattle.daide_log.proofs.StepLemmas.{Steps, all_read, all_written}
 
@@ -190,7 +190,7 @@ get_replicate (suc n) (suc i) x h = get_replicate n i x (omega arith)
 -- ---- one line
 
 -- by a line of the match the session goes on as by its own line
-record GoesAlone (session number : ℕ) (line : List ℕ) (told : List Entry) (new : Stage) (state : SessionState) : Type 0 where
+record GoesAlone (session number : ℕ) (line : List ℕ) (told : List Entry) (new : LogState) (state : SessionState) : Type 0 where
   sessions : List SessionState
   next : SessionState
   stage : new ≡ Playing Match sessions
@@ -199,7 +199,7 @@ record GoesAlone (session number : ℕ) (line : List ℕ) (told : List Entry) (n
       (Playing Single (next ∷ []))
 
 -- a line that tells nothing
-silent : (session number : ℕ) (line : List ℕ) (told : List Entry) (new : Stage) (states : List SessionState)
+silent : (session number : ℕ) (line : List ℕ) (told : List Entry) (new : LogState) (states : List SessionState)
     (state : SessionState) → new ≡ Playing Match states → slice_get states (session - 1) ≡ Some state →
     event_of_line (own_line session line) ≡ Some Silence → own_told session told ≡ [] →
     GoesAlone session number line told new state
@@ -217,7 +217,7 @@ silent session number line told new states state e place is_silent none = record
   );
 }
 
-one_line_alone : (session number : ℕ) (line : List ℕ) (told : List Entry) (states : List SessionState) (new : Stage)
+one_line_alone : (session number : ℕ) (line : List ℕ) (told : List Entry) (states : List SessionState) (new : LogState)
     (state : SessionState) → 0 < session → slice_get states (session - 1) ≡ Some state →
     GoesOn number (Playing Match states) line told new → GoesAlone session number line told new state
 one_line_alone session number line told states new state some place on = by_event on.0 on.1 on.3
@@ -279,7 +279,7 @@ one_line_alone session number line told states new state some place on = by_even
 
 -- ---- all lines
 
-record GoAlone (session number : ℕ) (lines : List (List ℕ)) (told : List Entry) (new : Stage) (state : SessionState) : Type 0
+record GoAlone (session number : ℕ) (lines : List (List ℕ)) (told : List Entry) (new : LogState) (state : SessionState) : Type 0
   where
     sessions : List SessionState
     next : SessionState
@@ -287,7 +287,7 @@ record GoAlone (session number : ℕ) (lines : List (List ℕ)) (told : List Ent
     own : Steps number (Playing Single (state ∷ [])) (map (own_line session) lines) (own_told session told)
         (Playing Single (next ∷ []))
 
-lines_alone : (lines : List (List ℕ)) (session number : ℕ) (told : List Entry) (states : List SessionState) (new : Stage)
+lines_alone : (lines : List (List ℕ)) (session number : ℕ) (told : List Entry) (states : List SessionState) (new : LogState)
     (state : SessionState) → 0 < session → slice_get states (session - 1) ≡ Some state →
     Steps number (Playing Match states) lines told new → GoAlone session number lines told new state
 lines_alone [] session number told states new state some place steps = record {
@@ -299,7 +299,7 @@ lines_alone [] session number told states new state some place steps = record {
 lines_alone (line ∷ lines) session number told states new state some place steps =
     let here = one_line_alone session (number + 1) line steps.1 states steps.0 state some place steps.3 in
     let rest = lines_alone lines session (number + 1) steps.2 here.sessions new here.next some here.place
-    (subst (λ (s : Stage). Steps (number + 1) s lines steps.2 new) here.stage steps.4) in
+    (subst (λ (s : LogState). Steps (number + 1) s lines steps.2 new) here.stage steps.4) in
     record {
       sessions = rest.sessions;
       next = rest.next;
@@ -317,13 +317,13 @@ lines_alone (line ∷ lines) session number told states new state some place ste
 -- ---- the head
 
 -- the head with a line more
-opens : (number : ℕ) (old heading : Heading) (line : List ℕ) (told : List Entry) (new : Stage) →
+opens : (number : ℕ) (old heading : Heading) (line : List ℕ) (told : List Entry) (new : LogState) →
     GoesOn number (Opening old) line told new → heading_after old line ≡ Some heading →
     (told ≡ []) × (new ≡ stage_at heading)
 opens number old heading line told new on e = (on.2, on.3 ∙ ap stage_at (same_Some on.0 heading (sym on.1 ∙ e)))
 
 -- what a match's second line sets, where there are no words
-match_head : MatchConfig → Head
+match_head : MatchConfig → Preamble
 match_head limits = record { version = Match; limits = limits; words = [] }
 
 match_begins : (limits : MatchConfig) → limits.words ≡ 0 → stage_at (Headed (match_head limits)) ≡ begun (match_head limits)
@@ -334,7 +334,7 @@ opening_of : MatchConfig → SessionState
 opening_of limits = opening (limits_with limits.config [])
 
 -- behind the first two lines of a match without words
-match_opened : (second : List ℕ) (lines : List (List ℕ)) (limits : MatchConfig) (told : List Entry) (new : Stage) →
+match_opened : (second : List ℕ) (lines : List (List ℕ)) (limits : MatchConfig) (told : List Entry) (new : LogState) →
     match_config_of_line second ≡ Some limits → limits.words ≡ 0 →
     Steps 0 (Opening Unnamed) (codes "daide-log 2" ∷ second ∷ lines) told new →
     Steps 2 (Playing Match (replicate limits.sessions (opening_of limits))) lines told new
@@ -342,17 +342,17 @@ unfolding match_head opening_of
 match_opened second lines limits told new e none steps =
     let named = opens 1 Unnamed (Named Match) (codes "daide-log 2") steps.1 steps.0 steps.3 refl in
     let later : Steps 1 (Opening (Named Match)) (second ∷ lines) steps.2 new =
-    subst (λ (s : Stage). Steps 1 s (second ∷ lines) steps.2 new) named.1 steps.4 in
+    subst (λ (s : LogState). Steps 1 s (second ∷ lines) steps.2 new) named.1 steps.4 in
     let headed = opens 2 (Named Match) (Headed (match_head limits)) second later.1 later.0 later.3
     (ap (option_map (λ (l : MatchConfig). Headed (record { version = Match; limits = l; words = [] }))) e) in
     let events : Steps 2 (begun (match_head limits)) lines later.2 new =
-    subst (λ (s : Stage). Steps 2 s lines later.2 new) (headed.1 ∙ match_begins limits none) later.4 in
+    subst (λ (s : LogState). Steps 2 s lines later.2 new) (headed.1 ∙ match_begins limits none) later.4 in
     subst (λ (t : List Entry). Steps 2 (begun (match_head limits)) lines t new)
     (sym (steps.5 ∙ ap (λ (t : List Entry). t ++ steps.2) named.0 ∙ later.5 ∙ ap (λ (t : List Entry). t ++ later.2) headed.0))
     events
 
 -- the first two lines of the session's own log
-own_opened : (own_second : List ℕ) (lines : List (List ℕ)) (config : Config) (told : List Entry) (new : Stage) →
+own_opened : (own_second : List ℕ) (lines : List (List ℕ)) (config : Config) (told : List Entry) (new : LogState) →
     config_of_line own_second ≡ Some config →
     Steps 2 (Playing Single (opening (limits_with config []) ∷ [])) lines told new →
     Steps 0 (Opening Unnamed) (codes "daide-log 1" ∷ own_second ∷ lines) told new

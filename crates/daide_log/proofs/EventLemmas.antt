@@ -9,7 +9,7 @@ use Rattle.std.proofs.lemmas.List.{length-map, map-set, map-append, replicate_mo
 use Rattle.std.proofs.lemmas.Option.{slice_get-map, slice_get_read}
 use Rattle.std.specs.Io.KnownBytes.{Keeps, Appends}
 use Rattle.daide_machine.specs.Machine.{Limits, SessionState, opening}
-use Rattle.daide_machine.specs.Wires.{Gateway, IsNew}
+use Rattle.daide_machine.specs.Wires.{SessionView, IsNew}
 use Rattle.daide_log.specs.declared.heading.Version.{Version}
 use Rattle.daide_log.specs.declared.report.Source.{Source}
 use Rattle.daide_machine.specs.declared.summary.Summary.{Summary}
@@ -35,8 +35,8 @@ use Rattle.daide_log.proofs.LogLemmas.{line_read, last_read, end_read, bad_line,
 -- ---- one line
 
 -- a session was told what a line tells it
-pub session_judged : (version : Version) (number session : ℕ) (event : LogEvent) (line : List ℕ) (items : List Gateway)
-    (old new : Gateway) (source : Source) (s t : Summary) (a b : Option (List ℕ)) →
+pub session_judged : (version : Version) (number session : ℕ) (event : LogEvent) (line : List ℕ) (items : List SessionView)
+    (old new : SessionView) (source : Source) (s t : Summary) (a b : Option (List ℕ)) →
     event_in version (length items) line ≡ Some (Of session event) → 0 < session → session ≤ length items →
     old ≡ get_or items (session - 1) old → source ≡ source_in version number session →
     Tells source (side_of event) old.state (events_of event) new.state s t a b →
@@ -45,18 +45,18 @@ session_judged version number session event line items old new source s t a b is
   entries_of source (side_of event) told.0,
   (
     Of session event,
-    ap (λ (n : ℕ). event_in version n line) (length-map items (λ (g : Gateway). g.state)) ∙ is_event,
+    ap (λ (n : ℕ). event_in version n line) (length-map items (λ (g : SessionView). g.state)) ∙ is_event,
     states_of (set items (session - 1) new),
     (
       old.state,
       new.state,
       told.0,
-      slice_get-map (λ (g : Gateway). g.state) items (session - 1)
-          ∙ ap (option_map (λ (g : Gateway). g.state))
+      slice_get-map (λ (g : SessionView). g.state) items (session - 1)
+          ∙ ap (option_map (λ (g : SessionView). g.state))
           (slice_get_read items (length items) (session - 1) old refl (omega arith) read),
       told.1,
       ap (λ (k : Source). entries_of k (side_of event) told.0) is_source,
-      map-set (λ (g : Gateway). g.state) items (session - 1) new,
+      map-set (λ (g : SessionView). g.state) items (session - 1) new,
     ),
     refl,
   ),
@@ -65,14 +65,14 @@ session_judged version number session event line items old new source s t a b is
 )
 
 -- a line tells nothing
-pub nothing_judged : (version : Version) (number : ℕ) (line : List ℕ) (items : List Gateway) (s : Summary)
+pub nothing_judged : (version : Version) (number : ℕ) (line : List ℕ) (items : List SessionView) (s : Summary)
     (a : Option (List ℕ)) → event_in version (length items) line ≡ Some Quiet →
     Judges version number (states_of items) line (states_of items) s s a a
 nothing_judged version number line items s a is_event = (
   [],
   (
     Quiet,
-    ap (λ (n : ℕ). event_in version n line) (length-map items (λ (g : Gateway). g.state)) ∙ is_event,
+    ap (λ (n : ℕ). event_in version n line) (length-map items (λ (g : SessionView). g.state)) ∙ is_event,
     states_of items,
     (refl, refl),
     refl,
@@ -100,7 +100,7 @@ refused_as_write (Err f) answer e =
     subst (λ (r : Result Unit LogFault). IfErr r (λ fault. fault ≡ Faults.Write)) (sym e) refl
 
 -- all sessions are idle, with one that went on
-pub all_idle : (items : List Gateway) (i : ℕ) (new : Gateway) → All IsIdle items → IsIdle new →
+pub all_idle : (items : List SessionView) (i : ℕ) (new : SessionView) → All IsIdle items → IsIdle new →
     All IsIdle (set items i new)
 all_idle items i new idle h k d less = go k (cases_eq k i) less
   where
@@ -114,15 +114,15 @@ all_idle items i new idle h k d less = go k (cases_eq k i) less
     go k (inr other) less =
         subst IsIdle (sym (get_or-set_other items i k new d other)) (idle k d (omega (arith, size, less)))
 
-pub new_is_idle : (limits : Limits) (session : Gateway) → IsNew limits session → IsIdle session
+pub new_is_idle : (limits : Limits) (session : SessionView) → IsNew limits session → IsIdle session
 new_is_idle limits session new = record { bot = new.to_bot; server = new.to_server }
 
 -- one session more was made
-pub one_more_opened : (limits : Limits) (items : List Gateway) (n : ℕ) (session : Gateway) →
+pub one_more_opened : (limits : Limits) (items : List SessionView) (n : ℕ) (session : SessionView) →
     states_of items ≡ replicate n (opening limits) → IsNew limits session →
     states_of (items ++ session ∷ []) ≡ replicate (n + 1) (opening limits)
 one_more_opened limits items n session h new =
-    map-append (λ (g : Gateway). g.state) items (session ∷ [])
+    map-append (λ (g : SessionView). g.state) items (session ∷ [])
     ∙ ap (λ (l : List SessionState). l ++ session.state ∷ []) h
     ∙ ap (λ (s : SessionState). replicate n (opening limits) ++ s ∷ []) new.state
     ∙ replicate_more n (opening limits)
@@ -131,7 +131,7 @@ one_more_opened limits items n session h new =
 
 -- what is so whatever came before, and how far the log has come
 pub record Plays (start : Reader → Option (List ℕ) → Type 0) (now : Reader) (held : List ℕ) (number : ℕ) (version : Version)
-    (sessions : List Gateway) (count : ℕ) (summary : Summary) (after : Option (List ℕ)) : Type 0 where
+    (sessions : List SessionView) (count : ℕ) (summary : Summary) (after : Option (List ℕ)) : Type 0 where
   pub idle : All IsIdle sessions
   pub size : length sessions ≡ count
   pub few : IsMoreBy (1024 * number) nothing_counted summary
@@ -139,7 +139,7 @@ pub record Plays (start : Reader → Option (List ℕ) → Type 0) (now : Reader
   pub playing : (origin : Reader) (before : Option (List ℕ)) → start origin before →
       IsPlaying origin now held number version (states_of sessions) summary before after
 
-pub plays_first : (now : Reader) (held : List ℕ) (number : ℕ) (version : Version) (sessions : List Gateway)
+pub plays_first : (now : Reader) (held : List ℕ) (number : ℕ) (version : Version) (sessions : List SessionView)
     (summary : Summary) (a : Option (List ℕ)) → All IsIdle sessions → number ≤ most_lines → summary ≡ nothing_counted →
     Plays (Begins now held number version (states_of sessions) a) now held number version sessions (length sessions) summary
     a
@@ -169,7 +169,7 @@ more_text told more a b c h k =
 
 -- a line was judged
 pub plays_more : (start : Reader → Option (List ℕ) → Type 0) (now new : Reader) (held rest line : List ℕ) (n : ℕ)
-    (version : Version) (sessions next : List Gateway) (count : ℕ) (s t : Summary) (all b c : Option (List ℕ)) →
+    (version : Version) (sessions next : List SessionView) (count : ℕ) (s t : Summary) (all b c : Option (List ℕ)) →
     Plays start now held n version sessions count s all → IsFound all now held n (Ok Line) line new rest → Keeps all b →
     Judges version (n + 1) (states_of sessions) line (states_of next) s t b c → IsMoreBy 1024 s t → All IsIdle next →
     length next ≡ length sessions → Plays start new rest (n + 1) version next count t c
@@ -212,7 +212,7 @@ as_line all now new held rest line n End e l f = absurd (cc)
 -- ---- the end
 
 pub finished_at_end : (start : Reader → Option (List ℕ) → Type 0) (now new : Reader) (held rest line : List ℕ) (n : ℕ)
-    (version : Version) (sessions : List Gateway) (count : ℕ) (s : Summary) (all b c : Option (List ℕ))
+    (version : Version) (sessions : List SessionView) (count : ℕ) (s : Summary) (all b c : Option (List ℕ))
     (result : Result Summary LogFault) → Plays start now held n version sessions count s all →
     IsFound all now held n (Ok End) line new rest → Keeps all b →
     IfOk result (λ answer. (answer ≡ s) × Appends b c (summary_line s)) →
@@ -225,7 +225,7 @@ finished_at_end start now new held rest line n version sessions count s all b c 
     q.counts (appends_and_keeps before all b (lines_of q.told) q.written k) r
 
 pub finished_at_last : (start : Reader → Option (List ℕ) → Type 0) (now new : Reader) (held rest line : List ℕ) (n : ℕ)
-    (version : Version) (sessions next : List Gateway) (count : ℕ) (s t : Summary) (all b c d : Option (List ℕ))
+    (version : Version) (sessions next : List SessionView) (count : ℕ) (s t : Summary) (all b c d : Option (List ℕ))
     (result : Result Summary LogFault) → Plays start now held n version sessions count s all →
     IsFound all now held n (Ok Last) line new rest → Keeps all b →
     Judges version (n + 1) (states_of sessions) line (states_of next) s t b c →
@@ -243,7 +243,7 @@ finished_at_last start now new held rest line n version sessions next count s t 
 -- ---- faults
 
 pub fault_in_play : (start : Reader → Option (List ℕ) → Type 0) (now new : Reader) (held rest line : List ℕ) (n : ℕ)
-    (version : Version) (sessions : List Gateway) (count : ℕ) (s : Summary) (all c : Option (List ℕ)) (fault : LogFault) →
+    (version : Version) (sessions : List SessionView) (count : ℕ) (s : Summary) (all c : Option (List ℕ)) (fault : LogFault) →
     Plays start now held n version sessions count s all → IsFound all now held n (Err fault) line new rest →
     (fault ≢ Faults.Write → Keeps all c) → (origin : Reader) (before : Option (List ℕ)) → start origin before →
     IsFaultAfter origin new before c fault
@@ -256,7 +256,7 @@ fault_in_play start now new held rest line n version sessions count s all c faul
 
 -- a line of another form, or a failed write
 pub bad_in_play : (start : Reader → Option (List ℕ) → Type 0) (now new : Reader) (held rest line : List ℕ) (n : ℕ)
-    (version : Version) (sessions : List Gateway) (count : ℕ) (s : Summary) (all b c : Option (List ℕ)) (found : Found)
+    (version : Version) (sessions : List SessionView) (count : ℕ) (s : Summary) (all b c : Option (List ℕ)) (found : Found)
     (fault : LogFault) → Plays start now held n version sessions count s all →
     IsFound all now held n (Ok found) line new rest → is_end found ≡ false → Keeps all b →
     (fault ≡ Faults.Write) ⊎ ((fault ≡ Faults.BadLine (n + 1)) × (event_in version (length sessions) line ≡ None)
@@ -276,7 +276,7 @@ bad_in_play start now new held rest line n version sessions count s all b c foun
     q = p.playing origin before h
 
     is_bad : event_in version (length (states_of sessions)) line ≡ None
-    is_bad = ap (λ (k : ℕ). event_in version k line) (length-map sessions (λ (g : Gateway). g.state)) ∙ r.1
+    is_bad = ap (λ (k : ℕ). event_in version k line) (length-map sessions (λ (g : SessionView). g.state)) ∙ r.1
 
     is_fault : (found : Found) → IsFound all now held n (Ok found) line new rest → is_end found ≡ false →
         IsFaultOf before origin new q.told (Faults.BadLine (n + 1))

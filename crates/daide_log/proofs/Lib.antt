@@ -5,12 +5,13 @@ pub mod StandardFacts
 pub mod MatchFacts
 pub mod PlayLemmas
 pub mod LogLemmas
-pub mod HeadLemmas
+pub mod PreambleLemmas
 pub mod EventLemmas
 pub mod StepLemmas
 pub mod AloneLemmas
 pub mod OneReport
 pub mod SomeReport
+pub mod ReadLemmas
 pub mod MatchLogFacts
 pub mod SevenLinesFacts
 pub mod RecordLines

@@ -12,7 +12,7 @@ use Rattle.daide_log.specs.Heading.{Unnamed}
 use Rattle.daide_machine.specs.Summary.{nothing_counted}
 use Rattle.daide_log.specs.Report.{Entry, lines_of, counted_all, summary_line}
 use Rattle.daide_lines.specs.LogLine.{longest_line}
-use Rattle.daide_log.specs.Log.{Stage, Opening, Playing, GoesOn, IsBad, IsOpening, Reports, ReportsAll, IsReport}
+use Rattle.daide_log.specs.Log.{LogState, Opening, Playing, GoesOn, IsBad, IsOpening, Reports, ReportsAll, IsReport}
 use Rattle.daide_lines.specs.Reader.{Reader}
 use Rattle.daide_lines.specs.Lines.{LooksAt, IsFound, IsInLine, block_size}
 use Rattle.daide_log.specs.Progress.{HasRead, HasReadAll, StopsBehind, IsFaultOf, IsFaultAfter, Reported}
@@ -24,35 +24,34 @@ use Rattle.daide_log.proofs.PlayLemmas.{appends_more}
 -- ---- what was looked at
 
 -- all that was given, up to behind the bytes that were looked at
-looked : (before all : Option (List ℕ)) (old now new : Reader) (held line rest : List ℕ) (n : ℕ) (told : List Entry) (stage : Stage)
-    (h : HasRead before old now held n told stage) (k : LooksAt all now held line new rest) →
+looked : (before all : Option (List ℕ)) (old now new : Reader) (held line rest : List ℕ) (n : ℕ) (told : List Entry) (stage : LogState)
+    (h : HasRead before old now held n told stage) (k : LooksAt all now held n line new rest) →
     h.given ++ k.0 ≡ (h.bytes ++ line) ++ rest
 looked before all old now new held line rest n told stage h k =
     ap (λ (l : List ℕ). l ++ k.0) h.whole ∙ append_assoc h.bytes held k.0 ∙ ap (λ (l : List ℕ). h.bytes ++ l) k.2
     ∙ sym (append_assoc h.bytes line rest)
 
 -- a read within the next line is in time
-in_time : (before all : Option (List ℕ)) (old now : Reader) (held : List ℕ) (n : ℕ) (told : List Entry) (stage : Stage)
+in_time : (before all : Option (List ℕ)) (old now : Reader) (held : List ℕ) (n : ℕ) (told : List Entry) (stage : LogState)
     (h : HasRead before old now held n told stage) → Appends before all (lines_of told) → (came : List ℕ)
-    (written : Option (List ℕ)) → IsInLine held all came written → IsInTime before (h.given ++ came) written
+    (written : Option (List ℕ)) → IsInLine all held n came written → IsInTime before (h.given ++ came) written
 in_time before all old now held n told stage h w came written q = record {
   bytes = h.bytes;
   line = held ++ came;
   whole = ap (λ (l : List ℕ). l ++ came) h.whole ∙ append_assoc h.bytes held came;
-  unbroken = q.0;
-  short = q.1;
   number = n;
   told = told;
   stage = stage;
   reports = h.reports;
-  reported = appends_and_keeps before all written (lines_of told) w q.2;
+  begun = q.0;
+  reported = appends_and_keeps before all written (lines_of told) w q.1;
 }
 
 all_given : (before all : Option (List ℕ)) (old now new : Reader) (held line rest : List ℕ) (n : ℕ) (told : List Entry)
-    (stage : Stage) (h : HasRead before old now held n told stage) → Appends before all (lines_of told) →
-    (k : LooksAt all now held line new rest) → GivesInTime before old new (h.given ++ k.0)
+    (stage : LogState) (h : HasRead before old now held n told stage) → Appends before all (lines_of told) →
+    (k : LooksAt all now held n line new rest) → GivesInTime before old new (h.given ++ k.0)
 all_given before all old now new held line rest n told stage h w k =
-    gives_on (IsInTime before) (IsInLine held all) old now new h.given k.0 h.gives k.1
+    gives_on (IsInTime before) (IsInLine all held n) old now new h.given k.0 h.gives k.1
     (λ came written q. in_time before all old now held n told stage h w came written q)
 
 given_bytes : (before : Option (List ℕ)) (old new : Reader) (given : List ℕ) → GivesInTime before old new given →
@@ -85,7 +84,7 @@ nothing_read before old = record {
 }
 
 pub line_read : (before all : Option (List ℕ)) (old now new : Reader) (held rest line : List ℕ) (n : ℕ) (told more : List Entry)
-    (stage after : Stage) → HasRead before old now held n told stage → Appends before all (lines_of told) →
+    (stage after : LogState) → HasRead before old now held n told stage → Appends before all (lines_of told) →
     IsFound all now held n (Ok Line) line new rest → GoesOn (n + 1) stage line more after →
     HasRead before old new rest (n + 1) (told ++ more) after
 line_read before all old now new held rest line n told more stage after h w f on = record {
@@ -98,7 +97,7 @@ line_read before all old now new held rest line n told more stage after h w f on
 }
 
 pub last_read : (before all : Option (List ℕ)) (old now new : Reader) (held rest line : List ℕ) (n : ℕ) (told more : List Entry)
-    (stage after : Stage) → HasRead before old now held n told stage → Appends before all (lines_of told) →
+    (stage after : LogState) → HasRead before old now held n told stage → Appends before all (lines_of told) →
     IsFound all now held n (Ok Last) line new rest → GoesOn (n + 1) stage line more after →
     HasReadAll before old new (n + 1) (told ++ more) after
 last_read before all old now new held rest line n told more stage after h w f on = record {
@@ -112,7 +111,7 @@ last_read before all old now new held rest line n told more stage after h w f on
 }
 
 pub end_read : (before all : Option (List ℕ)) (old now new : Reader) (held rest line : List ℕ) (n : ℕ) (told : List Entry)
-    (stage : Stage) → HasRead before old now held n told stage → Appends before all (lines_of told) →
+    (stage : LogState) → HasRead before old now held n told stage → Appends before all (lines_of told) →
     IsFound all now held n (Ok End) line new rest → HasReadAll before old new n told stage
 end_read before all old now new held rest line n told stage h w f = record {
   given = h.bytes;
@@ -127,7 +126,7 @@ end_read before all old now new held rest line n told stage h w f = record {
 -- ---- a fault
 
 stops : (before all : Option (List ℕ)) (old now new : Reader) (held start beyond : List ℕ) (n : ℕ) (told : List Entry)
-    (stage : Stage) (count : ℕ) (h : HasRead before old now held n told stage) → Appends before all (lines_of told) → LooksAt all now held start new beyond →
+    (stage : LogState) (count : ℕ) (h : HasRead before old now held n told stage) → Appends before all (lines_of told) → LooksAt all now held n start new beyond →
     length start ≡ count → length beyond < block_size → StopsBehind before old new told n count
 stops before all old now new held start beyond n told stage count h w k started few = record {
   given = h.given ++ k.0;
@@ -144,14 +143,14 @@ stops before all old now new held start beyond n told stage count h w k started 
 
 -- at the first byte of what is held
 stops_at_first : (before all : Option (List ℕ)) (old now new : Reader) (held rest : List ℕ) (n : ℕ) (told : List Entry)
-    (stage : Stage) (h : HasRead before old now held n told stage) → Appends before all (lines_of told) → LooksAt all now held [] new rest → 0 < length rest →
+    (stage : LogState) (h : HasRead before old now held n told stage) → Appends before all (lines_of told) → LooksAt all now held n [] new rest → 0 < length rest →
     length rest ≤ block_size → StopsBehind before old new told n 1
 stops_at_first before all old now new held [] n told stage h w k some few = absurd (omega arith)
 stops_at_first before all old now new held (x ∷ rest) n told stage h w k some few =
     stops before all old now new held (x ∷ []) rest n told stage 1 h w (k.0, k.1, k.2) refl (omega arith)
 
 pub bad_line : (before all : Option (List ℕ)) (old now new : Reader) (held rest line : List ℕ) (n : ℕ) (told : List Entry)
-    (stage : Stage) → HasRead before old now held n told stage → Appends before all (lines_of told) →
+    (stage : LogState) → HasRead before old now held n told stage → Appends before all (lines_of told) →
     IsFound all now held n (Ok Line) line new rest → IsBad stage line → IsFaultOf before old new told (Faults.BadLine (n + 1))
 bad_line before all old now new held rest line n told stage h w f wrong = (
   of_log (λ log. IsReport log (lines_of told) (Err (Faults.BadLine (n + 1)))) old.remaining new.remaining (h.given ++ f.1.0)
@@ -180,7 +179,7 @@ bad_line before all old now new held rest line n told stage h w f wrong = (
         ∙ simp append_assoc)
 
 pub bad_last : (before all : Option (List ℕ)) (old now new : Reader) (held rest line : List ℕ) (n : ℕ) (told : List Entry)
-    (stage : Stage) → HasRead before old now held n told stage → Appends before all (lines_of told) →
+    (stage : LogState) → HasRead before old now held n told stage → Appends before all (lines_of told) →
     IsFound all now held n (Ok Last) line new rest → IsBad stage line → IsFaultOf before old new told (Faults.BadLine (n + 1))
 bad_last before all old now new held rest line n told stage h w f wrong = (
   of_ended_log (λ log. IsReport log (lines_of told) (Err (Faults.BadLine (n + 1)))) old.remaining new.remaining (h.bytes ++ line)
@@ -207,7 +206,7 @@ bad_last before all old now new held rest line n told stage h w f wrong = (
         ∙ append-nil (h.bytes ++ line))
         (all_given before all old now new held line rest n told stage h w f.0)
 
-pub ends_early : (before : Option (List ℕ)) (old new : Reader) (n : ℕ) (told : List Entry) (stage : Stage) →
+pub ends_early : (before : Option (List ℕ)) (old new : Reader) (n : ℕ) (told : List Entry) (stage : LogState) →
     HasReadAll before old new n told stage → IsOpening stage → IsFaultOf before old new told (Faults.BadLine (n + 1))
 ends_early before old new n told stage h is_opening = (
   of_ended_log (λ log. IsReport log (lines_of told) (Err (Faults.BadLine (n + 1)))) old.remaining new.remaining h.given
@@ -216,7 +215,7 @@ ends_early before old new n told stage h is_opening = (
   inr (inr (n, stage, refl, h)),
 )
 
-pub fault_found : (before all : Option (List ℕ)) (old now new : Reader) (held rest line : List ℕ) (n : ℕ) (told : List Entry) (stage : Stage)
+pub fault_found : (before all : Option (List ℕ)) (old now new : Reader) (held rest line : List ℕ) (n : ℕ) (told : List Entry) (stage : LogState)
     (fault : LogFault) → HasRead before old now held n told stage → Appends before all (lines_of told) →
     IsFound all now held n (Err fault) line new rest → IsFaultOf before old new told fault
 fault_found before all old now new held rest line n told stage (Faults.BadLine k) h w f = absurd f
@@ -255,10 +254,10 @@ fault_found before all old now new held rest line n told stage Faults.Read h w f
   line = f.0;
   whole = looked before all old now new held f.0 rest n told stage h f.1
       ∙ ap (λ (l : List ℕ). (h.bytes ++ f.0) ++ l) f.2 ∙ append-nil (h.bytes ++ f.0);
-  unbroken = f.3;
   number = n;
   stage = stage;
   reports = h.reports;
+  begun = f.3;
 }
 fault_found before all old now new held rest line n told stage Faults.Write h w f = tt
 fault_found before all old now new held rest line n told stage Faults.Memory h w f = absurd f

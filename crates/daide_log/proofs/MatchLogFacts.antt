@@ -26,7 +26,7 @@ use Rattle.daide_lines.specs.LogLine.{LogEvent, Traffic, TimeOver, parted_at_spa
 use Rattle.daide_lines.specs.MatchLine.{match_event_of_line}
 use Rattle.daide_log.specs.ConfigLine.{match_config_of_line}
 use Rattle.daide_lines.specs.WordLine.{word_of_line}
-use Rattle.daide_log.specs.Heading.{Head, Unnamed, Named, Headed}
+use Rattle.daide_log.specs.Heading.{Preamble, Unnamed, Named, Headed}
 use Rattle.daide_log.specs.Report.{Entry, source_text, told_text, move_line, summary_line, events_of}
 use Rattle.daide_log.specs.Log.{Opening, Playing, source_in, Reports, ReportsAll, IsReport}
 use Rattle.daide_lines.proofs.LineFacts.{xyz}
@@ -42,7 +42,7 @@ first_lines = (codes "daide-log 2" ++ 10 ∷ []) ++ codes "config 60 1024 16 2 1
 head_lines : List ℕ
 head_lines = first_lines ++ codes "word XYZ 4A40 press 20 power" ++ 10 ∷ []
 
-head_with : List Word → Head
+head_with : List Word → Preamble
 head_with words = record {
   version = Match;
   limits = record { config = limits; sessions = 2; words = 1 };

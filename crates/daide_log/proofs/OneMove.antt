@@ -21,7 +21,7 @@ use Rattle.daide_frame.proofs.OneByte.{byte_tells, ByteTells}
 use Rattle.daide_reader.specs.declared.verdict.Verdict.{Verdict}
 use Rattle.daide_machine.specs.declared.phase.Phase.{Phase}
 use Rattle.daide_machine.specs.declared.phase.Phase.TheVariants.{WaitIm, WaitRm, Open, Over}
-use Rattle.daide_machine.specs.Events.{Event, Pops, bytes_come}
+use Rattle.daide_machine.specs.Events.{Event, TimerExpires, bytes_come}
 use Rattle.daide_machine.specs.Machine.{SessionState, Effect, Outcome, Runs, coming, with_pending, with_noted}
 use Rattle.daide_machine.specs.Machine.{items_outcome, is_over, untimely, whole, answered, begun}
 use Rattle.daide_machine.specs.Machine.{im_answered, popped}
@@ -243,7 +243,7 @@ one_move_a_piece (x ∷ piece) s side moves new room run =
 
 -- ---- the moves of the timer
 
-pub one_move_a_timer : (s : SessionState) (moves : List Effect) (new : SessionState) → Runs s (Pops ∷ []) moves new →
+pub one_move_a_timer : (s : SessionState) (moves : List Effect) (new : SessionState) → Runs s (TimerExpires ∷ []) moves new →
     IsSingle moves
 one_move_a_timer s moves new run =
     subst IsSingle (sym (run.5 ∙ ap (λ (m : List Effect). run.1 ++ m) run.4.0 ∙ append-nil run.1))

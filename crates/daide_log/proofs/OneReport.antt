@@ -14,7 +14,7 @@ use Rattle.daide_machine.specs.declared.summary.Summary.{Summary}
 use Rattle.daide_log.specs.Heading.{Heading, Unnamed}
 use Rattle.daide_machine.specs.Summary.{nothing_counted}
 use Rattle.daide_log.specs.Report.{Entry, events_of, side_of, entries_of, lines_of, counted_all, summary_line}
-use Rattle.daide_log.specs.Log.{Stage, Opening, Playing, stage_at, source_in, IsPlayed, GoesOn, IsBad, IsOpening}
+use Rattle.daide_log.specs.Log.{LogState, Opening, Playing, stage_at, source_in, IsPlayed, GoesOn, IsBad, IsOpening}
 use Rattle.daide_log.specs.Log.{Reports, ReportsAll, IsReport}
 use Rattle.daide_log.proofs.StepLemmas.{no_feed, one_end}
 
@@ -33,7 +33,7 @@ one_played version line (Of session event) old a b new other p q =
       p.6 ∙ ap (λ (s : SessionState). slice_set old (session - 1) s) run.1 ∙ sym q.6,
     )
 
-one_step : (number : ℕ) (old : Stage) (line : List ℕ) (a b : List Entry) (new other : Stage) →
+one_step : (number : ℕ) (old : LogState) (line : List ℕ) (a b : List Entry) (new other : LogState) →
     GoesOn number old line a new → GoesOn number old line b other → (a ≡ b) × (new ≡ other)
 one_step number (Opening heading) line a b new other p q =
     (p.2 ∙ sym q.2, p.3 ∙ ap stage_at (same_Some p.0 q.0 (sym p.1 ∙ q.1)) ∙ sym q.3)
@@ -43,7 +43,7 @@ one_step number (Playing version old) line a b new other p q =
     (subst (λ (e : MatchEvent). IsPlayed version number e old a p.2) event p.3) q.3 in
     (both.0, p.4 ∙ ap (Playing version) both.1 ∙ sym q.4)
 
-not_bad : (number : ℕ) (old : Stage) (line : List ℕ) (told : List Entry) (new : Stage) → GoesOn number old line told new →
+not_bad : (number : ℕ) (old : LogState) (line : List ℕ) (told : List Entry) (new : LogState) → GoesOn number old line told new →
     IsBad old line → ⊥
 not_bad number (Opening heading) line told new p bad =
     let e : ◌≡◌ {A = Option Heading} (Some p.0) None = sym p.1 ∙ bad in absurd cc
@@ -52,19 +52,19 @@ not_bad number (Playing version old) line told new p bad =
 
 -- ---- the lines that have their line feed
 
-abbrev feeds : List (List ℕ) → List ℕ
+abbrev pub feeds : List (List ℕ) → List ℕ
 feeds [] = []
 feeds (line ∷ lines) = line ++ 10 ∷ feeds lines
 
 -- by these lines, behind so many, a log goes on, with these moves told
-abbrev Goes : ℕ → Stage → List (List ℕ) → List Entry → Stage → Type 0
+abbrev pub Goes : ℕ → LogState → List (List ℕ) → List Entry → LogState → Type 0
 Goes number old [] told new = (told ≡ []) × (new ≡ old)
 Goes number old (line ∷ lines) told new =
-    (mid : Stage) × (first : List Entry) × (later : List Entry) × (number < most_lines) × IsUnbroken line
+    (mid : LogState) × (first : List Entry) × (later : List Entry) × (number < most_lines) × IsUnbroken line
     × (length line ≤ longest_line) × GoesOn (number + 1) old (without_cr line) first mid
     × Goes (number + 1) mid lines later new × (told ≡ first ++ later)
 
-goes_then : (lines : List (List ℕ)) (number count : ℕ) (line : List ℕ) (told more : List Entry) (old mid new : Stage) →
+goes_then : (lines : List (List ℕ)) (number count : ℕ) (line : List ℕ) (told more : List Entry) (old mid new : LogState) →
     Goes number old lines told mid → number + length lines ≡ count → count < most_lines → IsUnbroken line →
     length line ≤ longest_line → GoesOn (count + 1) mid (without_cr line) more new →
     Goes number old (lines ++ line ∷ []) (told ++ more) new
@@ -75,7 +75,7 @@ goes_then [] number count line told more old mid new h e few unbroken short on =
   omega (arith, e, few),
   unbroken,
   short,
-  subst (λ (stage : Stage). GoesOn (number + 1) stage (without_cr line) more new) h.1
+  subst (λ (stage : LogState). GoesOn (number + 1) stage (without_cr line) more new) h.1
       (subst (λ (n : ℕ). GoesOn (n + 1) mid (without_cr line) more new) (omega (arith, e)) on),
   (refl, refl),
   ap (λ (l : List Entry). l ++ more) h.0 ∙ sym (append-nil more),
@@ -98,13 +98,13 @@ feeds-append (l ∷ lines) line =
     ap (λ (r : List ℕ). l ++ 10 ∷ r) (feeds-append lines line)
     ∙ sym (append_assoc l (10 ∷ feeds lines) (line ++ 10 ∷ []))
 
-record FromFront (bytes : List ℕ) (number : ℕ) (told : List Entry) (stage : Stage) : Type 0 where
-  lines : List (List ℕ)
-  whole : bytes ≡ feeds lines
-  count : length lines ≡ number
-  goes : Goes 0 (Opening Unnamed) lines told stage
+pub record FromFront (bytes : List ℕ) (number : ℕ) (told : List Entry) (stage : LogState) : Type 0 where
+  pub lines : List (List ℕ)
+  pub whole : bytes ≡ feeds lines
+  pub count : length lines ≡ number
+  pub goes : Goes 0 (Opening Unnamed) lines told stage
 
-from_front : (bytes : List ℕ) (number : ℕ) (told : List Entry) (stage : Stage) → Reports bytes number told stage →
+pub from_front : (bytes : List ℕ) (number : ℕ) (told : List Entry) (stage : LogState) → Reports bytes number told stage →
     FromFront bytes number told stage
 from_front _ _ _ _ Reports.none = record { lines = []; whole = refl; count = refl; goes = (refl, refl) }
 from_front _ _ _ _ (Reports.line bytes number told old reports line more new few unbroken short on) =
@@ -121,18 +121,18 @@ from_front _ _ _ _ (Reports.line bytes number told old reports line more new few
 -- ---- how it stops
 
 -- behind so many lines nothing more comes
-abbrev Closes : ℕ → Stage → Option LogFault → Type 0
+abbrev Closes : ℕ → LogState → Option LogFault → Type 0
 Closes n (Opening heading) fault = fault ≡ Some (BadLine (n + 1))
 Closes n (Playing version sessions) fault = fault ≡ None
 
 -- the last line, which lacks its line feed
-abbrev LastOf : ℕ → Stage → List ℕ → List Entry → Option LogFault → Type 0
+abbrev LastOf : ℕ → LogState → List ℕ → List Entry → Option LogFault → Type 0
 LastOf n stage line more fault =
-    ((new : Stage) × GoesOn (n + 1) stage line more new × Closes (n + 1) new fault)
+    ((new : LogState) × GoesOn (n + 1) stage line more new × Closes (n + 1) new fault)
     ⊎ (IsBad stage line × (more ≡ []) × (fault ≡ Some (BadLine (n + 1))))
 
 -- what is left behind so many lines, what is told of it, and the fault, if it has one
-data End (n : ℕ) (stage : Stage) (rest : List ℕ) (more : List Entry) (fault : Option LogFault) : Type 0 where
+data End (n : ℕ) (stage : LogState) (rest : List ℕ) (more : List Entry) (fault : Option LogFault) : Type 0 where
   at_end : rest ≡ [] → more ≡ [] → Closes n stage fault → End n stage rest more fault
   at_last : n < most_lines → 0 < length rest → IsUnbroken rest → length rest ≤ longest_line →
       LastOf n stage rest more fault → End n stage rest more fault
@@ -143,16 +143,16 @@ data End (n : ℕ) (stage : Stage) (rest : List ℕ) (more : List Entry) (fault 
       longest_line < length line → more ≡ [] → fault ≡ Some (LineTooLong (n + 1)) → End n stage rest more fault
   at_many : n ≡ most_lines → 0 < length rest → more ≡ [] → fault ≡ Some TooManyLines → End n stage rest more fault
 
-one_close : (n : ℕ) (stage : Stage) (f g : Option LogFault) → Closes n stage f → Closes n stage g → f ≡ g
+one_close : (n : ℕ) (stage : LogState) (f g : Option LogFault) → Closes n stage f → Closes n stage g → f ≡ g
 one_close n (Opening heading) f g p q = p ∙ sym q
 one_close n (Playing version sessions) f g p q = p ∙ sym q
 
-one_last : (n : ℕ) (stage : Stage) (line : List ℕ) (a b : List Entry) (f g : Option LogFault) →
+one_last : (n : ℕ) (stage : LogState) (line : List ℕ) (a b : List Entry) (f g : Option LogFault) →
     LastOf n stage line a f → LastOf n stage line b g → (a ≡ b) × (f ≡ g)
 one_last n stage line a b f g (inl p) (inl q) =
     let both = one_step (n + 1) stage line a b p.0 q.0 p.1 q.1 in (
       both.0,
-      one_close (n + 1) q.0 f g (subst (λ (s : Stage). Closes (n + 1) s f) both.1 p.2) q.2,
+      one_close (n + 1) q.0 f g (subst (λ (s : LogState). Closes (n + 1) s f) both.1 p.2) q.2,
     )
 one_last n stage line a b f g (inl p) (inr q) = absurd (not_bad (n + 1) stage line a p.0 p.1 q.0)
 one_last n stage line a b f g (inr p) (inl q) = absurd (not_bad (n + 1) stage line b q.0 q.1 p.0)
@@ -169,8 +169,8 @@ feed_within (x ∷ k) [] a b h longer e = absurd (h.0 (cc))
 feed_within (x ∷ k) (y ∷ l) a b h longer e = feed_within k l a b h.1 (omega (arith, longer)) (cc)
 
 -- where a line that goes on stands next, a log does not stop
-goes_past : (n : ℕ) (stage : Stage) (rest : List ℕ) (more : List Entry) (fault : Option LogFault)
-    (line after : List ℕ) (first : List Entry) (mid : Stage) → n < most_lines → IsUnbroken line →
+goes_past : (n : ℕ) (stage : LogState) (rest : List ℕ) (more : List Entry) (fault : Option LogFault)
+    (line after : List ℕ) (first : List Entry) (mid : LogState) → n < most_lines → IsUnbroken line →
     length line ≤ longest_line → GoesOn (n + 1) stage (without_cr line) first mid → rest ≡ line ++ 10 ∷ after →
     End n stage rest more fault → ⊥
 goes_past n stage rest more fault line after first mid few unbroken short on e (at_end none _ _) =
@@ -187,7 +187,7 @@ goes_past n stage rest more fault line after first mid few unbroken short on e (
     absurd (omega (arith, few, all))
 
 -- a log stops in one way
-module _ (n : ℕ) (stage : Stage) (rest : List ℕ) (a b : List Entry) (f g : Option LogFault) where
+module _ (n : ℕ) (stage : LogState) (rest : List ℕ) (a b : List Entry) (f g : Option LogFault) where
   empty_ends : rest ≡ [] → a ≡ [] → Closes n stage f → End n stage rest b g → (a ≡ b) × (f ≡ g)
   empty_ends none lack closes (at_end _ k other) = (lack ∙ sym k, one_close n stage f g closes other)
   empty_ends none lack closes (at_last _ some _ _ _) = absurd (omega (arith, some, ap length none))
@@ -243,8 +243,8 @@ module _ (n : ℕ) (stage : Stage) (rest : List ℕ) (a b : List Entry) (f g : O
 
 -- ---- all lines
 
-same_walk : (lines others : List (List ℕ)) (n count number : ℕ) (old : Stage) (told other : List Entry)
-    (stage last : Stage) (rest left : List ℕ) (a b : List Entry) (f g : Option LogFault) →
+same_walk : (lines others : List (List ℕ)) (n count number : ℕ) (old : LogState) (told other : List Entry)
+    (stage last : LogState) (rest left : List ℕ) (a b : List Entry) (f g : Option LogFault) →
     feeds lines ++ rest ≡ feeds others ++ left → Goes n old lines told stage → Goes n old others other last →
     count ≡ n + length lines → number ≡ n + length others → End count stage rest a f → End number last left b g →
     (told ++ a ≡ other ++ b) × (f ≡ g)
@@ -252,26 +252,26 @@ same_walk [] [] n count number old told other stage last rest left a b f g e p q
     let same : count ≡ number = omega (arith, c, d) in
     let both = one_way_to_end number old left a b f g
     (subst (λ (k : ℕ). End k old left a f) same (subst (λ (r : List ℕ). End count old r a f) e
-    (subst (λ (s : Stage). End count s rest a f) p.1 x)))
-    (subst (λ (s : Stage). End number s left b g) q.1 y) in
+    (subst (λ (s : LogState). End count s rest a f) p.1 x)))
+    (subst (λ (s : LogState). End number s left b g) q.1 y) in
     (ap (λ (t : List Entry). t ++ a) p.0 ∙ both.0 ∙ sym (ap (λ (t : List Entry). t ++ b) q.0), both.1)
 same_walk [] (k ∷ ks) n count number old told other stage last rest left a b f g e p q c d x y =
     let here : count ≡ n = omega (arith, c) in
     absurd (goes_past n old rest a f k (feeds ks ++ left) q.1 q.0 q.3 q.4 q.5 q.6
     (e ∙ append_assoc k (10 ∷ feeds ks) left)
-    (subst (λ (m : ℕ). End m old rest a f) here (subst (λ (s : Stage). End count s rest a f) p.1 x)))
+    (subst (λ (m : ℕ). End m old rest a f) here (subst (λ (s : LogState). End count s rest a f) p.1 x)))
 same_walk (l ∷ ls) [] n count number old told other stage last rest left a b f g e p q c d x y =
     let here : number ≡ n = omega (arith, d) in
     absurd (goes_past n old left b g l (feeds ls ++ rest) p.1 p.0 p.3 p.4 p.5 p.6
     (sym e ∙ append_assoc l (10 ∷ feeds ls) rest)
-    (subst (λ (m : ℕ). End m old left b g) here (subst (λ (s : Stage). End number s left b g) q.1 y)))
+    (subst (λ (m : ℕ). End m old left b g) here (subst (λ (s : LogState). End number s left b g) q.1 y)))
 same_walk (l ∷ ls) (k ∷ ks) n count number old told other stage last rest left a b f g e p q c d x y =
     let line = one_end l k (feeds ls ++ rest) (feeds ks ++ left) p.4 q.4
     (sym (append_assoc l (10 ∷ feeds ls) rest) ∙ (e ∙ append_assoc k (10 ∷ feeds ks) left)) in
     let step = one_step (n + 1) old (without_cr k) p.1 q.1 p.0 q.0
     (subst (λ (r : List ℕ). GoesOn (n + 1) old (without_cr r) p.1 p.0) line.0 p.6) q.6 in
     let later = same_walk ls ks (n + 1) count number q.0 p.2 q.2 stage last rest left a b f g line.1
-    (subst (λ (s : Stage). Goes (n + 1) s ls p.2 stage) step.1 p.7) q.7 (omega (arith, c)) (omega (arith, d)) x y in (
+    (subst (λ (s : LogState). Goes (n + 1) s ls p.2 stage) step.1 p.7) q.7 (omega (arith, c)) (omega (arith, d)) x y in (
       ap (λ (t : List Entry). t ++ a) p.8 ∙ append_assoc p.1 p.2 a
           ∙ (ap (λ (t : List Entry). t ++ (p.2 ++ a)) step.0 ∙ ap (λ (t : List Entry). q.1 ++ t) later.0)
           ∙ sym (append_assoc q.1 q.2 b) ∙ sym (ap (λ (t : List Entry). t ++ b) q.8),
@@ -291,7 +291,7 @@ answer_by told (Some fault) = Err fault
 record Walk (log text : List ℕ) (answer : Result Summary LogFault) : Type 0 where
   lines : List (List ℕ)
   told : List Entry
-  stage : Stage
+  stage : LogState
   rest : List ℕ
   more : List Entry
   fault : Option LogFault
@@ -302,7 +302,7 @@ record Walk (log text : List ℕ) (answer : Result Summary LogFault) : Type 0 wh
   answered : answer_by (told ++ more) fault ≡ answer
 
 -- lines were read, and then it stops with nothing told of what is left
-stopped : (bytes : List ℕ) (number : ℕ) (told : List Entry) (stage : Stage) (rest : List ℕ) (fault : Option LogFault) →
+stopped : (bytes : List ℕ) (number : ℕ) (told : List Entry) (stage : LogState) (rest : List ℕ) (fault : Option LogFault) →
     Reports bytes number told stage → End number stage rest [] fault →
     Walk (bytes ++ rest) (text_by told fault) (answer_by told fault)
 stopped bytes number told stage rest fault reports how =
@@ -321,7 +321,7 @@ stopped bytes number told stage rest fault reports how =
       answered = ap (λ (t : List Entry). answer_by t fault) (append-nil told);
     }
 
-all_walked : (log : List ℕ) (number : ℕ) (told : List Entry) (stage : Stage) (fault : Option LogFault) →
+all_walked : (log : List ℕ) (number : ℕ) (told : List Entry) (stage : LogState) (fault : Option LogFault) →
     ReportsAll log number told stage → Closes number stage fault → Walk log (text_by told fault) (answer_by told fault)
 all_walked _ _ _ _ fault (ReportsAll.ended bytes number told stage reports) closes =
     subst (λ (l : List ℕ). Walk l (text_by told fault) (answer_by told fault)) (append-nil bytes)
@@ -344,7 +344,7 @@ all_walked _ _ _ _ fault
       answered = refl;
     }
 
-opening_closes : (number : ℕ) (stage : Stage) → IsOpening stage → Closes number stage (Some (BadLine (number + 1)))
+opening_closes : (number : ℕ) (stage : LogState) → IsOpening stage → Closes number stage (Some (BadLine (number + 1)))
 opening_closes number (Opening heading) h = refl
 opening_closes number (Playing version sessions) h = absurd h
 

@@ -9,9 +9,9 @@ use Rattle.daide_frame.specs.declared.side.Side.TheVariants.{Bot, Server}
 use Rattle.daide_frame.specs.Frames.{missing}
 use Rattle.daide_machine.specs.declared.note.Note.{Note}
 use Rattle.daide_machine.specs.declared.note.Note.TheVariants as Notes
-use Rattle.daide_machine.specs.Events.{Event, Ends, Pops, bytes_come}
+use Rattle.daide_machine.specs.Events.{Event, Ends, TimerExpires, bytes_come}
 use Rattle.daide_machine.specs.Machine.{SessionState, Effect, Outcome, Sent, Runs, coming, is_over, event_outcome}
-use Rattle.daide_machine.specs.Wires.{Gateway, Goes, sent_to, waiting}
+use Rattle.daide_machine.specs.Wires.{SessionView, Goes, sent_to, waiting}
 use Rattle.daide_machine.specs.Wires.{room_of, is_awaited}
 use Rattle.daide_machine.proofs.OneRun.{runs_join}
 use Rattle.daide_machine.proofs.PieceRuns.{over_stays}
@@ -26,7 +26,7 @@ use Rattle.daide_log.proofs.OneMove.{one_move_a_piece, one_move_a_timer}
 
 -- ---- one piece
 
-pub room_is_missing : (g : Gateway) (side : Side) (n : ℕ) → n ≤ room_of g side →
+pub room_is_missing : (g : SessionView) (side : Side) (n : ℕ) → n ≤ room_of g side →
     n ≤ missing g.state.limits.cap (coming g.state side).pending
 unfolding room_of
 room_is_missing g side n h = go (is_over g.state.phase) (is_awaited (waiting g) side) h
@@ -37,7 +37,7 @@ room_is_missing g side n h = go (is_over g.state.phase) (is_awaited (waiting g) 
     go false true h = omega arith
     go false false h = h
 
-pub piece_moves : (old mid : Gateway) (new : SessionState) (side : Side) (piece : List ℕ) (told : Note) →
+pub piece_moves : (old mid : SessionView) (new : SessionState) (side : Side) (piece : List ℕ) (told : Note) →
     length piece ≤ room_of old side → Goes old (bytes_come side piece) told mid → new ≡ mid.state →
     Moves old.state (bytes_come side piece) told new
 piece_moves old mid new side piece told room g e = (
@@ -53,7 +53,7 @@ no_move (move ∷ []) told one e = absurd (one.1 e)
 no_move (move ∷ another ∷ moves) told one e = absurd one
 
 -- where a piece made no move, nothing was answered
-pub idle_still : (old new : Gateway) (side : Side) (piece : List ℕ) (told : Note) → length piece ≤ room_of old side →
+pub idle_still : (old new : SessionView) (side : Side) (piece : List ℕ) (told : Note) → length piece ≤ room_of old side →
     Goes old (bytes_come side piece) told new → IsIdle old → told ≡ Notes.Nothing → IsIdle new
 idle_still old new side piece told room g idle e =
     let few = room_is_missing old side (length piece) room in
@@ -66,11 +66,11 @@ idle_still old new side piece told room g idle e =
           ∙ ap (λ (l : List Sent). l ++ []) idle.server;
     }
 
-pub timer_moves : (old mid : Gateway) (new : SessionState) (told : Note) → Goes old (Pops ∷ []) told mid →
-    new ≡ mid.state → Moves old.state (Pops ∷ []) told new
+pub timer_moves : (old mid : SessionView) (new : SessionState) (told : Note) → Goes old (TimerExpires ∷ []) told mid →
+    new ≡ mid.state → Moves old.state (TimerExpires ∷ []) told new
 timer_moves old mid new told g e = (
   g.effects,
-  subst (λ (s : SessionState). Runs old.state (Pops ∷ []) g.effects s) (sym e) g.run,
+  subst (λ (s : SessionState). Runs old.state (TimerExpires ∷ []) g.effects s) (sym e) g.run,
   subst (IsOneMove g.effects) (sym g.note) (one_move_a_timer old.state g.effects mid.state g.run),
 )
 
@@ -149,11 +149,11 @@ tells_more source side old mid new events more r s t a b c h k = (
       (appends_more a b c (lines_of (entries_of source side h.0)) (lines_of (entries_of source side k.0)) h.3 k.3),
 )
 
-pub idle_free : (g : Gateway) (side : Side) → IsIdle g → is_awaited (waiting g) side ≡ false
+pub idle_free : (g : SessionView) (side : Side) → IsIdle g → is_awaited (waiting g) side ≡ false
 idle_free g side idle = rw (idle.bot, idle.server) refl
 
 -- the bytes so far were fed, and told of
-pub record HasFed (source : Source) (side : Side) (bytes rest : List ℕ) (old : SessionState) (new : Gateway)
+pub record HasFed (source : Source) (side : Side) (bytes rest : List ℕ) (old : SessionState) (new : SessionView)
     (before after : Summary) (a b : Option (List ℕ)) : Type 0 where
   pub done : List ℕ
   pub whole : done ++ rest ≡ bytes
@@ -162,7 +162,7 @@ pub record HasFed (source : Source) (side : Side) (bytes rest : List ℕ) (old :
   pub few : IsMoreBy (length done) before after
   pub told : Tells source side old (bytes_come side done) new.state before after a b
 
-pub nothing_fed : (source : Source) (side : Side) (bytes : List ℕ) (g : Gateway) (s : Summary) (a : Option (List ℕ)) →
+pub nothing_fed : (source : Source) (side : Side) (bytes : List ℕ) (g : SessionView) (s : Summary) (a : Option (List ℕ)) →
     IsIdle g → HasRoom (length bytes) s → HasFed source side bytes bytes g.state g s s a a
 nothing_fed source side bytes g s a idle room = record {
   done = [];
@@ -173,7 +173,7 @@ nothing_fed source side bytes g s a idle room = record {
   told = ([], (refl, refl), refl, appends_none a);
 }
 
-pub piece_fed : (source : Source) (side : Side) (bytes rest piece more : List ℕ) (old : SessionState) (mid new : Gateway)
+pub piece_fed : (source : Source) (side : Side) (bytes rest piece more : List ℕ) (old : SessionState) (mid new : SessionView)
     (r s t : Summary) (a b c : Option (List ℕ)) (told : Note) → HasFed source side bytes rest old mid r s a b →
     rest ≡ piece ++ more → 0 < length piece → Moves mid.state (bytes_come side piece) told new.state → IsIdle new →
     t ≡ counted told s → IsMoreBy 1 s t → Appends b c (told_lines source side told) →
@@ -196,7 +196,7 @@ piece_fed source side bytes rest piece more old mid new r s t a b c told h split
     }
 
 -- all was fed, or the session is over, and what is left changes nothing
-pub all_fed : (source : Source) (side : Side) (bytes rest : List ℕ) (old : SessionState) (new : Gateway) (r s : Summary)
+pub all_fed : (source : Source) (side : Side) (bytes rest : List ℕ) (old : SessionState) (new : SessionView) (r s : Summary)
     (a b : Option (List ℕ)) → HasFed source side bytes rest old new r s a b →
     (length rest ≡ 0) ⊎ (is_over new.state.phase ≡ true) → Tells source side old (bytes_come side bytes) new.state r s a b
 all_fed source side bytes rest old new r s a b h end =
@@ -232,13 +232,13 @@ less_room m n s h less = record {
 }
 
 -- of all bytes no more was told
-pub fed_few : (source : Source) (side : Side) (bytes rest : List ℕ) (old : SessionState) (new : Gateway) (r s : Summary)
+pub fed_few : (source : Source) (side : Side) (bytes rest : List ℕ) (old : SessionState) (new : SessionView) (r s : Summary)
     (a b : Option (List ℕ)) → HasFed source side bytes rest old new r s a b → IsMoreBy (length bytes) r s
 fed_few source side bytes rest old new r s a b h =
     more_by (length h.done) (length bytes) r s h.few (omega (arith, ap length h.whole, length-append h.done rest))
 
 -- nor with one move more, while a byte is left
-pub told_few : (source : Source) (side : Side) (bytes rest : List ℕ) (old : SessionState) (new : Gateway)
+pub told_few : (source : Source) (side : Side) (bytes rest : List ℕ) (old : SessionState) (new : SessionView)
     (r s t : Summary) (a b : Option (List ℕ)) → HasFed source side bytes rest old new r s a b → 0 < length rest →
     IsMoreBy 1 s t → IsMoreBy (length bytes) r t
 told_few source side bytes rest old new r s t a b h some k =
@@ -253,7 +253,7 @@ told_few source side bytes rest old new r s t a b h some k =
 -- ---- an end
 
 -- a side's end, told where the session was not over
-pub end_tells : (source : Source) (side : Side) (old mid : Gateway) (new : SessionState) (s : Summary) (a b : Option (List ℕ)) →
+pub end_tells : (source : Source) (side : Side) (old mid : SessionView) (new : SessionState) (s : Summary) (a b : Option (List ℕ)) →
     Goes old (Ends side ∷ []) Notes.Nothing mid → new ≡ mid.state → is_over old.state.phase ≡ false →
     Appends a b (move_line source side Notes.Nothing) → Tells source side old.state (Ends side ∷ []) new s s a b
 end_tells source side old mid new s a b g e live text = (
@@ -267,7 +267,7 @@ end_tells source side old mid new s a b g e live text = (
     made = g.run.5 ∙ ap (λ (m : List Effect). g.run.1 ++ m) g.run.4.0 ∙ append-nil g.run.1
         ∙ sym (ap (λ (o : Outcome). o.effects) g.run.3.outcome)
 
-pub end_silent : (source : Source) (side : Side) (old mid : Gateway) (new : SessionState) (s : Summary) (a : Option (List ℕ)) →
+pub end_silent : (source : Source) (side : Side) (old mid : SessionView) (new : SessionState) (s : Summary) (a : Option (List ℕ)) →
     Goes old (Ends side ∷ []) Notes.Nothing mid → new ≡ mid.state → is_over old.state.phase ≡ true →
     Tells source side old.state (Ends side ∷ []) new s s a a
 end_silent source side old mid new s a g e over = (

@@ -19,7 +19,7 @@ use Rattle.daide_machine.specs.declared.config.Config.{Config}
 use Rattle.daide_machine.specs.declared.note.Note.{Note}
 use Rattle.daide_machine.specs.Config.{config_fault, limits_with}
 use Rattle.daide_machine.specs.Events.{Event, Ends, Loses}
-use Rattle.daide_machine.specs.Machine.{SessionState, Effect, Outcome, Step, Runs, opening, event_outcome, is_over}
+use Rattle.daide_machine.specs.Machine.{SessionState, Effect, Outcome, Transition, Runs, opening, event_outcome, is_over}
 use Rattle.daide_machine.proofs.OneRun.{one_run}
 use Rattle.daide_machine.proofs.PieceRuns.{over_stays}
 use Rattle.daide_reader.specs.declared.verdict.Verdict.{Verdict}
@@ -30,10 +30,10 @@ use Rattle.daide_lines.specs.LogLine.{most_lines}
 use Rattle.daide_lines.specs.LogLine.{LogEvent, Traffic, EndOf, TimeOver}
 use Rattle.daide_lines.specs.MatchLine.{Of}
 use Rattle.daide_log.specs.declared.heading.Version.TheVariants.{Match}
-use Rattle.daide_log.specs.Heading.{Head, Unnamed, Named, Headed, with_word, heading_after}
+use Rattle.daide_log.specs.Heading.{Preamble, Unnamed, Named, Headed, with_word, heading_after}
 use Rattle.daide_log.specs.Report.{Entry, entries_of, side_of}
 use Rattle.daide_log.specs.Report.{events_of as events_in}
-use Rattle.daide_log.specs.Log.{Stage, Opening, Playing, GoesOn, Reports, ReportsAll, IsReport, begun, stage_at, source_in}
+use Rattle.daide_log.specs.Log.{LogState, Opening, Playing, GoesOn, Reports, ReportsAll, IsReport, begun, stage_at, source_in}
 use Rattle.daide_log.specs.RecordText.{told_by}
 use Rattle.daide_log.specs.RecordText.{event_text, event_line, line_of_answer, count_of_answer, lines_of_answers}
 use Rattle.daide_log.specs.RecordText.{count_of_answers, lines_of_words, word_text, config_text, head_text, head_count}
@@ -97,7 +97,7 @@ lost_is_ended : (side : Side) (old new : SessionState) (moves : List Effect) →
 lost_is_ended side old new moves r =
     let verdict = r.3.verdict in
     let out = event_outcome old (Ends side) verdict in
-    let step : Step old (Ends side) out.effects out.state =
+    let step : Transition old (Ends side) out.effects out.state =
     record { verdict = verdict; right = r.3.right; outcome = refl } in
     let state_is : new ≡ (event_outcome old (Loses side) verdict).state =
     r.4.1 ∙ sym (ap (λ (o : Outcome). o.state) r.3.outcome) in
@@ -185,14 +185,14 @@ told_by_lines (answer ∷ answers) lines old new moves r =
 -- ---- one answer
 
 -- the same report, said otherwise
-same_report : (bytes other : List ℕ) (number another : ℕ) (told more : List Entry) (stage after : Stage) → bytes ≡ other →
+same_report : (bytes other : List ℕ) (number another : ℕ) (told more : List Entry) (stage after : LogState) → bytes ≡ other →
     number ≡ another → told ≡ more → stage ≡ after → Reports bytes number told stage → Reports other another more after
 same_report bytes other number another told more stage after b n t s h =
-    subst (λ (x : Stage). Reports other another more x) s
+    subst (λ (x : LogState). Reports other another more x) s
     (subst (λ (x : List Entry). Reports other another x stage) t
     (subst (λ (x : ℕ). Reports other x told stage) n (subst (λ (x : List ℕ). Reports x number told stage) b h)))
 
-playing : SessionState → Stage
+playing : SessionState → LogState
 playing state = Playing Match (state ∷ [])
 
 quiet_reported : (bytes : List ℕ) (number : ℕ) (told : List Entry) (side : Side) (old new : SessionState)
@@ -323,7 +323,7 @@ names_of-more [] word = refl
 names_of-more (first ∷ words) word = ap (λ (l : List NamedToken). (first.code, first.name) ∷ l) (names_of-more words word)
 
 -- a head that sets these
-abbrev head_with : Config → ℕ → List Word → Head
+abbrev head_with : Config → ℕ → List Word → Preamble
 head_with config total words =
     record { version = Match; limits = record { config = config; sessions = 1; words = total }; words = words }
 
@@ -367,7 +367,7 @@ words_reported (word ∷ words) before config total bytes number h size good nam
     let plain = word_plain word is_word in
     let after = stage_at (Headed (head_with config total (before ++ word ∷ []))) in
     let opened : Reports bytes number [] (Opening (Headed (head_with config total before))) =
-    subst (λ (s : Stage). Reports bytes number [] s) (still_opening config total before (omega arith)) h in
+    subst (λ (s : LogState). Reports bytes number [] s) (still_opening config total before (omega arith)) h in
     let goes : GoesOn (number + 1) (Opening (Headed (head_with config total before))) line [] after =
     (Headed (head_with config total (before ++ word ∷ [])), heading_more config total before word is_word both.0, refl, refl) in
     let first : Reports ((bytes ++ line) ++ 10 ∷ []) (number + 1) [] after =

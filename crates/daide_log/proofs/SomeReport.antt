@@ -29,10 +29,10 @@ use Rattle.daide_machine.specs.declared.summary.Summary.{Summary}
 use Rattle.daide_log.specs.ConfigLine.{config_of_line, config_of_numbers, match_config_of_line, match_config_of_rest}
 use Rattle.daide_log.specs.ConfigLine.{match_config_of_level, match_config_of_body, match_config_of_depth}
 use Rattle.daide_log.specs.ConfigLine.{match_config_of_counts, match_config_of_numbers}
-use Rattle.daide_log.specs.Heading.{Head, Heading, Unnamed, Named, Headed, alone, version_of, limits_in, with_word}
+use Rattle.daide_log.specs.Heading.{Preamble, Heading, Unnamed, Named, Headed, alone, version_of, limits_in, with_word}
 use Rattle.daide_log.specs.Heading.{heading_after, is_whole}
 use Rattle.daide_log.specs.Report.{Entry, events_of, side_of, entries_of}
-use Rattle.daide_log.specs.Log.{Stage, Opening, Playing, begun, stage_at, event_in, source_in, GoesOn, IsBad}
+use Rattle.daide_log.specs.Log.{LogState, Opening, Playing, begun, stage_at, event_in, source_in, GoesOn, IsBad}
 use Rattle.daide_log.specs.Log.{Reports, ReportsAll, IsReport}
 
 -- ---- numbers that are told
@@ -145,7 +145,7 @@ GoodHead Unnamed = Unit {0}
 GoodHead (Named version) = Unit {0}
 GoodHead (Headed head) = (are_accepted head.words ≡ true) × (0 < head.limits.sessions)
 
-abbrev Good : Stage → Type 0
+abbrev Good : LogState → Type 0
 Good (Opening heading) = GoodHead heading
 Good (Playing version states) =
     (0 < length states) × ((words : List Word) × (are_accepted words ≡ true) × Speak words states)
@@ -178,7 +178,7 @@ good_at (Headed head) h = go (is_whole head)
 abbrev head_by : Version → MatchConfig → Heading
 head_by version limits = Headed (record { version = version; limits = limits; words = [] })
 
-abbrev head_more : Head → List Word → Heading
+abbrev head_more : Preamble → List Word → Heading
 head_more head words = Headed (record { version = head.version; limits = head.limits; words = words })
 
 good_after : (heading : Heading) (line : List ℕ) (new : Heading) → GoodHead heading →
@@ -232,13 +232,13 @@ some_set [] i x h = absurd (omega (arith, h))
 some_set (y ∷ l) zero x h = omega arith
 some_set (y ∷ l) (suc i) x h = omega arith
 
-record Next (number : ℕ) (old : Stage) (line : List ℕ) : Type 0 where
+record Next (number : ℕ) (old : LogState) (line : List ℕ) : Type 0 where
   told : List Entry
-  new : Stage
+  new : LogState
   on : GoesOn number old line told new
   good : Good new
 
-next_line : (number : ℕ) (old : Stage) (line : List ℕ) → Good old → Next number old line ⊎ IsBad old line
+next_line : (number : ℕ) (old : LogState) (line : List ℕ) → Good old → Next number old line ⊎ IsBad old line
 next_line number (Opening heading) line h = go (heading_after heading line) refl
   where
     go : (o : Option Heading) → heading_after heading line ≡ o →
@@ -309,7 +309,7 @@ cut (x ∷ rest) = go (eqb_tells x 10) (cut rest)
 abbrev HasReport : List ℕ → Type 0
 HasReport log = (text : List ℕ) × ((answer : Result Summary LogFault) × IsReport log text answer)
 
-ended_at : (log : List ℕ) (number : ℕ) (told : List Entry) (stage : Stage) → ReportsAll log number told stage →
+ended_at : (log : List ℕ) (number : ℕ) (told : List Entry) (stage : LogState) → ReportsAll log number told stage →
     HasReport log
 ended_at log number told (Opening heading) all = (_, (_, IsReport.cut_short log number told (Opening heading) all tt))
 ended_at log number told (Playing version sessions) all = (_, (_, IsReport.whole log number told version sessions all))
@@ -319,11 +319,11 @@ regroup a b c = simp append_assoc
 
 -- what is left, of so many bytes at most, has a report behind what was read
 abbrev ReadsOn : ℕ → Type 0
-ReadsOn fuel = (bytes rest : List ℕ) (number : ℕ) (told : List Entry) (stage : Stage) → length rest < fuel →
+ReadsOn fuel = (bytes rest : List ℕ) (number : ℕ) (told : List Entry) (stage : LogState) → length rest < fuel →
     Reports bytes number told stage → number ≤ most_lines → Good stage → HasReport (bytes ++ rest)
 
 read_some : (fuel : ℕ) → ReadsOn fuel → (bytes : List ℕ) (x : ℕ) (rest : List ℕ) (number : ℕ) (told : List Entry)
-    (stage : Stage) → length (x ∷ rest) < suc fuel → Reports bytes number told stage → number ≤ most_lines → Good stage →
+    (stage : LogState) → length (x ∷ rest) < suc fuel → Reports bytes number told stage → number ≤ most_lines → Good stage →
     HasReport (bytes ++ x ∷ rest)
 read_some fuel again bytes x rest number told stage less reports few good = by_number (cases_lt number most_lines)
   where

@@ -5,25 +5,25 @@ use Rattle.daide_lines.specs.LogLine.{without_cr}
 use Rattle.daide_log.specs.Heading.{Unnamed}
 use Rattle.daide_log.specs.Report.{Entry}
 use Rattle.daide_lines.specs.LogLine.{IsUnbroken, most_lines}
-use Rattle.daide_log.specs.Log.{Stage, Opening, GoesOn, Reports, ReportsAll}
+use Rattle.daide_log.specs.Log.{LogState, Opening, GoesOn, Reports, ReportsAll}
 use Rattle.daide_log.specs.Laws.{IsLines}
 
 -- by these lines, behind so many, a log goes on, with these moves told
-abbrev pub Steps : ℕ → Stage → List (List ℕ) → List Entry → Stage → Type 0
+abbrev pub Steps : ℕ → LogState → List (List ℕ) → List Entry → LogState → Type 0
 Steps number old [] told new = (told ≡ []) × (new ≡ old)
 Steps number old (line ∷ lines) told new =
-    (mid : Stage) × (first : List Entry) × (later : List Entry) × GoesOn (number + 1) old line first mid
+    (mid : LogState) × (first : List Entry) × (later : List Entry) × GoesOn (number + 1) old line first mid
     × Steps (number + 1) mid lines later new × (told ≡ first ++ later)
 
 -- one line more behind them
-pub steps_then : (lines : List (List ℕ)) (number count : ℕ) (line : List ℕ) (told more : List Entry) (old mid new : Stage) →
+pub steps_then : (lines : List (List ℕ)) (number count : ℕ) (line : List ℕ) (told more : List Entry) (old mid new : LogState) →
     Steps number old lines told mid → number + length lines ≡ count → GoesOn (count + 1) mid line more new →
     Steps number old (lines ++ line ∷ []) (told ++ more) new
 steps_then [] number count line told more old mid new h e on = (
   new,
   more,
   [],
-  subst (λ (stage : Stage). GoesOn (number + 1) stage line more new) h.1
+  subst (λ (stage : LogState). GoesOn (number + 1) stage line more new) h.1
       (subst (λ (n : ℕ). GoesOn (n + 1) mid line more new) (omega (arith, e)) on),
   (refl, refl),
   ap (λ (l : List Entry). l ++ more) h.0 ∙ sym (append-nil more),
@@ -64,7 +64,7 @@ regroup : (a b c : List ℕ) → (a ++ b ++ 10 ∷ []) ++ c ≡ a ++ (b ++ 10 �
 regroup a b c = simp append_assoc
 
 -- of the lines of what was read and what is left, these were read
-pub record AreRead (rest : List ℕ) (lines : List (List ℕ)) (number : ℕ) (told : List Entry) (stage : Stage) : Type 0 where
+pub record AreRead (rest : List ℕ) (lines : List (List ℕ)) (number : ℕ) (told : List Entry) (stage : LogState) : Type 0 where
   pub before : List (List ℕ)
   pub after : List (List ℕ)
   pub whole : lines ≡ before ++ after
@@ -87,7 +87,7 @@ next_read line rest (l ∷ after) h (inr k) =
       subst (λ (r : List ℕ). IsLines r after) (sym both.1) k.6,
     )
 
-pub lines_read : (bytes : List ℕ) (number : ℕ) (told : List Entry) (stage : Stage) → Reports bytes number told stage →
+pub lines_read : (bytes : List ℕ) (number : ℕ) (told : List Entry) (stage : LogState) → Reports bytes number told stage →
     (rest : List ℕ) (lines : List (List ℕ)) → IsLines (bytes ++ rest) lines → AreRead rest lines number told stage
 lines_read _ _ _ _ Reports.none rest lines h = record {
   before = [];
@@ -112,7 +112,7 @@ lines_read _ _ _ _ (Reports.line bytes number told old reports line more new few
       left = next.2;
     }
 
-few_lines : (bytes : List ℕ) (number : ℕ) (told : List Entry) (stage : Stage) → Reports bytes number told stage →
+few_lines : (bytes : List ℕ) (number : ℕ) (told : List Entry) (stage : LogState) → Reports bytes number told stage →
     number ≤ most_lines
 few_lines _ _ _ _ Reports.none = omega arith
 few_lines _ _ _ _ (Reports.line bytes number told old reports line more new few unbroken short on) = omega arith
@@ -132,7 +132,7 @@ one_left line (l ∷ lines) some h (inl k) = ap (λ (x : List ℕ). x ∷ lines)
 one_left line (l ∷ lines) some h (inr k) = absurd (no_feed line k.0 k.1 h k.2)
 
 -- a log that was read to its end went on by its lines, which are not too many
-pub all_read : (log : List ℕ) (number : ℕ) (told : List Entry) (stage : Stage) → ReportsAll log number told stage →
+pub all_read : (log : List ℕ) (number : ℕ) (told : List Entry) (stage : LogState) → ReportsAll log number told stage →
     (lines : List (List ℕ)) → IsLines log lines →
     Steps 0 (Opening Unnamed) lines told stage × (length lines ≤ most_lines)
 all_read _ _ _ _ (ReportsAll.ended bytes number told stage reports) lines h =
@@ -154,7 +154,7 @@ all_read _ _ _ _ (ReportsAll.unended bytes number told old reports line more new
 
 -- ---- and back
 
-pub all_written : (lines : List (List ℕ)) (log bytes : List ℕ) (number : ℕ) (told more : List Entry) (old new : Stage) →
+pub all_written : (lines : List (List ℕ)) (log bytes : List ℕ) (number : ℕ) (told more : List Entry) (old new : LogState) →
     IsLines log lines → Reports bytes number told old → Steps number old lines more new →
     number + length lines ≤ most_lines → (count : ℕ) × ReportsAll (bytes ++ log) count (told ++ more) new
 all_written [] log bytes number told more old new h reports steps few = (

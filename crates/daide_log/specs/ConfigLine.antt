@@ -1,5 +1,7 @@
 -- What the second line of a log sets, by its bytes alone: docs/FORMATS.md, "The log" and "The log, version 2". (own)
 use Rattle.std.specs.Prelude.{ℕ, List, codes, Option, Some, None, Result, Ok, Err}
+use Rattle.daide_grammar.specs.Words.{most_words}
+use Rattle.daide_machine.specs.Bounds.{most_sessions}
 use Rattle.daide_machine.specs.declared.config.Config.{Config}
 use Rattle.daide_machine.specs.declared.config.ConfigError.{ConfigError}
 use Rattle.daide_machine.specs.Config.{config_fault}
@@ -50,7 +52,8 @@ match_config_of_numbers (Some config) (Some sessions) (Some words) =
 abbrev pub match_config_of_counts : Option Config → Option Parted → Option MatchConfig
 match_config_of_counts config None = None
 match_config_of_counts config (Some parted) =
-    match_config_of_numbers config (within 1 256 (plain_number parted.word)) (within 0 16 (plain_number parted.rest))
+    match_config_of_numbers config (within 1 most_sessions (plain_number parted.word))
+    (within 0 most_words (plain_number parted.rest))
 
 abbrev pub match_config_of_depth : List ℕ → List ℕ → Option Parted → Option MatchConfig
 match_config_of_depth level body None = None
@@ -70,7 +73,7 @@ abbrev pub match_config_of_rest : Option (List ℕ) → Option MatchConfig
 match_config_of_rest None = None
 match_config_of_rest (Some rest) = match_config_of_level (parted_at_space rest)
 
--- what a line `config L B D S W` sets: the limits of each session, as in version 1, from 1 to 256 sessions and up to 16
--- words
+-- what a line `config L B D S W` sets: the limits of each session, as in version 1, how many sessions there are, one at
+-- least, and how many words
 unfoldable pub match_config_of_line : List ℕ → Option MatchConfig
 match_config_of_line line = match_config_of_rest (behind (codes "config ") line)

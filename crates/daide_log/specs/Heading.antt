@@ -4,6 +4,7 @@ use Rattle.std.specs.Prelude.{option_map, is_ok}
 use Rattle.daide_words.specs.declared.word.Word.{Word}
 use Rattle.daide_words.specs.Word.{names_of}
 use Rattle.daide_words.specs.Accepted.{word_fault}
+use Rattle.daide_machine.specs.Bounds.{most_sessions}
 use Rattle.daide_machine.specs.declared.config.Config.{Config}
 use Rattle.daide_log.specs.declared.heading.Version.{Version}
 use Rattle.daide_log.specs.declared.heading.Version.TheVariants.{Single, Match}
@@ -16,20 +17,20 @@ use Rattle.daide_log.specs.ConfigLine.{config_of_line, match_config_of_line}
 -- ---- what a head sets
 
 -- of one session or of a match; the limits, with how many sessions and words there are; and the words
-pub record Head : Type 0 where
+pub record Preamble : Type 0 where
   pub version : Version
   pub limits : MatchConfig
   pub words : List Word
 
--- from 1 to 256 sessions
+-- there is a session, and no more than are held at once
 abbrev pub HasSessions : MatchConfig → Type 0
-HasSessions limits = (0 < limits.sessions) × (limits.sessions ≤ 256)
+HasSessions limits = (0 < limits.sessions) × (limits.sessions ≤ most_sessions)
 
 -- how far it has come
 pub data Heading : Type 0 where
   Unnamed : Heading  -- no line came
   Named : (version : Version) → Heading  -- the first
-  Headed : (head : Head) → Heading  -- the second, and words since
+  Headed : (head : Preamble) → Heading  -- the second, and words since
 
 -- ---- its lines
 
@@ -61,5 +62,5 @@ heading_after (Headed head) line =
     (with_word head.words (word_of_line line))
 
 -- whether all words are there
-abbrev pub is_whole : Head → Bool
+abbrev pub is_whole : Preamble → Bool
 is_whole head = length head.words == head.limits.words

@@ -4,36 +4,39 @@ use Rattle.std.specs.Prelude.{Option, IfSome, Result, Ok, Err}
 use Rattle.std.specs.Io.KnownBytes.{Keeps, Appends, IsAtEnd}
 use Rattle.daide_lines.specs.Reader.{Reader, Gives}
 use Rattle.daide_machine.specs.Machine.{SessionState}
-use Rattle.daide_machine.specs.Wires.{Gateway}
+use Rattle.daide_machine.specs.Wires.{SessionView}
 use Rattle.daide_machine.specs.declared.summary.Summary.{Summary}
 use Rattle.daide_lines.specs.declared.fault.LogFault.{LogFault}
 use Rattle.daide_lines.specs.declared.fault.LogFault.TheVariants.{BadLine, LineTooLong, TooManyLines}
 use Rattle.daide_lines.specs.declared.fault.LogFault.TheVariants.{Read, Write, Memory}
 use Rattle.daide_log.specs.declared.heading.Version.{Version}
 use Rattle.daide_log.specs.declared.opening.Opened.{Opened}
-use Rattle.daide_log.specs.declared.opening.Step.{Step}
-use Rattle.daide_log.specs.declared.opening.Step.TheVariants as Steps
-use Rattle.daide_log.specs.Heading.{Head}
+use Rattle.daide_log.specs.declared.opening.PreambleProgress.{PreambleProgress}
+use Rattle.daide_log.specs.declared.opening.PreambleProgress.TheVariants as Steps
+use Rattle.daide_log.specs.Heading.{Preamble}
 use Rattle.daide_log.specs.Held.{head_of, heading_of}
 use Rattle.daide_machine.specs.Summary.{nothing_counted}
 use Rattle.daide_log.specs.Report.{Entry, lines_of, counted_all}
-use Rattle.daide_log.specs.Log.{Stage, Opening, Playing, begun, GoesOn, Reports, ReportsAll, IsReport}
-use Rattle.daide_lines.specs.LogLine.{IsUnbroken, longest_line, most_lines}
+use Rattle.daide_log.specs.Log.{LogState, Opening, Playing, begun, GoesOn, Reports, ReportsAll, IsReport}
+use Rattle.daide_lines.specs.LogLine.{IsUnbroken, MayBeginLine, longest_line, most_lines}
 use Rattle.daide_lines.specs.Lines.{block_size}
 
 -- A read in time: what came before it is so many whole lines, whose report is all that the writer has by then behind what
--- it had at first, and so many bytes of the next line, which is not too long by them.
+-- it had at first, and bytes with which the next line may begin.
 pub record IsInTime (before : Option (List ℕ)) (came : List ℕ) (written : Option (List ℕ)) : Type 0 where
   pub bytes : List ℕ
   pub line : List ℕ
   pub whole : came ≡ bytes ++ line
-  pub unbroken : IsUnbroken line
-  pub short : length line ≤ longest_line
   pub number : ℕ
   pub told : List Entry
-  pub stage : Stage
+  pub stage : LogState
   pub reports : Reports bytes number told stage
+  pub begun : MayBeginLine number line
   pub reported : Appends before written (lines_of told)
+
+-- What came has this fault, whatever follows it.
+abbrev pub HasFault : List ℕ → LogFault → Type 0
+HasFault came fault = (more : List ℕ) → (text : List ℕ) × IsReport (came ++ more) text (Err fault)
 
 -- The reader gave these bytes, by reads in time.
 abbrev pub GivesInTime : Option (List ℕ) → Reader → Reader → List ℕ → Type 0
@@ -41,7 +44,7 @@ GivesInTime before old new given = Gives (IsInTime before) old new given
 
 -- These lines of what was read are reported, and these bytes are held.
 pub record HasRead (before : Option (List ℕ)) (old new : Reader) (held : List ℕ) (number : ℕ) (told : List Entry)
-    (stage : Stage) : Type 0 where
+    (stage : LogState) : Type 0 where
   pub given : List ℕ
   pub gives : GivesInTime before old new given
   pub bytes : List ℕ
@@ -49,7 +52,7 @@ pub record HasRead (before : Option (List ℕ)) (old new : Reader) (held : List 
   pub reports : Reports bytes number told stage
 
 -- All lines are reported, and nothing is left.
-pub record HasReadAll (before : Option (List ℕ)) (old new : Reader) (number : ℕ) (told : List Entry) (stage : Stage) :
+pub record HasReadAll (before : Option (List ℕ)) (old new : Reader) (number : ℕ) (told : List Entry) (stage : LogState) :
     Type 0 where
   pub given : List ℕ
   pub gives : GivesInTime before old new given
@@ -63,10 +66,10 @@ pub record IsReadTo (before : Option (List ℕ)) (old new : Reader) (told : List
   pub bytes : List ℕ
   pub line : List ℕ
   pub whole : given ≡ bytes ++ line
-  pub unbroken : IsUnbroken line
   pub number : ℕ
-  pub stage : Stage
+  pub stage : LogState
   pub reports : Reports bytes number told stage
+  pub begun : MayBeginLine number line
 
 -- What was read: so many lines with this report, so many bytes of the next line, and less than a block behind these.
 pub record StopsBehind (before : Option (List ℕ)) (old new : Reader) (told : List Entry) (number count : ℕ) : Type 0 where
@@ -78,7 +81,7 @@ pub record StopsBehind (before : Option (List ℕ)) (old new : Reader) (told : L
   pub whole : given ≡ bytes ++ start ++ beyond
   pub started : length start ≡ count
   pub few : length beyond < block_size
-  pub stage : Stage
+  pub stage : LogState
   pub reports : Reports bytes number told stage
 
 -- What was read: the lines before the one of this number, with this report, that line with its line feed, and less than a
@@ -94,7 +97,7 @@ pub record StopsBehindLine (before : Option (List ℕ)) (old new : Reader) (told
   pub few : length beyond < block_size
   pub number : ℕ
   pub next : n ≡ number + 1
-  pub stage : Stage
+  pub stage : LogState
   pub reports : Reports bytes number told stage
 
 -- All of the log was read: the lines before the one of this number, with this report, and that line, which no line feed
@@ -109,13 +112,13 @@ pub record StopsAtLastLine (before : Option (List ℕ)) (old new : Reader) (told
   pub unbroken : IsUnbroken line
   pub number : ℕ
   pub next : n ≡ number + 1
-  pub stage : Stage
+  pub stage : LogState
   pub reports : Reports bytes number told stage
 
 -- All of the log was read, and it has no line of this number, but all before it.
 abbrev pub StopsBefore : Option (List ℕ) → Reader → Reader → List Entry → ℕ → Type 0
 StopsBefore before old new told n =
-    (number : ℕ) × (stage : Stage) × (n ≡ number + 1) × HasReadAll before old new number told stage
+    (number : ℕ) × (stage : LogState) × (n ≡ number + 1) × HasReadAll before old new number told stage
 
 -- How far was read where the line of this number has none of the forms that it may have, or is missing: less than a block
 -- behind its line feed, or to its end where the log ends with it, or to the end of a log without it.
@@ -124,8 +127,9 @@ StopsAtLine before old new told n =
     StopsBehindLine before old new told n
     ⊎ (StopsAtLastLine before old new told n ⊎ StopsBefore before old new told n)
 
--- The log has this fault, with these moves told before it; behind the line of another form, the byte that makes a line
--- too long, or one line too many, a reader is asked for no more.
+-- The log has this fault, with these moves told before it. Behind the byte that shows it less than a block was read, and no
+-- read was begun: it is the line feed of a line of another form, the byte that makes a line too long, or the first byte of
+-- one line too many. A log whose last line is of another form, or that ends before its head does, was read to its end.
 abbrev pub IsFaultOf : Option (List ℕ) → Reader → Reader → List Entry → LogFault → Type 0
 IsFaultOf before old new told (BadLine n) =
     IfSome old.remaining (λ log. IsReport log (lines_of told) (Err (BadLine n))) × StopsAtLine before old new told n
@@ -141,7 +145,7 @@ IsFaultOf before old new told Memory = ⊥
 
 -- ---- the head
 
-abbrev pub IsOpenedBy : Bool → Head → ℕ → Option (List ℕ) → Reader → Reader → List ℕ → Type 0
+abbrev pub IsOpenedBy : Bool → Preamble → ℕ → Option (List ℕ) → Reader → Reader → List ℕ → Type 0
 IsOpenedBy true head lines before old new held = HasRead before old new held lines [] (begun head)
 IsOpenedBy false head lines before old new held = HasReadAll before old new lines [] (begun head)
 
@@ -151,11 +155,11 @@ IsOpened opened before old new held =
     IsOpenedBy opened.is_ended (head_of opened.head) opened.lines before old new held × (opened.lines ≤ most_lines)
 
 -- behind so many lines of the head one more was read
-abbrev pub IsStep : Option (List ℕ) → Reader → Reader → List ℕ → ℕ → Result Step LogFault → Type 0
-IsStep before old new held number (Ok (Steps.More heading)) =
+abbrev pub IsPreambleProgress : Option (List ℕ) → Reader → Reader → List ℕ → ℕ → Result PreambleProgress LogFault → Type 0
+IsPreambleProgress before old new held number (Ok (Steps.More heading)) =
     HasRead before old new held (number + 1) [] (Opening (heading_of heading)) × (number < most_lines)
-IsStep before old new held number (Ok (Steps.Done opened)) = IsOpened opened before old new held
-IsStep before old new held number (Err fault) = IsFaultOf before old new [] fault
+IsPreambleProgress before old new held number (Ok (Steps.Done opened)) = IsOpened opened before old new held
+IsPreambleProgress before old new held number (Err fault) = IsFaultOf before old new [] fault
 
 -- all lines of the head were read
 abbrev pub AreOpened : Option (List ℕ) → Reader → Reader → List ℕ → Result Opened LogFault → Type 0
@@ -189,7 +193,7 @@ Reported old new before after summary =
 -- ---- the events
 
 -- what the sessions are
-abbrev pub states_of : List Gateway → List SessionState
+abbrev pub states_of : List SessionView → List SessionState
 states_of sessions = map (λ session. session.state) sessions
 
 -- The lines of the head were read, which are so many, and none of the report is written but what was there before.

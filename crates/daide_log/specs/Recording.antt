@@ -1,18 +1,19 @@
 -- Ports that keep a record: what an answer does to the ports and to the record. (own)
-use Rattle.std.specs.Prelude.{◌≡◌, ⊤, ℕ, ◌+◌, ◌<◌, ◌≤◌, min, List, length, Option, Some, None}
+use Rattle.std.specs.Prelude.{◌≡◌, ⊤, ℕ, ◌+◌, ◌-◌, ◌<◌, ◌≤◌, min, List, length, Option, Some, None}
 use Rattle.std.specs.Io.KnownBytes.{Appends, Keeps}
 use Rattle.hex.specs.Hex.{IsBytes}
 use Rattle.daide_machine.specs.Ports.{PortAnswer, Clock, Pulled, Offered}
-use Rattle.daide_lines.specs.LogLine.{LogEvent, most_lines, longest_piece}
+use Rattle.daide_lines.specs.LogLine.{LogEvent, most_lines, longest_line, longest_piece}
+use Rattle.daide_lines.specs.Output.{page_size}
 use Rattle.daide_log.specs.declared.record.RecordEnd.{RecordEnd}
 use Rattle.daide_log.specs.declared.record.RecordEnd.TheVariants.{Whole, Failed, Full}
 use Rattle.daide_log.specs.RecordText.{told_by, event_line}
 
 -- ---- a record
 
--- how many bytes may be held back where the longest line still finds room behind them: 2,100 less than 8,192
+-- how many bytes may be held back where the longest line still finds room behind them
 abbrev pub most_held : ℕ
-most_held = 6092
+most_held = page_size - longest_line
 
 -- What was written and what is held behind it, where the writer tells its bytes; how many lines that is; and whether the
 -- record is whole so far, or ended before.

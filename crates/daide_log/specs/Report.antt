@@ -2,16 +2,15 @@
 -- docs/FORMATS.md, "The log". (own)
 use Rattle.std.specs.Prelude.{ℕ, List, [], ◌∷◌, ◌++◌, codes, Option, Some, None}
 use Rattle.std.specs.Fmt.{decimal}
-use Rattle.hex.specs.Hex.{encode_upper}
 use Rattle.daide_frame.specs.declared.side.Side.{Side}
 use Rattle.daide_frame.specs.declared.side.Side.TheVariants.{Bot, Server}
-use Rattle.daide_frame.specs.Code.{code_number}
+use Rattle.daide_frame.specs.Code.{code_digits}
 use Rattle.daide_frame.specs.Kind.{name_of_kind}
 use Rattle.daide_machine.specs.declared.note.Deed.{Deed}
 use Rattle.daide_machine.specs.declared.note.Deed.TheVariants.{Relayed, Dropped, Prn, Huh}
 use Rattle.daide_machine.specs.declared.note.Note.{Note}
 use Rattle.daide_machine.specs.declared.note.Note.TheVariants.{Nothing, Frame, Fault}
-use Rattle.daide_machine.specs.Events.{Event, Ends, Pops, bytes_come}
+use Rattle.daide_machine.specs.Events.{Event, Ends, TimerExpires, bytes_come}
 use Rattle.daide_machine.specs.Machine.{Effect}
 use Rattle.daide_machine.specs.Summary.{counted}
 use Rattle.daide_log.specs.declared.report.Source.{Source}
@@ -24,7 +23,7 @@ use Rattle.daide_lines.specs.LogLine.{LogEvent, Traffic, EndOf, TimeOver, Silenc
 abbrev pub events_of : LogEvent → List Event
 events_of (Traffic side bytes) = bytes_come side bytes
 events_of (EndOf side) = Ends side ∷ []
-events_of TimeOver = Pops ∷ []
+events_of TimeOver = TimerExpires ∷ []
 events_of Silence = []
 
 -- whose they are; the timer is that of the bot's first message
@@ -35,6 +34,10 @@ side_of TimeOver = Bot
 side_of Silence = Bot
 
 -- ---- words
+
+-- more bytes than any line of a report has
+abbrev pub line_room : ℕ
+line_room = 128
 
 abbrev pub name_of_side : Side → List ℕ
 name_of_side Bot = codes "bot"
@@ -51,7 +54,7 @@ deed_text (Huh place) = codes "huh " ++ decimal place
 abbrev pub move_text : Note → List ℕ
 move_text Nothing = codes "end"
 move_text (Frame head deed) = name_of_kind head.kind ++ 32 ∷ decimal head.len ++ 32 ∷ deed_text deed
-move_text (Fault code) = codes "fault " ++ encode_upper (code_number code ∷ [])
+move_text (Fault code) = codes "fault " ++ code_digits code
 
 -- ---- the lines
 

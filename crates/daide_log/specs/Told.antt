@@ -1,4 +1,4 @@
--- What is told of a session's moves, and counted.
+-- What is told of a session's moves, and counted. (own)
 use Rattle.std.specs.Prelude.{◌≡◌, ◌≢◌, ℕ, List, [], ◌∷◌, Option}
 use Rattle.std.specs.Io.KnownBytes.{Appends}
 use Rattle.daide_frame.specs.declared.side.Side.{Side}
@@ -6,7 +6,7 @@ use Rattle.daide_machine.specs.declared.note.Note.{Note}
 use Rattle.daide_machine.specs.declared.note.Note.TheVariants as Notes
 use Rattle.daide_machine.specs.Events.{Event}
 use Rattle.daide_machine.specs.Machine.{SessionState, Effect, Runs}
-use Rattle.daide_machine.specs.Wires.{Gateway}
+use Rattle.daide_machine.specs.Wires.{SessionView}
 use Rattle.daide_log.specs.declared.report.Source.{Source}
 use Rattle.daide_machine.specs.declared.summary.Summary.{Summary}
 use Rattle.daide_log.specs.Report.{move_line, entries_of, lines_of, counted_all}
@@ -14,7 +14,7 @@ use Rattle.daide_log.specs.Report.{move_line, entries_of, lines_of, counted_all}
 -- ---- moves of a session
 
 -- nothing waits for a wire
-pub record IsIdle (g : Gateway) : Type 0 where
+pub record IsIdle (g : SessionView) : Type 0 where
   pub bot : g.to_bot ≡ []
   pub server : g.to_server ≡ []
 

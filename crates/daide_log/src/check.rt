@@ -11,6 +11,7 @@ ghost use Rattle.daide_lines.specs.LogLine.{most_lines};
 ghost use Rattle.daide_lines.specs.Lines.{is_end, is_last};
 ghost use Rattle.daide_lines.specs.Output.{IsSameWriter, all_of};
 ghost use Rattle.daide_log.specs.Report.{summary_line};
+ghost use Rattle.daide_machine.specs.Bounds.{most_sessions};
 ghost use Rattle.daide_machine.specs.Summary.{nothing_counted};
 ghost use Rattle.daide_log.specs.Told.{IsIdle};
 ghost use Rattle.daide_log.specs.Progress.{Begins, IsFaultAfter, Reported, states_of};
@@ -19,7 +20,7 @@ ghost use Rattle.daide_lines.specs.Reader.{Reader, silent};
 use crate::account::Account;
 use crate::heading::Version;
 use crate::judge::{Origin, judge_line};
-use crate::opening::{open_sessions, read_head};
+use crate::opening::{open_sessions, read_preamble};
 use crate::page::put_summary;
 use daide_lines::block::Block;
 use daide_lines::event_line::MOST;
@@ -77,7 +78,7 @@ fn play<A: Allocator, R: LogReader, W: Write>(
     account: &mut Account<'_, W>,
 ) -> Result<Summary, LogFault>
     requires some { 1 ≤ length sessions.old.items }
-    requires few { length sessions.old.items ≤ 256 }
+    requires few { length sessions.old.items ≤ most_sessions }
     requires idle { All IsIdle sessions.old.items }
     requires lines { lines ≤ most_lines }
     requires nothing { account.old.summary ≡ nothing_counted }
@@ -135,7 +136,7 @@ fn report<A: Allocator + Copy, R: LogReader, W: Write>(
     ensures same_reader { IsSameReader input.old input.new }
     ensures same_writer { IsSameWriter account.old.output account.new.output }
 {
-    let opened = match read_head(input, &mut account.output) {
+    let opened = match read_preamble(input, &mut account.output) {
         Ok(opened) => opened,
         Err(fault) => return Err(fault),
     };
@@ -178,8 +179,8 @@ fn report_whole<A: Allocator + Copy, R: LogReader, W: Write>(
 }
 
 /// Reads a log, and writes its report, as `check_log` does. Each read is made in time: the lines that came whole before it
-/// are reported by then, all of them, and what came of the next line is not too long. So no read is made behind a line of
-/// another form or a byte that makes one too long.
+/// are reported by then, all of them, and the next line may begin with what came of it. So no read is made behind the line
+/// feed of a line of another form, the byte that makes a line too long, or the first byte of one line too many.
 #[tactic(auto, using(crate::proofs::LogLemmas::reported_alike, crate::proofs::LogLemmas::refused_alike))]
 pub fn check_stream<A: Allocator + Copy, R: LogReader, W: Write>(
     alloc: A,

@@ -7,16 +7,18 @@ ghost use Rattle.daide_log.specs.Heading.{HasSessions};
 
 use daide_lines::match_line::number_within;
 use daide_lines::parts::{parted_at_space, plain_number};
+use daide_machine::MAX_SESSIONS;
 use daide_session::Config;
+use daide_words::words::MAX_WORDS;
 
 /// What the second line of a match's log sets.
 #[derive(Clone, Copy, Debug, PartialEq, Eq)]
 pub struct MatchConfig {
     /// The limits of each session.
     pub config: Config,
-    /// How many sessions there are, from 1 to 256.
+    /// How many sessions there are, one at least and no more than are held at once.
     pub sessions: u16,
-    /// How many words the operator added, 16 at most.
+    /// How many words the operator added.
     pub words: u16,
 }
 
@@ -59,7 +61,7 @@ pub fn read_match_config(line: &[u8]) -> Option<MatchConfig>
     let (sessions, words) = parted_at_space(rest)?;
     Some(MatchConfig {
         config: limits_of(level, body, depth)?,
-        sessions: number_within(1, 256, sessions)?,
-        words: number_within(0, 16, words)?,
+        sessions: number_within(1, MAX_SESSIONS as u16, sessions)?,
+        words: number_within(0, MAX_WORDS as u16, words)?,
     })
 }

@@ -24,7 +24,7 @@ pub enum Version {
 
 /// What the head of a log sets.
 #[derive(Clone, Copy)]
-pub struct Head {
+pub struct Preamble {
     /// Of what the log is.
     pub version: Version,
     /// The limits, and how many sessions and words there are.
@@ -41,7 +41,7 @@ pub enum Heading {
     /// The first line, which names the version.
     Named(Version),
     /// The second line, and words since.
-    Headed(Head),
+    Headed(Preamble),
 }
 
 /// Whether the first line is that of one session's log.
@@ -100,12 +100,12 @@ impl Heading {
     {
         match self {
             Heading::Unnamed => Some(Heading::Named(version_of(line)?)),
-            Heading::Named(version) => Some(Heading::Headed(Head {
+            Heading::Named(version) => Some(Heading::Headed(Preamble {
                 version,
                 limits: limits_in(version, line)?,
                 words: Words::new(),
             })),
-            Heading::Headed(head) => Some(Heading::Headed(Head {
+            Heading::Headed(head) => Some(Heading::Headed(Preamble {
                 version: head.version,
                 limits: head.limits,
                 words: with_word(head.words, read_word(line))?,
@@ -114,7 +114,7 @@ impl Heading {
     }
 
     /// The head, where all its words are there.
-    pub fn whole(&self) -> Option<Head>
+    pub fn whole(&self) -> Option<Preamble>
         ensures { result ≡ whole self.now }
     {
         let heading = *self;

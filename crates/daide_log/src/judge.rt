@@ -6,6 +6,7 @@ ghost use Rattle.daide_lines.specs.Output.{IsSameWriter, all_of};
 ghost use Rattle.daide_log.specs.Report.{events_of, side_of};
 ghost use Rattle.daide_log.specs.Log.{event_in, source_in};
 ghost use Rattle.daide_lines.specs.Told.{IsWithin, event_told};
+ghost use Rattle.daide_machine.specs.Bounds.{most_sessions};
 ghost use Rattle.daide_machine.specs.Summary.{HasRoom, IsMoreBy};
 ghost use Rattle.daide_log.specs.Told.{IsIdle, Tells};
 ghost use Rattle.daide_lines.specs.MatchTold.{IsMatchWithin, match_event_told};
@@ -115,7 +116,7 @@ pub fn judge_line<A: Allocator, W: Write>(
     account: &mut Account<'_, W>,
 ) -> Result<(), LogFault>
     requires some { 1 ≤ length sessions.old.items }
-    requires few { length sessions.old.items ≤ 256 }
+    requires few { length sessions.old.items ≤ most_sessions }
     requires idle { All IsIdle sessions.old.items }
     requires room { HasRoom longest_piece account.old.summary }
     ensures same { length sessions.new.items ≡ length sessions.old.items }

@@ -1,10 +1,11 @@
 //! Laws of reports: functions with no parameters and an empty body, whose contracts are the laws.
 
-ghost use Rattle.std.specs.Prelude.{◌≡◌, ℕ, List, Result};
+ghost use Rattle.std.specs.Prelude.{◌≡◌, ℕ, List, Option, Result};
 ghost use Rattle.daide_lines.specs.declared.fault.LogFault.{LogFault};
 ghost use Rattle.daide_machine.specs.declared.summary.Summary.{Summary};
 ghost use Rattle.daide_log.specs.Laws.{SessionsAreAlone};
 ghost use Rattle.daide_log.specs.Log.{IsReport};
+ghost use Rattle.daide_log.specs.Progress.{HasFault, IsInTime};
 ghost use Rattle.daide_log.specs.RecordLaw.{RecordsAreReported, PortsAreRecorded};
 
 use daide_machine::ports::Ports;
@@ -21,6 +22,13 @@ pub fn log_has_one_report()
     ensures some { (log : List ℕ) → (text : List ℕ) × (answer : Result Summary LogFault) × IsReport log text answer }
     ensures one { (log text other : List ℕ) (answer another : Result Summary LogFault) →
         IsReport log text answer → IsReport log other another → (text ≡ other) × (answer ≡ another) }
+{}
+
+/// No read is in time once what came has a fault, whatever would follow it: the line feed of a line of another form, the
+/// byte that makes a line too long, or the first byte of one line too many is the last that a read may give.
+pub fn no_read_behind_a_fault()
+    ensures { (before written : Option (List ℕ)) (came : List ℕ) (fault : LogFault) → HasFault came fault →
+        IsInTime before came written → ⊥ }
 {}
 
 /// The log that is written of what a session's ports answered reports that session: its moves, each once and in their

@@ -13,7 +13,7 @@ ghost use Rattle.daide_log.specs.Held.{further, at_last, whole, after_line};
 ghost use Rattle.daide_log.specs.Progress.{AreOpened, states_of};
 ghost use Rattle.daide_log.specs.Told.{IsIdle};
 
-use crate::heading::{Head, Heading};
+use crate::heading::{Heading, Preamble};
 use daide_lines::fault::LogFault;
 use daide_lines::input::Input;
 use daide_lines::lines::{Found, next_line};
@@ -27,7 +27,7 @@ use std::io::Write;
 #[derive(Clone, Copy)]
 pub struct Opened {
     /// What it sets.
-    pub head: Head,
+    pub head: Preamble,
     /// How many lines it has.
     pub lines: u32,
     /// Whether a line feed ended the last of them.
@@ -36,7 +36,7 @@ pub struct Opened {
 
 /// What is known behind a line of the head.
 #[derive(Clone, Copy)]
-pub enum Step {
+pub enum PreambleProgress {
     /// There is a line more.
     More(Heading),
     /// All lines were read.
@@ -44,12 +44,12 @@ pub enum Step {
 }
 
 /// What is known behind so many lines, of which the last had its line feed.
-fn further(heading: Heading, lines: u32) -> Step
+fn further(heading: Heading, lines: u32) -> PreambleProgress
     ensures { result ≡ further heading lines (whole heading) }
 {
     match heading.whole() {
-        None => Step::More(heading),
-        Some(head) => Step::Done(Opened {
+        None => PreambleProgress::More(heading),
+        Some(head) => PreambleProgress::Done(Opened {
             head,
             lines,
             is_ended: true,
@@ -58,13 +58,13 @@ fn further(heading: Heading, lines: u32) -> Step
 }
 
 /// What is known behind so many lines, of which the last is the log's.
-fn at_last(heading: Heading, lines: u32) -> Result<Step, LogFault>
+fn at_last(heading: Heading, lines: u32) -> Result<PreambleProgress, LogFault>
     requires { lines ≤ most_lines + 1 }
     ensures { result ≡ at_last lines (whole heading) }
 {
     match heading.whole() {
         None => Err(LogFault::BadLine(lines + 1)),
-        Some(head) => Ok(Step::Done(Opened {
+        Some(head) => Ok(PreambleProgress::Done(Opened {
             head,
             lines,
             is_ended: false,
@@ -77,7 +77,7 @@ fn after_line(
     found: Result<Found, LogFault>,
     heading: Option<Heading>,
     count: u32,
-) -> Result<Step, LogFault>
+) -> Result<PreambleProgress, LogFault>
     requires { count ≤ most_lines }
     ensures { result ≡ after_line found heading count }
 {
@@ -90,7 +90,7 @@ fn after_line(
 }
 
 /// Reads the head of a log, line by line.
-pub fn read_head<R: LogReader, W: Write>(
+pub fn read_preamble<R: LogReader, W: Write>(
     input: &mut Input<'_, R>,
     output: &mut Output<'_, W>,
 ) -> Result<Opened, LogFault>
@@ -111,8 +111,8 @@ pub fn read_head<R: LogReader, W: Write>(
         let more = heading.with_line(input.text.as_slice());
         match after_line(found, more, count) {
             Err(fault) => return Err(fault),
-            Ok(Step::Done(opened)) => return Ok(opened),
-            Ok(Step::More(next)) => heading = next,
+            Ok(PreambleProgress::Done(opened)) => return Ok(opened),
+            Ok(PreambleProgress::More(next)) => heading = next,
         }
         count += 1;
     }
@@ -122,7 +122,7 @@ pub fn read_head<R: LogReader, W: Write>(
 /// of them, and two growths for each.
 pub fn open_sessions<A: Allocator + Copy>(
     alloc: A,
-    head: &Head,
+    head: &Preamble,
 ) -> Result<Vec<Session<A>, A>, LogFault>
     ensures begun { IfOk result (λ sessions. states_of sessions.items ≡ replicate head.now.limits.sessions
         (opening (limits_with head.now.limits.config (words_of head.now.words)))) }

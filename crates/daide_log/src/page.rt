@@ -1,9 +1,9 @@
 //! Lines of a report, put behind what is held back of it.
 
-ghost use Rattle.std.specs.Prelude.{◌≡◌, ◌≤◌, length, OnOk};
+ghost use Rattle.std.specs.Prelude.{◌≡◌, ◌+◌, ◌≤◌, length, OnOk};
 ghost use Rattle.std.specs.Io.KnownBytes.{Appends, Keeps};
-ghost use Rattle.daide_lines.specs.Output.{IsSameWriter, all_of};
-ghost use Rattle.daide_log.specs.Report.{move_line, summary_line};
+ghost use Rattle.daide_lines.specs.Output.{IsSameWriter, all_of, page_size};
+ghost use Rattle.daide_log.specs.Report.{line_room, move_line, summary_line};
 
 use crate::report::{LINE, Source, write_move, write_summary};
 use daide_frame::Side;
@@ -19,7 +19,7 @@ pub struct Unwritten;
 #[inline(always)]
 fn make_room<W: Write>(output: &mut Output<'_, W>) -> Result<(), Unwritten>
     ensures kept { OnOk result (Keeps (all_of W.contents output.old) (all_of W.contents output.new)) }
-    ensures room { OnOk result (length output.new.page.items ≤ 8064) }
+    ensures room { OnOk result (length output.new.page.items + line_room ≤ page_size) }
     ensures same_writer { IsSameWriter output.old output.new }
 {
     if output.page.remaining_capacity() >= LINE {

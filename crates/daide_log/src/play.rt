@@ -4,7 +4,7 @@ ghost use Rattle.std.specs.Prelude.{◌≡◌, ◌≤◌, List, ◌∷◌, [], l
 ghost use Rattle.std.specs.Io.KnownBytes.{Appends};
 ghost use Rattle.daide_frame.specs.declared.side.Side.{Side};
 ghost use Rattle.daide_lines.specs.Output.{IsSameWriter, all_of};
-ghost use Rattle.daide_machine.specs.Events.{Event, Ends, Pops, bytes_come};
+ghost use Rattle.daide_machine.specs.Events.{Event, Ends, TimerExpires, bytes_come};
 ghost use Rattle.daide_machine.specs.Machine.{Effect, Runs};
 ghost use Rattle.daide_machine.specs.Wires.{room_of};
 ghost use Rattle.daide_machine.specs.Summary.{counted};
@@ -126,7 +126,7 @@ pub fn time_out<A: Allocator, W: Write>(
     requires room { HasRoom 1 account.old.summary }
     ensures idle { IsIdle session.new }
     ensures few { IsMoreBy 1 account.old.summary account.new.summary }
-    ensures told { OnOk result (Tells source Side.Bot session.old.state (Pops ∷ []) session.new.state
+    ensures told { OnOk result (Tells source Side.Bot session.old.state (TimerExpires ∷ []) session.new.state
         account.old.summary account.new.summary (all_of W.contents account.old.output)
         (all_of W.contents account.new.output)) }
     ensures same_writer { IsSameWriter account.old.output account.new.output }

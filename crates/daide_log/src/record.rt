@@ -12,14 +12,15 @@ ghost use Rattle.daide_log.specs.Recording.{Takes, most_held};
 use crate::record_text::{put_end, put_head, put_piece, put_timer};
 use daide_frame::Side;
 pub use daide_lines::lines::MOST_LINES;
-use daide_lines::page::{Page, hand_over};
+use daide_lines::page::{PAGE, Page, hand_over};
+use daide_lines::text::LONGEST_LINE;
 use daide_machine::Config;
 use daide_words::Words;
 use std::io::Write;
 use std::marker::Model;
 
 /// How many bytes may be held where the longest line still finds room.
-const FRONT: usize = 6092;
+const FRONT: usize = PAGE - LONGEST_LINE;
 
 /// How a record ended, or would end now.
 #[derive(Clone, Copy, Debug, PartialEq, Eq)]

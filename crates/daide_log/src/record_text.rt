@@ -4,6 +4,7 @@ ghost use Rattle.std.specs.Prelude.{◌≡◌, ◌≤◌, ◌+◌, ◌*◌, ◌/
 ghost use Rattle.hex.specs.Hex.{encode_upper, upper_digits};
 ghost use Rattle.daide_words.specs.Words.{words_of};
 ghost use Rattle.daide_lines.specs.LogLine.{Traffic, EndOf, TimeOver, longest_piece};
+ghost use Rattle.daide_lines.specs.Output.{page_size};
 ghost use Rattle.daide_log.specs.Recording.{most_held};
 ghost use Rattle.daide_log.specs.RecordText.{event_line, name_of_slot, name_of_operand};
 ghost use Rattle.daide_log.specs.RecordText.{word_text, config_text, head_text};
@@ -20,7 +21,7 @@ const DIGITS: &[u8; 16] = b"0123456789ABCDEF";
 /// Puts the two digits of a byte.
 #[inline(always)]
 fn put_byte(byte: u8, line: &mut Page)
-    requires { length line.old.items ≤ 8190 }
+    requires { length line.old.items + 2 ≤ page_size }
     ensures text { line.new.items ≡ line.old.items ++ slice_index upper_digits (byte / 16)
         ∷ slice_index upper_digits (byte % 16) ∷ [] }
     ensures length { length line.new.items ≡ length line.old.items + 2 }
@@ -32,7 +33,7 @@ fn put_byte(byte: u8, line: &mut Page)
 /// Puts bytes in hexadecimal digits.
 #[tactic(auto, using(crate::proofs::RecordLines::encode_more))]
 fn put_bytes(bytes: &[u8], line: &mut Page)
-    requires { length line.old.items + 2 * length bytes.now ≤ 8192 }
+    requires { length line.old.items + 2 * length bytes.now ≤ page_size }
     ensures text { line.new.items ≡ line.old.items ++ encode_upper bytes.now }
     ensures length { length line.new.items ≡ length line.old.items + 2 * length bytes.now }
 {

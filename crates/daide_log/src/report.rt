@@ -2,9 +2,8 @@
 
 ghost use Rattle.std.specs.Prelude.{◌≡◌, ◌<◌, ◌≤◌, ◌+◌, ◌%◌, [], ◌∷◌, ◌++◌, length};
 ghost use Rattle.std.specs.Fmt.{decimal};
-ghost use Rattle.hex.specs.Hex.{encode_upper};
-ghost use Rattle.daide_frame.specs.Code.{code_number};
-ghost use Rattle.daide_log.specs.Report.{name_of_side, move_text, source_text, told_text, move_line};
+ghost use Rattle.daide_lines.specs.Output.{page_size};
+ghost use Rattle.daide_log.specs.Report.{line_room, name_of_side, move_text, source_text, told_text, move_line};
 ghost use Rattle.daide_log.specs.Report.{summary_line as last_line};
 
 use daide_frame::{Code, Head, Side};
@@ -26,7 +25,7 @@ pub struct Source {
 /// Puts text behind a line.
 #[inline(always)]
 pub(crate) fn put(text: &[u8], line: &mut Page)
-    requires { length line.old.items + length text.now ≤ 8192 }
+    requires { length line.old.items + length text.now ≤ page_size }
     ensures text { line.new.items ≡ line.old.items ++ text.now }
     ensures length { length line.new.items ≡ length line.old.items + length text.now }
 {
@@ -105,6 +104,7 @@ fn put_four(number: u16, line: &mut Page)
 }
 
 /// Puts a number behind a line, which has twenty digits at most, and mostly four or fewer: those need no calls.
+#[inline(always)]
 pub(crate) fn put_number(number: u64, line: &mut Page)
     requires { length line.old.items ≤ 8172 }
     ensures text { line.new.items ≡ line.old.items ++ decimal number }
@@ -122,7 +122,7 @@ pub(crate) fn put_number(number: u64, line: &mut Page)
 /// Puts the number of the line that made a move, and that of the session.
 #[tactic(auto, unfolding(crate::specs::Report::source_text))]
 fn put_source(source: Source, line: &mut Page)
-    requires { length line.old.items ≤ 8064 }
+    requires { length line.old.items + line_room ≤ page_size }
     ensures text { line.new.items ≡ line.old.items ++ source_text source }
     ensures few { length line.new.items ≤ length line.old.items + 42 }
 {
@@ -137,7 +137,7 @@ fn put_source(source: Source, line: &mut Page)
 /// Puts a side, and a space behind it.
 #[inline(always)]
 pub(crate) fn put_side(side: Side, line: &mut Page)
-    requires { length line.old.items ≤ 8106 }
+    requires { length line.old.items + 86 ≤ page_size }
     ensures text { line.new.items ≡ line.old.items ++ name_of_side side ++ 32 ∷ [] }
     ensures few { length line.new.items ≤ length line.old.items + 7 }
 {
@@ -149,7 +149,7 @@ pub(crate) fn put_side(side: Side, line: &mut Page)
 
 /// Puts what became of a frame, and the end of the line.
 fn put_frame(head: Head, deed: Deed, line: &mut Page)
-    requires { length line.old.items ≤ 8113 }
+    requires { length line.old.items + 79 ≤ page_size }
     ensures { line.new.items ≡ line.old.items ++ move_text (Note.Frame head deed) ++ 10 ∷ [] }
 {
     put(head.kind.name().as_bytes(), line);
@@ -167,34 +167,10 @@ fn put_frame(head: Head, deed: Deed, line: &mut Page)
     }
 }
 
-/// A code in two digits.
-#[tactic(auto, unfolding(hex::specs::Hex::encode_with))]
-fn code_digits(code: Code) -> &'static str
-    ensures digits { result.now ≡ encode_upper (code_number code ∷ []) }
-    ensures two { length result.now ≡ 2 }
-{
-    match code {
-        Code::ImTimeout => "01",
-        Code::ImNotFirst => "02",
-        Code::WrongEndian => "03",
-        Code::WrongMagic => "04",
-        Code::WrongVersion => "05",
-        Code::SecondIm => "06",
-        Code::ImFromServer => "07",
-        Code::UnknownMessage => "08",
-        Code::WrongLength => "09",
-        Code::DmBeforeRm => "0A",
-        Code::RmNotFirst => "0B",
-        Code::SecondRm => "0C",
-        Code::RmFromClient => "0D",
-        Code::InvalidToken => "0E",
-    }
-}
-
 /// Puts what a side's move was, and the end of the line.
 #[tactic(auto, unfolding(crate::specs::Report::told_text))]
 fn put_told(side: Side, told: Note, line: &mut Page)
-    requires { length line.old.items ≤ 8106 }
+    requires { length line.old.items + 86 ≤ page_size }
     ensures { line.new.items ≡ line.old.items ++ told_text side told }
 {
     put_side(side, line);
@@ -203,7 +179,7 @@ fn put_told(side: Side, told: Note, line: &mut Page)
         Note::Frame(head, deed) => put_frame(head, deed, line),
         Note::Fault(code) => {
             put(b"fault ", line);
-            put(code_digits(code).as_bytes(), line);
+            put(code.digits().as_bytes(), line);
             line.push(b'\n');
         }
     }
@@ -212,7 +188,7 @@ fn put_told(side: Side, told: Note, line: &mut Page)
 /// Puts the line of a side's move, behind the numbers of what made it.
 #[tactic(auto, unfolding(crate::specs::Report::move_line))]
 pub(crate) fn write_move(source: Source, side: Side, told: Note, line: &mut Page)
-    requires { length line.old.items ≤ 8064 }
+    requires { length line.old.items + line_room ≤ page_size }
     ensures { line.new.items ≡ line.old.items ++ move_line source side told }
 {
     put_source(source, line);
@@ -222,7 +198,7 @@ pub(crate) fn write_move(source: Source, side: Side, told: Note, line: &mut Page
 /// Puts the last line of a report.
 #[tactic(auto, unfolding(crate::specs::Report::summary_line))]
 pub(crate) fn write_summary(summary: Summary, line: &mut Page)
-    requires { length line.old.items ≤ 8064 }
+    requires { length line.old.items + line_room ≤ page_size }
     ensures { line.new.items ≡ line.old.items ++ last_line summary }
 {
     put(b"relayed ", line);

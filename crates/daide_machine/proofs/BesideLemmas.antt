@@ -11,8 +11,8 @@ use Rattle.daide_frame.specs.Frames.{Item, Begun, Whole, Wrong, last_items}
 use Rattle.daide_reader.specs.declared.verdict.Verdict.{Verdict}
 use Rattle.daide_machine.specs.declared.phase.Phase.{Phase}
 use Rattle.daide_machine.specs.declared.phase.Phase.TheVariants.{WaitIm, WaitRm, Open, Over}
-use Rattle.daide_machine.specs.Events.{Event, Comes, Ends, Loses, Pops, other}
-use Rattle.daide_machine.specs.Machine.{Coming, SessionState, Effect, Outcome, Step}
+use Rattle.daide_machine.specs.Events.{Event, Comes, Ends, Loses, TimerExpires, other}
+use Rattle.daide_machine.specs.Machine.{Coming, SessionState, Effect, Outcome, Transition}
 use Rattle.daide_machine.specs.Machine.{with_coming, with_pending, is_over, untimely, begun}
 use Rattle.daide_machine.specs.Machine.{answered}
 use Rattle.daide_machine.specs.Machine.{im_answered, item_outcome, items_outcome, popped, event_outcome, nothing}
@@ -29,7 +29,7 @@ abbrev pub is_own : Side → Event → Bool
 is_own side (Comes from byte) = same_side from side
 is_own side (Ends from) = false
 is_own side (Loses from) = false
-is_own side Pops = false
+is_own side TimerExpires = false
 
 -- an outcome with another of a side's messages
 abbrev pub put : Side → Coming → Outcome → Outcome
@@ -157,8 +157,8 @@ event_commutes Server s c (Comes Bot x) v e = go (is_over s.phase) refl
         (last_items s.limits.cap (s.bot.pending ++ x ∷ [])) v)
 event_commutes side s c (Ends from) v e = ends_commute side s c (Ended from) from (is_over s.phase) refl
 event_commutes side s c (Loses from) v e = ends_commute side s c (Lost from) from (is_over s.phase) refl
-event_commutes Bot s c Pops v e = timer_commutes Bot s c s.phase
-event_commutes Server s c Pops v e = timer_commutes Server s c s.phase
+event_commutes Bot s c TimerExpires v e = timer_commutes Bot s c s.phase
+event_commutes Server s c TimerExpires v e = timer_commutes Server s c s.phase
 
 question_commutes : (side : Side) (s : SessionState) (c : Coming) (event : Event) → is_own side event ≡ false →
     question (with_coming s side c) event ≡ question s event
@@ -168,12 +168,12 @@ question_commutes Bot s c (Comes Server x) e = refl
 question_commutes Server s c (Comes Bot x) e = refl
 question_commutes side s c (Ends from) e = refl
 question_commutes side s c (Loses from) e = refl
-question_commutes side s c Pops e = refl
+question_commutes side s c TimerExpires e = refl
 
 pub step_beside : (side : Side) (s : SessionState) (c : Coming) (event : Event) (effects : List Effect)
     (m : SessionState) →
-    is_own side event ≡ false → Step s event effects m →
-    Step (with_coming s side c) event effects (with_coming m side c)
+    is_own side event ≡ false → Transition s event effects m →
+    Transition (with_coming s side c) event effects (with_coming m side c)
 step_beside side s c event effects m e t = record {
   verdict = t.verdict;
   right = rw (same_limits side s c, question_commutes side s c event e) t.right;

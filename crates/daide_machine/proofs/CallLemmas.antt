@@ -7,9 +7,9 @@ use Rattle.std.proofs.Math.Seq.{drop-append_seam}
 use Rattle.daide_frame.specs.declared.side.Side.{Side}
 use Rattle.daide_frame.specs.declared.side.Side.TheVariants.{Bot, Server}
 use Rattle.daide_machine.specs.declared.note.Note.{Note}
-use Rattle.daide_machine.specs.Events.{Event, Ends, Loses, Pops, bytes_come, other}
+use Rattle.daide_machine.specs.Events.{Event, Ends, Loses, TimerExpires, bytes_come, other}
 use Rattle.daide_machine.specs.Machine.{Limits, Sent, SessionState, Effect, Runs, is_over, opening}
-use Rattle.daide_machine.specs.Wires.{Gateway, IsNew, Goes, Lost, Wrote, waiting, same_side, sent_to, bytes_of, without}
+use Rattle.daide_machine.specs.Wires.{SessionView, IsNew, Goes, Lost, Wrote, waiting, same_side, sent_to, bytes_of, without}
 use Rattle.daide_machine.specs.Calls.{Call, Feeds, Stops, TimesOut, Fails, Puts, first_bytes, IsCall, AreCalls}
 use Rattle.daide_machine.specs.Calls.{events_of, taken_by, fails, Delivers}
 use Rattle.daide_machine.proofs.OneRun.{one_run, runs_join}
@@ -56,11 +56,11 @@ is_same Server Bot e = absurd cc
 is_same Server Server e = refl
 
 -- a session that is over, with nothing that waits for a wire
-record IsShut (g : Gateway) (side : Side) : Type 0 where
+record IsShut (g : SessionView) (side : Side) : Type 0 where
   over : is_over g.state.phase ≡ true
   empty : waiting g side ≡ []
 
-goes_shut : (old : Gateway) (events : List Event) (told : Note) (new : Gateway) (side : Side) → IsShut old side →
+goes_shut : (old : SessionView) (events : List Event) (told : Note) (new : SessionView) (side : Side) → IsShut old side →
     Goes old events told new → IsShut new side
 goes_shut old events told new side shut goes =
     let none = one_run events old.state goes.effects [] new.state old.state goes.run
@@ -71,7 +71,7 @@ goes_shut old events told new side shut goes =
           ∙ (append-nil (waiting old side) ∙ shut.empty));
     }
 
-lost_shut : (old : Gateway) (to : Side) (new : Gateway) (side : Side) → IsShut old side → Lost old to new →
+lost_shut : (old : SessionView) (to : Side) (new : SessionView) (side : Side) → IsShut old side → Lost old to new →
     IsShut new side
 lost_shut old to new side shut lost = record { over = lost.over; empty = go (same_side to side) refl }
   where
@@ -87,7 +87,7 @@ lost_shut old to new side shut lost = record { over = lost.over; empty = go (sam
         beside ∙ (ap (λ (e : List Effect). waiting old side ++ sent_to side e) none.0
         ∙ (append-nil (waiting old side) ∙ shut.empty))
 
-wrote_shut : (old : Gateway) (to : Side) (n : ℕ) (new : Gateway) (side : Side) → IsShut old side →
+wrote_shut : (old : SessionView) (to : Side) (n : ℕ) (new : SessionView) (side : Side) → IsShut old side →
     Wrote old to n new → IsShut new side
 wrote_shut old to n new side shut wrote = record {
   over = ap (λ (s : SessionState). is_over s.phase) wrote.same_state ∙ shut.over;
@@ -103,19 +103,19 @@ wrote_shut old to n new side shut wrote = record {
         let beside = subst (λ (s : Side). waiting new s ≡ waiting old s) (sym (is_other to side e)) wrote.other_wire in
         beside ∙ shut.empty
 
-call_shut : (old : Gateway) (call : Call) (new : Gateway) (side : Side) → IsShut old side → IsCall old call new →
+call_shut : (old : SessionView) (call : Call) (new : SessionView) (side : Side) → IsShut old side → IsCall old call new →
     IsShut new side
 call_shut old (Feeds from piece) new side shut (told, goes) =
     goes_shut old (bytes_come from piece) told new side shut goes
 call_shut old (Stops from) new side shut (told, goes) = goes_shut old (Ends from ∷ []) told new side shut goes
-call_shut old TimesOut new side shut (told, goes) = goes_shut old (Pops ∷ []) told new side shut goes
+call_shut old TimesOut new side shut (told, goes) = goes_shut old (TimerExpires ∷ []) told new side shut goes
 call_shut old (Fails to) new side shut lost = lost_shut old to new side shut lost
 call_shut old (Puts to bytes) new side shut (front, wrote) = wrote_shut old to (length bytes) new side shut wrote
 
 -- then that wire takes nothing more, and nothing waits for it again
-nothing_taken : (side : Side) (calls : List Call) (old new : Gateway) → IsShut old side → AreCalls old calls new →
+nothing_taken : (side : Side) (calls : List Call) (old new : SessionView) → IsShut old side → AreCalls old calls new →
     (taken_by side calls ≡ []) × (waiting new side ≡ [])
-nothing_taken side [] old new shut same = (refl, ap (λ (g : Gateway). waiting g side) same ∙ shut.empty)
+nothing_taken side [] old new shut same = (refl, ap (λ (g : SessionView). waiting g side) same ∙ shut.empty)
 nothing_taken side (call ∷ calls) old new shut (mid, one, more) =
     go call one (nothing_taken side calls mid new (call_shut old call mid side shut one) more)
   where
@@ -143,13 +143,13 @@ nothing_taken side (call ∷ calls) old new shut (mid, one, more) =
 -- ---- what the first call adds
 
 -- these frames were for the wire, of which the calls took what the law says
-abbrev IsTakenOf : Side → List Call → Gateway → List Sent → Type 0
+abbrev IsTakenOf : Side → List Call → SessionView → List Sent → Type 0
 IsTakenOf side calls new frames =
     (fails side calls ≡ false → taken_by side calls ++ bytes_of (waiting new side) ≡ bytes_of frames)
     × (fails side calls ≡ true → (waiting new side ≡ [])
     × ((rest : List ℕ) × (taken_by side calls ++ rest ≡ bytes_of frames)))
 
-its_wire : (old : Gateway) (calls : List Call) (new : Gateway) (d : Delivers old calls new) (side : Side) →
+its_wire : (old : SessionView) (calls : List Call) (new : SessionView) (d : Delivers old calls new) (side : Side) →
     IsTakenOf side calls new (waiting old side ++ sent_to side d.effects)
 its_wire old calls new d side = (d.delivered side, d.cut_off side)
 
@@ -161,7 +161,7 @@ both_sent side now later a b first =
     ∙ (append_assoc now (sent_to side a) (sent_to side b)
     ∙ ap (λ (x : List Sent). now ++ x) (sym (sent_to-append side a b)))
 
-goes_on : (calls : List Call) (old mid new : Gateway) (events : List Event) (told : Note)
+goes_on : (calls : List Call) (old mid new : SessionView) (events : List Event) (told : Note)
     (goes : Goes old events told mid) (d : Delivers mid calls new) (side : Side) →
     IsTakenOf side calls new (waiting old side ++ sent_to side (goes.effects ++ d.effects))
 goes_on calls old mid new events told goes d side =
@@ -172,7 +172,7 @@ goes_on calls old mid new events told goes d side =
 not_both : {A : Type 0} → true ≡ false → A
 not_both e = absurd cc
 
-fails_on : (calls : List Call) (old mid new : Gateway) (to : Side) (lost : Lost old to mid)
+fails_on : (calls : List Call) (old mid new : SessionView) (to : Side) (lost : Lost old to mid)
     (d : Delivers mid calls new) → AreCalls mid calls new → (side : Side) →
     IsTakenOf side (Fails to ∷ calls) new (waiting old side ++ sent_to side (lost.effects ++ d.effects))
 fails_on calls old mid new to lost d are side = go (same_side to side) refl
@@ -206,7 +206,7 @@ taken_and_more bytes taken left now later sent first more =
     ∙ (sym (append_assoc bytes (bytes_of later) (bytes_of sent))
     ∙ (ap (λ (x : List ℕ). x ++ bytes_of sent) first ∙ sym (bytes_of-append now sent))))
 
-puts_on : (calls : List Call) (old mid new : Gateway) (to : Side) (bytes rest : List ℕ) →
+puts_on : (calls : List Call) (old mid new : SessionView) (to : Side) (bytes rest : List ℕ) →
     first_bytes (waiting old to) ≡ bytes ++ rest → Wrote old to (length bytes) mid → (d : Delivers mid calls new) →
     (side : Side) → IsTakenOf side (Puts to bytes ∷ calls) new (waiting old side ++ sent_to side d.effects)
 puts_on calls old mid new to bytes rest front wrote d side = go (same_side to side) refl
@@ -241,7 +241,7 @@ puts_on calls old mid new to bytes rest front wrote d side = go (same_side to si
 
 -- ---- all calls
 
-by_wires : (old : Gateway) (calls : List Call) (new : Gateway) (effects : List Effect) →
+by_wires : (old : SessionView) (calls : List Call) (new : SessionView) (effects : List Effect) →
     Runs old.state (events_of calls) effects new.state → new.summary ≡ tallied effects old.summary →
     ((side : Side) → IsTakenOf side calls new (waiting old side ++ sent_to side effects)) → Delivers old calls new
 by_wires old calls new effects run counts wires = record {
@@ -252,14 +252,14 @@ by_wires old calls new effects run counts wires = record {
   cut_off = λ side. (wires side).1;
 }
 
-then_runs : (old mid : Gateway) (events : List Event) (told : Note) (goes : Goes old events told mid)
-    (calls : List Call) (new : Gateway) (d : Delivers mid calls new) →
+then_runs : (old mid : SessionView) (events : List Event) (told : Note) (goes : Goes old events told mid)
+    (calls : List Call) (new : SessionView) (d : Delivers mid calls new) →
     Runs old.state (events ++ events_of calls) (goes.effects ++ d.effects) new.state
 then_runs old mid events told goes calls new d =
     runs_join events (events_of calls) old.state mid.state new.state goes.effects d.effects goes.run d.run
 
 -- one call, and the later ones
-first_call : (old mid new : Gateway) (call : Call) (calls : List Call) → IsCall old call mid → AreCalls mid calls new →
+first_call : (old mid new : SessionView) (call : Call) (calls : List Call) → IsCall old call mid → AreCalls mid calls new →
     Delivers mid calls new → Delivers old (call ∷ calls) new
 first_call old mid new (Feeds from piece) calls (told, goes) are d =
     by_wires old (Feeds from piece ∷ calls) new (goes.effects ++ d.effects)
@@ -273,9 +273,9 @@ first_call old mid new (Stops from) calls (told, goes) are d =
     (goes_on calls old mid new (Ends from ∷ []) told goes d)
 first_call old mid new TimesOut calls (told, goes) are d =
     by_wires old (TimesOut ∷ calls) new (goes.effects ++ d.effects)
-    (then_runs old mid (Pops ∷ []) told goes calls new d)
+    (then_runs old mid (TimerExpires ∷ []) told goes calls new d)
     (tallied_then goes.effects d.effects old.summary mid.summary new.summary goes.counts d.counts)
-    (goes_on calls old mid new (Pops ∷ []) told goes d)
+    (goes_on calls old mid new (TimerExpires ∷ []) told goes d)
 first_call old mid new (Fails to) calls lost are d =
     by_wires old (Fails to ∷ calls) new (lost.effects ++ d.effects)
     (runs_join (Loses to ∷ []) (events_of calls) old.state mid.state new.state lost.effects d.effects lost.run d.run)
@@ -288,11 +288,11 @@ first_call old mid new (Puts to bytes) calls ((rest, front), wrote) are d =
     (puts_on calls old mid new to bytes rest front wrote d)
 
 -- what each wire took, and what waits, are what waited and the frames of the run
-pub calls_deliver : (calls : List Call) (old new : Gateway) → AreCalls old calls new → Delivers old calls new
+pub calls_deliver : (calls : List Call) (old new : SessionView) → AreCalls old calls new → Delivers old calls new
 calls_deliver [] old new same =
-    by_wires old [] new [] (refl, ap (λ (g : Gateway). g.state) same) (ap (λ (g : Gateway). g.summary) same) (λ side. (
+    by_wires old [] new [] (refl, ap (λ (g : SessionView). g.state) same) (ap (λ (g : SessionView). g.summary) same) (λ side. (
       (λ live.
-          ap (λ (g : Gateway). bytes_of (waiting g side)) same ∙ sym (ap bytes_of (append-nil (waiting old side)))),
+          ap (λ (g : SessionView). bytes_of (waiting g side)) same ∙ sym (ap bytes_of (append-nil (waiting old side)))),
       (λ failed. absurd cc),
     ))
 calls_deliver (call ∷ calls) old new (mid, one, more) =
@@ -300,19 +300,19 @@ calls_deliver (call ∷ calls) old new (mid, one, more) =
 
 -- ---- from a session's start
 
-starts_empty : (limits : Limits) (g : Gateway) (side : Side) → IsNew limits g → waiting g side ≡ []
+starts_empty : (limits : Limits) (g : SessionView) (side : Side) → IsNew limits g → waiting g side ≡ []
 starts_empty limits g Bot new = new.to_bot
 starts_empty limits g Server new = new.to_server
 
 -- from the start a wire got what is sent
-pub from_the_start : (limits : Limits) (old new : Gateway) (calls : List Call) (start : IsNew limits old)
+pub from_the_start : (limits : Limits) (old new : SessionView) (calls : List Call) (start : IsNew limits old)
     (d : Delivers old calls new) (side : Side) → fails side calls ≡ false →
     taken_by side calls ++ bytes_of (waiting new side) ≡ bytes_of (sent_to side d.effects)
 from_the_start limits old new calls start d side live =
     d.delivered side live
     ∙ ap (λ (x : List Sent). bytes_of (x ++ sent_to side d.effects)) (starts_empty limits old side start)
 
-pub wires_get_answers : (limits : Limits) (old new : Gateway) (calls : List Call) → IsNew limits old →
+pub wires_get_answers : (limits : Limits) (old new : SessionView) (calls : List Call) → IsNew limits old →
     AreCalls old calls new → (effects : List Effect) × Runs (opening limits) (events_of calls) effects new.state
     × ((side : Side) → fails side calls ≡ false →
     taken_by side calls ++ bytes_of (waiting new side) ≡ bytes_of (sent_to side effects))
@@ -323,7 +323,7 @@ wires_get_answers limits old new calls start are =
       from_the_start limits old new calls start d,
     )
 
-pub events_alone : (limits : Limits) (one other one_new other_new : Gateway) (calls more : List Call) →
+pub events_alone : (limits : Limits) (one other one_new other_new : SessionView) (calls more : List Call) →
     IsNew limits one → IsNew limits other → AreCalls one calls one_new → AreCalls other more other_new →
     events_of calls ≡ events_of more → (one_new.state ≡ other_new.state)
     × ((side : Side) → fails side calls ≡ false → fails side more ≡ false →

@@ -13,7 +13,7 @@ use Rattle.daide_machine.specs.declared.phase.Phase.{Phase}
 use Rattle.daide_machine.specs.declared.phase.Phase.TheVariants.{WaitIm, WaitRm, Open}
 use Rattle.daide_machine.specs.declared.summary.Summary.{Summary}
 use Rattle.daide_machine.specs.Answers.{answer_bytes}
-use Rattle.daide_machine.specs.Events.{Event, Ends, Loses, Pops, bytes_come}
+use Rattle.daide_machine.specs.Events.{Event, Ends, Loses, TimerExpires, bytes_come}
 use Rattle.daide_machine.specs.Machine.{SessionState, opening, in_phase}
 use Rattle.daide_machine.specs.Counts.{frames_counted}
 use Rattle.daide_machine.proofs.SomeRun.{outcome_of}
@@ -78,7 +78,7 @@ faults :
     × (counts_after Open Server (0x02 ∷ 0x00 ∷ 0x00 ∷ 0x03 ∷ []) ≡ of 0 0 0 1)
     × (counts_after WaitIm Bot (0x02 ∷ 0x00 ∷ 0x00 ∷ 0x02 ∷ []) ≡ of 0 0 0 1)
     × (counts_after WaitIm Server (0x00 ∷ 0x00 ∷ 0x00 ∷ 0x04 ∷ []) ≡ of 0 0 0 1)
-    × (counts_by WaitIm (Pops ∷ []) ≡ of 0 0 0 1) × (counts_by Open (Pops ∷ []) ≡ of 0 0 0 0)
+    × (counts_by WaitIm (TimerExpires ∷ []) ≡ of 0 0 0 1) × (counts_by Open (TimerExpires ∷ []) ≡ of 0 0 0 0)
 unfolding last_items first_items head_of is_alien
 faults = (refl, refl, refl, refl, refl, refl)
 

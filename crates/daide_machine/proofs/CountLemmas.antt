@@ -20,7 +20,7 @@ use Rattle.daide_machine.specs.declared.phase.Phase.{Phase}
 use Rattle.daide_machine.specs.declared.phase.Phase.TheVariants.{WaitIm, WaitRm, Open, Over}
 use Rattle.daide_machine.specs.declared.summary.Summary.{Summary}
 use Rattle.daide_machine.specs.Answers.{answer_body, answer_bytes, answer_head}
-use Rattle.daide_machine.specs.Events.{Event, Comes, Ends, Loses, Pops, other}
+use Rattle.daide_machine.specs.Events.{Event, Comes, Ends, Loses, TimerExpires, other}
 use Rattle.daide_machine.specs.Machine.{SessionState, Sent, Effect, Outcome, Runs, coming, with_pending, is_over, em_to}
 use Rattle.daide_machine.specs.Machine.{fm_to, deed_of, destination, is_sent, answer_to, begun, untimely}
 use Rattle.daide_machine.specs.Machine.{answered, im_answered, item_outcome, items_outcome, popped, event_outcome}
@@ -207,7 +207,7 @@ event_counted s (Loses side) v = go (is_over s.phase) refl
     go : (b : Bool) → is_over s.phase ≡ b → AreCounted (event_outcome s (Loses side) v).effects
     go true o = rw o tt
     go false o = rw o (fm_counted s.phase (other side), tt)
-event_counted s Pops v = popped_counted s.phase s
+event_counted s TimerExpires v = popped_counted s.phase s
 
 -- ---- a run
 

@@ -13,8 +13,8 @@ use Rattle.daide_grammar.specs.declared.level.Level.{Level}
 use Rattle.daide_reader.specs.declared.verdict.Verdict.{Verdict}
 use Rattle.daide_machine.specs.declared.phase.Phase.{Phase}
 use Rattle.daide_machine.specs.declared.phase.Phase.TheVariants.{WaitIm, WaitRm, Open, Over}
-use Rattle.daide_machine.specs.Events.{Event, Comes, Ends, Loses, Pops}
-use Rattle.daide_machine.specs.Machine.{SessionState, Effect, Outcome, Step, Runs, coming, with_pending, with_noted}
+use Rattle.daide_machine.specs.Events.{Event, Comes, Ends, Loses, TimerExpires}
+use Rattle.daide_machine.specs.Machine.{SessionState, Effect, Outcome, Transition, Runs, coming, with_pending, with_noted}
 use Rattle.daide_machine.specs.Machine.{is_over, begun, untimely, whole, answered, im_answered, items_outcome, popped}
 use Rattle.daide_machine.specs.Machine.{event_outcome}
 use Rattle.daide_machine.specs.Fates.{Cause, checked_frame, frame_cause, fault_or, items_cause, timeout_in}
@@ -104,9 +104,9 @@ event_ends : (s : SessionState) (event : Event) (v : Verdict) → is_over s.phas
 event_ends s (Comes side byte) v o = rw o (byte_ends s side ((coming s side).pending ++ byte ∷ []) v o)
 event_ends s (Ends side) v o = rw o (λ h. refl)
 event_ends s (Loses side) v o = rw o (λ h. refl)
-event_ends s Pops v o = timer_ends s.phase s refl o
+event_ends s TimerExpires v o = timer_ends s.phase s refl o
 
-step_ends : (s : SessionState) (event : Event) (moves : List Effect) (new : SessionState) → Step s event moves new →
+step_ends : (s : SessionState) (event : Event) (moves : List Effect) (new : SessionState) → Transition s event moves new →
     is_over s.phase ≡ false → is_over new.phase ≡ true → new.ending ≡ ending_at s event
 step_ends s event moves new t o =
     subst (λ (x : Outcome). is_over x.state.phase ≡ true → x.state.ending ≡ ending_at s event) t.outcome
@@ -126,7 +126,7 @@ runs_end first (event ∷ events) effects new run o over =
         IsEndedBy first (event ∷ events) new
     go true e later =
         let same : new ≡ run.0 = (one_run events run.0 run.2 [] new run.0 run.4 (over_stays run.0 events e)).1 in
-        let step = subst (λ (s : SessionState). Step first event run.1 s) (sym same) run.3 in
+        let step = subst (λ (s : SessionState). Transition first event run.1 s) (sym same) run.3 in
         record {
           before = [];
           event = event;

@@ -17,7 +17,7 @@ use Rattle.daide_machine.specs.declared.note.Note.TheVariants as Notes
 use Rattle.daide_machine.specs.declared.phase.Phase.{Phase}
 use Rattle.daide_machine.specs.declared.phase.Phase.TheVariants.{WaitIm, WaitRm, Open}
 use Rattle.daide_machine.specs.declared.summary.Summary.{Summary}
-use Rattle.daide_machine.specs.Events.{Event, Ends, Loses, Pops, bytes_come}
+use Rattle.daide_machine.specs.Events.{Event, Ends, Loses, TimerExpires, bytes_come}
 use Rattle.daide_machine.specs.Machine.{SessionState, opening, in_phase}
 use Rattle.daide_machine.specs.Summary.{counted, counted_on}
 use Rattle.daide_machine.proofs.SomeRun.{outcome_of}
@@ -75,7 +75,7 @@ error_messages = (refl, refl, refl, refl, refl, refl)
 
 -- the codes 01 to 0E, in their order
 each_code :
-    (ending_by WaitIm (Pops ∷ []) ≡ Some (Fault Bot Codes.ImTimeout))
+    (ending_by WaitIm (TimerExpires ∷ []) ≡ Some (Fault Bot Codes.ImTimeout))
     × (ending_after_bytes WaitIm Bot (0x02 ∷ 0x00 ∷ 0x00 ∷ 0x02 ∷ []) ≡ Some (Fault Bot Codes.ImNotFirst))
     × (ending_after_bytes WaitIm Bot (0x00 ∷ 0x00 ∷ 0x04 ∷ 0x00 ∷ []) ≡ Some (Fault Bot Codes.WrongEndian))
     × (ending_after_bytes WaitIm Bot (0x00 ∷ 0x00 ∷ 0x00 ∷ 0x04 ∷ 0x00 ∷ 0x01 ∷ 0xDB ∷ 0x10 ∷ [])
@@ -97,12 +97,12 @@ each_code = (refl, refl, refl, refl, refl, refl, refl, refl, refl, refl, refl, r
 
 -- the first event stays, whatever comes later
 first_stays :
-    (ending_by Open (Ends Bot ∷ Loses Server ∷ Pops ∷ Ends Server ∷ []) ≡ Some (Ended Bot))
-    × (ending_by WaitIm (Pops ∷ Ends Bot ∷ Loses Bot ∷ []) ≡ Some (Fault Bot Codes.ImTimeout))
+    (ending_by Open (Ends Bot ∷ Loses Server ∷ TimerExpires ∷ Ends Server ∷ []) ≡ Some (Ended Bot))
+    × (ending_by WaitIm (TimerExpires ∷ Ends Bot ∷ Loses Bot ∷ []) ≡ Some (Fault Bot Codes.ImTimeout))
     × (ending_by Open (bytes_come Server fm ++ Ends Bot ∷ []) ≡ Some (Final Server))
     × (ending_by Open (bytes_come Bot em ++ Loses Bot ∷ bytes_come Server fm) ≡ Some (Error Bot))
     -- and one that ends nothing is none
-    × (ending_by WaitRm (Pops ∷ []) ≡ None) × (ending_by Open (bytes_come Bot (0x03 ∷ 0x00 ∷ 0x00 ∷ [])) ≡ None)
+    × (ending_by WaitRm (TimerExpires ∷ []) ≡ None) × (ending_by Open (bytes_come Bot (0x03 ∷ 0x00 ∷ 0x00 ∷ [])) ≡ None)
 unfolding last_items first_items head_of is_alien
 first_stays = (refl, refl, refl, refl, refl, refl)
 

@@ -14,7 +14,7 @@ use Rattle.daide_frame.specs.Frames.{Item, Begun, Whole, Wrong, last_items}
 use Rattle.daide_reader.specs.declared.verdict.Verdict.{Verdict}
 use Rattle.daide_machine.specs.declared.phase.Phase.{Phase}
 use Rattle.daide_machine.specs.declared.phase.Phase.TheVariants.{WaitIm, WaitRm, Open, Over}
-use Rattle.daide_machine.specs.Events.{Event, Comes, Ends, Loses, Pops}
+use Rattle.daide_machine.specs.Events.{Event, Comes, Ends, Loses, TimerExpires}
 use Rattle.daide_machine.specs.Machine.{SessionState, Effect, Outcome, Runs, coming, with_pending, is_over}
 use Rattle.daide_machine.specs.Machine.{begun, untimely, answered, im_answered, item_outcome, items_outcome, popped}
 use Rattle.daide_machine.specs.Machine.{event_outcome}
@@ -95,7 +95,7 @@ event_told s (Loses side) v h = go (is_over s.phase) refl
     go : (b : Bool) → is_over s.phase ≡ b → IsTold (event_outcome s (Loses side) v).state
     go true o = rw o h
     go false o = rw o refl
-event_told s Pops v h = popped_told s.phase s h
+event_told s TimerExpires v h = popped_told s.phase s h
 
 pub runs_told : (old : SessionState) (events : List Event) (effects : List Effect) (new : SessionState) →
     Runs old events effects new → IsTold old → IsTold new

@@ -16,8 +16,8 @@ use Rattle.daide_reader.specs.declared.verdict.Verdict.TheVariants.{Relay, Prn, 
 use Rattle.daide_machine.specs.declared.phase.Phase.{Phase}
 use Rattle.daide_machine.specs.declared.phase.Phase.TheVariants.{WaitIm, WaitRm, Open, Over}
 use Rattle.daide_machine.specs.Answers.{answer_bytes}
-use Rattle.daide_machine.specs.Events.{Event, Comes, Ends, Loses, Pops}
-use Rattle.daide_machine.specs.Machine.{Limits, SessionState, Effect, Outcome, Step, Runs, IsRight}
+use Rattle.daide_machine.specs.Events.{Event, Comes, Ends, Loses, TimerExpires}
+use Rattle.daide_machine.specs.Machine.{Limits, SessionState, Effect, Outcome, Transition, Runs, IsRight}
 use Rattle.daide_machine.specs.Machine.{coming, with_pending, with_noted, is_over, untimely, answered, im_answered}
 use Rattle.daide_machine.specs.Machine.{whole, items_outcome, answer_to, asked_by, question_of, event_outcome, popped}
 use Rattle.daide_machine.specs.Machine.{opening, begun, question}
@@ -154,9 +154,9 @@ event_fates s (Loses side) v r = go (is_over s.phase) refl
         HaveFates s.limits (came_in_phase s.phase (cause_at s (Loses side))) (event_outcome s (Loses side) v).effects
     go true o = rw o refl
     go false o = rw o (refl, refl)
-event_fates s Pops v r = timer_fates s.limits s.phase s
+event_fates s TimerExpires v r = timer_fates s.limits s.phase s
 
-step_fates : (s : SessionState) (event : Event) (effects : List Effect) (m : SessionState) → Step s event effects m →
+step_fates : (s : SessionState) (event : Event) (effects : List Effect) (m : SessionState) → Transition s event effects m →
     HaveFates s.limits (came_in_phase s.phase (cause_at s event)) effects
 step_fates s event effects m t =
     subst (λ (o : Outcome). HaveFates s.limits (came_in_phase s.phase (cause_at s event)) o.effects) t.outcome
@@ -202,7 +202,7 @@ over_causes : (s : SessionState) (event : Event) → is_over s.phase ≡ true �
 over_causes s (Comes side byte) o = rw o refl
 over_causes s (Ends side) o = rw o refl
 over_causes s (Loses side) o = rw o refl
-over_causes s Pops o = by_phase s.phase o
+over_causes s TimerExpires o = by_phase s.phase o
   where
     by_phase : (phase : Phase) → is_over phase ≡ true → timeout_in phase ≡ None
     by_phase WaitIm e = absurd (cc)
@@ -348,9 +348,9 @@ event_comes side s (Loses from) v = go (is_over s.phase)
         (Loses from) v).state
     go true = inl refl
     go false = inl refl
-event_comes side s Pops v = go s.phase
+event_comes side s TimerExpires v = go s.phase
   where
-    go : (phase : Phase) → ComeHere side [] (came_in_phase s.phase (timeout_in phase)) (event_outcome s Pops v).state
+    go : (phase : Phase) → ComeHere side [] (came_in_phase s.phase (timeout_in phase)) (event_outcome s TimerExpires v).state
     go WaitIm = inl refl
     go WaitRm = inl refl
     go Open = inl refl

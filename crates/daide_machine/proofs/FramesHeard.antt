@@ -16,8 +16,8 @@ use Rattle.daide_reader.specs.declared.verdict.Verdict.{Verdict}
 use Rattle.daide_machine.specs.declared.ending.Ending.TheVariants.{Ended, Lost}
 use Rattle.daide_machine.specs.declared.phase.Phase.{Phase}
 use Rattle.daide_machine.specs.declared.phase.Phase.TheVariants.{WaitIm, WaitRm, Open, Over}
-use Rattle.daide_machine.specs.Events.{Event, Comes, Ends, Loses, Pops, other}
-use Rattle.daide_machine.specs.Machine.{Limits, SessionState, Effect, Outcome, Step, Runs, opening, coming}
+use Rattle.daide_machine.specs.Events.{Event, Comes, Ends, Loses, TimerExpires, other}
+use Rattle.daide_machine.specs.Machine.{Limits, SessionState, Effect, Outcome, Transition, Runs, opening, coming}
 use Rattle.daide_frame.specs.Head.{is_im}
 use Rattle.daide_machine.specs.Machine.{with_pending, is_over, fault, end, begun, untimely, answered}
 use Rattle.daide_machine.specs.Machine.{im_answered, whole, item_outcome, items_outcome, popped, event_outcome}
@@ -237,7 +237,7 @@ abbrev after_byte : SessionState → Side → ℕ → Verdict → SessionState
 after_byte s side x v = (items_outcome (with_pending s side (with_byte s side x)) side (items_at s side x) v).state
 
 byte_came : (s : SessionState) (side : Side) (x : ℕ) (effects : List Effect) (m : SessionState)
-    (t : Step s (Comes side x) effects m) →
+    (t : Transition s (Comes side x) effects m) →
     is_over s.phase ≡ false → m ≡ after_byte s side x t.verdict
 byte_came s side x effects m t o =
     let outcome = items_outcome (with_pending s side (with_byte s side x)) side (items_at s side x) t.verdict in
@@ -246,7 +246,7 @@ byte_came s side x effects m t o =
 
 -- a byte that leaves the session open
 byte_leaves : (s : SessionState) (side : Side) (x : ℕ) (effects : List Effect) (m : SessionState) →
-    Step s (Comes side x) effects m →
+    Transition s (Comes side x) effects m →
     is_over s.phase ≡ false → is_over m.phase ≡ false →
     (any_item is_wrong (items_at s side x) ≡ false)
     × ((coming m side).pending ≡ cond (any_item is_whole (items_at s side x)) [] (with_byte s side x))
@@ -263,7 +263,7 @@ byte_leaves s side x effects m t o p =
     )
 
 byte_beside : (s : SessionState) (side : Side) (x : ℕ) (effects : List Effect) (m : SessionState) →
-    Step s (Comes side x) effects m →
+    Transition s (Comes side x) effects m →
     is_over s.phase ≡ false → (coming m (other side)).pending ≡ (coming s (other side)).pending
 byte_beside s side x effects m t o =
     ap (λ (q : SessionState). (coming q (other side)).pending) (byte_came s side x effects m t o)
@@ -271,7 +271,7 @@ byte_beside s side x effects m t o =
     ∙ with_beside s side (with_byte s side x)
 
 byte_limits : (s : SessionState) (side : Side) (x : ℕ) (effects : List Effect) (m : SessionState) →
-    Step s (Comes side x) effects m →
+    Transition s (Comes side x) effects m →
     is_over s.phase ≡ false → m.limits ≡ s.limits
 byte_limits s side x effects m t o =
     ap (λ (q : SessionState). q.limits) (byte_came s side x effects m t o)
@@ -280,7 +280,7 @@ byte_limits s side x effects m t o =
 
 -- ---- after the end
 
-pub stays_over : (s : SessionState) (e : Event) (effects : List Effect) (m : SessionState) → Step s e effects m →
+pub stays_over : (s : SessionState) (e : Event) (effects : List Effect) (m : SessionState) → Transition s e effects m →
     is_over s.phase ≡ true → m ≡ s
 stays_over s e effects m t o = ap (λ (q : Outcome). q.state) (sym t.outcome ∙ over_outcome s e t.verdict o)
 
@@ -288,7 +288,7 @@ hears_nothing : (side : Side) (s : SessionState) (e : Event) → is_over s.phase
 hears_nothing side s (Comes from x) o = rw o refl
 hears_nothing side s (Ends from) o = refl
 hears_nothing side s (Loses from) o = refl
-hears_nothing side s Pops o = refl
+hears_nothing side s TimerExpires o = refl
 
 pub over_hears : (side : Side) (s : SessionState) (events : List Event) (effects : List Effect) (new : SessionState)
     (run : Runs s events effects new) →
@@ -410,7 +410,7 @@ popped_is WaitRm s = inr refl
 popped_is Open s = inr refl
 popped_is Over s = inr refl
 
-pub pops : (s : SessionState) (effects : List Effect) (m : SessionState) → Step s Pops effects m →
+pub pops : (s : SessionState) (effects : List Effect) (m : SessionState) → Transition s TimerExpires effects m →
     (is_over m.phase ≡ true) ⊎ (m ≡ s)
 pops s effects m t =
     let came : m ≡ (popped s.phase s).state = ap (λ (q : Outcome). q.state) (sym t.outcome) in
@@ -419,13 +419,13 @@ pops s effects m t =
     (λ (h : (popped s.phase s).state ≡ s). inr (came ∙ h))
     (popped_is s.phase s)
 
-pub ended : (s : SessionState) (side : Side) (effects : List Effect) (m : SessionState) → Step s (Ends side) effects m →
+pub ended : (s : SessionState) (side : Side) (effects : List Effect) (m : SessionState) → Transition s (Ends side) effects m →
     is_over s.phase ≡ false → is_over m.phase ≡ true
 ended s side effects m t o =
     let came : event_outcome s (Ends side) t.verdict ≡ end s (Ended side) side = rw o refl in
     ap (λ (q : Outcome). is_over q.state.phase) (sym t.outcome ∙ came)
 
-pub lost : (s : SessionState) (side : Side) (effects : List Effect) (m : SessionState) → Step s (Loses side) effects m →
+pub lost : (s : SessionState) (side : Side) (effects : List Effect) (m : SessionState) → Transition s (Loses side) effects m →
     is_over s.phase ≡ false → is_over m.phase ≡ true
 lost s side effects m t o =
     let came : event_outcome s (Loses side) t.verdict ≡ end s (Lost side) side = rw o refl in
@@ -463,9 +463,9 @@ is_heard side k s (e ∷ events) effects new run =
         ends_here side k s (Ends from) events effects new run refl (ended s from run.1 run.0 run.3 o)
     go false o (Loses from) run later =
         ends_here side k s (Loses from) events effects new run refl (lost s from run.1 run.0 run.3 o)
-    go false o Pops run later = ⊎_elim
-        (λ (h : is_over run.0.phase ≡ true). ends_here side k s Pops events effects new run refl h)
-        (λ (h : run.0 ≡ s). passes side k s Pops events effects new run refl refl
+    go false o TimerExpires run later = ⊎_elim
+        (λ (h : is_over run.0.phase ≡ true). ends_here side k s TimerExpires events effects new run refl h)
+        (λ (h : run.0 ≡ s). passes side k s TimerExpires events effects new run refl refl
         (ap (λ (q : SessionState). q.limits) h) (ap (λ (q : SessionState). (coming q side).pending) h) (later k))
         (pops s run.1 run.0 run.3)
 
@@ -495,7 +495,7 @@ by_sides P Server p q Bot = q
 by_sides P Server p q Server = p
 
 byte_waits : (s : SessionState) (side : Side) (x : ℕ) (effects : List Effect) (m : SessionState) →
-    Step s (Comes side x) effects m →
+    Transition s (Comes side x) effects m →
     is_over s.phase ≡ false → is_over m.phase ≡ false → IsWaitedFor s → IsWaitedFor m
 byte_waits s side x effects m t o p wait =
     by_sides (λ side. 0 < missing m.limits.cap (coming m side).pending) side own beside
@@ -522,12 +522,12 @@ byte_waits s side x effects m t o p wait =
     beside : 0 < missing m.limits.cap (coming m (other side)).pending
     beside = rw (limits, byte_beside s side x effects m t o) (wait (other side))
 
-step_waits : (s : SessionState) (e : Event) (effects : List Effect) (m : SessionState) → Step s e effects m →
+step_waits : (s : SessionState) (e : Event) (effects : List Effect) (m : SessionState) → Transition s e effects m →
     is_over s.phase ≡ false → is_over m.phase ≡ false → IsWaitedFor s → IsWaitedFor m
 step_waits s (Comes side x) effects m t o p wait = byte_waits s side x effects m t o p wait
 step_waits s (Ends side) effects m t o p wait = absurd (not_both (is_over m.phase) (ended s side effects m t o) p)
 step_waits s (Loses side) effects m t o p wait = absurd (not_both (is_over m.phase) (lost s side effects m t o) p)
-step_waits s Pops effects m t o p wait = ⊎_elim
+step_waits s TimerExpires effects m t o p wait = ⊎_elim
     (λ (h : is_over m.phase ≡ true). absurd (not_both (is_over m.phase) h p))
     (λ (h : m ≡ s). subst IsWaitedFor (sym h) wait)
     (pops s effects m t)

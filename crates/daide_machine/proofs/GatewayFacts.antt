@@ -15,7 +15,7 @@ use Rattle.daide_machine.specs.declared.note.Deed.TheVariants as Deeds
 use Rattle.daide_machine.specs.declared.note.Note.TheVariants as Notes
 use Rattle.daide_machine.specs.Summary.{nothing_counted}
 use Rattle.daide_machine.specs.Machine.{Limits, Sent, fm_bytes, in_phase, opening, with_pending}
-use Rattle.daide_machine.specs.Wires.{Gateway, Holding, waiting, room_of, is_awaited, is_closed, without, first_len}
+use Rattle.daide_machine.specs.Wires.{SessionView, Holding, waiting, room_of, is_awaited, is_closed, without, first_len}
 use Rattle.daide_machine.specs.Wires.{bytes_of, held_after, grown, counts_from, asked_at_most, looked_at_most}
 use Rattle.daide_machine.specs.Weight.{weight_of, weight_bound, steps_bound, IsKeptSmall}
 
@@ -33,7 +33,7 @@ abbrev holds : List ℕ → Holding
 holds bytes = record { held = bytes; entries = 4; total = 9; total_before = 5; looked_at = 7 }
 
 -- these bytes of the two sides came since their last whole frames, and nothing waits
-abbrev holding_both : Limits → List ℕ → List ℕ → Gateway
+abbrev holding_both : Limits → List ℕ → List ℕ → SessionView
 holding_both limits from_bot from_server = record {
   state = with_pending (with_pending (in_phase Open L0 (opening limits)) Bot from_bot) Server from_server;
   to_bot = [];
@@ -54,7 +54,7 @@ abbrev ending : Side → List ℕ → Sent
 ending to bytes = record { to = to; answers = None; bytes = bytes }
 
 -- this frame of the bot is whole, and these frames wait
-abbrev answering_bot : Phase → List ℕ → List Sent → List Sent → Gateway
+abbrev answering_bot : Phase → List ℕ → List Sent → List Sent → SessionView
 answering_bot phase frame to_bot to_server = record {
   state = in_phase phase L0 (opening usual);
   to_bot = to_bot;
@@ -67,7 +67,7 @@ answering_bot phase frame to_bot to_server = record {
 }
 
 -- this frame of the server
-abbrev answering_server : Phase → List ℕ → List Sent → List Sent → Gateway
+abbrev answering_server : Phase → List ℕ → List Sent → List Sent → SessionView
 answering_server phase frame to_bot to_server = record {
   state = in_phase phase L0 (opening usual);
   to_bot = to_bot;
@@ -231,7 +231,7 @@ room_while_answering : (room_of (answering_bot Open unclosed (answer Bot Bot unc
 unfolding room_of missing head_in head_of
 room_while_answering = (refl, refl, refl, refl, refl, refl, refl, refl, refl, refl)
 
-abbrev ended : Gateway
+abbrev ended : SessionView
 ended = answering_bot Over [] (ending Bot fm_bytes ∷ []) (ending Server fm_bytes ∷ [])
 
 -- an FM or EM of the session's own answers no frame, so it keeps no side waiting

@@ -19,8 +19,8 @@ use Rattle.daide_reader.specs.declared.verdict.Verdict.TheVariants.{Relay, Prn, 
 use Rattle.daide_machine.specs.declared.note.Note.{Note}
 use Rattle.daide_machine.specs.declared.note.Note.TheVariants as Notes
 use Rattle.daide_machine.specs.declared.ending.Ending.TheVariants as Endings
-use Rattle.daide_machine.specs.Events.{Event, Comes, Ends, Loses, Pops, other}
-use Rattle.daide_machine.specs.Machine.{Coming, Limits, SessionState, Sent, Effect, Outcome, Question, Step, Runs}
+use Rattle.daide_machine.specs.Events.{Event, Comes, Ends, Loses, TimerExpires, other}
+use Rattle.daide_machine.specs.Machine.{Coming, Limits, SessionState, Sent, Effect, Outcome, Question, Transition, Runs}
 use Rattle.daide_machine.specs.Machine.{coming, with_coming, with_pending, with_noted, is_over, untimely}
 use Rattle.daide_machine.specs.Machine.{answered}
 use Rattle.daide_machine.specs.Machine.{im_answered, whole, items_outcome, event_outcome, nothing}
@@ -199,7 +199,7 @@ after_byte s side x v =
     items_outcome (with_pending s side (bytes_at s side x)) side (last_items s.limits.cap (bytes_at s side x)) v
 
 came_byte : (s : SessionState) (side : Side) (x : ℕ) (effects : List Effect) (m : SessionState)
-    (t : Step s (Comes side x) effects m) → is_over s.phase ≡ false →
+    (t : Transition s (Comes side x) effects m) → is_over s.phase ≡ false →
     after_byte s side x t.verdict ≡ record { state = m; effects = effects }
 came_byte s side x effects m t o =
     let e : event_outcome s (Comes side x) t.verdict ≡ after_byte s side x t.verdict = rw o refl in
@@ -207,7 +207,7 @@ came_byte s side x effects m t o =
 
 -- a byte that ends no frame, where the session goes on
 own_quiet : (s : SessionState) (side : Side) (x : ℕ) (effects : List Effect) (m : SessionState) →
-    Step s (Comes side x) effects m → is_over s.phase ≡ false → is_over m.phase ≡ false →
+    Transition s (Comes side x) effects m → is_over s.phase ≡ false → is_over m.phase ≡ false →
     frames_among (last_items s.limits.cap (bytes_at s side x)) ≡ [] → (effects ≡ []) × SameBut side m s
 own_quiet s side x effects m t o p f =
     let came = came_byte s side x effects m t o in
@@ -221,7 +221,7 @@ own_quiet s side x effects m t o p f =
     )
 
 own_refused : (s : SessionState) (side : Side) (x : ℕ) (refusal : Effect) (m : SessionState) →
-    Step s (Comes side x) (refusal ∷ []) m → is_over s.phase ≡ false → IsRefusal refusal.told →
+    Transition s (Comes side x) (refusal ∷ []) m → is_over s.phase ≡ false → IsRefusal refusal.told →
     IsFresh side (record { state = m; effects = refusal ∷ [] }) s
 own_refused s side x refusal m t o h =
     let came = came_byte s side x (refusal ∷ []) m t o in
@@ -285,7 +285,7 @@ one_event Server c (Comes Bot x) events s b m run p f later =
     passes_on Server c (Comes Bot x) events s b m run refl later
 one_event side c (Ends from) events s b m run p f later = passes_on side c (Ends from) events s b m run refl later
 one_event side c (Loses from) events s b m run p f later = passes_on side c (Loses from) events s b m run refl later
-one_event side c Pops events s b m run p f later = passes_on side c Pops events s b m run refl later
+one_event side c TimerExpires events s b m run p f later = passes_on side c TimerExpires events s b m run refl later
 
 between_runs : (side : Side) (c : Coming) (events : List Event) (s : SessionState) (b : List Effect)
     (m : SessionState) (run : Runs s events b m) → frames_among (items_heard side s events b m run) ≡ [] →
@@ -308,7 +308,7 @@ put_noted side l o = record { state = with_noted o.state side l; effects = o.eff
 -- a step, with another level noted before and after
 abbrev StepsToo : Side → SessionState → Level → Event → List Effect → SessionState → Type 0
 StepsToo side s n e effects m =
-    (l : Level) × Step (with_noted s side n) e effects (with_noted m side l) × MayDiffer side m l
+    (l : Level) × Transition (with_noted s side n) e effects (with_noted m side l) × MayDiffer side m l
 
 own_noted : (side : Side) (s : SessionState) → with_noted s side (coming s side).noted ≡ s
 own_noted Bot s = refl
@@ -325,7 +325,7 @@ coming_is Server s c = refl
 -- what is beside a side leaves its messages
 keeps : (side : Side) (s : SessionState) (e : Event) (effects : List Effect) (m : SessionState) → is_own side e
     ≡ false →
-    Step s e effects m → coming m side ≡ coming s side
+    Transition s e effects m → coming m side ≡ coming s side
 keeps side s e effects m own t =
     let same : event_outcome s e t.verdict ≡ put side (coming s side) (event_outcome s e t.verdict) =
     ap (λ (q : SessionState). event_outcome q e t.verdict) (sym (own_coming side s))
@@ -334,12 +334,12 @@ keeps side s e effects m own t =
     ∙ coming_is side (event_outcome s e t.verdict).state (coming s side)
 
 beside_too : (side : Side) (s : SessionState) (n : Level) (e : Event) (effects : List Effect) (m : SessionState) →
-    is_own side e ≡ false → Step s e effects m → MayDiffer side s n → StepsToo side s n e effects m
+    is_own side e ≡ false → Transition s e effects m → MayDiffer side s n → StepsToo side s n e effects m
 beside_too side s n e effects m own t may =
     let kept = keeps side s e effects m own t in
     let c : Coming = record { pending = (coming s side).pending; noted = n } in (
       n,
-      subst (λ (k : Coming). Step (with_noted s side n) e effects
+      subst (λ (k : Coming). Transition (with_noted s side n) e effects
           (with_coming m side (record { pending = k.pending; noted = n }))) (sym kept)
           (step_beside side s c e effects m own t),
       λ o l. may (live_before s (e ∷ []) (effects ++ []) m (m, effects, [], t, (refl, refl), refl) o)
@@ -348,12 +348,12 @@ beside_too side s n e effects m own t may =
 
 -- with a header that is there the level is the same
 long_too : (side : Side) (s : SessionState) (n : Level) (e : Event) (effects : List Effect) (m : SessionState) →
-    Step s e effects m → n ≡ (coming s side).noted → StepsToo side s n e effects m
+    Transition s e effects m → n ≡ (coming s side).noted → StepsToo side s n e effects m
 long_too side s n e effects m t same = (
   (coming m side).noted,
-  subst (λ (q : SessionState). Step q e effects (with_noted m side (coming m side).noted))
+  subst (λ (q : SessionState). Transition q e effects (with_noted m side (coming m side).noted))
       (sym (ap (λ (l : Level). with_noted s side l) same ∙ own_noted side s))
-      (subst (λ (q : SessionState). Step s e effects q) (sym (own_noted side m)) t),
+      (subst (λ (q : SessionState). Transition s e effects q) (sym (own_noted side m)) t),
   λ o l. refl,
 )
 
@@ -417,7 +417,7 @@ early_too_bot t n items v (early_begun head rest) o = go (untimely t.phase Bot h
         )
 
 short_too_bot : (s : SessionState) (n : Level) (x : ℕ) (effects : List Effect) (m : SessionState) →
-    Step s (Comes Bot x) effects m → is_over s.phase ≡ false → length s.bot.pending < 4 →
+    Transition s (Comes Bot x) effects m → is_over s.phase ≡ false → length s.bot.pending < 4 →
     StepsToo Bot s n (Comes Bot x) effects m
 short_too_bot s n x effects m t o short = by_length (cases_lt (length b) 4)
   where
@@ -509,7 +509,7 @@ early_too_server t n items v (early_begun head rest) o = go (untimely t.phase Se
         )
 
 short_too_server : (s : SessionState) (n : Level) (x : ℕ) (effects : List Effect) (m : SessionState) →
-    Step s (Comes Server x) effects m → is_over s.phase ≡ false → length s.server.pending < 4 →
+    Transition s (Comes Server x) effects m → is_over s.phase ≡ false → length s.server.pending < 4 →
     StepsToo Server s n (Comes Server x) effects m
 short_too_server s n x effects m t o short = by_length (cases_lt (length b) 4)
   where
@@ -557,7 +557,7 @@ short_too_server s n x effects m t o short = by_length (cases_lt (length b) 4)
 
 -- one step
 too : (side : Side) (s : SessionState) (n : Level) (e : Event) (effects : List Effect) (m : SessionState) →
-    Step s e effects m → is_over s.phase ≡ false → MayDiffer side s n → StepsToo side s n e effects m
+    Transition s e effects m → is_over s.phase ≡ false → MayDiffer side s n → StepsToo side s n e effects m
 too Bot s n (Comes Bot x) effects m t o may =
     elim (cases_lt (length s.bot.pending) 4) [
       | inl few ↦ short_too_bot s n x effects m t o few
@@ -572,7 +572,7 @@ too Bot s n (Comes Server x) effects m t o may = beside_too Bot s n (Comes Serve
 too Server s n (Comes Bot x) effects m t o may = beside_too Server s n (Comes Bot x) effects m refl t may
 too side s n (Ends from) effects m t o may = beside_too side s n (Ends from) effects m refl t may
 too side s n (Loses from) effects m t o may = beside_too side s n (Loses from) effects m refl t may
-too side s n Pops effects m t o may = beside_too side s n Pops effects m refl t may
+too side s n TimerExpires effects m t o may = beside_too side s n TimerExpires effects m refl t may
 
 abbrev RunsToo : Side → SessionState → Level → List Event → List Effect → SessionState → Type 0
 RunsToo side s n events effects m = (l : Level) × Runs (with_noted s side n) events effects (with_noted m side l)

@@ -82,6 +82,12 @@ pub first_found : (t : ℕ) (k : Bool) → (t == hlo) ≡ k → found_in (t ∷ 
 first_found t true e = rw e refl
 first_found t false e = rw e refl
 
+-- a first token that is another one
+pub no_hlo-begins : (tokens : List ℕ) (t : ℕ) → NoToken ≡ found_in tokens → (t == hlo) ≡ false →
+    NoHlo ≡ found_in (tokens ++ t ∷ [])
+no_hlo-begins tokens t none other =
+    sym (ap (λ (l : List ℕ). found_in (l ++ t ∷ [])) (none_came tokens none) ∙ first_found t false other)
+
 -- a message that is no HLO stays so
 pub no_hlo-next : (tokens : List ℕ) (t : ℕ) → NoHlo ≡ found_in tokens → NoHlo ≡ found_in (tokens ++ t ∷ [])
 no_hlo-next [] t e = absurd (cc)

@@ -3,7 +3,7 @@
 use Rattle.std.proofs.Common.{◌≡◌, ℕ, zero, suc, ◌+◌, ◌*◌, List, [], ◌++◌, map, replicate, refl}
 use Rattle.std.specs.Prelude.{Result, Ok, Err}
 use Rattle.std.specs.List.{range_with_len}
-use Rattle.daide_machine.specs.Bounds.{deepest, longest_body}
+use Rattle.daide_machine.specs.Bounds.{greatest_depth, longest_body}
 use Rattle.daide_machine.specs.declared.config.Config.{Config}
 use Rattle.daide_machine.specs.declared.config.ConfigError.{ConfigError}
 use Rattle.daide_machine.specs.declared.config.ConfigError.TheVariants.{Level, Body, Depth}
@@ -26,8 +26,8 @@ no_shallower : config_fault (wide 3) ≡ Err Depth
 no_shallower = refl
 
 -- eight entries for each open bracket, and sixteen
-entries_of_the_deepest : 8 * deepest + 16 ≡ 2048
-entries_of_the_deepest = refl
+entries_of_the_greatest_depth : 8 * greatest_depth + 16 ≡ 2048
+entries_of_the_greatest_depth = refl
 
 -- ---- over their ranges
 

@@ -4,7 +4,7 @@ use Rattle.daide_frame.specs.Frames.{last_items}
 use Rattle.daide_reader.specs.declared.verdict.Verdict.{Verdict}
 use Rattle.daide_machine.specs.declared.phase.Phase.{Phase}
 use Rattle.daide_machine.specs.declared.phase.Phase.TheVariants.{WaitIm, WaitRm, Open, Over}
-use Rattle.daide_machine.specs.Events.{Event, Comes, Ends, Loses, Pops}
+use Rattle.daide_machine.specs.Events.{Event, Comes, Ends, Loses, TimerExpires}
 use Rattle.daide_machine.specs.Machine.{SessionState, Effect, Outcome, Runs, event_outcome, with_pending, coming}
 use Rattle.daide_machine.specs.Machine.{is_over, popped}
 use Rattle.daide_machine.proofs.FramesHeard.{items_limits}
@@ -37,7 +37,7 @@ event_limits s (Loses side) v = go (is_over s.phase) refl
     go : (b : Bool) → is_over s.phase ≡ b → (event_outcome s (Loses side) v).state.limits ≡ s.limits
     go true e = rw e refl
     go false e = rw e refl
-event_limits s Pops v = popped_limits s.phase s
+event_limits s TimerExpires v = popped_limits s.phase s
 
 -- a run keeps its limits
 pub runs_limits : (events : List Event) (old new : SessionState) (effects : List Effect) → Runs old events effects new →

@@ -5,7 +5,7 @@ use Rattle.daide_reader.proofs.VerdictLemmas.{verdict_is_one}
 use Rattle.daide_grammar.specs.SideMessages.{IsMessageOver}
 use Rattle.daide_grammar.specs.Words.{Words}
 use Rattle.daide_machine.specs.Events.{Event}
-use Rattle.daide_machine.specs.Machine.{SessionState, Effect, Outcome, Question, Step, Runs, IsRight, question}
+use Rattle.daide_machine.specs.Machine.{SessionState, Effect, Outcome, Question, Transition, Runs, IsRight, question}
 use Rattle.daide_machine.specs.Machine.{side2_of, event_outcome}
 
 -- ---- one verdict
@@ -19,7 +19,7 @@ one_right words max_depth (Some q) v w a b =
 -- ---- one run
 
 one_step : (old : SessionState) (event : Event) (a b : List Effect) (new other : SessionState) →
-    Step old event a new → Step old event b other →
+    Transition old event a new → Transition old event b other →
     ◌≡◌ {A = Outcome} (record { state = new; effects = a }) (record { state = other; effects = b })
 one_step old event a b new other s t =
     let same = one_right old.limits.words old.limits.max_depth (question old event) s.verdict t.verdict

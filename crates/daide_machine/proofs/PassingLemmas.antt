@@ -32,7 +32,7 @@ use Rattle.daide_machine.specs.declared.phase.Phase.{Phase}
 use Rattle.daide_machine.specs.declared.phase.Phase.TheVariants.{WaitIm, WaitRm, Open, Over}
 use Rattle.daide_machine.specs.Bounds.{longest_body}
 use Rattle.daide_machine.specs.Answers.{answer_body, answer_bytes}
-use Rattle.daide_machine.specs.Events.{Event, Comes, Ends, Loses, Pops, other}
+use Rattle.daide_machine.specs.Events.{Event, Comes, Ends, Loses, TimerExpires, other}
 use Rattle.daide_machine.specs.Machine.{Limits, SessionState, Sent, Effect, Runs, coming, is_over, untimely, is_dm}
 use Rattle.daide_machine.specs.Machine.{may_reach, fm_bytes, em_bytes, fm_to, em_to, side2_of, opening}
 use Rattle.daide_machine.specs.Wires.{same_side, frames_to, sent_to}
@@ -112,7 +112,7 @@ event_good s (Loses side) = go (is_over s.phase)
     go : (b : Bool) → AreGood s.limits.cap (came_in_phase s.phase (if b then None else Some (End side)))
     go true = tt
     go false = (tt, tt)
-event_good s Pops = go s.phase
+event_good s TimerExpires = go s.phase
   where
     go : (phase : Phase) → AreGood s.limits.cap (came_in_phase s.phase (timeout_in phase))
     go WaitIm = (tt, tt)

@@ -9,8 +9,8 @@ use Rattle.daide_reader.specs.declared.verdict.Verdict.{Verdict}
 use Rattle.daide_reader.specs.declared.verdict.Verdict.TheVariants.{Relay}
 use Rattle.daide_machine.specs.declared.phase.Phase.{Phase}
 use Rattle.daide_machine.specs.declared.phase.Phase.TheVariants.{WaitIm, WaitRm, Open, Over}
-use Rattle.daide_machine.specs.Events.{Event, Comes, Ends, Loses, Pops, bytes_come}
-use Rattle.daide_machine.specs.Machine.{Limits, SessionState, Outcome, Question, Step, Runs, coming, with_pending}
+use Rattle.daide_machine.specs.Events.{Event, Comes, Ends, Loses, TimerExpires, bytes_come}
+use Rattle.daide_machine.specs.Machine.{Limits, SessionState, Outcome, Question, Transition, Runs, coming, with_pending}
 use Rattle.daide_machine.specs.Machine.{items_outcome, asked_by, question, IsRight, event_outcome, nothing, is_over}
 use Rattle.daide_machine.specs.Machine.{popped}
 
@@ -27,13 +27,13 @@ pub over_outcome : (s : SessionState) (e : Event) (v : Verdict) → is_over s.ph
 over_outcome s (Comes side byte) v h = rw h refl
 over_outcome s (Ends side) v h = rw h refl
 over_outcome s (Loses side) v h = rw h refl
-over_outcome s Pops v h = ap (λ (p : Phase). popped p s) (over_is s.phase h)
+over_outcome s TimerExpires v h = ap (λ (p : Phase). popped p s) (over_is s.phase h)
 
 over_asks : (s : SessionState) (e : Event) → is_over s.phase ≡ true → question s e ≡ None
 over_asks s (Comes side byte) h = rw h refl
 over_asks s (Ends side) h = refl
 over_asks s (Loses side) h = refl
-over_asks s Pops h = refl
+over_asks s TimerExpires h = refl
 
 -- once over, a session stays as it is
 pub over_stays : (s : SessionState) (es : List Event) → is_over s.phase ≡ true → Runs s es [] s
@@ -108,7 +108,7 @@ later_fed s Bot x piece n e = (let h = rw n at e in h) ∙ sym (append_assoc s.b
 later_fed s Server x piece n e = (let h = rw n at e in h) ∙ sym (append_assoc s.server.pending (x ∷ []) piece)
 
 quiet_step : (s : SessionState) (side : Side) (x : ℕ) → is_over s.phase ≡ false → items_at s side x ≡ [] →
-    Step s (Comes side x) [] (with_pending s side (with_byte s side x))
+    Transition s (Comes side x) [] (with_pending s side (with_byte s side x))
 quiet_step s side x o n = record {
   verdict = Relay;
   right = rw (o, n) refl;
@@ -120,7 +120,7 @@ quiet_step s side x o n = record {
 loud_step : (s : SessionState) (side : Side) (x : ℕ) (v : Verdict) → is_over s.phase ≡ false →
     IsRight s.limits.words s.limits.max_depth (asked_by s side (items_at s side x)) v →
     let r = items_outcome (with_pending s side (with_byte s side x)) side (items_at s side x) v in
-    Step s (Comes side x) r.effects r.state
+    Transition s (Comes side x) r.effects r.state
 loud_step s side x v o r = record {
   verdict = v;
   right = rw o r;

@@ -17,7 +17,7 @@ use Rattle.daide_machine.specs.declared.phase.Phase.{Phase}
 use Rattle.daide_machine.specs.declared.phase.Phase.TheVariants.{WaitIm, WaitRm, Open, Over}
 use Rattle.daide_machine.specs.declared.note.Deed.TheVariants as Deeds
 use Rattle.daide_machine.specs.declared.note.Note.TheVariants as Notes
-use Rattle.daide_machine.specs.Events.{Event, Comes, Ends, Loses, Pops, bytes_come}
+use Rattle.daide_machine.specs.Events.{Event, Comes, Ends, Loses, TimerExpires, bytes_come}
 use Rattle.daide_machine.specs.Answers.{answer_bytes}
 use Rattle.daide_machine.specs.Machine.{Limits, SessionState, Effect, Outcome, Runs, opening, in_phase, with_coming}
 use Rattle.daide_machine.specs.Machine.{question}
@@ -388,7 +388,7 @@ one_session :
     Plays (opening usual)
     (bytes_come Bot im ++ bytes_come Server rm ++ bytes_come Bot (message (0x4803 ∷ BRA ∷ []))
     ++ bytes_come Bot (0x02 ∷ 0xFF ∷ 0x00 ∷ 0x02 ∷ 0x48 ∷ 0x0F ∷ []) ++ bytes_come Server (message (0x4810 ∷ []) ++ fm)
-    ++ bytes_come Bot fm ++ bytes_come Server rm ++ Ends Bot ∷ Pops ∷ [])
+    ++ bytes_come Bot fm ++ bytes_come Server rm ++ Ends Bot ∷ TimerExpires ∷ [])
     (rm ++ message (PRN ∷ BRA ∷ 0x4803 ∷ BRA ∷ KET ∷ []) ++ message (0x4810 ∷ []) ++ fm)
     (im ++ message (0x480F ∷ [])) Over L0
 unfolding last_items first_items head_of is_alien im_of entries may_end_of table_answer class_of answer_bytes head_bytes
@@ -411,6 +411,6 @@ ends_within_a_frame = (
 
 -- the timer in the middle of the IM: EM 01 to the bot, and the rest of the IM does nothing
 timer_within_the_im :
-    Plays (opening usual) (bytes_come Bot (take 5 im) ++ Pops ∷ bytes_come Bot (drop 5 im)) (em 0x01) [] Over L0
+    Plays (opening usual) (bytes_come Bot (take 5 im) ++ TimerExpires ∷ bytes_come Bot (drop 5 im)) (em 0x01) [] Over L0
 unfolding last_items first_items head_of is_alien
 timer_within_the_im = computed refl refl refl refl refl

@@ -6,7 +6,7 @@ use Rattle.daide_reader.specs.declared.verdict.Verdict.{Verdict}
 use Rattle.daide_reader.specs.declared.verdict.Verdict.TheVariants.{Relay}
 use Rattle.daide_reader.proofs.SomeVerdict.{plain_verdict, plain_verdict_right}
 use Rattle.daide_machine.specs.Events.{Event}
-use Rattle.daide_machine.specs.Machine.{Limits, SessionState, Effect, Outcome, Question, Step, Runs, IsRight, question}
+use Rattle.daide_machine.specs.Machine.{Limits, SessionState, Effect, Outcome, Question, Transition, Runs, IsRight, question}
 use Rattle.daide_machine.specs.Machine.{side2_of, event_outcome, nothing}
 use Rattle.daide_machine.proofs.LimitsKept.{event_limits}
 
@@ -24,7 +24,7 @@ abbrev pub outcome_at : SessionState → Event → Outcome
 outcome_at old event = event_outcome old event (judged old.limits.max_depth (question old event))
 
 step_at : (old : SessionState) (event : Event) → old.limits.words ≡ [] →
-    Step old event (outcome_at old event).effects (outcome_at old event).state
+    Transition old event (outcome_at old event).effects (outcome_at old event).state
 step_at old event none = record {
   verdict = judged old.limits.max_depth (question old event);
   right = subst (λ (w : Words). IsRight w old.limits.max_depth (question old event)
@@ -34,7 +34,7 @@ step_at old event none = record {
 }
 
 pub some_step : (old : SessionState) (event : Event) → old.limits.words ≡ [] →
-    (effects : List Effect) × (new : SessionState) × Step old event effects new
+    (effects : List Effect) × (new : SessionState) × Transition old event effects new
 some_step old event none = ((outcome_at old event).effects, (outcome_at old event).state, step_at old event none)
 
 -- what events in a row make of it

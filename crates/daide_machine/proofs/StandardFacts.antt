@@ -18,7 +18,7 @@ use Rattle.daide_machine.specs.declared.phase.Phase.TheVariants.{WaitIm, WaitRm,
 use Rattle.daide_machine.specs.declared.note.Deed.TheVariants as Deeds
 use Rattle.daide_machine.specs.declared.note.Note.TheVariants as Notes
 use Rattle.daide_machine.specs.declared.ending.Ending.TheVariants.{Ended, Final, Error, Fault}
-use Rattle.daide_machine.specs.Events.{Comes, Ends, Loses, Pops}
+use Rattle.daide_machine.specs.Events.{Comes, Ends, Loses, TimerExpires}
 use Rattle.daide_machine.specs.Answers.{prn_open, huh_open, err_word, close_word, answer_body, answer_bytes}
 use Rattle.daide_machine.specs.declared.hlo.Found.TheVariants.{NoToken, NoHlo, NoNumber, Number}
 use Rattle.daide_machine.specs.HloLevel.{first_level, found_in, level_told}
@@ -245,14 +245,14 @@ module _ (limits : Limits) where
   ended_twice side = refl
 
   -- the timer is the bot's fault before the IM, and nothing later
-  im_timeout : (wire Bot (event_outcome (standing limits WaitIm) Pops Relay) ≡ em 0x01)
-      × (wire Server (event_outcome (standing limits WaitIm) Pops Relay) ≡ [])
-      × ((event_outcome (standing limits WaitIm) Pops Relay).state ≡ over (Fault Bot ImTimeout) (opening limits))
+  im_timeout : (wire Bot (event_outcome (standing limits WaitIm) TimerExpires Relay) ≡ em 0x01)
+      × (wire Server (event_outcome (standing limits WaitIm) TimerExpires Relay) ≡ [])
+      × ((event_outcome (standing limits WaitIm) TimerExpires Relay).state ≡ over (Fault Bot ImTimeout) (opening limits))
   im_timeout = (refl, refl, refl)
 
-  im_timeout_later : (event_outcome (standing limits WaitRm) Pops Relay ≡ nothing (standing limits WaitRm))
-      × (event_outcome (standing limits Open) Pops Relay ≡ nothing (standing limits Open))
-      × (event_outcome (standing limits Over) Pops Relay ≡ nothing (standing limits Over))
+  im_timeout_later : (event_outcome (standing limits WaitRm) TimerExpires Relay ≡ nothing (standing limits WaitRm))
+      × (event_outcome (standing limits Open) TimerExpires Relay ≡ nothing (standing limits Open))
+      × (event_outcome (standing limits Over) TimerExpires Relay ≡ nothing (standing limits Over))
   im_timeout_later = (refl, refl, refl)
 
   -- ---- messages

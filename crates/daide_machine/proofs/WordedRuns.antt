@@ -11,7 +11,7 @@ use Rattle.daide_reader.specs.declared.verdict.Verdict.{Verdict}
 use Rattle.daide_reader.specs.declared.verdict.Verdict.TheVariants.{Relay}
 use Rattle.daide_reader.proofs.SomeVerdict.{verdict_by, verdict_by_right}
 use Rattle.daide_machine.specs.Events.{Event}
-use Rattle.daide_machine.specs.Machine.{Effect, Limits, Question, SessionState, Step, Runs, IsRight, event_outcome}
+use Rattle.daide_machine.specs.Machine.{Effect, Limits, Question, SessionState, Transition, Runs, IsRight, event_outcome}
 use Rattle.daide_machine.specs.Machine.{question, side2_of}
 use Rattle.daide_machine.proofs.LimitsKept.{runs_limits}
 use Rattle.daide_machine.proofs.WordedVerdicts.{worded_verdicts}
@@ -30,7 +30,7 @@ module _ (words : Words) (free : are_free words ≡ true) where
       )
 
   pub step_over : (old : SessionState) (event : Event) → old.limits.words ≡ words →
-      (effects : List Effect) × (new : SessionState) × Step old event effects new
+      (effects : List Effect) × (new : SessionState) × Transition old event effects new
   step_over old event same =
       let judged = some_right old.limits.max_depth (question old event) in
       let outcome = event_outcome old event judged.0 in (

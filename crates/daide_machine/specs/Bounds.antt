@@ -11,8 +11,8 @@ abbrev pub least_body : ℕ
 least_body = 512
 
 -- the most brackets of a message that an operator may let be open at once
-abbrev pub deepest : ℕ
-deepest = 254
+abbrev pub greatest_depth : ℕ
+greatest_depth = 254
 
 -- and the fewest
 abbrev pub least_depth : ℕ

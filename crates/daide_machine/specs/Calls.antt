@@ -3,10 +3,10 @@
 use Rattle.std.specs.Prelude.{◌≡◌, ℕ, Bool, true, false, ◌||◌, List, [], ◌∷◌, ◌++◌, length, if◌then◌else◌}
 use Rattle.daide_frame.specs.declared.side.Side.{Side}
 use Rattle.daide_machine.specs.declared.note.Note.{Note}
-use Rattle.daide_machine.specs.Events.{Event, Ends, Loses, Pops, bytes_come}
+use Rattle.daide_machine.specs.Events.{Event, Ends, Loses, TimerExpires, bytes_come}
 use Rattle.daide_machine.specs.Machine.{Sent, Effect, Runs}
 use Rattle.daide_machine.specs.Summary.{tallied}
-use Rattle.daide_machine.specs.Wires.{Gateway, Goes, Lost, Wrote, waiting, same_side, sent_to, bytes_of}
+use Rattle.daide_machine.specs.Wires.{SessionView, Goes, Lost, Wrote, waiting, same_side, sent_to, bytes_of}
 
 -- a call that changes a session
 pub data Call : Type 0 where
@@ -22,25 +22,25 @@ first_bytes [] = []
 first_bytes (frame ∷ frames) = frame.bytes
 
 -- one call took a session from old to new, as its contract says; a wire takes a front of its first frame
-abbrev pub IsCall : Gateway → Call → Gateway → Type 0
+abbrev pub IsCall : SessionView → Call → SessionView → Type 0
 IsCall old (Feeds side piece) new = (told : Note) × Goes old (bytes_come side piece) told new
 IsCall old (Stops side) new = (told : Note) × Goes old (Ends side ∷ []) told new
-IsCall old TimesOut new = (told : Note) × Goes old (Pops ∷ []) told new
+IsCall old TimesOut new = (told : Note) × Goes old (TimerExpires ∷ []) told new
 IsCall old (Fails side) new = Lost old side new
 IsCall old (Puts side bytes) new =
     ((rest : List ℕ) × (first_bytes (waiting old side) ≡ bytes ++ rest)) × Wrote old side (length bytes) new
 
 -- these calls, one after the other
-abbrev pub AreCalls : Gateway → List Call → Gateway → Type 0
+abbrev pub AreCalls : SessionView → List Call → SessionView → Type 0
 AreCalls old [] new = new ≡ old
-AreCalls old (call ∷ calls) new = (mid : Gateway) × IsCall old call mid × AreCalls mid calls new
+AreCalls old (call ∷ calls) new = (mid : SessionView) × IsCall old call mid × AreCalls mid calls new
 
 -- what they told the session
 abbrev pub events_of : List Call → List Event
 events_of [] = []
 events_of (Feeds side piece ∷ calls) = bytes_come side piece ++ events_of calls
 events_of (Stops side ∷ calls) = Ends side ∷ events_of calls
-events_of (TimesOut ∷ calls) = Pops ∷ events_of calls
+events_of (TimesOut ∷ calls) = TimerExpires ∷ events_of calls
 events_of (Fails side ∷ calls) = Loses side ∷ events_of calls
 events_of (Puts side bytes ∷ calls) = events_of calls
 
@@ -65,7 +65,7 @@ fails side (Puts to bytes ∷ calls) = fails side calls
 -- The session went by the machine, its moves are counted, and each wire got what the machine sends it: what it took,
 -- and then what waits, are what waited at first and the frames of the run. What a wire took that failed is a front of
 -- these, and nothing waits for it.
-pub record Delivers (old : Gateway) (calls : List Call) (new : Gateway) : Type 0 where
+pub record Delivers (old : SessionView) (calls : List Call) (new : SessionView) : Type 0 where
   pub effects : List Effect
   pub run : Runs old.state (events_of calls) effects new.state
   pub counts : new.summary ≡ tallied effects old.summary

@@ -5,7 +5,7 @@ use Rattle.daide_grammar.specs.declared.level.Level.TheVariants.{L0}
 use Rattle.daide_grammar.specs.Level.{level_of_number}
 use Rattle.daide_words.specs.declared.word.Word.{Word}
 use Rattle.daide_words.specs.Word.{grammar_words}
-use Rattle.daide_machine.specs.Bounds.{longest_body, least_body, deepest, least_depth}
+use Rattle.daide_machine.specs.Bounds.{longest_body, least_body, greatest_depth, least_depth}
 use Rattle.daide_machine.specs.Machine.{Limits}
 use Rattle.daide_machine.specs.declared.config.Config.{Config}
 use Rattle.daide_machine.specs.declared.config.ConfigError.{ConfigError}
@@ -21,7 +21,7 @@ is_body n = (n % 2 == 0) && (nat_le least_body n && nat_le n longest_body)
 
 -- how many brackets may be open at once
 abbrev pub is_depth : ℕ → Bool
-is_depth n = nat_le least_depth n && nat_le n deepest
+is_depth n = nat_le least_depth n && nat_le n greatest_depth
 
 -- the first thing that is wrong
 abbrev pub config_fault : Config → Result (Unit {0}) ConfigError

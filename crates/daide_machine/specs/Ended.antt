@@ -8,8 +8,8 @@ use Rattle.daide_frame.specs.declared.head.Kind.TheVariants.{Im, Rm, Dm, Fm, Em}
 use Rattle.daide_frame.specs.declared.code.Code.TheVariants.{ImTimeout}
 use Rattle.daide_machine.specs.declared.ending.Ending.{Ending}
 use Rattle.daide_machine.specs.declared.ending.Ending.TheVariants as Endings
-use Rattle.daide_machine.specs.Events.{Event, Comes, Ends, Loses, Pops}
-use Rattle.daide_machine.specs.Machine.{SessionState, Effect, Step, Runs, is_over}
+use Rattle.daide_machine.specs.Events.{Event, Comes, Ends, Loses, TimerExpires}
+use Rattle.daide_machine.specs.Machine.{SessionState, Effect, Transition, Runs, is_over}
 use Rattle.daide_machine.specs.Fates.{Cause, Frame, Fault, End, Timeout, cause_at}
 
 -- a side's whole frame ends it where it is an FM or an EM
@@ -34,7 +34,7 @@ abbrev pub ending_at : SessionState → Event → Option Ending
 ending_at state (Comes side byte) = cause_ending (cause_at state (Comes side byte))
 ending_at state (Ends side) = Some (Endings.Ended side)
 ending_at state (Loses side) = Some (Endings.Lost side)
-ending_at state Pops = cause_ending (cause_at state Pops)
+ending_at state TimerExpires = cause_ending (cause_at state TimerExpires)
 
 -- The first event that ended a run: before it the session was not over, it made the state in which the session is since
 -- then, and the ending that is told is the one that this event is.
@@ -48,5 +48,5 @@ pub record IsEndedBy (first : SessionState) (events : List Event) (new : Session
   pub run_before : Runs first before moves_before old
   pub not_over : is_over old.phase ≡ false
   pub moves : List Effect
-  pub step : Step old event moves new
+  pub step : Transition old event moves new
   pub ending : new.ending ≡ ending_at old event

@@ -8,7 +8,7 @@ pub data Event : Type 0 where
   Comes : (side : Side) → (byte : ℕ) → Event  -- a side's next byte
   Ends : (side : Side) → Event  -- a side's stream ended
   Loses : (side : Side) → Event  -- the wire toward a side failed
-  Pops : Event  -- the time for the IM is over
+  TimerExpires : Event  -- the time for the IM is over
 
 -- a side's bytes, one event each
 abbrev pub bytes_come : Side → List ℕ → List Event

@@ -20,7 +20,7 @@ use Rattle.daide_reader.specs.Verdict.{HasVerdict}
 use Rattle.daide_machine.specs.declared.phase.Phase.{Phase}
 use Rattle.daide_machine.specs.declared.phase.Phase.TheVariants.{WaitIm, WaitRm, Open, Over}
 use Rattle.daide_machine.specs.Answers.{answer_bytes}
-use Rattle.daide_machine.specs.Events.{Event, Comes, Ends, Loses, Pops, other}
+use Rattle.daide_machine.specs.Events.{Event, Comes, Ends, Loses, TimerExpires, other}
 use Rattle.daide_machine.specs.Machine.{Limits, SessionState, Sent, Effect, Runs, coming, is_over, untimely, em_to}
 use Rattle.daide_machine.specs.Machine.{fm_to, may_reach, side2_of, opening}
 use Rattle.daide_machine.specs.Wires.{same_side}
@@ -79,7 +79,7 @@ cause_at state (Comes side byte) =
     (last_items state.limits.cap ((coming state side).pending ++ byte ∷ []))
 cause_at state (Ends side) = if is_over state.phase then None else Some (End side)
 cause_at state (Loses side) = if is_over state.phase then None else Some (End side)
-cause_at state Pops = timeout_in state.phase
+cause_at state TimerExpires = timeout_in state.phase
 
 abbrev pub came_in_phase : Phase → Option Cause → List Came
 came_in_phase phase None = []

@@ -5,8 +5,8 @@ use Rattle.daide_grammar.specs.declared.level.Level.{Level}
 use Rattle.daide_machine.specs.declared.note.Deed.TheVariants as Deeds
 use Rattle.daide_machine.specs.declared.note.Note.{Note}
 use Rattle.daide_machine.specs.declared.note.Note.TheVariants as Notes
-use Rattle.daide_machine.specs.Events.{Event, Comes, Ends, Loses, Pops, other}
-use Rattle.daide_machine.specs.Machine.{Limits, SessionState, Effect, Step, Runs, coming, with_noted, opening}
+use Rattle.daide_machine.specs.Events.{Event, Comes, Ends, Loses, TimerExpires, other}
+use Rattle.daide_machine.specs.Machine.{Limits, SessionState, Effect, Transition, Runs, coming, with_noted, opening}
 use Rattle.daide_machine.specs.Wires.{same_side, sent_to}
 use Rattle.daide_machine.specs.Heard.{items_heard}
 use Rattle.daide_machine.specs.Fates.{frames_among}
@@ -18,7 +18,7 @@ without_bytes side (Comes from byte ∷ events) =
     if same_side from side then without_bytes side events else Comes from byte ∷ without_bytes side events
 without_bytes side (Ends from ∷ events) = Ends from ∷ without_bytes side events
 without_bytes side (Loses from ∷ events) = Loses from ∷ without_bytes side events
-without_bytes side (Pops ∷ events) = Pops ∷ without_bytes side events
+without_bytes side (TimerExpires ∷ events) = TimerExpires ∷ without_bytes side events
 
 -- a move tells that a message got PRN or HUH
 abbrev pub IsRefusal : Note → Type 0
@@ -42,7 +42,7 @@ pub record HasRefused (limits : Limits) (side : Side) (before between : List Eve
   pub fresh : (coming begun side).pending ≡ []
   pub among_run : Runs begun between among come
   pub no_frame : frames_among (items_heard side begun between among come among_run) ≡ []
-  pub step : Step come (Comes side byte) (refusal ∷ []) answered
+  pub step : Transition come (Comes side byte) (refusal ∷ []) answered
   pub refused : IsRefusal refusal.told
   pub last_run : Runs answered after last new
 

@@ -2,7 +2,7 @@
 use Rattle.std.specs.Prelude.{ℕ, List, [], ◌∷◌, ◌++◌, if◌then◌else◌}
 use Rattle.daide_frame.specs.declared.side.Side.{Side}
 use Rattle.daide_frame.specs.Frames.{Item, last_items}
-use Rattle.daide_machine.specs.Events.{Event, Comes, Ends, Loses, Pops}
+use Rattle.daide_machine.specs.Events.{Event, Comes, Ends, Loses, TimerExpires}
 use Rattle.daide_machine.specs.Machine.{SessionState, Effect, Runs, coming, is_over}
 use Rattle.daide_machine.specs.Wires.{same_side}
 
@@ -13,7 +13,7 @@ bytes_from side (Comes from byte ∷ events) =
     if same_side from side then byte ∷ bytes_from side events else bytes_from side events
 bytes_from side (Ends from ∷ events) = bytes_from side events
 bytes_from side (Loses from ∷ events) = bytes_from side events
-bytes_from side (Pops ∷ events) = bytes_from side events
+bytes_from side (TimerExpires ∷ events) = bytes_from side events
 
 -- the items of a side by which a state goes at an event: none once it is over
 abbrev pub heard_at : Side → SessionState → Event → List Item
@@ -22,7 +22,7 @@ heard_at side state (Comes from byte) =
     else (if same_side from side then last_items state.limits.cap ((coming state from).pending ++ byte ∷ []) else [])
 heard_at side state (Ends from) = []
 heard_at side state (Loses from) = []
-heard_at side state Pops = []
+heard_at side state TimerExpires = []
 
 -- the items of a side by which a run goes, in their order
 abbrev pub items_heard : (side : Side) (old : SessionState) (events : List Event) (effects : List Effect)

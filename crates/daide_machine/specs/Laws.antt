@@ -3,19 +3,19 @@ use Rattle.std.specs.Prelude.{◌≡◌, ℕ, ◌<◌, true, false, List, [], �
 use Rattle.daide_frame.specs.declared.side.Side.{Side}
 use Rattle.daide_frame.specs.Frames.{Item, items_of, cut, missing}
 use Rattle.daide_machine.specs.Events.{Event, bytes_come}
-use Rattle.daide_machine.specs.Machine.{Limits, SessionState, Effect, Step, Runs, coming, is_over, opening}
+use Rattle.daide_machine.specs.Machine.{Limits, SessionState, Effect, Transition, Runs, coming, is_over, opening}
 use Rattle.daide_machine.specs.Summary.{nothing_counted, tallied, reduced}
 use Rattle.daide_machine.specs.Counts.{frames_counted}
-use Rattle.daide_machine.specs.Wires.{Gateway, IsNew, waiting, sent_to, bytes_of}
+use Rattle.daide_machine.specs.Wires.{SessionView, IsNew, waiting, sent_to, bytes_of}
 use Rattle.daide_machine.specs.Calls.{Call, AreCalls, Delivers, events_of, taken_by, fails}
 use Rattle.daide_machine.specs.Heard.{bytes_from, items_heard}
 use Rattle.daide_machine.specs.Ended.{IsEndedBy}
 
 -- Whatever happens in whatever state, the machine goes on: each message has a verdict, and each row of the
 -- table an outcome. This is of limits without an operator's words, since the table that reads such words stands above. (own)
-abbrev pub EachEventHasAStep : Type 0
-EachEventHasAStep = (old : SessionState) (event : Event) → old.limits.words ≡ [] →
-    (effects : List Effect) × (new : SessionState) × Step old event effects new
+abbrev pub EachEventHasATransition : Type 0
+EachEventHasATransition = (old : SessionState) (event : Event) → old.limits.words ≡ [] →
+    (effects : List Effect) × (new : SessionState) × Transition old event effects new
 
 -- so each list of events has a run, from each state
 abbrev pub EventsHaveARun : Type 0
@@ -45,11 +45,11 @@ PiecesDoNotMatter = (side : Side) (piece more : List ℕ) →
 -- Whatever is called in whatever order, each wire gets the frames of the run of all that the session was told,
 -- none twice, none left out and none before its turn.
 abbrev pub CallsDeliverTheAnswers : Type 0
-CallsDeliverTheAnswers = (old new : Gateway) (calls : List Call) → AreCalls old calls new → Delivers old calls new
+CallsDeliverTheAnswers = (old new : SessionView) (calls : List Call) → AreCalls old calls new → Delivers old calls new
 
 -- so from a session's start to any time: what a wire took, and then what waits, are the machine's frames
 abbrev pub EachWireGetsTheAnswers : Type 0
-EachWireGetsTheAnswers = (limits : Limits) (old new : Gateway) (calls : List Call) → IsNew limits old →
+EachWireGetsTheAnswers = (limits : Limits) (old new : SessionView) (calls : List Call) → IsNew limits old →
     AreCalls old calls new → (effects : List Effect) × Runs (opening limits) (events_of calls) effects new.state
     × ((side : Side) → fails side calls ≡ false →
     taken_by side calls ++ bytes_of (waiting new side) ≡ bytes_of (sent_to side effects))
@@ -57,7 +57,7 @@ EachWireGetsTheAnswers = (limits : Limits) (old new : Gateway) (calls : List Cal
 -- Sessions with the same limits that were told the same are in the same state, and a wire of each got the same or
 -- has it waiting: in whatever pieces the bytes came, and however fast the wires are.
 abbrev pub OnlyEventsMatter : Type 0
-OnlyEventsMatter = (limits : Limits) (one other one_new other_new : Gateway) (calls more : List Call) →
+OnlyEventsMatter = (limits : Limits) (one other one_new other_new : SessionView) (calls more : List Call) →
     IsNew limits one → IsNew limits other → AreCalls one calls one_new → AreCalls other more other_new →
     events_of calls ≡ events_of more → (one_new.state ≡ other_new.state)
     × ((side : Side) → fails side calls ≡ false → fails side more ≡ false →

@@ -34,7 +34,7 @@ use Rattle.daide_machine.specs.declared.note.Note.{Note}
 use Rattle.daide_machine.specs.declared.note.Note.TheVariants as Notes
 use Rattle.daide_machine.specs.declared.ending.Ending.{Ending}
 use Rattle.daide_machine.specs.declared.ending.Ending.TheVariants as Endings
-use Rattle.daide_machine.specs.Events.{Event, Comes, Ends, Loses, Pops, other}
+use Rattle.daide_machine.specs.Events.{Event, Comes, Ends, Loses, TimerExpires, other}
 use Rattle.daide_machine.specs.Answers.{answer_bytes}
 use Rattle.daide_machine.specs.HloLevel.{level_told}
 
@@ -363,7 +363,7 @@ event_outcome state (Ends side) verdict =
     if is_over state.phase then nothing state else end state (Endings.Ended side) side
 event_outcome state (Loses side) verdict =
     if is_over state.phase then nothing state else end state (Endings.Lost side) side
-event_outcome state Pops verdict = popped state.phase state
+event_outcome state TimerExpires verdict = popped state.phase state
 
 -- ---- the verdict
 
@@ -399,7 +399,7 @@ question state (Comes side byte) =
     else asked_by state side (last_items state.limits.cap ((coming state side).pending ++ byte ∷ []))
 question state (Ends side) = None
 question state (Loses side) = None
-question state Pops = None
+question state TimerExpires = None
 
 -- the gateway is the server to the bot, and the client to the server
 abbrev pub side2_of : Side → Side2
@@ -415,7 +415,7 @@ IsRight words max_depth (Some q) verdict =
 -- ---- runs
 
 -- the machine goes by this event from old to new with these moves
-pub record Step (old : SessionState) (event : Event) (effects : List Effect) (new : SessionState) : Type 0 where
+pub record Transition (old : SessionState) (event : Event) (effects : List Effect) (new : SessionState) : Type 0 where
   pub verdict : Verdict
   pub right : IsRight old.limits.words old.limits.max_depth (question old event) verdict
   pub outcome : event_outcome old event verdict ≡ record { state = new; effects = effects }
@@ -425,4 +425,4 @@ abbrev pub Runs : SessionState → List Event → List Effect → SessionState �
 Runs old [] effects new = (effects ≡ []) × (new ≡ old)
 Runs old (event ∷ events) effects new =
     (mid : SessionState) × (first : List Effect) × (rest : List Effect)
-    × Step old event first mid × Runs mid events rest new × (effects ≡ first ++ rest)
+    × Transition old event first mid × Runs mid events rest new × (effects ≡ first ++ rest)

@@ -3,7 +3,7 @@
 use Rattle.std.specs.Prelude.{◌≡◌, ℕ, ◌≤◌, Bool, true, false, ◌||◌, if◌then◌else◌}
 use Rattle.std.specs.Prelude.{List, [], ◌∷◌, ◌++◌, take, Option, Some, IfSome}
 use Rattle.daide_frame.specs.declared.side.Side.{Side}
-use Rattle.daide_machine.specs.Events.{Event, Ends, Loses, Pops, bytes_come}
+use Rattle.daide_machine.specs.Events.{Event, Ends, Loses, TimerExpires, bytes_come}
 use Rattle.daide_machine.specs.Wires.{same_side}
 use Rattle.daide_machine.specs.declared.ports.Pull.{Pull}
 use Rattle.daide_machine.specs.declared.ports.Pull.TheVariants.{Got, Idle, Ended}
@@ -52,7 +52,7 @@ Tells {A} old answers new = IfSome new (λ after. (before : List A) × (old ≡ 
 
 -- what an answer tells the session: the timer, bytes of a side, its end, or a wire that failed
 abbrev pub event_of : PortAnswer → List Event
-event_of (Clock true) = Pops ∷ []
+event_of (Clock true) = TimerExpires ∷ []
 event_of (Clock false) = []
 event_of (Pulled side buffer (Got n) bytes) = bytes_come side bytes
 event_of (Pulled side buffer Idle bytes) = []

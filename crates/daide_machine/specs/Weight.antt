@@ -5,10 +5,10 @@ use Rattle.daide_frame.specs.declared.side.Side.{Side}
 use Rattle.daide_frame.specs.Frames.{announced, head_in}
 use Rattle.daide_grammar.specs.Depth.{open_brackets}
 use Rattle.daide_machine.specs.Machine.{coming}
-use Rattle.daide_machine.specs.Wires.{Gateway, Holding, holding, waiting, is_awaited, is_dm_head}
+use Rattle.daide_machine.specs.Wires.{SessionView, Holding, holding, waiting, is_awaited, is_dm_head}
 
 -- the lengths of the six collections: two bodies, two stacks, two lists of frames that wait
-unfoldable pub weight_of : Gateway → ℕ
+unfoldable pub weight_of : SessionView → ℕ
 weight_of g =
     length (drop 4 g.bot.held) + g.bot.entries + (length (drop 4 g.server.held) + g.server.entries)
     + (length g.to_bot + length g.to_server)
@@ -23,7 +23,7 @@ abbrev pub direction_bound : ℕ → List ℕ → ℕ
 direction_bound cap held = min (announced cap held) cap + 8 * open_brackets (tokens_held cap held) + 16
 
 -- both, and 64 together
-unfoldable pub weight_bound : Gateway → ℕ
+unfoldable pub weight_bound : SessionView → ℕ
 weight_bound g = direction_bound g.state.limits.cap g.bot.held + direction_bound g.state.limits.cap g.server.held + 64
 
 -- what is held in one direction is within these: the announced length, capped, and the entries
@@ -32,10 +32,10 @@ pub record IsKeptSmall (cap : ℕ) (h : Holding) : Type 0 where
   pub entries : h.entries ≤ 8 * open_brackets (tokens_held cap h.held) + 16
 
 -- the table's answers that a side's message may take: four a token, and four at its end
-abbrev pub steps_bound : Gateway → Side → ℕ
+abbrev pub steps_bound : SessionView → Side → ℕ
 steps_bound g side =
     4 * length (tokens_held g.state.limits.cap (holding g side).held) + (if is_awaited (waiting g) side then 4 else 0)
 
 -- where no answer to a side's last frame waits, the bytes that are held are those since its last whole frame
-abbrev pub IsTied : Gateway → Type 0
+abbrev pub IsTied : SessionView → Type 0
 IsTied g = (side : Side) → is_awaited (waiting g) side ≡ false → (holding g side).held ≡ (coming g.state side).pending

@@ -61,7 +61,7 @@ pub record Holding : Type 0 where
   pub total_before : ℕ
   pub looked_at : ℕ
 
-pub record Gateway : Type 0 where
+pub record SessionView : Type 0 where
   pub state : SessionState
   -- the frames that wait for each wire, the first perhaps in part
   pub to_bot : List Sent
@@ -74,11 +74,11 @@ pub record Gateway : Type 0 where
   -- its moves counted, modulo 2^64
   pub summary : Summary
 
-abbrev pub waiting : Gateway → Side → List Sent
+abbrev pub waiting : SessionView → Side → List Sent
 waiting g Bot = g.to_bot
 waiting g Server = g.to_server
 
-abbrev pub parts_of : Gateway → Side → List (List ℕ)
+abbrev pub parts_of : SessionView → Side → List (List ℕ)
 parts_of g Bot = g.bot_parts
 parts_of g Server = g.server_parts
 
@@ -94,10 +94,10 @@ parts_after n [] = []
 parts_after n (part ∷ parts) = drop n part ∷ parts_after (n - length part) parts
 
 -- what is handed to a wire next: a front of its first frame; empty exactly where none waits
-abbrev pub front_of : Gateway → Side → List ℕ
+abbrev pub front_of : SessionView → Side → List ℕ
 front_of g side = next_part (parts_of g side)
 
-abbrev pub holding : Gateway → Side → Holding
+abbrev pub holding : SessionView → Side → Holding
 holding g Bot = g.bot
 holding g Server = g.server
 
@@ -116,7 +116,7 @@ is_awaited wires side = has_answer side (wires Bot) || has_answer side (wires Se
 
 -- how many bytes of a side are taken next: none where an answer to its last frame waits, or the session
 -- is over; else what is missing of the header or the body
-unfoldable pub room_of : Gateway → Side → ℕ
+unfoldable pub room_of : SessionView → Side → ℕ
 room_of g side =
     if is_over g.state.phase || is_awaited (waiting g) side then 0
     else missing g.state.limits.cap (coming g.state side).pending
@@ -126,7 +126,7 @@ no_frame [] = true
 no_frame (frame ∷ frames) = false
 
 -- over, and nothing waits
-abbrev pub is_closed : Gateway → Bool
+abbrev pub is_closed : SessionView → Bool
 is_closed g = is_over g.state.phase && (no_frame g.to_bot && no_frame g.to_server)
 
 -- the first n bytes of the first frame are gone, and the frame where these are all
@@ -151,7 +151,7 @@ IsFrontOf xs (frame ∷ frames) = (0 < length xs) × ((rest : List ℕ) × (fram
 
 -- a new session: nothing came, nothing is held, nothing waits, no table was asked, no token looked at and no move
 -- counted
-pub record IsNew (limits : Limits) (g : Gateway) : Type 0 where
+pub record IsNew (limits : Limits) (g : SessionView) : Type 0 where
   pub state : g.state ≡ opening limits
   pub to_bot : g.to_bot ≡ []
   pub to_server : g.to_server ≡ []
@@ -162,7 +162,7 @@ pub record IsNew (limits : Limits) (g : Gateway) : Type 0 where
 
 -- By these events the session goes from old to new with what the note tells, what they cause waits behind what
 -- waited, and their moves are counted.
-pub record Goes (old : Gateway) (events : List Event) (told : Note) (new : Gateway) : Type 0 where
+pub record Goes (old : SessionView) (events : List Event) (told : Note) (new : SessionView) : Type 0 where
   pub effects : List Effect
   pub run : Runs old.state events effects new.state
   pub kept : (side : Side) → waiting new side ≡ waiting old side ++ sent_to side effects
@@ -170,14 +170,14 @@ pub record Goes (old : Gateway) (events : List Event) (told : Note) (new : Gatew
   pub counts : new.summary ≡ tallied effects old.summary
 
 -- What is held of a side whose answer is gone: nothing; of any other, what was held. No table was asked.
-pub record LetsGo (old new : Gateway) : Type 0 where
+pub record LetsGo (old new : SessionView) : Type 0 where
   pub gone : (side : Side) → is_awaited (waiting old) side ≡ true → is_awaited (waiting new) side ≡ false →
       ((holding new side).held ≡ []) × ((holding new side).total ≡ (holding old side).total)
   pub kept : (side : Side) → is_awaited (waiting new) side ≡ is_awaited (waiting old) side →
       holding new side ≡ holding old side
 
 -- One event, after which the session is over and nothing waits for the wire that failed.
-pub record Lost (old : Gateway) (side : Side) (new : Gateway) : Type 0 where
+pub record Lost (old : SessionView) (side : Side) (new : SessionView) : Type 0 where
   pub effects : List Effect
   pub run : Runs old.state (Loses side ∷ []) effects new.state
   pub dropped : waiting new side ≡ []
@@ -187,7 +187,7 @@ pub record Lost (old : Gateway) (side : Side) (new : Gateway) : Type 0 where
   pub held : LetsGo old new
 
 -- n bytes of what waited for a wire were taken, and nothing else changed of the state and the wires
-pub record Wrote (old : Gateway) (side : Side) (n : ℕ) (new : Gateway) : Type 0 where
+pub record Wrote (old : SessionView) (side : Side) (n : ℕ) (new : SessionView) : Type 0 where
   pub same_state : new.state ≡ old.state
   pub taken : waiting new side ≡ without n (waiting old side)
   pub front_bytes : bytes_of (waiting new side) ≡ drop n (bytes_of (waiting old side))
@@ -221,11 +221,11 @@ counts_from None (Some head) h = if is_dm head.kind then h.total else h.total_be
 counts_from (Some head) later h = h.total_before
 
 -- the bytes of a side's frame with more of them, up to the end of the frame
-abbrev pub grown : Gateway → Side → List ℕ → List ℕ
+abbrev pub grown : SessionView → Side → List ℕ → List ℕ
 grown g side piece = fed g.state.limits.cap (holding g side).held piece
 
 -- the header of a side's frame that has these bytes, once it is whole and good
-abbrev pub head_by : Gateway → List ℕ → Option Head
+abbrev pub head_by : SessionView → List ℕ → Option Head
 head_by g bytes = head_in g.state.limits.cap bytes
 
 -- the most that a table is asked for a piece: four answers for each token that it ends or begins, and four
@@ -240,7 +240,7 @@ looked_at_most piece = length piece / 2 + 1
 -- Bytes of a side came: its frame has them, its table was asked for a message alone, each token once and
 -- as it came, as each was looked at for the level of an HLO, and nothing changed of what is held of the other
 -- side. Where no byte came, nothing changed at all.
-pub record Takes (old : Gateway) (side : Side) (piece : List ℕ) (told : Note) (new : Gateway) : Type 0 where
+pub record Takes (old : SessionView) (side : Side) (piece : List ℕ) (told : Note) (new : SessionView) : Type 0 where
   pub nothing : piece ≡ [] → holding new side ≡ holding old side
   pub bytes : (holding new side).held ≡ held_after told (grown old side piece)
   pub base : (holding new side).total_before
@@ -252,13 +252,13 @@ pub record Takes (old : Gateway) (side : Side) (piece : List ℕ) (told : Note) 
   pub other_side : holding new (other side) ≡ holding old (other side)
 
 -- nothing changed of what is held
-abbrev pub HoldsTheSame : Gateway → Gateway → Type 0
+abbrev pub HoldsTheSame : SessionView → SessionView → Type 0
 HoldsTheSame old new = (new.bot ≡ old.bot) × (new.server ≡ old.server)
 
 -- no table was asked
-abbrev pub AsksNothing : Gateway → Gateway → Type 0
+abbrev pub AsksNothing : SessionView → SessionView → Type 0
 AsksNothing old new = (new.bot.total ≡ old.bot.total) × (new.server.total ≡ old.server.total)
 
 -- no token was looked at for the level of an HLO
-abbrev pub LooksAtNothing : Gateway → Gateway → Type 0
+abbrev pub LooksAtNothing : SessionView → SessionView → Type 0
 LooksAtNothing old new = (new.bot.looked_at ≡ old.bot.looked_at) × (new.server.looked_at ≡ old.server.looked_at)

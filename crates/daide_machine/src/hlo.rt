@@ -133,9 +133,8 @@ impl HloScan {
         self.looked_at = self.looked_at.wrapping_add(1);
     }
 
-    /// Looks at the tokens of a body from the token `from` on, each once; those before it came before. An odd byte
-    /// at the end waits for its other half.
-    pub fn read(&mut self, body: &[u8], from: usize)
+    /// Looks at the tokens of a body from the token `from` on, each once; those before it came before.
+    fn read_on(&mut self, body: &[u8], from: usize)
         requires came_before { 2 * from ≤ length body.now }
         requires short { length body.now ≤ longest_message }
         ensures found { self.old.found ≡ found_in (tokens_of (take (2 * from) body.now)) →
@@ -148,6 +147,28 @@ impl HloScan {
             }
             self.look(Token::from_be([body[2 * i], body[2 * i + 1]]));
         }
+    }
+
+    /// Looks at the tokens of a body from the token `from` on, each once; those before it came before. An odd byte
+    /// at the end waits for its other half. Most messages are no HLO, which their first token tells.
+    #[inline(always)]
+    pub fn read(&mut self, body: &[u8], from: usize)
+        requires came_before { 2 * from ≤ length body.now }
+        requires short { length body.now ≤ longest_message }
+        ensures found { self.old.found ≡ found_in (tokens_of (take (2 * from) body.now)) →
+            self.new.found ≡ found_in (tokens_of body.now) }
+        ensures looked_at { IsRaised (length body.now / 2 - from) self.old.looked_at self.new.looked_at }
+    {
+        if let Found::NoToken = self.found
+            && from < body.len() / 2
+        {
+            let first = Token::from_be([body[2 * from], body[2 * from + 1]]);
+            if first.code() != HLO {
+                self.look(first);
+                return;
+            }
+        }
+        self.read_on(body, from);
     }
 }
 

@@ -11,11 +11,11 @@ ghost use Rattle.daide_words.specs.declared.word.Word.{Word};
 ghost use Rattle.daide_words.specs.Word.{grammar_words};
 ghost use Rattle.daide_words.specs.Accepted.{are_accepted};
 ghost use Rattle.daide_words.specs.Words.{words_of};
-ghost use Rattle.daide_machine.specs.Bounds.{longest_body, least_body, deepest, least_depth, most_sessions};
+ghost use Rattle.daide_machine.specs.Bounds.{longest_body, least_body, greatest_depth, least_depth, most_sessions};
 ghost use Rattle.daide_machine.specs.Answers.{prn_open, huh_open, err_word, close_word};
 ghost use Rattle.daide_machine.specs.Events.{Event};
-ghost use Rattle.daide_machine.specs.Machine.{Effect, Runs, SessionState, Step, fm_bytes};
-ghost use Rattle.daide_machine.specs.Laws.{EachEventHasAStep, EventsHaveARun};
+ghost use Rattle.daide_machine.specs.Machine.{Effect, Runs, SessionState, Transition, fm_bytes};
+ghost use Rattle.daide_machine.specs.Laws.{EachEventHasATransition, EventsHaveARun};
 ghost use Rattle.daide_machine.specs.Laws.{AnswersAreUnique, RunsJoin, AnswersJoin, PiecesDoNotMatter};
 ghost use Rattle.daide_machine.specs.Laws.{CallsDeliverTheAnswers, EachWireGetsTheAnswers, OnlyEventsMatter};
 ghost use Rattle.daide_machine.specs.Fates.{EachMessageHasOneFate};
@@ -44,16 +44,16 @@ pub fn words_are_those_of_the_definitions()
 pub fn bounds_are_those_of_the_definitions()
     ensures body { MAX_BODY ≡ longest_body }
     ensures least_body { MIN_BODY ≡ least_body }
-    ensures depth { MAX_DEPTH ≡ deepest }
+    ensures depth { MAX_DEPTH ≡ greatest_depth }
     ensures least_depth { MIN_DEPTH ≡ least_depth }
-    ensures entries { STACK_ENTRIES ≡ 8 * deepest + 16 }
+    ensures entries { STACK_ENTRIES ≡ 8 * greatest_depth + 16 }
     ensures sessions { MAX_SESSIONS ≡ most_sessions }
 {}
 
 /// Whatever happens in whatever state has a step, so no table of the machine has a row left out, and no
 /// message is without a verdict.
 pub fn each_event_has_a_step()
-    ensures { EachEventHasAStep }
+    ensures { EachEventHasATransition }
 {}
 
 /// Each list of events has a run from each state. Since it has one only, the answers are a function of what
@@ -153,7 +153,7 @@ pub fn a_side_harms_itself_alone()
 pub fn each_event_has_a_step_with_words()
     ensures { (words : List Word) (old : SessionState) (event : Event) → are_accepted words ≡ true →
         old.limits.words ≡ grammar_words words →
-        (effects : List Effect) × (new : SessionState) × Step old event effects new }
+        (effects : List Effect) × (new : SessionState) × Transition old event effects new }
 {}
 
 /// So each list of events has a run with these words, from each state.

@@ -1,13 +1,13 @@
 -- Metered ports over two streams move these by their answers.
 use Rattle.std.proofs.Common.{◌≡◌, ℕ, List, [], ◌∷◌, Option, Some, None, refl, ap, subst, sym}
 use Rattle.std.specs.Prelude.{Contains}
-use Rattle.daide_machine.specs.Wires.{Gateway}
+use Rattle.daide_machine.specs.Wires.{SessionView}
 use Rattle.daide_machine.specs.Ports.{PortAnswer, Clock, Pulled, Offered, BecomesBy}
 use Rattle.daide_machine.specs.declared.ports.Pull.{Pull}
 use Rattle.daide_machine.specs.declared.ports.Put.{Put}
 use Rattle.daide_settings.specs.declared.settings.Settings.{Settings}
 use Rattle.daide_machine.specs.declared.system.Connect.TheVariants.{Ready}
-use Rattle.daide_service.specs.Metered.{Meter, Meters, BecomesWhile, IsSpentAnswer}
+use Rattle.daide_service.specs.Metered.{MeteredView, Meters, BecomesWhile, IsSpentAnswer}
 use Rattle.daide_service.specs.Serving.{fresh}
 use Rattle.daide_service.specs.Served.{IsServed, run_limits}
 use Rattle.daide_machine.specs.System.{SystemAnswer, Connects}
@@ -38,16 +38,16 @@ module _ {P S : Type 0} (streams : P → Buffer S × Buffer S) (to_give taken : 
   one_moves (Some turns) old answer new h = h
   one_moves None old answer new h = spent_moves answer (streams old) (streams new) h.0 (ap streams h.1)
 
-  all_move : (history : List PortAnswer) (old new : Meter P) → BecomesBy (Meters MovesOf) old history new →
+  all_move : (history : List PortAnswer) (old new : MeteredView P) → BecomesBy (Meters MovesOf) old history new →
       BecomesBy (Moves to_give taken) (streams old.ports) history (streams new.ports)
-  all_move [] old new h = ap (λ (meter : Meter P). streams meter.ports) h
+  all_move [] old new h = ap (λ (meter : MeteredView P). streams meter.ports) h
   all_move (answer ∷ history) old new h = (
     streams h.0.ports,
     one_moves h.0.left old.ports answer h.0.ports h.1.ports,
     all_move history h.0 new h.2,
   )
 
-  pub served_exchange : (settings : Settings) (answers : List (SystemAnswer P)) (now : Gateway × Meter P) →
+  pub served_exchange : (settings : Settings) (answers : List (SystemAnswer P)) (now : SessionView × MeteredView P) →
       IsServed MovesOf settings answers now →
       (ports : P) × Contains answers (Connects (Ready ports)) × ((history : List PortAnswer) ×
       Exchanges to_give taken (run_limits settings) history (streams ports) now.0 (streams now.1.ports))

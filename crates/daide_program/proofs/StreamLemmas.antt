@@ -4,10 +4,10 @@ use Rattle.std.proofs.Common.{◌∙◌, subst, append_assoc, append-nil}
 use Rattle.std.specs.Io.KnownBytes.{Consumes, Appends}
 use Rattle.daide_frame.specs.declared.side.Side.{Side}
 use Rattle.daide_frame.specs.declared.side.Side.TheVariants.{Bot, Server}
-use Rattle.daide_machine.specs.Events.{Event, Comes, Ends, Loses, Pops, bytes_come}
+use Rattle.daide_machine.specs.Events.{Event, Comes, Ends, Loses, TimerExpires, bytes_come}
 use Rattle.daide_machine.specs.Heard.{bytes_from}
 use Rattle.daide_machine.specs.Machine.{Limits}
-use Rattle.daide_machine.specs.Wires.{Gateway, same_side, bytes_of, waiting}
+use Rattle.daide_machine.specs.Wires.{SessionView, same_side, bytes_of, waiting}
 use Rattle.daide_turns.specs.Headline.{IsBoundedAndExact, untouched}
 use Rattle.daide_machine.specs.Ports.{PortAnswer, Clock, Pulled, Offered, BecomesBy, event_of, events_of, took}
 use Rattle.daide_turns.specs.Record.{Moved}
@@ -33,7 +33,7 @@ event_first side (Comes from byte) events more h = go (same_side from side) refl
     go false e = rw e h
 event_first side (Ends from) events more h = h
 event_first side (Loses from) events more h = h
-event_first side Pops events more h = h
+event_first side TimerExpires events more h = h
 
 bytes_from-append : (side : Side) (events more : List Event) →
     bytes_from side (events ++ more) ≡ bytes_from side events ++ bytes_from side more
@@ -121,7 +121,7 @@ module _ {S : Type 0} (to_give got : S → Option (List ℕ)) where
       (sym (append-nil h.went) ∙ ap (λ (l : List ℕ). h.went ++ l) (sym written) ∙ sym h.behind
       ∙ ap (λ (l : List ℕ). l ++ over) none ∙ all) h.takes
 
-  pub exchanged : (limits : Limits) (history : List PortAnswer) (first now : Buffer S × Buffer S) (g : Gateway) →
+  pub exchanged : (limits : Limits) (history : List PortAnswer) (first now : Buffer S × Buffer S) (g : SessionView) →
       BecomesBy (Moves to_give got) first history now → IsBoundedAndExact limits history g →
       Exchanges to_give got limits history first g now
   exchanged limits history first now g moves h =

@@ -6,11 +6,11 @@ use Rattle.daide_machine.specs.Heard.{bytes_from}
 use Rattle.daide_machine.specs.Machine.{Effect, Limits, Runs, opening}
 use Rattle.daide_machine.specs.Ports.{PortAnswer, BecomesBy, events_of, taken, has_failed}
 use Rattle.daide_machine.specs.System.{SystemAnswer, Connects}
-use Rattle.daide_machine.specs.Wires.{Gateway, sent_to, bytes_of, is_closed}
+use Rattle.daide_machine.specs.Wires.{SessionView, sent_to, bytes_of, is_closed}
 use Rattle.daide_machine.specs.declared.system.Connect.TheVariants.{Ready}
 use Rattle.daide_turns.specs.Headline.{IsBoundedAndExact}
 use Rattle.daide_settings.specs.declared.settings.Settings.{Settings}
-use Rattle.daide_service.specs.Metered.{Meter}
+use Rattle.daide_service.specs.Metered.{MeteredView}
 use Rattle.daide_service.specs.Served.{IsServed, run_limits}
 use Rattle.daide_streams.specs.Buffers.{Buffer, Passes}
 use Rattle.daide_streams.specs.Streams.{stream_of, Moves}
@@ -22,7 +22,7 @@ use Rattle.daide_streams.specs.Streams.{stream_of, Moves}
 -- stream is a front of the machine's answers to these events, and all of them where the session is closed and the wire
 -- didn't fail.
 pub record Exchanges {S : Type 0} (to_give got : S → Option (List ℕ)) (limits : Limits) (history : List PortAnswer)
-    (first : Buffer S × Buffer S) (g : Gateway) (now : Buffer S × Buffer S) : Type 0 where
+    (first : Buffer S × Buffer S) (g : SessionView) (now : Buffer S × Buffer S) : Type 0 where
   pub effects : List Effect
   pub run : Runs (opening limits) (events_of history) effects g.state
   pub passes : (side : Side) → Passes to_give got (stream_of first side) (bytes_from side (events_of history))
@@ -47,7 +47,7 @@ pub record Exchanges {S : Type 0} (to_give got : S → Option (List ℕ)) (limit
 -- the machine hears and answers.
 abbrev pub SessionsExchange : {S : Type 0} → (S → Option (List ℕ)) → (S → Option (List ℕ)) → Type 0
 SessionsExchange {S} to_give got =
-    (limits : Limits) (history : List PortAnswer) (first now : Buffer S × Buffer S) (g : Gateway) →
+    (limits : Limits) (history : List PortAnswer) (first now : Buffer S × Buffer S) (g : SessionView) →
     BecomesBy (Moves to_give got) first history now → IsBoundedAndExact limits history g →
     Exchanges to_give got limits history first g now
 
@@ -58,6 +58,6 @@ SessionsExchange {S} to_give got =
 abbrev pub ServedSessionsExchange : {P S : Type 0} → (P → PortAnswer → P → Type 0) → (P → Buffer S × Buffer S) →
     (S → Option (List ℕ)) → (S → Option (List ℕ)) → Type 0
 ServedSessionsExchange {P} {S} becomes streams to_give taken = (settings : Settings) (answers : List (SystemAnswer P))
-    (now : Gateway × Meter P) → IsServed becomes settings answers now →
+    (now : SessionView × MeteredView P) → IsServed becomes settings answers now →
     (ports : P) × Contains answers (Connects (Ready ports)) × ((history : List PortAnswer) ×
     Exchanges to_give taken (run_limits settings) history (streams ports) now.0 (streams now.1.ports))

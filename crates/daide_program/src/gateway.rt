@@ -11,7 +11,7 @@ ghost use Rattle.daide_program.specs.Gateway.{IsBeforeServing, IsGatewayCause, H
 use daide_gate::ports::Ports;
 use daide_gate::system::System;
 use daide_gate::{ServeFault, Settings, serve};
-use daide_sockets::ground::{Ground, GroundFault, ground_of, sockets_on};
+use daide_sockets::ground::{Ground, GroundError, ground_of, sockets_on};
 use daide_sockets::ports::SocketPorts;
 use std::alloc::Global;
 use std::io::Write;
@@ -34,12 +34,12 @@ pub enum GatewayFault {
 }
 
 /// The fault of a gateway that has no ground to run on.
-pub(crate) fn fault_of(fault: GroundFault) -> GatewayFault
+pub(crate) fn fault_of(fault: GroundError) -> GatewayFault
     ensures { IsBeforeServing result × ((settings : Settings) → IsGatewayCause settings result) }
 {
     match fault {
-        GroundFault::Listen => GatewayFault::Listen,
-        GroundFault::Memory => GatewayFault::Memory,
+        GroundError::Listen => GatewayFault::Listen,
+        GroundError::Memory => GatewayFault::Memory,
     }
 }
 
@@ -66,7 +66,8 @@ pub fn serve_with<P: Ports, S: System<P>, O: Write>(
 
 /// Listens, says so, and serves until all bots were served: by what the system answered, a whole run of the settings.
 /// `Listen` and `Memory` come before anything is printed, `Serve` after it, for the run's own cause and once it did what
-/// that fault says. Whom it serves is the system's to say. Where `is_verbose`, a line is told where a session begins, and one where it ends.
+/// that fault says. Whom it serves is the system's to say. Where `is_verbose`, a line is told where a session begins, and
+/// one where it ends.
 pub fn serve_at<R: AllocGlobal + Clock + Net, O: Write, E: Write>(
     rt: &R,
     settings: &Settings,
@@ -83,12 +84,12 @@ pub fn serve_at<R: AllocGlobal + Clock + Net, O: Write, E: Write>(
     let Ground {
         listener,
         servers,
-        watch,
+        poller,
     } = match ground_of(rt, settings) {
         Ok(ground) => ground,
         Err(fault) => return Err(fault_of(fault)),
     };
-    let at = (listener, servers.as_slice(), &watch);
+    let at = (listener, servers.as_slice(), &poller);
     let Some(mut system) = sockets_on(rt, settings, at, errors) else {
         return Err(GatewayFault::Memory);
     };

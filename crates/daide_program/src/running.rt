@@ -90,9 +90,9 @@ fn run_recorded<R: AllocGlobal + Files + Clock + Net, O: Write, E: Write>(
     let Ground {
         listener,
         servers,
-        watch,
+        poller,
     } = ground_of(rt, &settings).map_err(|fault| RunFault::Gateway(fault_of(fault)))?;
-    let at = (listener, servers.as_slice(), &watch);
+    let at = (listener, servers.as_slice(), &poller);
     let Some(mut sockets) = sockets_on(rt, &settings, at, errors) else {
         return Err(RunFault::Memory);
     };

@@ -48,16 +48,16 @@ pub fn are_open(unclosed: Option<u16>, count: u16) -> bool
 /// Counts one more token, and answers whether it doesn't open one bracket too many. The class tells
 /// most tokens apart from brackets. The count wraps once a KET comes with nothing open.
 #[inline(always)]
-pub fn recount(opened: &mut u16, token: Token, class: Column, deepest: u16) -> bool
+pub fn recount(opened: &mut u16, token: Token, class: Column, limit: u16) -> bool
     requires low { opened.old < 65534 }
     requires told { is_bracket class ≡ (is_bra_token token || is_ket_token token) }
-    ensures fits { result ≡ true → is_bra_token token ≡ true → opened.old ≢ deepest }
+    ensures fits { result ≡ true → is_bra_token token ≡ true → opened.old ≢ limit }
     ensures counted { count_one (is_bra_token token) (is_ket_token token) (Some opened.old) ≡ open_count opened.new }
-    ensures refused { result ≡ false → (is_bra_token token ≡ true) × (opened.old ≡ deepest) }
+    ensures refused { result ≡ false → (is_bra_token token ≡ true) × (opened.old ≡ limit) }
 {
     if class.is_bracket() {
         if is_bra(token) {
-            let fits = *opened != deepest;
+            let fits = *opened != limit;
             *opened += 1;
             return fits;
         }

@@ -32,29 +32,29 @@ pub struct Reached {
 
 /// One token against the stack of the first `count` cells, with the open brackets before it: how many
 /// cells the stack has then, and the open brackets, where the token is taken.
-#[inline(never)]
+#[cold]
 fn step<T: Predict, const N: usize>(
     table: &mut T,
     cells: &mut [Symbol; N],
     count: usize,
     opened: &mut u16,
     token: Token,
-    deepest: u16,
+    limit: u16,
 ) -> Option<usize>
     requires size { N ≤ most_symbols }
     requires count { count ≤ N }
     requires low { opened.old < 65534 }
-    requires room { (is_bra_token token ≡ true → opened.old ≢ deepest) →
+    requires room { (is_bra_token token ≡ true → opened.old ≢ limit) →
         IfSome (stack_after (T.moves (T.words table.old)) (T.class_of (T.words table.old) token)
         (reverse (take count cells.old))) (λ after. length after ≤ N) }
-    ensures fits { IsSome result → is_bra_token token ≡ true → opened.old ≢ deepest }
+    ensures fits { IsSome result → is_bra_token token ≡ true → opened.old ≢ limit }
     ensures taken { IfSome result (λ r.
         stack_after (T.moves (T.words table.old)) (T.class_of (T.words table.old) token)
         (reverse (take count cells.old))
         ≡ Some (reverse (take r cells.new))) }
     ensures inside { IfSome result (λ r. r ≤ N) }
     ensures counted { count_one (is_bra_token token) (is_ket_token token) (Some opened.old) ≡ open_count opened.new }
-    ensures refused { IfNone result (((is_bra_token token ≡ true) × (opened.old ≡ deepest))
+    ensures refused { IfNone result (((is_bra_token token ≡ true) × (opened.old ≡ limit))
         ⊎ (stack_after (T.moves (T.words table.old)) (T.class_of (T.words table.old) token)
         (reverse (take count cells.old)) ≡ None)) }
     ensures words { T.words table.new ≡ T.words table.old }
@@ -64,7 +64,7 @@ fn step<T: Predict, const N: usize>(
         × (T.asked table.new % 2 ^ 64 ≡ (T.asked table.old + n) % 2 ^ 64) }
 {
     let class = table.class_of(token);
-    if !recount(opened, token, class, deepest) {
+    if !recount(opened, token, class, limit) {
         return None;
     }
     follow(table, cells, count, class)

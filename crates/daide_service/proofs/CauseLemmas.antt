@@ -11,9 +11,9 @@ use Rattle.daide_machine.specs.declared.system.Cause.TheVariants as Causes
 use Rattle.daide_machine.specs.declared.ports.Pull.TheVariants.{Got, Idle, Ended}
 use Rattle.daide_machine.specs.declared.ports.Put.TheVariants.{Took, Failed}
 use Rattle.daide_machine.specs.Events.{Event, Ends, Loses}
-use Rattle.daide_machine.specs.Machine.{SessionState, Effect, Limits, Outcome, Runs, Step, is_over}
+use Rattle.daide_machine.specs.Machine.{SessionState, Effect, Limits, Outcome, Runs, Transition, is_over}
 use Rattle.daide_machine.specs.Ports.{PortAnswer, Clock, Pulled, Offered, BecomesBy, events_of}
-use Rattle.daide_machine.specs.Wires.{Gateway, same_side, front_of, room_of}
+use Rattle.daide_machine.specs.Wires.{SessionView, same_side, front_of, room_of}
 use Rattle.daide_machine.proofs.EndingLemmas.{runs_told}
 use Rattle.daide_machine.proofs.OneRun.{one_run}
 use Rattle.daide_machine.proofs.PieceRuns.{over_stays}
@@ -21,7 +21,7 @@ use Rattle.daide_turns.specs.Headline.{Stands, untouched}
 use Rattle.daide_turns.specs.Hub.{IsTurned}
 use Rattle.daide_turns.specs.Turn.{Then, Hears, Puts, Pulls, Turn}
 use Rattle.daide_turns.proofs.Stretches.{becomes_then}
-use Rattle.daide_service.specs.Metered.{Meter, Meters, BecomesWhile, IsSpentAnswer, one_less, told_where}
+use Rattle.daide_service.specs.Metered.{MeteredView, Meters, BecomesWhile, IsSpentAnswer, one_less, told_where}
 use Rattle.daide_service.specs.Served.{while_left, cause_of, looks_in}
 use Rattle.daide_service.specs.Serving.{fresh, is_told, cause_by}
 use Rattle.daide_service.proofs.LookLemmas.{turn_looks, counted_from, below_alike, none_below_zero}
@@ -49,7 +49,7 @@ or_none (Some x) = refl
 
 module _ {P : Type 0} (becomes : P → PortAnswer → P → Type 0) where
   -- ports that are spent stay so, and tell the first of these
-  record Tells (answers : List PortAnswer) (old new : Meter P) : Type 0 where
+  record Tells (answers : List PortAnswer) (old new : MeteredView P) : Type 0 where
     spent : AreSpent answers
     told : new.told ≡ option_or old.told (first_of answers)
     left : new.left ≡ None
@@ -64,12 +64,12 @@ module _ {P : Type 0} (becomes : P → PortAnswer → P → Type 0) where
   where_spent None ending told e = refl
   where_spent (Some turns) ending told e = absurd (cc)
 
-  tells : (answers : List PortAnswer) (old new : Meter P) → old.left ≡ None → BecomesBy (Meters becomes) old answers new →
+  tells : (answers : List PortAnswer) (old new : MeteredView P) → old.left ≡ None → BecomesBy (Meters becomes) old answers new →
       Tells answers old new
   tells [] old new e h = record {
     spent = tt;
-    told = ap (λ (m : Meter P). m.told) h ∙ sym (or_none old.told);
-    left = ap (λ (m : Meter P). m.left) h ∙ e;
+    told = ap (λ (m : MeteredView P). m.told) h ∙ sym (or_none old.told);
+    left = ap (λ (m : MeteredView P). m.left) h ∙ e;
   }
   tells (Clock popped ∷ answers) old new e h =
       let left : h.0.left ≡ None = h.1.left ∙ ap one_less e in
@@ -117,10 +117,10 @@ module _ {P : Type 0} (becomes : P → PortAnswer → P → Type 0) where
       more_of None = Some (suc more)
       more_of (Some n) = Some (suc n)
 
-  untold : (answers : List PortAnswer) (turns : ℕ) (old new : Meter P) → BecomesBy (Meters becomes) old answers new →
+  untold : (answers : List PortAnswer) (turns : ℕ) (old new : MeteredView P) → BecomesBy (Meters becomes) old answers new →
       new.left ≡ Some turns → (new.told ≡ old.told) × ((more : ℕ) × (old.left ≡ Some more))
   untold [] turns old new h e =
-      (ap (λ (m : Meter P). m.told) h, (turns, sym (ap (λ (m : Meter P). m.left) h) ∙ e))
+      (ap (λ (m : MeteredView P). m.told) h, (turns, sym (ap (λ (m : MeteredView P). m.left) h) ∙ e))
   untold (Clock popped ∷ answers) turns old new h e =
       let rest = untold answers turns h.0 new h.2 e in
       (rest.0 ∙ h.1.told, (suc rest.1.0, some_left old.left rest.1.0 (sym h.1.left ∙ rest.1.1)))
@@ -137,7 +137,7 @@ module _ {P : Type 0} (becomes : P → PortAnswer → P → Type 0) where
 
   -- ---- the answers while turns are left
 
-  all_left : (answers : List PortAnswer) (turns more : ℕ) (old new : Meter P) → old.left ≡ Some turns →
+  all_left : (answers : List PortAnswer) (turns more : ℕ) (old new : MeteredView P) → old.left ≡ Some turns →
       BecomesBy (Meters becomes) old answers new → new.left ≡ Some more → while_left turns answers ≡ answers
   all_left [] turns more old new e h k = refl
   all_left (Clock popped ∷ answers) zero more old new e h k =
@@ -154,11 +154,11 @@ module _ {P : Type 0} (becomes : P → PortAnswer → P → Type 0) where
       (all_left answers turns more h.0 new (h.1.left ∙ e) h.2 k)
 
   -- what is answered once they are spent counts no more
-  spent_adds : (answers more : List PortAnswer) (turns : ℕ) (old new : Meter P) → old.left ≡ Some turns →
+  spent_adds : (answers more : List PortAnswer) (turns : ℕ) (old new : MeteredView P) → old.left ≡ Some turns →
       BecomesBy (Meters becomes) old answers new → new.left ≡ None →
       while_left turns (answers ++ more) ≡ while_left turns answers
   spent_adds [] more turns old new e h k =
-      let same = ap (λ (m : Meter P). m.left) h in absurd (cc)
+      let same = ap (λ (m : MeteredView P). m.left) h in absurd (cc)
   spent_adds (Clock popped ∷ answers) more zero old new e h k = refl
   spent_adds (Clock popped ∷ answers) more (suc turns) old new e h k =
       ap (λ (l : List PortAnswer). Clock popped ∷ l)
@@ -171,12 +171,12 @@ module _ {P : Type 0} (becomes : P → PortAnswer → P → Type 0) where
       (spent_adds answers more turns h.0 new (h.1.left ∙ e) h.2 k)
 
   -- a look at the clock with no turn left is the first of them
-  last_adds : (answers : List PortAnswer) (popped : Bool) (more : List PortAnswer) (turns : ℕ) (old new : Meter P) →
+  last_adds : (answers : List PortAnswer) (popped : Bool) (more : List PortAnswer) (turns : ℕ) (old new : MeteredView P) →
       old.left ≡ Some turns → BecomesBy (Meters becomes) old answers new → new.left ≡ Some 0 →
       while_left turns (answers ++ Clock popped ∷ more) ≡ answers
   last_adds [] popped more zero old new e h k = refl
   last_adds [] popped more (suc turns) old new e h k =
-      let same = ap (λ (m : Meter P). m.left) h in absurd (cc)
+      let same = ap (λ (m : MeteredView P). m.left) h in absurd (cc)
   last_adds (Clock seen ∷ answers) popped more zero old new e h k =
       let spent = tells answers h.0 new (h.1.left ∙ ap one_less e) h.2 in
       let none = spent.left in absurd (cc)
@@ -191,7 +191,7 @@ module _ {P : Type 0} (becomes : P → PortAnswer → P → Type 0) where
       (last_adds answers popped more turns h.0 new (h.1.left ∙ e) h.2 k)
 
   -- the look that is one too many pops no clock, and from it on the ports are asked nothing more
-  from_look : (popped : Bool) (answers : List PortAnswer) (old new : Meter P) → old.left ≡ Some 0 →
+  from_look : (popped : Bool) (answers : List PortAnswer) (old new : MeteredView P) → old.left ≡ Some 0 →
       BecomesBy (Meters becomes) old (Clock popped ∷ answers) new → Tells (Clock popped ∷ answers) old new
   from_look popped answers old new e h =
       let left : h.0.left ≡ None = h.1.left ∙ ap one_less e in
@@ -266,14 +266,14 @@ over_for_good : (old : SessionState) (events : List Event) (effects : List Effec
 over_for_good old events effects new over run = (one_run events old effects [] new old run (over_stays old events over)).1
 
 ends_by : (old : SessionState) (side : Side) (effects : List Effect) (new : SessionState) → is_over old.phase ≡ false →
-    Step old (Ends side) effects new → (new.ending ≡ Some (Endings.Ended side)) × (is_over new.phase ≡ true)
+    Transition old (Ends side) effects new → (new.ending ≡ Some (Endings.Ended side)) × (is_over new.phase ≡ true)
 ends_by old side effects new live step = (
   ap (λ (o : Outcome). o.state.ending) (sym step.outcome) ∙ (rw live refl),
   ap (λ (o : Outcome). is_over o.state.phase) (sym step.outcome) ∙ (rw live refl),
 )
 
 loses_by : (old : SessionState) (side : Side) (effects : List Effect) (new : SessionState) → is_over old.phase ≡ false →
-    Step old (Loses side) effects new → (new.ending ≡ Some (Endings.Lost side)) × (is_over new.phase ≡ true)
+    Transition old (Loses side) effects new → (new.ending ≡ Some (Endings.Lost side)) × (is_over new.phase ≡ true)
 loses_by old side effects new live step = (
   ap (λ (o : Outcome). o.state.ending) (sym step.outcome) ∙ (rw live refl),
   ap (λ (o : Outcome). is_over o.state.phase) (sym step.outcome) ∙ (rw live refl),
@@ -315,17 +315,17 @@ lost_is_told side (Endings.Final one) = refl
 lost_is_told side (Endings.Error one) = refl
 lost_is_told side (Endings.Fault one code) = refl
 
-no_room : (g : Gateway) (side : Side) → is_over g.state.phase ≡ true → room_of g side ≡ 0
+no_room : (g : SessionView) (side : Side) → is_over g.state.phase ≡ true → room_of g side ≡ 0
 unfolding room_of
 no_room g side over = rw over refl
 
-module _ (limits : Limits) (history : List PortAnswer) (g : Gateway) (ending : Ending)
+module _ (limits : Limits) (history : List PortAnswer) (g : SessionView) (ending : Ending)
     (stands : Stands limits history g) (over : is_over g.state.phase ≡ true) (ended : g.state.ending ≡ Some ending) where
   -- what ended it is not told first
   abbrev Other : List PortAnswer → Type 0
   Other answers = is_told (first_of answers) ending ≡ false
 
-  puts_other : (side : Side) (first second : List PortAnswer) (new : Gateway) → Puts side g first new →
+  puts_other : (side : Side) (first second : List PortAnswer) (new : SessionView) → Puts side g first new →
       (new ≡ g → Other second) → Other (first ++ second)
   puts_other side first second new (inl h) k =
       subst (λ (l : List PortAnswer). Other (l ++ second)) (sym h.1) (k h.2)
@@ -338,7 +338,7 @@ module _ (limits : Limits) (history : List PortAnswer) (g : Gateway) (ending : E
       by true e =
           absurd (lost_waits side limits history g (front_of g side) stands (ap (is_lost side) ended ∙ e) h.front h.filled)
 
-  pulls_other : (side : Side) (first second : List PortAnswer) (new : Gateway) → Pulls side g first new →
+  pulls_other : (side : Side) (first second : List PortAnswer) (new : SessionView) → Pulls side g first new →
       (new ≡ g → Other second) → Other (first ++ second)
   pulls_other side first second new (inl h) k =
       subst (λ (l : List PortAnswer). Other (l ++ second)) (sym h.1) (k h.2)
@@ -347,30 +347,30 @@ module _ (limits : Limits) (history : List PortAnswer) (g : Gateway) (ending : E
       let none = no_room g side over in
       absurd (omega (arith, some, none))
 
-  last_pull : (answers : List PortAnswer) (new : Gateway) → Pulls Server g answers new → Other answers
+  last_pull : (answers : List PortAnswer) (new : SessionView) → Pulls Server g answers new → Other answers
   last_pull answers new h =
       subst Other (append-nil answers) (pulls_other Server answers [] new h (λ same. refl))
 
-  turn_other : (call : List PortAnswer) (new : Gateway) → Turn g call new → AreSpent call → Other call
+  turn_other : (call : List PortAnswer) (new : SessionView) → Turn g call new → AreSpent call → Other call
   turn_other call new t spent = begun t.4.0 t.4.1 t.4.2
     where
-      after_puts : (mid : Gateway) (answers : List PortAnswer) → mid ≡ g →
+      after_puts : (mid : SessionView) (answers : List PortAnswer) → mid ≡ g →
           Then (Pulls Bot) (Pulls Server) mid answers new → Other answers
       after_puts mid answers same h =
-          let k = subst (λ (a : Gateway). Then (Pulls Bot) (Pulls Server) a answers new) same h in
+          let k = subst (λ (a : SessionView). Then (Pulls Bot) (Pulls Server) a answers new) same h in
           subst Other (sym k.3) (pulls_other Bot k.1 k.2 k.0 k.4
-          (λ still. last_pull k.2 new (subst (λ (a : Gateway). Pulls Server a k.2 new) still k.5)))
+          (λ still. last_pull k.2 new (subst (λ (a : SessionView). Pulls Server a k.2 new) still k.5)))
 
-      after_put : (mid : Gateway) (answers : List PortAnswer) → mid ≡ g →
+      after_put : (mid : SessionView) (answers : List PortAnswer) → mid ≡ g →
           Then (Puts Server) (Then (Pulls Bot) (Pulls Server)) mid answers new → Other answers
       after_put mid answers same h =
-          let k = subst (λ (a : Gateway). Then (Puts Server) (Then (Pulls Bot) (Pulls Server)) a answers new) same h in
+          let k = subst (λ (a : SessionView). Then (Puts Server) (Then (Pulls Bot) (Pulls Server)) a answers new) same h in
           subst Other (sym k.3) (puts_other Server k.1 k.2 k.0 k.4 (λ still. after_puts k.0 k.2 still k.5))
 
-      after_clock : (mid : Gateway) (answers : List PortAnswer) → mid ≡ g →
+      after_clock : (mid : SessionView) (answers : List PortAnswer) → mid ≡ g →
           Then (Puts Bot) (Then (Puts Server) (Then (Pulls Bot) (Pulls Server))) mid answers new → Other answers
       after_clock mid answers same h =
-          let k = subst (λ (a : Gateway). Then (Puts Bot) (Then (Puts Server) (Then (Pulls Bot) (Pulls Server))) a answers
+          let k = subst (λ (a : SessionView). Then (Puts Bot) (Then (Puts Server) (Then (Pulls Bot) (Pulls Server))) a answers
           new) same h in
           subst Other (sym k.3) (puts_other Bot k.1 k.2 k.0 k.4 (λ still. after_put k.0 k.2 still k.5))
 
@@ -389,7 +389,7 @@ some_ending None over e f = absurd (cc)
 some_ending (Some x) over e f = (x, refl)
 
 -- a turn of spent ports
-module _ (limits : Limits) (history call : List PortAnswer) (a b : Gateway) (effects : List Effect)
+module _ (limits : Limits) (history call : List PortAnswer) (a b : SessionView) (effects : List Effect)
     (state : SessionState) (told later : Option Ending) (stands : Stands limits history a) (turn : Turn a call b)
     (spent : AreSpent call) (run : Runs a.state (events_of call) effects b.state)
     (is : later ≡ option_or told (first_of call)) (c : Cut state a.state told) where
@@ -471,14 +471,14 @@ module _ (limits : Limits) (history call : List PortAnswer) (a b : Gateway) (eff
 
 module _ {P : Type 0} (becomes : P → PortAnswer → P → Type 0) (limits : Limits) (turns : ℕ) where
   -- how a session stands to the state in which its turns were spent, or to its own while some are left
-  pub record IsCut (history : List PortAnswer) (now : Gateway × Meter P) : Type 0 where
+  pub record IsCut (history : List PortAnswer) (now : SessionView × MeteredView P) : Type 0 where
     pub effects : List Effect
     pub state : SessionState
     pub run : Runs (untouched limits).state (events_of (while_left turns history)) effects state
     pub cut : Cut state now.0.state now.1.told
     pub quiet : (n : ℕ) → now.1.left ≡ Some n → now.1.told ≡ None
 
-  pub cut_begins : (g : Gateway) (ports : P) → Stands limits [] g → IsCut [] (g, fresh ports turns)
+  pub cut_begins : (g : SessionView) (ports : P) → Stands limits [] g → IsCut [] (g, fresh ports turns)
   cut_begins g ports stands = record {
     effects = stands.effects;
     state = g.state;
@@ -487,7 +487,7 @@ module _ {P : Type 0} (becomes : P → PortAnswer → P → Type 0) (limits : Li
     quiet = λ n e. refl;
   }
 
-  module _ (history : List PortAnswer) (ports : P) (a b : Gateway × Meter P) (t : IsTurned (Meters becomes) a b)
+  module _ (history : List PortAnswer) (ports : P) (a b : SessionView × MeteredView P) (t : IsTurned (Meters becomes) a b)
       (answered : BecomesBy (Meters becomes) (fresh ports turns) history a.1) (stands : Stands limits history a.0)
       (later : Stands limits (history ++ t.exchange.call) b.0) (c : IsCut history a) where
     abbrev call : List PortAnswer

@@ -2,16 +2,16 @@
 use Rattle.std.proofs.Common.{◌≡◌, ℕ, zero, suc, ◌+◌, Bool, true, false, List, [], ◌∷◌, ◌++◌, refl, sym, ◌∙◌}
 use Rattle.std.proofs.Common.{subst, arith}
 use Rattle.std.specs.Prelude.{◌==◌, is_none}
-use Rattle.daide_machine.specs.Wires.{Gateway, is_closed}
-use Rattle.daide_turns.specs.Hub.{Hosting}
+use Rattle.daide_machine.specs.Wires.{SessionView, is_closed}
+use Rattle.daide_turns.specs.Hub.{HubView}
 use Rattle.daide_machine.specs.declared.system.Connect.{Connect}
 use Rattle.daide_machine.specs.declared.system.Connect.TheVariants.{Ready, Failed, Pending}
 use Rattle.daide_machine.specs.declared.system.Notice.TheVariants.{CannotReach}
 use Rattle.daide_service.specs.declared.tally.Tally.{Tally}
-use Rattle.daide_service.specs.Metered.{Meter}
+use Rattle.daide_service.specs.Metered.{MeteredView}
 use Rattle.daide_machine.specs.System.{SystemAnswer, Begins, Accepts, Connects, Retires, Notifies, Waits}
-use Rattle.daide_service.specs.Serving.{arrived, come, AdmitsWhere, MeetsWhere, MeetsBy, last_words, farewell_where}
-use Rattle.daide_service.specs.Serving.{end_of, farewell, farewells, wait_where}
+use Rattle.daide_service.specs.Serving.{arrived, come, AdmitsWhere, MeetsWhere, MeetsBy, last_words, retirement_where}
+use Rattle.daide_service.specs.Serving.{end_of, retirement, retirements, wait_where}
 use Rattle.daide_service.specs.Served.{comes, connects, unreached, counted}
 
 -- one that is not none is one more than another
@@ -104,8 +104,8 @@ module _ {P : Type 0} where
         sessions = refl;
       }
 
-  pub meeting_counts : (b : Bool) (old : Hosting (Meter P)) (tally : Tally) (answers : List (SystemAnswer P))
-      (new : Hosting (Meter P)) (new_tally : Tally) → (tally.connecting == 0) ≡ b →
+  pub meeting_counts : (b : Bool) (old : HubView (MeteredView P)) (tally : Tally) (answers : List (SystemAnswer P))
+      (new : HubView (MeteredView P)) (new_tally : Tally) → (tally.connecting == 0) ≡ b →
       MeetsWhere b old tally answers new new_tally → Counts answers tally new_tally
   meeting_counts true old tally answers new new_tally e m =
       subst (λ (l : List (SystemAnswer P)). Counts l tally new_tally) (sym m.0)
@@ -132,20 +132,20 @@ module _ {P : Type 0} where
   silent_words true = record { came = refl; joined = refl; failed = refl }
   silent_words false = nothing_said
 
-  silent_farewell : (b : Bool) (place : Gateway × Meter P) → Silent (farewell_where b place)
+  silent_farewell : (b : Bool) (place : SessionView × MeteredView P) → Silent (retirement_where b place)
   silent_farewell true place =
       silent_then (last_words (is_none place.1.left)) (Retires place.1.ports (end_of place) ∷ [])
       (silent_words (is_none place.1.left)) (record { came = refl; joined = refl; failed = refl })
   silent_farewell false place = nothing_said
 
-  silent_farewells : (places : List (Gateway × Meter P)) → Silent (farewells places)
+  silent_farewells : (places : List (SessionView × MeteredView P)) → Silent (retirements places)
   silent_farewells [] = nothing_said
   silent_farewells (place ∷ places) =
-      silent_then (farewells places) (farewell place) (silent_farewells places)
+      silent_then (retirements places) (retirement place) (silent_farewells places)
       (silent_farewell (is_closed place.0) place)
 
-  pub removal_counts : (places : List (Gateway × Meter P)) (tally : Tally) → Counts (farewells places) tally tally
-  removal_counts places tally = silent_counts (farewells places) tally (silent_farewells places)
+  pub removal_counts : (places : List (SessionView × MeteredView P)) (tally : Tally) → Counts (retirements places) tally tally
+  removal_counts places tally = silent_counts (retirements places) tally (silent_farewells places)
 
   pub wait_counts : (moved more : Bool) (tally : Tally) → Counts (wait_where moved more) tally tally
   wait_counts true more tally = silent_counts [] tally nothing_said

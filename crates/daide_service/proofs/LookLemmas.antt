@@ -6,10 +6,10 @@ use Rattle.std.proofs.lemmas.Bool.{lt-ltb, le-ltb, ltb-true, ltb-false}
 use Rattle.std.proofs.lemmas.Bool.Decides.{nat_tests}
 use Rattle.daide_frame.specs.declared.side.Side.{Side}
 use Rattle.daide_frame.specs.declared.side.Side.TheVariants.{Bot, Server}
-use Rattle.daide_machine.specs.Wires.{Gateway}
+use Rattle.daide_machine.specs.Wires.{SessionView}
 use Rattle.daide_machine.specs.Ports.{PortAnswer, Clock, Pulled, Offered, BecomesBy}
 use Rattle.daide_turns.specs.Turn.{Then, AsksClock, Puts, Pulls, Turn}
-use Rattle.daide_service.specs.Metered.{Meter, Meters, one_less}
+use Rattle.daide_service.specs.Metered.{MeteredView, Meters, one_less}
 use Rattle.daide_service.specs.Served.{looks_in}
 use Rattle.daide_service.specs.Serving.{fresh}
 
@@ -20,8 +20,8 @@ looks_append (Pulled side buffer pull bytes ∷ xs) ys = looks_append xs ys
 looks_append (Offered side bytes put ∷ xs) ys = looks_append xs ys
 
 -- every stretch of this kind has so many looks
-abbrev Looks : (Gateway → List PortAnswer → Gateway → Type 0) → ℕ → Type 0
-Looks Kind n = (old : Gateway) (answers : List PortAnswer) (new : Gateway) → Kind old answers new → looks_in answers ≡ n
+abbrev Looks : (SessionView → List PortAnswer → SessionView → Type 0) → ℕ → Type 0
+Looks Kind n = (old : SessionView) (answers : List PortAnswer) (new : SessionView) → Kind old answers new → looks_in answers ≡ n
 
 clock_looks : Looks AsksClock 1
 clock_looks old answers new h = ap looks_in h.1
@@ -34,7 +34,7 @@ pull_looks : (side : Side) → Looks (Pulls side) 0
 pull_looks side old answers new (inl h) = ap looks_in h.1
 pull_looks side old answers new (inr h) = ap looks_in h.asked
 
-then_looks : (First Second : Gateway → List PortAnswer → Gateway → Type 0) (m n : ℕ) → Looks First m → Looks Second n →
+then_looks : (First Second : SessionView → List PortAnswer → SessionView → Type 0) (m n : ℕ) → Looks First m → Looks Second n →
     Looks (Then First Second) (m + n)
 then_looks First Second m n one two old answers new h =
     let first = one old h.1 h.0 h.4 in
@@ -42,7 +42,7 @@ then_looks First Second m n one two old answers new h =
     let all = looks_append h.1 h.2 in
     ap looks_in h.3 ∙ omega (arith, first, second, all)
 
-pub turn_looks : (old : Gateway) (answers : List PortAnswer) (new : Gateway) → Turn old answers new →
+pub turn_looks : (old : SessionView) (answers : List PortAnswer) (new : SessionView) → Turn old answers new →
     looks_in answers ≡ 1
 turn_looks =
     then_looks AsksClock (Then (Puts Bot) (Then (Puts Server) (Then (Pulls Bot) (Pulls Server)))) 1 0 clock_looks
@@ -67,17 +67,17 @@ below_alike m n = go (nat_lt m n) refl
 
 module _ {P : Type 0} (becomes : P → PortAnswer → P → Type 0) where
   -- spent ports stay so
-  stays_spent : (xs : List PortAnswer) (a b : Meter P) → a.left ≡ None → BecomesBy (Meters becomes) a xs b →
+  stays_spent : (xs : List PortAnswer) (a b : MeteredView P) → a.left ≡ None → BecomesBy (Meters becomes) a xs b →
       b.left ≡ None
-  stays_spent [] a b e h = ap (λ (m : Meter P). m.left) h ∙ e
+  stays_spent [] a b e h = ap (λ (m : MeteredView P). m.left) h ∙ e
   stays_spent (Clock popped ∷ xs) a b e h = stays_spent xs h.0 b (h.1.left ∙ ap one_less e) h.2
   stays_spent (Pulled side buffer pull bytes ∷ xs) a b e h = stays_spent xs h.0 b (h.1.left ∙ e) h.2
   stays_spent (Offered side bytes put ∷ xs) a b e h = stays_spent xs h.0 b (h.1.left ∙ e) h.2
 
-  pub counted_from : (xs : List PortAnswer) (turns : ℕ) (a b : Meter P) → a.left ≡ Some turns →
+  pub counted_from : (xs : List PortAnswer) (turns : ℕ) (a b : MeteredView P) → a.left ≡ Some turns →
       BecomesBy (Meters becomes) a xs b → is_none b.left ≡ nat_lt turns (looks_in xs)
   counted_from [] turns a b e h =
-      ap (λ (m : Meter P). is_none m.left) h ∙ ap is_none e ∙ sym (none_below_zero turns)
+      ap (λ (m : MeteredView P). is_none m.left) h ∙ ap is_none e ∙ sym (none_below_zero turns)
   counted_from (Clock popped ∷ xs) zero a b e h =
       ap is_none (stays_spent xs h.0 b (h.1.left ∙ ap one_less e) h.2) ∙ sym (zero_below (looks_in xs))
   counted_from (Clock popped ∷ xs) (suc turns) a b e h =
@@ -85,6 +85,6 @@ module _ {P : Type 0} (becomes : P → PortAnswer → P → Type 0) where
   counted_from (Pulled side buffer pull bytes ∷ xs) turns a b e h = counted_from xs turns h.0 b (h.1.left ∙ e) h.2
   counted_from (Offered side bytes put ∷ xs) turns a b e h = counted_from xs turns h.0 b (h.1.left ∙ e) h.2
 
-  pub turns_counted : (xs : List PortAnswer) (turns : ℕ) (ports : P) (now : Meter P) →
+  pub turns_counted : (xs : List PortAnswer) (turns : ℕ) (ports : P) (now : MeteredView P) →
       BecomesBy (Meters becomes) (fresh ports turns) xs now → is_none now.left ≡ nat_lt turns (looks_in xs)
   turns_counted xs turns ports now h = counted_from xs turns (fresh ports turns) now refl h

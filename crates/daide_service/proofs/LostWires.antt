@@ -17,12 +17,12 @@ use Rattle.daide_machine.specs.declared.phase.Phase.{Phase}
 use Rattle.daide_machine.specs.declared.phase.Phase.TheVariants.{WaitIm, WaitRm, Open, Over}
 use Rattle.daide_machine.specs.declared.ports.Pull.TheVariants.{Got, Idle, Ended}
 use Rattle.daide_machine.specs.declared.ports.Put.TheVariants.{Took, Failed}
-use Rattle.daide_machine.specs.Events.{Event, Comes, Ends, Loses, Pops, bytes_come}
+use Rattle.daide_machine.specs.Events.{Event, Comes, Ends, Loses, TimerExpires, bytes_come}
 use Rattle.daide_machine.specs.Machine.{SessionState, Effect, Limits, Outcome, Runs, Sent, coming, with_pending, is_over}
 use Rattle.daide_machine.specs.Machine.{begun, untimely, answered, im_answered, item_outcome, items_outcome, popped}
 use Rattle.daide_machine.specs.Machine.{event_outcome}
 use Rattle.daide_machine.specs.Ports.{PortAnswer, Clock, Pulled, Offered, events_of, has_failed, taken}
-use Rattle.daide_machine.specs.Wires.{Gateway, same_side, waiting, bytes_of, sent_to, IsFrontOf}
+use Rattle.daide_machine.specs.Wires.{SessionView, same_side, waiting, bytes_of, sent_to, IsFrontOf}
 use Rattle.daide_turns.specs.Headline.{Stands, untouched}
 use Rattle.daide_turns.specs.Record.{Moved}
 
@@ -126,14 +126,14 @@ module _ (to : Side) where
   Spares (Comes side x) = Unit {0}
   Spares (Ends side) = Unit {0}
   Spares (Loses side) = same_side side to ≡ false
-  Spares Pops = Unit {0}
+  Spares TimerExpires = Unit {0}
 
   event_not : (s : SessionState) (event : Event) (v : _) → Spares event → Not s →
       Not (event_outcome s event v).state
   event_not s (Comes side x) v spares h = comes_not s side x v h
   event_not s (Ends side) v spares h = ends_not s side v h
   event_not s (Loses side) v spares h = loses_not s side v spares h
-  event_not s Pops v spares h = popped_not s.phase s h
+  event_not s TimerExpires v spares h = popped_not s.phase s h
 
   -- ---- along a history
 
@@ -168,7 +168,7 @@ module _ (to : Side) where
       has_failed to history ≡ false → Not old → Runs old (events_of history) effects new → Not new
   history_not [] old effects new kept h run = subst Not (sym run.1) h
   history_not (Clock true ∷ history) old effects new kept h run =
-      let one = one_not old Pops (events_of history) effects new tt h run in
+      let one = one_not old TimerExpires (events_of history) effects new tt h run in
       history_not history one.0 one.1 new kept one.2 one.3
   history_not (Clock false ∷ history) old effects new kept h run = history_not history old effects new kept h run
   history_not (Pulled side buffer (Got n) bytes ∷ history) old effects new kept h run =
@@ -207,7 +207,7 @@ module _ (to : Side) where
       nothing_from front h.1.0 (bytes_of frames) some all
 
   -- where the wire ended the session, nothing is handed to it any more
-  pub lost_waits : (limits : Limits) (history : List PortAnswer) (g : Gateway) (front : List ℕ) → Stands limits history g →
+  pub lost_waits : (limits : Limits) (history : List PortAnswer) (g : SessionView) (front : List ℕ) → Stands limits history g →
       is_lost to g.state.ending ≡ true → IsFrontOf front (waiting g to) → 0 < length front → ⊥
   lost_waits limits history g front stands lost is_front some = go (has_failed to history) refl
     where

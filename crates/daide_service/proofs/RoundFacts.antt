@@ -11,15 +11,15 @@ use Rattle.daide_machine.specs.declared.summary.Summary.{Summary}
 use Rattle.daide_machine.specs.declared.phase.Phase.{Phase}
 use Rattle.daide_machine.specs.declared.phase.Phase.TheVariants.{Open, Over}
 use Rattle.daide_machine.specs.Machine.{Limits, Sent, fm_bytes, in_phase, opening, with_ending}
-use Rattle.daide_machine.specs.Wires.{Gateway, bytes_of}
+use Rattle.daide_machine.specs.Wires.{SessionView, bytes_of}
 use Rattle.daide_machine.specs.declared.ports.Pull.TheVariants.{Got, Idle, Ended}
 use Rattle.daide_machine.specs.declared.ports.Put.TheVariants.{Took, Failed}
 use Rattle.daide_turns.specs.Headline.{nothing_held}
 use Rattle.daide_machine.specs.Ports.{Clock, Pulled, Offered}
 use Rattle.daide_machine.specs.declared.system.Notice.TheVariants.{TurnsSpent}
 use Rattle.daide_machine.specs.declared.system.Cause.TheVariants as Causes
-use Rattle.daide_service.specs.Metered.{Meter, left_after, moved_after, moved_by, told_after}
-use Rattle.daide_service.specs.Serving.{cause_by, farewells, remaining}
+use Rattle.daide_service.specs.Metered.{MeteredView, left_after, moved_after, moved_by, told_after}
+use Rattle.daide_service.specs.Serving.{cause_by, retirements, remaining}
 use Rattle.daide_machine.specs.System.{Retires, Notifies}
 
 -- ---- what moved
@@ -75,14 +75,14 @@ causes : (cause_by None (Some (Ended Bot)) ≡ Causes.Session (Ended Bot))
     × (cause_by (Some (Lost Server)) (Some (Final Server)) ≡ Causes.Session (Final Server))
 causes = (refl, refl, refl, refl, refl, refl)
 
--- ---- the order of farewells
+-- ---- the order of retirements
 
 -- counts of which each is another
 abbrev counts : ℕ → Summary
 counts n = record { relayed = n; prn = n + 1; huh = n + 2; faults = n + 3 }
 
 -- a session in a phase, what ended it, its counts, and what waits for its bot
-abbrev session : Limits → Phase → Option Ending → ℕ → List Sent → Gateway
+abbrev session : Limits → Phase → Option Ending → ℕ → List Sent → SessionView
 session limits phase ending n to_bot = record {
   state = with_ending ending (in_phase phase (opening limits).level (opening limits));
   to_bot = to_bot;
@@ -95,20 +95,20 @@ session limits phase ending n to_bot = record {
 }
 
 -- of the session an FM waits for its bot
-abbrev waiting : Limits → Gateway
+abbrev waiting : Limits → SessionView
 waiting limits = session limits Over (Some (Final Bot)) 20 (record { to = Bot; answers = None; bytes = fm_bytes } ∷ [])
 
 -- ports that go by a number, with so many turns left
-abbrev ports : ℕ → Option ℕ → Meter ℕ
+abbrev ports : ℕ → Option ℕ → MeteredView ℕ
 ports number left = record { ports = number; left = left; moved = false; told = None }
 
 -- ports whose turns are spent, and what they told first since
-abbrev spent : ℕ → Ending → Meter ℕ
+abbrev spent : ℕ → Ending → MeteredView ℕ
 spent number told = record { ports = number; left = None; moved = false; told = Some told }
 
 -- the first is over, the second waits, the third is open, the fourth was open till its turns were spent, the fifth is over,
 -- and so was the sixth, of which an FM waited for the bot till its turns were spent
-abbrev six : Limits → List (Gateway × Meter ℕ)
+abbrev six : Limits → List (SessionView × MeteredView ℕ)
 six limits =
     (session limits Over (Some (Fault Server SecondRm)) 10 [], ports 1 (Some 9)) ∷ (waiting limits, ports 2 (Some 9))
     ∷ (session limits Open None 30 [], ports 3 (Some 9)) ∷ (session limits Over (Some (Lost Bot)) 40 [], spent 4 (Lost Bot))
@@ -117,7 +117,7 @@ six limits =
 
 -- from the last place to the first, each that is over and of which nothing waits, with its own end and its own counts
 parted_from_the_last : (limits : Limits) →
-    farewells (six limits)
+    retirements (six limits)
     ≡ Notifies TurnsSpent ∷ Retires 6 (record { cause = Causes.Session (Ended Server); summary = counts 60 })
     ∷ Retires 5 (record { cause = Causes.Session (Ended Server); summary = counts 50 })
     ∷ Notifies TurnsSpent ∷ Retires 4 (record { cause = Causes.TurnsSpent; summary = counts 40 })

@@ -13,10 +13,10 @@ use Rattle.std.proofs.Math.Seq.{take-suc-set}
 use Rattle.daide_machine.specs.declared.ending.Ending.{Ending}
 use Rattle.daide_machine.proofs.EndingLemmas.{runs_told}
 use Rattle.daide_machine.specs.Machine.{Limits, is_over}
-use Rattle.daide_machine.specs.Wires.{Gateway, IsNew, is_closed}
+use Rattle.daide_machine.specs.Wires.{SessionView, IsNew, is_closed}
 use Rattle.daide_machine.specs.Ports.{PortAnswer, Clock, BecomesBy, events_of}
 use Rattle.daide_turns.specs.Headline.{untouched, Stands, IsBoundedAndExact}
-use Rattle.daide_turns.specs.Hub.{Hosting, IsTurned, Changes}
+use Rattle.daide_turns.specs.Hub.{HubView, IsTurned, Changes}
 use Rattle.daide_turns.specs.HubRuns.{Turned, HubRuns}
 use Rattle.daide_turns.proofs.Stretches.{becomes_then}
 use Rattle.daide_turns.proofs.Standing.{new_stands}
@@ -27,12 +27,12 @@ use Rattle.daide_machine.specs.declared.system.Connect.{Connect}
 use Rattle.daide_machine.specs.declared.system.Connect.TheVariants.{Ready, Failed, Pending}
 use Rattle.daide_machine.specs.declared.system.Notice.TheVariants.{CannotReach, TurnsSpent}
 use Rattle.daide_service.specs.declared.tally.Tally.{Tally}
-use Rattle.daide_service.specs.Metered.{Meter, Meters, moved_by}
+use Rattle.daide_service.specs.Metered.{MeteredView, Meters, moved_by}
 use Rattle.daide_machine.specs.System.{SystemAnswer, Begins, Accepts, Connects, Retires, Notifies, Waits}
-use Rattle.daide_service.specs.Serving.{Serving, fresh, opening, accepts, come, AdmitsWhere, MeetsWhere, turns_below}
-use Rattle.daide_service.specs.Serving.{TurnsAll, last_words, farewell, farewell_where, farewells, remaining, parting}
+use Rattle.daide_service.specs.Serving.{ServiceView, fresh, opening, accepts, come, AdmitsWhere, MeetsWhere, turns_below}
+use Rattle.daide_service.specs.Serving.{TurnsAll, last_words, retirement, retirement_where, retirements, remaining, parting}
 use Rattle.daide_service.specs.Serving.{cause_by, end_of}
-use Rattle.daide_service.specs.Serving.{MeetsBy, wait_where, any_stirs, any_moved, Round, Rounds, is_done}
+use Rattle.daide_service.specs.Serving.{MeetsBy, wait_where, any_progress, any_moved, Round, Rounds, is_done}
 use Rattle.daide_service.specs.Served.{run_limits, IsSessionOfRun, IsServed, IsEndOf, LetsGo, connects, retires, counted}
 use Rattle.daide_service.specs.Served.{IsWholeRun}
 use Rattle.daide_service.proofs.CauseLemmas.{IsCut, cut_begins, cut_turn, cut_cause}
@@ -42,8 +42,8 @@ use Rattle.daide_service.proofs.CountLemmas.{beginning_counts, removal_counts, w
 -- ---- what moved
 
 module _ {P : Type 0} (becomes : P → PortAnswer → P → Type 0) where
-  answers_moved : (xs : List PortAnswer) (a b : Meter P) → BecomesBy (Meters becomes) a xs b → b.moved ≡ moved_by xs a.moved
-  answers_moved [] a b h = ap (λ (m : Meter P). m.moved) h
+  answers_moved : (xs : List PortAnswer) (a b : MeteredView P) → BecomesBy (Meters becomes) a xs b → b.moved ≡ moved_by xs a.moved
+  answers_moved [] a b h = ap (λ (m : MeteredView P). m.moved) h
   answers_moved (x ∷ xs) a b h = answers_moved xs h.0 b h.2 ∙ ap (moved_by xs) h.1.moved
 
   -- a turn begins with a look at the clock, so what moved before it is forgotten
@@ -54,7 +54,7 @@ module _ {P : Type 0} (becomes : P → PortAnswer → P → Type 0) where
       ap (λ (l : List PortAnswer). moved_by l moved) same
       ∙ sym (ap (λ (l : List PortAnswer). moved_by l false) same)
 
-  pub turn_moved : (a b : Gateway × Meter P) (t : IsTurned (Meters becomes) a b) →
+  pub turn_moved : (a b : SessionView × MeteredView P) (t : IsTurned (Meters becomes) a b) →
       b.1.moved ≡ moved_by t.exchange.call false
   turn_moved a b t =
       let order = t.exchange.session.in_order in
@@ -92,13 +92,13 @@ module _ {P : Type 0} where
   admission_passes false old answers new h = passes_as answers [] 0 0 h.0 (record { came = refl; went = refl })
 
   -- those that came are held
-  meeting_passes : (b : Bool) (old : Hosting (Meter P)) (tally : Tally) (answers : List (SystemAnswer P))
-      (new : Hosting (Meter P)) (new_tally : Tally) → MeetsWhere b old tally answers new new_tally →
+  meeting_passes : (b : Bool) (old : HubView (MeteredView P)) (tally : Tally) (answers : List (SystemAnswer P))
+      (new : HubView (MeteredView P)) (new_tally : Tally) → MeetsWhere b old tally answers new new_tally →
       (n : ℕ) × Passes answers n 0 × (length new.places ≡ length old.places + n)
   meeting_passes true old tally answers new new_tally m = (
     0,
     passes_as answers [] 0 0 m.0 (record { came = refl; went = refl }),
-    as_many (ap (λ (k : Hosting (Meter P)). length k.places) m.1),
+    as_many (ap (λ (k : HubView (MeteredView P)). length k.places) m.1),
   )
   meeting_passes false old tally answers new new_tally m = by m.0 m.1 m.2 m.3
     where
@@ -110,25 +110,25 @@ module _ {P : Type 0} where
         passes_as answers (Connects (Ready ports) ∷ []) 1 0
             (e ∙ ap (λ (l : List (SystemAnswer P)). Connects (Ready ports) ∷ l) m.0)
             (record { came = refl; went = refl }),
-        ap (λ (k : Hosting (Meter P)). length k.places) m.1.2
+        ap (λ (k : HubView (MeteredView P)). length k.places) m.1.2
             ∙ length-append old.places ((m.1.0, fresh ports tally.turns) ∷ []),
       )
       by Failed told e m = (
         0,
         passes_as answers (Connects Failed ∷ Notifies CannotReach ∷ []) 0 0
             (e ∙ ap (λ (l : List (SystemAnswer P)). Connects Failed ∷ l) m.0) (record { came = refl; went = refl }),
-        as_many (ap (λ (k : Hosting (Meter P)). length k.places) m.1),
+        as_many (ap (λ (k : HubView (MeteredView P)). length k.places) m.1),
       )
       by Pending told e m = (
         0,
         passes_as answers (Connects Pending ∷ []) 0 0
             (e ∙ ap (λ (l : List (SystemAnswer P)). Connects Pending ∷ l) m.0) (record { came = refl; went = refl }),
-        as_many (ap (λ (k : Hosting (Meter P)). length k.places) m.1),
+        as_many (ap (λ (k : HubView (MeteredView P)). length k.places) m.1),
       )
 
   -- those that are no longer held went
-  removal_passes : (places : List (Gateway × Meter P)) →
-      (n : ℕ) × Passes (farewells places) 0 n × (length places ≡ length (remaining places) + n)
+  removal_passes : (places : List (SessionView × MeteredView P)) →
+      (n : ℕ) × Passes (retirements places) 0 n × (length places ≡ length (remaining places) + n)
   removal_passes [] = (0, record { came = refl; went = refl }, refl)
   removal_passes (place ∷ places) = one (is_closed place.0) refl (removal_passes places)
     where
@@ -143,22 +143,22 @@ module _ {P : Type 0} where
       spoke false = record { came = refl; went = refl }
 
       one : (b : Bool) → is_closed place.0 ≡ b →
-          ((n : ℕ) × Passes (farewells places) 0 n × (length places ≡ length (remaining places) + n)) →
-          (n : ℕ) × Passes (farewells (place ∷ places)) 0 n
+          ((n : ℕ) × Passes (retirements places) 0 n × (length places ≡ length (remaining places) + n)) →
+          (n : ℕ) × Passes (retirements (place ∷ places)) 0 n
           × (length (place ∷ places) ≡ length (remaining (place ∷ places)) + n)
       one true e h = (
         h.0 + 1,
-        passes_as (farewells (place ∷ places)) (farewells places ++ parting place.1 (end_of place)) 0 (h.0 + 1)
-            (ap (λ (c : Bool). farewells places ++ farewell_where c place) e)
-            (passes_then (farewells places) (parting place.1 (end_of place)) 0 h.0 0 1 h.1 (spoke (is_none place.1.left))),
+        passes_as (retirements (place ∷ places)) (retirements places ++ parting place.1 (end_of place)) 0 (h.0 + 1)
+            (ap (λ (c : Bool). retirements places ++ retirement_where c place) e)
+            (passes_then (retirements places) (parting place.1 (end_of place)) 0 h.0 0 1 h.1 (spoke (is_none place.1.left))),
         (let rest = h.2 in
             let same = ap length (gone e) in
             omega (arith, rest, same)),
       )
       one false e h = (
         h.0,
-        passes_as (farewells (place ∷ places)) (farewells places) 0 h.0
-            (ap (λ (c : Bool). farewells places ++ farewell_where c place) e ∙ append-nil (farewells places)) h.1,
+        passes_as (retirements (place ∷ places)) (retirements places) 0 h.0
+            (ap (λ (c : Bool). retirements places ++ retirement_where c place) e ∙ append-nil (retirements places)) h.1,
         (let rest = h.2 in
             let same = ap length (kept e) in
             omega (arith, rest, same)),
@@ -171,7 +171,7 @@ module _ {P : Type 0} where
 module _ {P : Type 0} (becomes : P → PortAnswer → P → Type 0) (settings : Settings) where
   -- ---- more answers
 
-  abbrev later : (Kind : Limits → List PortAnswer → Gateway → Type 0) (xs ys : List (SystemAnswer P)) (now : Gateway × Meter P) →
+  abbrev later : (Kind : Limits → List PortAnswer → SessionView → Type 0) (xs ys : List (SystemAnswer P)) (now : SessionView × MeteredView P) →
       IsSessionOfRun becomes Kind settings xs now → IsSessionOfRun becomes Kind settings (xs ++ ys) now
   later Kind xs ys now h = record {
     ports = h.ports;
@@ -193,18 +193,18 @@ module _ {P : Type 0} (becomes : P → PortAnswer → P → Type 0) (settings : 
   -- ---- turns
 
   module _ (all : List (SystemAnswer P)) where
-    abbrev Held : Gateway × Meter P → Type 0
+    abbrev Held : SessionView × MeteredView P → Type 0
     Held now = (h : IsSessionOfRun becomes Stands settings all now)
         × IsCut becomes (run_limits settings) settings.turns h.history now
 
-    abbrev pub Served : Gateway × Meter P → Type 0
+    abbrev pub Served : SessionView × MeteredView P → Type 0
     Served now = (h : IsServed becomes settings all now)
         × IsCut becomes (run_limits settings) settings.turns h.history now
 
     abbrev Gone : SystemAnswer P → Type 0
     Gone = LetsGo becomes settings all
 
-    still : (now : Gateway × Meter P) → Served now → Held now
+    still : (now : SessionView × MeteredView P) → Served now → Held now
     still now h = (
       record {
         ports = h.0.ports;
@@ -216,7 +216,7 @@ module _ {P : Type 0} (becomes : P → PortAnswer → P → Type 0) (settings : 
       h.1,
     )
 
-    turned : (a b : Gateway × Meter P) → IsTurned (Meters becomes) a b → Held a → Served b
+    turned : (a b : SessionView × MeteredView P) → IsTurned (Meters becomes) a b → Held a → Served b
     turned a b t h =
         let own = h.0 in
         let stands = t.exchange.session.headline (run_limits settings) own.history own.stands in (
@@ -233,24 +233,24 @@ module _ {P : Type 0} (becomes : P → PortAnswer → P → Type 0) (settings : 
         )
 
     -- the places below this one had their turns
-    record Below (n : ℕ) (old new : Hosting (Meter P)) : Type 0 where
+    record Below (n : ℕ) (old new : HubView (MeteredView P)) : Type 0 where
       held : All Held new.places
       served : All Served (take n new.places)
       count : length new.places ≡ length old.places
       limits : new.limits ≡ old.limits
 
-    none_below : (old new : Hosting (Meter P)) → new ≡ old → All Held old.places → Below 0 old new
+    none_below : (old new : HubView (MeteredView P)) → new ≡ old → All Held old.places → Below 0 old new
     none_below old new e h = record {
-      held = subst (λ (k : Hosting (Meter P)). All Held k.places) (sym e) h;
+      held = subst (λ (k : HubView (MeteredView P)). All Held k.places) (sym e) h;
       served = All-nil Served;
-      count = ap (λ (k : Hosting (Meter P)). length k.places) e;
-      limits = ap (λ (k : Hosting (Meter P)). k.limits) e;
+      count = ap (λ (k : HubView (MeteredView P)). length k.places) e;
+      limits = ap (λ (k : HubView (MeteredView P)). k.limits) e;
     }
 
-    one_below : (n : ℕ) (old mid new : Hosting (Meter P)) → Below n old mid →
+    one_below : (n : ℕ) (old mid new : HubView (MeteredView P)) → Below n old mid →
         Changes (IsTurned (Meters becomes)) mid n new → Below (suc n) old new
     one_below n old mid new h c =
-        let places : new.places ≡ set mid.places n c.1 = ap (λ (k : Hosting (Meter P)). k.places) c.3 in
+        let places : new.places ≡ set mid.places n c.1 = ap (λ (k : HubView (MeteredView P)). k.places) c.3 in
         let inside : n < length mid.places = slice_get_within mid.places n c.0 c.2 in
         let was : Held c.0 =
         subst Held (get_or_from_slice_get mid.places n c.0 c.0 c.2) (h.held n c.0 inside) in
@@ -262,19 +262,19 @@ module _ {P : Type 0} (becomes : P → PortAnswer → P → Type 0) (settings : 
               (ap (take (suc n)) places ∙ take-suc-set mid.places n c.1 inside)
               (All-push Served (take n mid.places) c.1 h.served now);
           count = ap length places ∙ length-set mid.places n c.1 ∙ h.count;
-          limits = ap (λ (k : Hosting (Meter P)). k.limits) c.3 ∙ h.limits;
+          limits = ap (λ (k : HubView (MeteredView P)). k.limits) c.3 ∙ h.limits;
         }
 
-    below : (n : ℕ) (old new : Hosting (Meter P)) → HubRuns (Meters becomes) old (turns_below n) new →
+    below : (n : ℕ) (old new : HubView (MeteredView P)) → HubRuns (Meters becomes) old (turns_below n) new →
         All Held old.places → Below n old new
     below zero old new run h = none_below old new run h
     below (suc n) old new run h =
         let parts = runs_split (Meters becomes) (turns_below n) (Turned n ∷ []) old new run in
         let before = below n old parts.0 parts.1 h in
-        subst (λ (k : Hosting (Meter P)). Below (suc n) old k) (sym parts.2.2)
+        subst (λ (k : HubView (MeteredView P)). Below (suc n) old k) (sym parts.2.2)
         (one_below n old parts.0 parts.2.0 before parts.2.1)
 
-    all_turned : (old new : Hosting (Meter P)) → TurnsAll becomes old new → All Held old.places →
+    all_turned : (old new : HubView (MeteredView P)) → TurnsAll becomes old new → All Held old.places →
         All Served new.places × (new.limits ≡ old.limits) × (length new.places ≡ length old.places)
     all_turned old new run h =
         let b = below (length old.places) old new run h in
@@ -300,22 +300,22 @@ module _ {P : Type 0} (becomes : P → PortAnswer → P → Type 0) (settings : 
 
     -- ---- one reaches the server, or doesn't
 
-    record Met (old : Hosting (Meter P)) (old_tally : Tally) (answers : List (SystemAnswer P)) (new : Hosting (Meter P))
+    record Met (old : HubView (MeteredView P)) (old_tally : Tally) (answers : List (SystemAnswer P)) (new : HubView (MeteredView P))
         (new_tally : Tally) : Type 0 where
       gone : All Gone answers
       held : All Held new.places
       limits : new.limits ≡ old.limits
       turns : new_tally.turns ≡ old_tally.turns
 
-    met : (b : Bool) (old : Hosting (Meter P)) (tally : Tally) (answers : List (SystemAnswer P))
-        (new : Hosting (Meter P)) (new_tally : Tally) →
+    met : (b : Bool) (old : HubView (MeteredView P)) (tally : Tally) (answers : List (SystemAnswer P))
+        (new : HubView (MeteredView P)) (new_tally : Tally) →
         ((ports : P) → Contains answers (Connects (Ready ports)) → Contains all (Connects (Ready ports))) →
         old.limits ≡ run_limits settings → tally.turns ≡ settings.turns → All Held old.places →
         MeetsWhere b old tally answers new new_tally → Met old tally answers new new_tally
     met true old tally answers new new_tally within limits turns h m = record {
       gone = All-same Gone answers [] m.0 (All-nil Gone);
-      held = subst (λ (k : Hosting (Meter P)). All Held k.places) (sym m.1) h;
-      limits = ap (λ (k : Hosting (Meter P)). k.limits) m.1;
+      held = subst (λ (k : HubView (MeteredView P)). All Held k.places) (sym m.1) h;
+      limits = ap (λ (k : HubView (MeteredView P)). k.limits) m.1;
       turns = ap (λ (t : Tally). t.turns) m.2;
     }
     met false old tally answers new new_tally within limits turns h m = by m.0 m.1 m.2 m.3
@@ -342,9 +342,9 @@ module _ {P : Type 0} (becomes : P → PortAnswer → P → Type 0) (settings : 
             record {
               gone = All-same Gone answers (Connects (Ready ports) ∷ []) one
                   (All-cons Gone (Connects (Ready ports)) [] tt (All-nil Gone));
-              held = subst (λ (k : Hosting (Meter P)). All Held k.places) (sym m.1.2)
+              held = subst (λ (k : HubView (MeteredView P)). All Held k.places) (sym m.1.2)
                   (All-push Held old.places (m.1.0, fresh ports tally.turns) h place);
-              limits = ap (λ (k : Hosting (Meter P)). k.limits) m.1.2;
+              limits = ap (λ (k : HubView (MeteredView P)). k.limits) m.1.2;
               turns = ap (λ (t : Tally). t.turns) m.2;
             }
         by Failed told e m =
@@ -354,8 +354,8 @@ module _ {P : Type 0} (becomes : P → PortAnswer → P → Type 0) (settings : 
               gone = All-same Gone answers (Connects Failed ∷ Notifies CannotReach ∷ []) two
                   (All-cons Gone (Connects Failed) (Notifies CannotReach ∷ []) tt
                   (All-cons Gone (Notifies CannotReach) [] tt (All-nil Gone)));
-              held = subst (λ (k : Hosting (Meter P)). All Held k.places) (sym m.1) h;
-              limits = ap (λ (k : Hosting (Meter P)). k.limits) m.1;
+              held = subst (λ (k : HubView (MeteredView P)). All Held k.places) (sym m.1) h;
+              limits = ap (λ (k : HubView (MeteredView P)). k.limits) m.1;
               turns = ap (λ (t : Tally). t.turns) m.2;
             }
         by Pending told e m =
@@ -364,8 +364,8 @@ module _ {P : Type 0} (becomes : P → PortAnswer → P → Type 0) (settings : 
             record {
               gone = All-same Gone answers (Connects Pending ∷ []) one
                   (All-cons Gone (Connects Pending) [] tt (All-nil Gone));
-              held = subst (λ (k : Hosting (Meter P)). All Held k.places) (sym m.1) h;
-              limits = ap (λ (k : Hosting (Meter P)). k.limits) m.1;
+              held = subst (λ (k : HubView (MeteredView P)). All Held k.places) (sym m.1) h;
+              limits = ap (λ (k : HubView (MeteredView P)). k.limits) m.1;
               turns = ap (λ (t : Tally). t.turns) m.2;
             }
 
@@ -380,7 +380,7 @@ module _ {P : Type 0} (becomes : P → PortAnswer → P → Type 0) (settings : 
     some_ending (Some ending) e = (ending, refl)
 
     -- what is told of a session's end is its own
-    ended : (place : Gateway × Meter P) → is_closed place.0 ≡ true → (h : Served place) →
+    ended : (place : SessionView × MeteredView P) → is_closed place.0 ≡ true → (h : Served place) →
         IsEndOf (run_limits settings) settings.turns h.0.history place.0 (end_of place)
     ended place closed h =
         let stands = h.0.stands.sends in
@@ -395,17 +395,17 @@ module _ {P : Type 0} (becomes : P → PortAnswer → P → Type 0) (settings : 
           refl,
         )
 
-    parted : (b : Bool) (place : Gateway × Meter P) → is_closed place.0 ≡ b → Served place →
-        All Gone (farewell_where b place)
+    parted : (b : Bool) (place : SessionView × MeteredView P) → is_closed place.0 ≡ b → Served place →
+        All Gone (retirement_where b place)
     parted true place e h =
         All-push Gone (last_words (is_none place.1.left)) (Retires place.1.ports (end_of place))
         (spoken (is_none place.1.left)) (place, refl, e, (h.0, ended place e h))
     parted false place e h = All-nil Gone
 
-    all_parted : (places : List (Gateway × Meter P)) → All Served places → All Gone (farewells places)
+    all_parted : (places : List (SessionView × MeteredView P)) → All Served places → All Gone (retirements places)
     all_parted [] h = All-nil Gone
     all_parted (place ∷ places) h =
-        All-append Gone (farewells places) (farewell place) (all_parted places (All-tail Served place places h))
+        All-append Gone (retirements places) (retirement place) (all_parted places (All-tail Served place places h))
         (parted (is_closed place.0) place refl (All-head Served place places h))
 
     waited : (moved more : Bool) → All Gone (wait_where moved more)
@@ -415,7 +415,7 @@ module _ {P : Type 0} (becomes : P → PortAnswer → P → Type 0) (settings : 
   -- ---- rounds
 
   -- what holds between the rounds of a run
-  pub record Keeps (answers : List (SystemAnswer P)) (run : Serving P) : Type 0 where
+  pub record Keeps (answers : List (SystemAnswer P)) (run : ServiceView P) : Type 0 where
     pub limits : run.hub.limits ≡ run_limits settings
     pub turns : run.tally.turns ≡ settings.turns
     pub held : All (Served answers) run.hub.places
@@ -423,10 +423,10 @@ module _ {P : Type 0} (becomes : P → PortAnswer → P → Type 0) (settings : 
     pub balance : counted connects answers ≡ length run.hub.places + counted retires answers
     pub counts : Counts answers (opening {P = P} settings).tally run.tally
 
-  round_counts : (ys : List (SystemAnswer P)) (old new : Serving P) → Round becomes old ys new →
+  round_counts : (ys : List (SystemAnswer P)) (old new : ServiceView P) → Round becomes old ys new →
       Counts ys old.tally new.tally
   round_counts ys old new r =
-      let moved = any_stirs r.admission || any_stirs r.meeting || any_moved r.turned.places || any_stirs r.removal in
+      let moved = any_progress r.admission || any_progress r.meeting || any_moved r.turned.places || any_progress r.removal in
       let more = accepts new.tally (length new.hub.places) in
       let last = wait_where {P = P} moved more in
       let removes : Counts r.removal new.tally new.tally =
@@ -438,15 +438,15 @@ module _ {P : Type 0} (becomes : P → PortAnswer → P → Type 0) (settings : 
       (counts_then (Begins ∷ r.admission) r.meeting old.tally r.came new.tally
       (counts_then (Begins ∷ []) r.admission old.tally old.tally r.came (beginning_counts old.tally)
       (admission_counts (accepts old.tally (length old.hub.places)) old.tally r.admission r.came r.admits))
-      (meeting_counts (r.came.connecting == 0) old.hub r.came r.meeting r.met new.tally refl r.meets))
+      (meeting_counts (r.came.connecting == 0) old.hub r.came r.meeting r.met new.tally refl r.finishes))
       removes)
       (wait_counts moved more new.tally))
 
-  round_serves : (xs ys : List (SystemAnswer P)) (old new : Serving P) → Keeps xs old → Round becomes old ys new →
+  round_serves : (xs ys : List (SystemAnswer P)) (old new : ServiceView P) → Keeps xs old → Round becomes old ys new →
       Keeps (xs ++ ys) new
   round_serves xs ys old new h r =
       let all = xs ++ ys in
-      let moved = any_stirs r.admission || any_stirs r.meeting || any_moved r.turned.places || any_stirs r.removal in
+      let moved = any_progress r.admission || any_progress r.meeting || any_moved r.turned.places || any_progress r.removal in
       let more = accepts new.tally (length new.hub.places) in
       let last = wait_where {P = P} moved more in
       let come = admitted all (accepts old.tally (length old.hub.places)) old.tally r.admission r.came r.admits in
@@ -460,15 +460,15 @@ module _ {P : Type 0} (becomes : P → PortAnswer → P → Type 0) (settings : 
       (Contains-append_left (Begins ∷ r.admission ++ r.meeting) r.removal (Connects (Ready ports))
       (Contains-append_right (Begins ∷ r.admission) r.meeting (Connects (Ready ports)) c)))) in
       let met = met all (r.came.connecting == 0) old.hub r.came r.meeting r.met new.tally within h.limits
-      (come.1 ∙ h.turns) still_held r.meets in
+      (come.1 ∙ h.turns) still_held r.finishes in
       let turned = all_turned all r.met r.turned r.turns met.held in
       let hub = r.removes.1 in
       record {
         counts = counts_then xs ys (opening {P = P} settings).tally old.tally new.tally h.counts
             (round_counts ys old new r);
-        limits = ap (λ (k : Hosting (Meter P)). k.limits) hub ∙ turned.1 ∙ met.limits ∙ h.limits;
+        limits = ap (λ (k : HubView (MeteredView P)). k.limits) hub ∙ turned.1 ∙ met.limits ∙ h.limits;
         turns = met.turns ∙ come.1 ∙ h.turns;
-        held = subst (λ (k : Hosting (Meter P)). All (Served all) k.places) (sym hub)
+        held = subst (λ (k : HubView (MeteredView P)). All (Served all) k.places) (sym hub)
             (All-filter (λ place. not (is_closed place.0)) (Served all) r.turned.places turned.0);
         gone = All-append (Gone all) xs ys
             (All-weaker (LetsGo becomes settings xs) (Gone all) (gone_later xs ys) xs h.gone)
@@ -477,38 +477,38 @@ module _ {P : Type 0} (becomes : P → PortAnswer → P → Type 0) (settings : 
             (All-append (Gone all) (Begins ∷ r.admission ++ r.meeting) r.removal
             (All-append (Gone all) (Begins ∷ r.admission) r.meeting (All-cons (Gone all) Begins r.admission tt come.0)
             met.gone)
-            (All-same (Gone all) r.removal (farewells r.turned.places) r.removes.0
+            (All-same (Gone all) r.removal (retirements r.turned.places) r.removes.0
             (all_parted all r.turned.places turned.0)))
             (waited all moved more)));
         balance =
-            let meets = meeting_passes (r.came.connecting == 0) old.hub r.came r.meeting r.met new.tally r.meets in
+            let finishes = meeting_passes (r.came.connecting == 0) old.hub r.came r.meeting r.met new.tally r.finishes in
             let leaves = removal_passes r.turned.places in
-            let passes = passes_as ys (Begins ∷ r.admission ++ r.meeting ++ r.removal ++ last) (0 + meets.0 + 0 + 0)
+            let passes = passes_as ys (Begins ∷ r.admission ++ r.meeting ++ r.removal ++ last) (0 + finishes.0 + 0 + 0)
             (0 + 0 + leaves.0 + 0) r.asked
-            (passes_then (Begins ∷ r.admission ++ r.meeting ++ r.removal) last (0 + meets.0 + 0) (0 + 0 + leaves.0) 0 0
-            (passes_then (Begins ∷ r.admission ++ r.meeting) r.removal (0 + meets.0) (0 + 0) 0 leaves.0
-            (passes_then (Begins ∷ r.admission) r.meeting 0 0 meets.0 0
+            (passes_then (Begins ∷ r.admission ++ r.meeting ++ r.removal) last (0 + finishes.0 + 0) (0 + 0 + leaves.0) 0 0
+            (passes_then (Begins ∷ r.admission ++ r.meeting) r.removal (0 + finishes.0) (0 + 0) 0 leaves.0
+            (passes_then (Begins ∷ r.admission) r.meeting 0 0 finishes.0 0
             (passes_then (Begins ∷ []) r.admission 0 0 0 0 beginning_passes
-            (admission_passes (accepts old.tally (length old.hub.places)) old.tally r.admission r.came r.admits)) meets.1)
-            (passes_as r.removal (farewells r.turned.places) 0 leaves.0 r.removes.0 leaves.1))
+            (admission_passes (accepts old.tally (length old.hub.places)) old.tally r.admission r.came r.admits)) finishes.1)
+            (passes_as r.removal (retirements r.turned.places) 0 leaves.0 r.removes.0 leaves.1))
             (wait_passes moved more)) in
             let came = passes.came in
             let went = passes.went in
-            let held = meets.2 in
+            let held = finishes.2 in
             let same = turned.2 in
             let left = leaves.2 in
             let before = h.balance in
             let now : length new.hub.places ≡ length (remaining r.turned.places) =
-            ap (λ (k : Hosting (Meter P)). length k.places) hub in
+            ap (λ (k : HubView (MeteredView P)). length k.places) hub in
             rw (counted_append connects xs ys, counted_append retires xs ys)
             (omega (arith, came, went, held, same, left, before, now));
       }
 
-  pub rounds_serve : (n : ℕ) (answers : List (SystemAnswer P)) (run : Serving P) →
+  pub rounds_serve : (n : ℕ) (answers : List (SystemAnswer P)) (run : ServiceView P) →
       Rounds becomes n (opening settings) answers run → Keeps answers run
   rounds_serve zero answers run h =
       subst (λ (l : List (SystemAnswer P)). Keeps l run) (sym h.0)
-      (subst (λ (r : Serving P). Keeps [] r) (sym h.1) (record {
+      (subst (λ (r : ServiceView P). Keeps [] r) (sym h.1) (record {
         limits = refl;
         turns = refl;
         held = All-nil (Served []);
@@ -533,7 +533,7 @@ module _ {P : Type 0} (becomes : P → PortAnswer → P → Type 0) (settings : 
   all_there false none count accepted sessions connecting a b e = absurd (cc)
 
   -- rounds until all were served are a whole run
-  pub whole_run : (n : ℕ) (answers : List (SystemAnswer P)) (end : Serving P) →
+  pub whole_run : (n : ℕ) (answers : List (SystemAnswer P)) (end : ServiceView P) →
       Rounds becomes n (opening settings) answers end → is_done end ≡ true → IsWholeRun becomes settings answers
   whole_run n answers end rounds done =
       let kept = rounds_serve n answers end rounds in

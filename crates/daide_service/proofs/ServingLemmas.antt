@@ -5,17 +5,17 @@ use Rattle.std.specs.Prelude.{◌||◌, ◌==◌, length, slice_get, IfSome, IfE
 use Rattle.std.specs.Result.{IsErrAnd}
 use Rattle.std.proofs.lemmas.List.{length-set}
 use Rattle.std.proofs.Math.Dec.{eqb-suc-zero}
-use Rattle.daide_machine.specs.Wires.{Gateway}
+use Rattle.daide_machine.specs.Wires.{SessionView}
 use Rattle.daide_machine.specs.Ports.{PortAnswer, Tells}
 use Rattle.daide_turns.proofs.Stretches.{or_assoc, tells_nil, tells_then}
-use Rattle.daide_turns.specs.Hub.{Hosting, Changes, IsTurned}
+use Rattle.daide_turns.specs.Hub.{HubView, Changes, IsTurned}
 use Rattle.daide_turns.specs.HubRuns.{HubCall, Turned, HubStep, HubRuns}
-use Rattle.daide_service.specs.Metered.{Meter, Meters}
+use Rattle.daide_service.specs.Metered.{MeteredView, Meters}
 use Rattle.daide_machine.specs.System.{SystemAnswer}
 use Rattle.daide_settings.specs.declared.settings.Settings.{Settings}
 use Rattle.daide_service.specs.declared.serving.ServeFault.{ServeFault}
 use Rattle.daide_service.specs.declared.serving.ServeFault.TheVariants as Faults
-use Rattle.daide_service.specs.Serving.{Serving, any_moved, wait_where, turns_below, Round, Rounds, is_done, opening}
+use Rattle.daide_service.specs.Serving.{ServiceView, any_moved, wait_where, turns_below, Round, Rounds, is_done, opening}
 use Rattle.daide_service.specs.Serving.{BreaksOff, GivesUp}
 
 pub not_none : (n : ℕ) → (n ≡ 0 → ⊥) → (n == 0) ≡ false
@@ -25,21 +25,21 @@ not_none (suc n) h = eqb-suc-zero n
 -- ---- calls of a hub
 
 pub runs_snoc : {P : Type 0} (becomes : P → PortAnswer → P → Type 0) (calls : List (HubCall P)) (call : HubCall P)
-    (old mid new : Hosting P) → HubRuns becomes old calls mid → HubStep becomes mid call new →
+    (old mid new : HubView P) → HubRuns becomes old calls mid → HubStep becomes mid call new →
     HubRuns becomes old (calls ++ call ∷ []) new
-runs_snoc {P} becomes [] call old mid new h k = (new, subst (λ (x : Hosting P). HubStep becomes x call new) h k, refl)
+runs_snoc {P} becomes [] call old mid new h k = (new, subst (λ (x : HubView P). HubStep becomes x call new) h k, refl)
 runs_snoc becomes (c ∷ cs) call old mid new h k = (h.0, h.1, runs_snoc becomes cs call h.0 mid new h.2 k)
 
 -- one more place had its turn
-pub another_turn : {P : Type 0} (becomes : P → PortAnswer → P → Type 0) (n : ℕ) (old mid new : Hosting (Meter P)) →
+pub another_turn : {P : Type 0} (becomes : P → PortAnswer → P → Type 0) (n : ℕ) (old mid new : HubView (MeteredView P)) →
     HubRuns (Meters becomes) old (turns_below n) mid → length mid.places ≡ length old.places →
     mid.max ≡ old.max → Changes (IsTurned (Meters becomes)) mid n new →
     HubRuns (Meters becomes) old (turns_below (n + 1)) new
     × (new.max ≡ old.max) × (length new.places ≡ length old.places)
 another_turn {P} becomes n old mid new h count max turned = (
   rw add-one (runs_snoc (Meters becomes) (turns_below n) (Turned n) old mid new h turned),
-  ap (λ (k : Hosting (Meter P)). k.max) turned.3 ∙ max,
-  ap (λ (k : Hosting (Meter P)). length k.places) turned.3 ∙ length-set mid.places n turned.1 ∙ count,
+  ap (λ (k : HubView (MeteredView P)). k.max) turned.3 ∙ max,
+  ap (λ (k : HubView (MeteredView P)). length k.places) turned.3 ∙ length-set mid.places n turned.1 ∙ count,
 )
 
 or_false : (b : Bool) → (b || false) ≡ b
@@ -47,7 +47,7 @@ or_false true = refl
 or_false false = refl
 
 -- one more place was looked at
-pub any_more : {P : Type 0} (xs : List (Gateway × Meter P)) (i : ℕ) (m : Meter P) → i < length xs →
+pub any_more : {P : Type 0} (xs : List (SessionView × MeteredView P)) (i : ℕ) (m : MeteredView P) → i < length xs →
     IfSome (slice_get xs i) (λ place. m ≡ place.1) → any_moved (take (suc i) xs) ≡ (any_moved (take i xs) || m.moved)
 any_more [] i m lt h = absurd (omega (arith, lt))
 any_more (x ∷ xs) zero m lt h = rw h (or_false x.1.moved)
@@ -63,13 +63,13 @@ waits_alike a b c d e p q r s t h i j k l = rw (h, i, j, k, l) refl
 
 module _ {P : Type 0} (becomes : P → PortAnswer → P → Type 0) where
   -- so many rounds, and what the system told in them
-  abbrev pub Ran : ℕ → Serving P → Option (List (SystemAnswer P)) → Serving P → Option (List (SystemAnswer P)) → Type 0
+  abbrev pub Ran : ℕ → ServiceView P → Option (List (SystemAnswer P)) → ServiceView P → Option (List (SystemAnswer P)) → Type 0
   Ran n old s new t = (answers : List (SystemAnswer P)) × Tells s answers t × Rounds becomes n old answers new
 
-  pub no_rounds : (a : Serving P) (s : Option (List (SystemAnswer P))) → Ran 0 a s a s
+  pub no_rounds : (a : ServiceView P) (s : Option (List (SystemAnswer P))) → Ran 0 a s a s
   no_rounds a s = ([], tells_nil s, (refl, refl))
 
-  pub another_round : (n : ℕ) (a b c : Serving P) (s t u : Option (List (SystemAnswer P))) → Ran n a s b t →
+  pub another_round : (n : ℕ) (a b c : ServiceView P) (s t u : Option (List (SystemAnswer P))) → Ran n a s b t →
       is_done b ≡ false → (answers : List (SystemAnswer P)) → Tells t answers u → Round becomes b answers c →
       Ran (n + 1) a s c u
   another_round n a b c s t u h e answers k r = (
@@ -82,7 +82,7 @@ module _ {P : Type 0} (becomes : P → PortAnswer → P → Type 0) where
 
 module _ {P : Type 0} (becomes : P → PortAnswer → P → Type 0) (settings : Settings) where
   -- a round of it was broken off
-  pub runs_out : (n : ℕ) (mid end : Serving P) (s t u : Option (List (SystemAnswer P))) →
+  pub runs_out : (n : ℕ) (mid end : ServiceView P) (s t u : Option (List (SystemAnswer P))) →
       Ran becomes n (opening settings) s mid t → is_done mid ≡ false → (last : List (SystemAnswer P)) → Tells t last u →
       BreaksOff mid last end →
       (answers : List (SystemAnswer P)) × Tells s answers u × GivesUp becomes settings Faults.Memory answers

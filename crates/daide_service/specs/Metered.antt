@@ -11,7 +11,7 @@ use Rattle.daide_machine.specs.declared.ports.Put.TheVariants.{Took, Failed}
 
 -- ports, the turns that are left of them, none once they are spent, whether anything moved in the last one, and the end or
 -- failure that was told first since they are spent
-pub record Meter (P : Type 0) : Type 0 where
+pub record MeteredView (P : Type 0) : Type 0 where
   pub ports : P
   pub left : Option ℕ
   pub moved : Bool
@@ -72,8 +72,8 @@ BecomesWhile becomes (Some turns) old answer new = becomes old answer new
 BecomesWhile becomes None old answer new = IsSpentAnswer answer × (new ≡ old)
 
 -- what a call with this answer does to them
-pub record Meters {P : Type 0} (becomes : P → PortAnswer → P → Type 0) (old : Meter P) (answer : PortAnswer)
-    (new : Meter P) : Type 0 where
+pub record Meters {P : Type 0} (becomes : P → PortAnswer → P → Type 0) (old : MeteredView P) (answer : PortAnswer)
+    (new : MeteredView P) : Type 0 where
   pub left : new.left ≡ left_after answer old.left
   pub moved : new.moved ≡ moved_after answer old.moved
   pub told : new.told ≡ told_after answer new.left old.told

@@ -3,7 +3,7 @@ use Rattle.std.specs.Prelude.{◌≡◌, ℕ, zero, suc, ◌+◌, nat_lt, true, 
 use Rattle.std.specs.Prelude.{Option, Some, None, is_none, Contains, All}
 use Rattle.daide_machine.specs.declared.ending.Ending.{Ending}
 use Rattle.daide_machine.specs.Machine.{Limits, SessionState, Effect, Runs}
-use Rattle.daide_machine.specs.Wires.{Gateway, is_closed}
+use Rattle.daide_machine.specs.Wires.{SessionView, is_closed}
 use Rattle.daide_words.specs.Words.{words_of}
 use Rattle.daide_machine.specs.Config.{limits_with}
 use Rattle.daide_machine.specs.Ports.{PortAnswer, Clock, Pulled, Offered, BecomesBy, events_of}
@@ -14,9 +14,9 @@ use Rattle.daide_machine.specs.declared.system.Connect.TheVariants.{Ready, Faile
 use Rattle.daide_machine.specs.declared.system.Cause.{Cause}
 use Rattle.daide_machine.specs.declared.system.Cause.TheVariants as Causes
 use Rattle.daide_machine.specs.declared.system.SessionEnd.{SessionEnd}
-use Rattle.daide_service.specs.Metered.{Meter, Meters, moved_by}
+use Rattle.daide_service.specs.Metered.{MeteredView, Meters, moved_by}
 use Rattle.daide_machine.specs.System.{SystemAnswer, Begins, Accepts, Connects, Retires, Notifies, Waits}
-use Rattle.daide_service.specs.Serving.{Serving, fresh, opening, Rounds, Serves}
+use Rattle.daide_service.specs.Serving.{ServiceView, fresh, opening, Rounds, Serves}
 
 -- the limits of a run's sessions
 abbrev pub run_limits : Settings → Limits
@@ -25,8 +25,8 @@ run_limits settings = limits_with settings.config (words_of settings.words)
 -- A session of a run: a connect gave its ports, which had all their turns to come; and by all that they answered since,
 -- it is of this kind.
 pub record IsSessionOfRun {P : Type 0} (becomes : P → PortAnswer → P → Type 0)
-    (Kind : Limits → List PortAnswer → Gateway → Type 0) (settings : Settings) (answers : List (SystemAnswer P))
-    (now : Gateway × Meter P) : Type 0 where
+    (Kind : Limits → List PortAnswer → SessionView → Type 0) (settings : Settings) (answers : List (SystemAnswer P))
+    (now : SessionView × MeteredView P) : Type 0 where
   pub ports : P
   pub came : Contains answers (Connects (Ready ports))
   pub history : List PortAnswer
@@ -35,7 +35,7 @@ pub record IsSessionOfRun {P : Type 0} (becomes : P → PortAnswer → P → Typ
 
 -- by all that its ports answered it is bounded and exact
 abbrev pub IsServed : {P : Type 0} → (P → PortAnswer → P → Type 0) → Settings → List (SystemAnswer P) →
-    Gateway × Meter P → Type 0
+    SessionView × MeteredView P → Type 0
 IsServed becomes = IsSessionOfRun becomes IsBoundedAndExact
 
 -- the answers while turns were left: those before the look at the clock that was one too many
@@ -53,7 +53,7 @@ cause_of None = Causes.TurnsSpent
 
 -- How a session ended, by all that its ports answered: its cause is what ended it while its turns were left, and its moves
 -- are counted.
-abbrev pub IsEndOf : Limits → ℕ → List PortAnswer → Gateway → SessionEnd → Type 0
+abbrev pub IsEndOf : Limits → ℕ → List PortAnswer → SessionView → SessionEnd → Type 0
 IsEndOf limits turns history session end =
     (effects : List Effect) × (state : SessionState)
     × Runs (untouched limits).state (events_of (while_left turns history)) effects state × (end.cause ≡ cause_of state.ending)
@@ -63,7 +63,7 @@ IsEndOf limits turns history session end =
 abbrev pub LetsGo : {P : Type 0} → (P → PortAnswer → P → Type 0) → Settings → List (SystemAnswer P) →
     SystemAnswer P → Type 0
 LetsGo {P} becomes settings answers (Retires ports end) =
-    (now : Gateway × Meter P) × (now.1.ports ≡ ports) × (is_closed now.0 ≡ true)
+    (now : SessionView × MeteredView P) × (now.1.ports ≡ ports) × (is_closed now.0 ≡ true)
     × ((served : IsServed becomes settings answers now)
     × IsEndOf (run_limits settings) settings.turns served.history now.0 end)
 LetsGo becomes settings answers Begins = Unit {0}
@@ -119,7 +119,7 @@ counted count (answer ∷ answers) = count answer + counted count answers
 -- ports that came it holds all that it didn't let go; it counts each bot that came; and of these it has on their way to
 -- the server all that weren't joined to it and whose server could be reached.
 abbrev pub SessionsAreServed : {P : Type 0} → (P → PortAnswer → P → Type 0) → Type 0
-SessionsAreServed {P} becomes = (settings : Settings) (n : ℕ) (answers : List (SystemAnswer P)) (run : Serving P) →
+SessionsAreServed {P} becomes = (settings : Settings) (n : ℕ) (answers : List (SystemAnswer P)) (run : ServiceView P) →
     Rounds becomes n (opening settings) answers run →
     All (IsServed becomes settings answers) run.hub.places × All (LetsGo becomes settings answers) answers
     × (counted connects answers ≡ length run.hub.places + counted retires answers)
@@ -139,7 +139,7 @@ pub record IsWholeRun {P : Type 0} (becomes : P → PortAnswer → P → Type 0)
 
 -- Whether anything moved in a turn, by which a round waits or doesn't, is told by the turn's answers.
 abbrev pub MovesAreAnswered : {P : Type 0} → (P → PortAnswer → P → Type 0) → Type 0
-MovesAreAnswered {P} becomes = (old new : Gateway × Meter P) (turn : IsTurned (Meters becomes) old new) →
+MovesAreAnswered {P} becomes = (old new : SessionView × MeteredView P) (turn : IsTurned (Meters becomes) old new) →
     new.1.moved ≡ moved_by turn.exchange.call false
 
 -- how many of these answers are looks at the clock: with one look each turn begins
@@ -151,10 +151,10 @@ looks_in (Offered side bytes put ∷ answers) = looks_in answers
 
 -- A turn looks at the clock once.
 abbrev pub TurnsLookOnce : {P : Type 0} → (P → PortAnswer → P → Type 0) → Type 0
-TurnsLookOnce {P} becomes = (old new : Gateway × Meter P) (turn : IsTurned (Meters becomes) old new) →
+TurnsLookOnce {P} becomes = (old new : SessionView × MeteredView P) (turn : IsTurned (Meters becomes) old new) →
     looks_in turn.exchange.call ≡ 1
 
 -- Ports that had so many turns to come are spent exactly where there were more looks at the clock than that.
 abbrev pub TurnsAreCounted : {P : Type 0} → (P → PortAnswer → P → Type 0) → Type 0
-TurnsAreCounted {P} becomes = (ports : P) (turns : ℕ) (history : List PortAnswer) (now : Meter P) →
+TurnsAreCounted {P} becomes = (ports : P) (turns : ℕ) (history : List PortAnswer) (now : MeteredView P) →
     BecomesBy (Meters becomes) (fresh ports turns) history now → is_none now.left ≡ nat_lt turns (looks_in history)

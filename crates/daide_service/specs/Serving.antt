@@ -6,13 +6,13 @@ use Rattle.std.specs.List.{list_any}
 use Rattle.daide_machine.specs.declared.ending.Ending.{Ending}
 use Rattle.daide_machine.specs.declared.ending.Ending.TheVariants.{Ended, Lost}
 use Rattle.daide_machine.specs.declared.summary.Summary.{Summary}
-use Rattle.daide_machine.specs.Wires.{Gateway, is_closed, same_side}
+use Rattle.daide_machine.specs.Wires.{SessionView, is_closed, same_side}
 use Rattle.daide_turns.specs.declared.hub.HubError.{HubError}
 use Rattle.daide_turns.specs.declared.hub.HubError.TheVariants as HubErrors
 use Rattle.daide_words.specs.Words.{words_of}
 use Rattle.daide_machine.specs.Config.{limits_with}
 use Rattle.daide_machine.specs.Ports.{PortAnswer}
-use Rattle.daide_turns.specs.Hub.{Hosting, with_places, Adds, IsHubCause}
+use Rattle.daide_turns.specs.Hub.{HubView, with_places, Adds, IsHubCause}
 use Rattle.daide_turns.specs.HubRuns.{HubCall, Turned, HubRuns}
 use Rattle.daide_settings.specs.declared.settings.Settings.{Settings}
 use Rattle.daide_service.specs.declared.serving.ServeFault.{ServeFault}
@@ -24,12 +24,12 @@ use Rattle.daide_machine.specs.declared.system.Notice.TheVariants.{CannotReach, 
 use Rattle.daide_machine.specs.declared.system.Cause.{Cause}
 use Rattle.daide_machine.specs.declared.system.Cause.TheVariants as Causes
 use Rattle.daide_machine.specs.declared.system.SessionEnd.{SessionEnd}
-use Rattle.daide_service.specs.Metered.{Meter, Meters}
+use Rattle.daide_service.specs.Metered.{MeteredView, Meters}
 use Rattle.daide_machine.specs.System.{SystemAnswer, Begins, Accepts, Connects, Retires, Notifies, Waits}
 
 -- a run at work: the sessions, and the counts of bots
-pub record Serving (P : Type 0) : Type 0 where
-  pub hub : Hosting (Meter P)
+pub record ServiceView (P : Type 0) : Type 0 where
+  pub hub : HubView (MeteredView P)
   pub tally : Tally
 
 -- ---- the counts
@@ -62,7 +62,7 @@ abbrev pub arrived : Tally → Tally
 arrived tally = counting tally (tally.connecting - 1) tally.accepted
 
 -- no more are held than there may be at once, and no more came than there may be in all
-pub record IsWithin {P : Type 0} (hub : Hosting (Meter P)) (tally : Tally) : Type 0 where
+pub record IsWithin {P : Type 0} (hub : HubView (MeteredView P)) (tally : Tally) : Type 0 where
   pub same_max : hub.max ≡ tally.max_sessions
   pub held : length hub.places + tally.connecting ≤ tally.max_sessions
   pub accepted : tally.accepted ≤ tally.sessions
@@ -80,12 +80,12 @@ Admits count old = AdmitsWhere (accepts old count) old
 -- ---- bots reach the server, or don't
 
 -- ports with all their turns to come
-abbrev pub fresh : {P : Type 0} → P → ℕ → Meter P
+abbrev pub fresh : {P : Type 0} → P → ℕ → MeteredView P
 fresh ports turns = record { ports = ports; left = Some turns; moved = false; told = None }
 
 -- one that is there becomes a session in its opening state, at the last place; one that failed is told, and let go
-abbrev pub MeetsBy : {P : Type 0} → Connect P → Hosting (Meter P) → Tally → List (SystemAnswer P) →
-    Hosting (Meter P) → Tally → Type 0
+abbrev pub MeetsBy : {P : Type 0} → Connect P → HubView (MeteredView P) → Tally → List (SystemAnswer P) →
+    HubView (MeteredView P) → Tally → Type 0
 MeetsBy (Ready ports) hub tally told new_hub new_tally =
     (told ≡ []) × Adds hub (fresh ports tally.turns) new_hub × (new_tally ≡ arrived tally)
 MeetsBy Failed hub tally told new_hub new_tally =
@@ -93,16 +93,16 @@ MeetsBy Failed hub tally told new_hub new_tally =
 MeetsBy Pending hub tally told new_hub new_tally = (told ≡ []) × (new_hub ≡ hub) × (new_tally ≡ tally)
 
 -- where none is on its way, the system isn't asked
-abbrev pub MeetsWhere : {P : Type 0} → Bool → Hosting (Meter P) → Tally → List (SystemAnswer P) →
-    Hosting (Meter P) → Tally → Type 0
+abbrev pub MeetsWhere : {P : Type 0} → Bool → HubView (MeteredView P) → Tally → List (SystemAnswer P) →
+    HubView (MeteredView P) → Tally → Type 0
 MeetsWhere true hub tally answers new_hub new_tally = (answers ≡ []) × (new_hub ≡ hub) × (new_tally ≡ tally)
 MeetsWhere {P} false hub tally answers new_hub new_tally =
     (connect : Connect P) × (told : List (SystemAnswer P)) × (answers ≡ Connects connect ∷ told)
     × MeetsBy connect hub tally told new_hub new_tally
 
-abbrev pub Meets : {P : Type 0} → Hosting (Meter P) → Tally → List (SystemAnswer P) →
-    Hosting (Meter P) → Tally → Type 0
-Meets hub tally = MeetsWhere (tally.connecting == 0) hub tally
+abbrev pub FinishesConnect : {P : Type 0} → HubView (MeteredView P) → Tally → List (SystemAnswer P) →
+    HubView (MeteredView P) → Tally → Type 0
+FinishesConnect hub tally = MeetsWhere (tally.connecting == 0) hub tally
 
 -- ---- each session has a turn
 
@@ -111,10 +111,10 @@ abbrev pub turns_below : {P : Type 0} → ℕ → List (HubCall P)
 turns_below zero = []
 turns_below (suc n) = turns_below n ++ Turned n ∷ []
 
-abbrev pub TurnsAll : {P : Type 0} → (P → PortAnswer → P → Type 0) → Hosting (Meter P) → Hosting (Meter P) → Type 0
+abbrev pub TurnsAll : {P : Type 0} → (P → PortAnswer → P → Type 0) → HubView (MeteredView P) → HubView (MeteredView P) → Type 0
 TurnsAll becomes old new = HubRuns (Meters becomes) old (turns_below (length old.places)) new
 
-abbrev pub any_moved : {P : Type 0} → List (Gateway × Meter P) → Bool
+abbrev pub any_moved : {P : Type 0} → List (SessionView × MeteredView P) → Bool
 any_moved places = list_any (λ place. place.1.moved) places
 
 -- ---- sessions that are over are taken out
@@ -141,48 +141,48 @@ abbrev pub end_by : Option Ending → Option Ending → Summary → SessionEnd
 end_by told ending summary = record { cause = cause_by told ending; summary = summary }
 
 -- how a session ended, and its moves counted
-abbrev pub end_of : {P : Type 0} → Gateway × Meter P → SessionEnd
+abbrev pub end_of : {P : Type 0} → SessionView × MeteredView P → SessionEnd
 end_of place = end_by place.1.told place.0.state.ending place.0.summary
 
 -- that its turns are spent is told, if so, and its ports go, with how it ended
-abbrev pub parting : {P : Type 0} → Meter P → SessionEnd → List (SystemAnswer P)
+abbrev pub parting : {P : Type 0} → MeteredView P → SessionEnd → List (SystemAnswer P)
 parting meter end = last_words (is_none meter.left) ++ Retires meter.ports end ∷ []
 
-abbrev pub farewell_where : {P : Type 0} → Bool → Gateway × Meter P → List (SystemAnswer P)
-farewell_where true place = parting place.1 (end_of place)
-farewell_where false place = []
+abbrev pub retirement_where : {P : Type 0} → Bool → SessionView × MeteredView P → List (SystemAnswer P)
+retirement_where true place = parting place.1 (end_of place)
+retirement_where false place = []
 
 -- a session that is over and of which nothing waits is parted with
-abbrev pub farewell : {P : Type 0} → Gateway × Meter P → List (SystemAnswer P)
-farewell place = farewell_where (is_closed place.0) place
+abbrev pub retirement : {P : Type 0} → SessionView × MeteredView P → List (SystemAnswer P)
+retirement place = retirement_where (is_closed place.0) place
 
 -- from the last place to the first
-abbrev pub farewells : {P : Type 0} → List (Gateway × Meter P) → List (SystemAnswer P)
-farewells [] = []
-farewells (place ∷ places) = farewells places ++ farewell place
+abbrev pub retirements : {P : Type 0} → List (SessionView × MeteredView P) → List (SystemAnswer P)
+retirements [] = []
+retirements (place ∷ places) = retirements places ++ retirement place
 
 -- the sessions that are not over, or of which something waits, in their order
-abbrev pub remaining : {P : Type 0} → List (Gateway × Meter P) → List (Gateway × Meter P)
+abbrev pub remaining : {P : Type 0} → List (SessionView × MeteredView P) → List (SessionView × MeteredView P)
 remaining places = filter (λ place. not (is_closed place.0)) places
 
-abbrev pub RemovesClosed : {P : Type 0} → Hosting (Meter P) → List (SystemAnswer P) → Hosting (Meter P) → Type 0
-RemovesClosed old answers new = (answers ≡ farewells old.places) × (new ≡ with_places old (remaining old.places))
+abbrev pub RemovesClosed : {P : Type 0} → HubView (MeteredView P) → List (SystemAnswer P) → HubView (MeteredView P) → Type 0
+RemovesClosed old answers new = (answers ≡ retirements old.places) × (new ≡ with_places old (remaining old.places))
 
 -- ---- a round
 
 -- whether the system gave the run something: a bot, a connect that came about or failed, or ports to take
-abbrev pub stirs : {P : Type 0} → SystemAnswer P → Bool
-stirs Begins = false
-stirs (Accepts came) = came
-stirs (Connects (Ready ports)) = true
-stirs (Connects Failed) = true
-stirs (Connects Pending) = false
-stirs (Retires ports end) = true
-stirs (Notifies notice) = true
-stirs (Waits more) = false
+abbrev pub is_progress : {P : Type 0} → SystemAnswer P → Bool
+is_progress Begins = false
+is_progress (Accepts came) = came
+is_progress (Connects (Ready ports)) = true
+is_progress (Connects Failed) = true
+is_progress (Connects Pending) = false
+is_progress (Retires ports end) = true
+is_progress (Notifies notice) = true
+is_progress (Waits more) = false
 
-abbrev pub any_stirs : {P : Type 0} → List (SystemAnswer P) → Bool
-any_stirs answers = list_any stirs answers
+abbrev pub any_progress : {P : Type 0} → List (SystemAnswer P) → Bool
+any_progress answers = list_any is_progress answers
 
 -- one wait where nothing moved
 abbrev pub wait_where : {P : Type 0} → Bool → Bool → List (SystemAnswer P)
@@ -191,41 +191,41 @@ wait_where false more = Waits more ∷ []
 
 -- The system is told that a round begins; at most one bot is admitted; at most one connect is taken up; each session has
 -- one turn; those that are over are taken out; and there is one wait, exactly where nothing moved in all this.
-pub record Round {P : Type 0} (becomes : P → PortAnswer → P → Type 0) (old : Serving P)
-    (answers : List (SystemAnswer P)) (new : Serving P) : Type 0 where
+pub record Round {P : Type 0} (becomes : P → PortAnswer → P → Type 0) (old : ServiceView P)
+    (answers : List (SystemAnswer P)) (new : ServiceView P) : Type 0 where
   pub admission : List (SystemAnswer P)
   pub meeting : List (SystemAnswer P)
   pub removal : List (SystemAnswer P)
   pub came : Tally
-  pub met : Hosting (Meter P)
-  pub turned : Hosting (Meter P)
+  pub met : HubView (MeteredView P)
+  pub turned : HubView (MeteredView P)
   pub admits : Admits (length old.hub.places) old.tally admission came
-  pub meets : Meets old.hub came meeting met new.tally
+  pub finishes : FinishesConnect old.hub came meeting met new.tally
   pub turns : TurnsAll becomes met turned
   pub removes : RemovesClosed turned removal new.hub
   -- whatever came, no more are held than there may be at once, and no more came than there may be in all
   pub within : IsWithin new.hub new.tally
   pub asked : answers ≡ Begins ∷ admission ++ meeting ++ removal ++ wait_where
-      (any_stirs admission || any_stirs meeting || any_moved turned.places || any_stirs removal)
+      (any_progress admission || any_progress meeting || any_moved turned.places || any_progress removal)
       (accepts new.tally (length new.hub.places))
 
 -- ---- a run
 
 -- whether all bots were served, and none is held
-abbrev pub is_done : {P : Type 0} → Serving P → Bool
+abbrev pub is_done : {P : Type 0} → ServiceView P → Bool
 is_done run = is_served run.tally (length run.hub.places)
 
 -- n rounds, each of a run that isn't done
-abbrev pub Rounds : {P : Type 0} → (P → PortAnswer → P → Type 0) → ℕ → Serving P → List (SystemAnswer P) →
-    Serving P → Type 0
+abbrev pub Rounds : {P : Type 0} → (P → PortAnswer → P → Type 0) → ℕ → ServiceView P → List (SystemAnswer P) →
+    ServiceView P → Type 0
 Rounds becomes zero old answers new = (answers ≡ []) × (new ≡ old)
 Rounds {P} becomes (suc n) old answers new =
-    (mid : Serving P) × (first : List (SystemAnswer P)) × (second : List (SystemAnswer P))
+    (mid : ServiceView P) × (first : List (SystemAnswer P)) × (second : List (SystemAnswer P))
     × (answers ≡ first ++ second) × Rounds becomes n old first mid × (is_done mid ≡ false)
     × Round becomes mid second new
 
 -- a run that no bot came to
-abbrev pub opening : {P : Type 0} → Settings → Serving P
+abbrev pub opening : {P : Type 0} → Settings → ServiceView P
 opening settings = record {
   hub = record {
     limits = limits_with settings.config (words_of settings.words);
@@ -244,14 +244,14 @@ opening settings = record {
 -- rounds from the opening, until all bots were served and none is held
 abbrev pub Serves : {P : Type 0} → (P → PortAnswer → P → Type 0) → Settings → List (SystemAnswer P) → Type 0
 Serves {P} becomes settings answers =
-    (n : ℕ) × (end : Serving P) × Rounds becomes n (opening settings) answers end × (is_done end ≡ true)
+    (n : ℕ) × (end : ServiceView P) × Rounds becomes n (opening settings) answers end × (is_done end ≡ true)
 
 -- ---- a run that is broken off
 
 -- A round whose new session was refused its memory: it was begun, and at most one bot admitted, as in any round; a connect
 -- was under way and came about, and with it the round ends. Its ports are dropped; no session had a turn, and none is
 -- taken out.
-pub record BreaksOff {P : Type 0} (old : Serving P) (answers : List (SystemAnswer P)) (new : Serving P) : Type 0 where
+pub record BreaksOff {P : Type 0} (old : ServiceView P) (answers : List (SystemAnswer P)) (new : ServiceView P) : Type 0 where
   pub admission : List (SystemAnswer P)
   pub came : Tally
   pub ports : P
@@ -266,8 +266,8 @@ pub record RunsOut {P : Type 0} (becomes : P → PortAnswer → P → Type 0) (s
   pub n : ℕ
   pub before : List (SystemAnswer P)
   pub last : List (SystemAnswer P)
-  pub mid : Serving P
-  pub end : Serving P
+  pub mid : ServiceView P
+  pub end : ServiceView P
   pub rounds : Rounds becomes n (opening settings) before mid
   pub going_on : is_done mid ≡ false
   pub breaks : BreaksOff mid last end
@@ -277,7 +277,7 @@ pub record RunsOut {P : Type 0} (becomes : P → PortAnswer → P → Type 0) (s
 pub record RunsLong {P : Type 0} (becomes : P → PortAnswer → P → Type 0) (settings : Settings)
     (answers : List (SystemAnswer P)) : Type 0 where
   pub n : ℕ
-  pub end : Serving P
+  pub end : ServiceView P
   pub all : n + 1 ≡ 18446744073709551616
   pub rounds : Rounds becomes n (opening settings) answers end
 

@@ -20,9 +20,9 @@ pub struct Metered<P: Ports> {
 }
 
 impl<P: Ports> Model for Metered<P> {
-    ghost use Rattle.daide_service.specs.Metered.{Meter};
+    ghost use Rattle.daide_service.specs.Metered.{MeteredView};
 
-    ghost Value = { Meter P };
+    ghost Value = { MeteredView P };
 
     ghost view = { λ m. record { ports = m.ports; left = m.left; moved = m.moved; told = m.told } };
 }

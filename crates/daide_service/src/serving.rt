@@ -8,9 +8,9 @@ ghost use Rattle.daide_machine.specs.Config.{config_fault};
 ghost use Rattle.daide_turns.specs.Hub.{IsHubSize};
 ghost use Rattle.daide_machine.specs.System.{SystemAnswer, Connects};
 ghost use Rattle.daide_machine.specs.Ports.{Tells};
-ghost use Rattle.daide_service.specs.Serving.{IsWithin, Admits, Meets, TurnsAll, any_moved, RemovesClosed, parting};
+ghost use Rattle.daide_service.specs.Serving.{IsWithin, Admits, FinishesConnect, TurnsAll, any_moved, RemovesClosed, parting};
 ghost use Rattle.daide_service.specs.Serving.{is_told, cause_by, end_by};
-ghost use Rattle.daide_service.specs.Serving.{wait_where, any_stirs, Round, is_done, opening, fault_of};
+ghost use Rattle.daide_service.specs.Serving.{wait_where, any_progress, Round, is_done, opening, fault_of};
 ghost use Rattle.daide_service.specs.Served.{IsWholeRun};
 ghost use Rattle.daide_service.specs.Serving.{IsServeCause, IsOpeningCause, IsOfSettings, BreaksOff, GivesUp, arrived};
 
@@ -51,9 +51,9 @@ pub struct Service<P: Ports, A: Allocator = Global> {
 }
 
 impl<P: Ports, A: Allocator> Model for Service<P, A> {
-    ghost use Rattle.daide_service.specs.Serving.{Serving, IsWithin};
+    ghost use Rattle.daide_service.specs.Serving.{ServiceView, IsWithin};
 
-    ghost Value = { Serving P };
+    ghost Value = { ServiceView P };
 
     ghost view = { λ s. record { hub = s.hub; tally = s.tally } };
 
@@ -76,7 +76,7 @@ fn admit<P: Ports, S: System<P>>(count: usize, tally: &mut Tally, system: &mut S
     requires held { count + tally.old.connecting ≤ tally.old.max_sessions }
     requires accepted { tally.old.accepted ≤ tally.old.sessions }
     ensures admits { (answers : List (SystemAnswer P)) × Tells (S.told system.old) answers (S.told system.new)
-        × Admits count tally.old answers tally.new × (result ≡ any_stirs answers) }
+        × Admits count tally.old answers tally.new × (result ≡ any_progress answers) }
     ensures held { count + tally.new.connecting ≤ tally.new.max_sessions }
     ensures accepted { tally.new.accepted ≤ tally.new.sessions }
     ensures same_max { tally.new.max_sessions ≡ tally.old.max_sessions }
@@ -94,15 +94,15 @@ fn admit<P: Ports, S: System<P>>(count: usize, tally: &mut Tally, system: &mut S
 
 /// Makes a session of a bot whose connect to the server came about, or lets it go where that failed. Answers
 /// whether it was either.
-fn meet<P: Ports, A: Allocator + Copy, S: System<P>>(
+fn finish_connect<P: Ports, A: Allocator + Copy, S: System<P>>(
     hub: &mut Hub<Metered<P>, A>,
     tally: &mut Tally,
     system: &mut S,
 ) -> Result<bool, ServeFault>
     requires { IsWithin hub.old tally.old }
-    ensures meets { IfOk result (λ stirred. (answers : List (SystemAnswer P))
+    ensures finishes { IfOk result (λ stirred. (answers : List (SystemAnswer P))
         × Tells (S.told system.old) answers (S.told system.new)
-        × Meets hub.old tally.old answers hub.new tally.new × (stirred ≡ any_stirs answers)) }
+        × FinishesConnect hub.old tally.old answers hub.new tally.new × (stirred ≡ any_progress answers)) }
     ensures within { IsWithin hub.new tally.new }
     ensures refused { IfErr result (λ fault. fault ≡ ServeFault.Memory) }
     ensures broken_off { OnErr result ((ports : P)
@@ -202,7 +202,7 @@ fn remove_closed<P: Ports, A: Allocator + Copy, S: System<P>>(
     system: &mut S,
 ) -> bool
     ensures removes { (answers : List (SystemAnswer P)) × Tells (S.told system.old) answers (S.told system.new)
-        × RemovesClosed hub.old answers hub.new × (result ≡ any_stirs answers) }
+        × RemovesClosed hub.old answers hub.new × (result ≡ any_progress answers) }
     ensures max { hub.new.max ≡ hub.old.max }
     ensures fewer { length hub.new.places ≤ length hub.old.places }
 {
@@ -274,7 +274,7 @@ impl<P: Ports, A: Allocator + Copy> Service<P, A> {
     {
         system.begin_round();
         let came = admit::<P, S>(self.hub.count(), &mut self.tally, system);
-        let met = meet(&mut self.hub, &mut self.tally, system)?;
+        let met = finish_connect(&mut self.hub, &mut self.tally, system)?;
         turn_all(&mut self.hub);
         let moved = has_moved(&self.hub);
         let removed = remove_closed(&mut self.hub, system);

@@ -21,7 +21,7 @@ use Rattle.daide_machine.specs.Machine.{Sent, Outcome, SessionState, Coming, Run
 use Rattle.daide_machine.specs.Machine.{with_pending}
 use Rattle.daide_machine.specs.Machine.{is_over, items_outcome, asked_by}
 use Rattle.daide_machine.specs.Summary.{tallied}
-use Rattle.daide_machine.specs.Wires.{Gateway, Holding, waiting, holding, sent_to, note_of, held_after, counts_from}
+use Rattle.daide_machine.specs.Wires.{SessionView, Holding, waiting, holding, sent_to, note_of, held_after, counts_from}
 use Rattle.daide_machine.specs.Wires.{is_dm_head, asked_at_most, looked_at_most, Goes, Takes}
 use Rattle.daide_machine.proofs.PieceRuns.{piece_runs, piece_outcome, IsTaken}
 use Rattle.daide_session.specs.declared.stage.Stage.{Stage}
@@ -71,7 +71,7 @@ asks_same : (s : SessionState) (side : Side) (bytes : List ℕ) (items : List It
 asks_same s Bot bytes items v h = h
 asks_same s Server bytes items v h = h
 
-pub goes_piece : (g m n : Gateway) (side : Side) (piece : List ℕ) (note : Note) → is_over g.state.phase ≡ false →
+pub goes_piece : (g m n : SessionView) (side : Side) (piece : List ℕ) (note : Note) → is_over g.state.phase ≡ false →
     m.state ≡ with_pending g.state side (fed g.state.limits.cap (coming g.state side).pending piece) →
     ((wire : Side) → waiting m wire ≡ waiting g wire) → m.summary ≡ g.summary →
     ((v : Verdict) → IsTaken g.state side piece v) →
@@ -321,7 +321,7 @@ piece_worked t u v s r side piece items step note limits wanted keeps grown rais
 
 -- ---- no byte
 
-pub goes_nowhere : (g : Gateway) (side : Side) (piece : List ℕ) → length piece ≡ 0 →
+pub goes_nowhere : (g : SessionView) (side : Side) (piece : List ℕ) → length piece ≡ 0 →
     Goes g (bytes_come side piece) Notes.Nothing g
 goes_nowhere g side [] e =
     record {
@@ -337,7 +337,7 @@ counts_same : (o : Option Head) (h : Holding) → counts_from o o h ≡ h.total_
 counts_same None h = refl
 counts_same (Some head) h = refl
 
-pub takes_nothing : (g : Gateway) (side : Side) (piece : List ℕ) → length piece ≡ 0 →
+pub takes_nothing : (g : SessionView) (side : Side) (piece : List ℕ) → length piece ≡ 0 →
     Takes g side piece Notes.Nothing g
 takes_nothing g side [] e = record {
   nothing = λ _. refl;

@@ -21,8 +21,8 @@ use Rattle.daide_grammar.specs.declared.level.Level.TheVariants.{L0}
 use Rattle.daide_reader.specs.declared.verdict.Verdict.{Verdict}
 use Rattle.daide_machine.specs.declared.phase.Phase.{Phase}
 use Rattle.daide_machine.specs.declared.phase.Phase.TheVariants.{WaitIm, WaitRm, Open, Over}
-use Rattle.daide_machine.specs.Events.{Event, Comes, Ends, Loses, Pops}
-use Rattle.daide_machine.specs.Machine.{Limits, SessionState, Sent, Effect, Outcome, Step, Runs, IsRight}
+use Rattle.daide_machine.specs.Events.{Event, Comes, Ends, Loses, TimerExpires}
+use Rattle.daide_machine.specs.Machine.{Limits, SessionState, Sent, Effect, Outcome, Transition, Runs, IsRight}
 use Rattle.daide_machine.specs.Machine.{with_pending, with_noted, is_over, untimely, level_after, answer_to, answered}
 use Rattle.daide_machine.specs.Machine.{im_answered, whole, begun, items_outcome, popped, event_outcome, asked_by}
 use Rattle.daide_machine.specs.Machine.{question_of, question, opening}
@@ -501,9 +501,9 @@ event_follows s (Ends side) v o h r =
     rw o (over_follows s.limits s.level _ _ refl (s.level, refl, (refl, refl)))
 event_follows s (Loses side) v o h r =
     rw o (over_follows s.limits s.level _ _ refl (s.level, refl, (refl, refl)))
-event_follows s Pops v o h r = timer_follows s.phase s h
+event_follows s TimerExpires v o h r = timer_follows s.phase s h
 
-step_follows : (s : SessionState) (event : Event) (effects : List Effect) (m : SessionState) → Step s event effects m →
+step_follows : (s : SessionState) (event : Event) (effects : List Effect) (m : SessionState) → Transition s event effects m →
     is_over s.phase ≡ false → Ready s →
     Follows s.limits s.level (came_in_phase s.phase (cause_at s event)) (record { state = m; effects = effects })
 step_follows s event effects m t o h =

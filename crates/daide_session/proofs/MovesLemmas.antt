@@ -15,7 +15,7 @@ use Rattle.daide_machine.specs.Events.{other}
 use Rattle.daide_machine.specs.Machine.{Sent, Coming, fault, fm_to, em_to, coming, is_over}
 use Rattle.std.specs.Prelude.{◌==◌}
 use Rattle.daide_frame.specs.Frames.{missing}
-use Rattle.daide_machine.specs.Wires.{Gateway, waiting, same_side, frames_to, is_awaited, room_of}
+use Rattle.daide_machine.specs.Wires.{SessionView, waiting, same_side, frames_to, is_awaited, room_of}
 use Rattle.daide_session.specs.declared.stage.Stage.{Stage}
 use Rattle.daide_traffic.specs.Both.{Both, at}
 use Rattle.daide_traffic.specs.Traffic.{Traffic, posted, end_to, pending}
@@ -116,12 +116,12 @@ coming_at t s Bot = refl
 coming_at t s Server = refl
 
 -- where a session takes bytes
-pub record IsFree (g : Gateway) (side : Side) : Type 0 where
+pub record IsFree (g : SessionView) (side : Side) : Type 0 where
   pub live : is_over g.state.phase ≡ false
   pub free : is_awaited (waiting g) side ≡ false
   pub room : room_of g side ≡ missing g.state.limits.cap (coming g.state side).pending
 
-pub free_of : (g : Gateway) (side : Side) → 0 < room_of g side → IsFree g side
+pub free_of : (g : SessionView) (side : Side) → 0 < room_of g side → IsFree g side
 unfolding room_of
 free_of g side h = go (is_over g.state.phase) refl (is_awaited (waiting g) side) refl
   where
@@ -135,25 +135,25 @@ not_empty [] e = absurd (cc)
 not_empty (x ∷ piece) e = omega arith
 
 -- a piece that has a byte and for which there is room
-pub free_for : {g now : Gateway} {empty : Bool} (side : Side) (piece : List ℕ) → g ≡ now →
+pub free_for : {g now : SessionView} {empty : Bool} (side : Side) (piece : List ℕ) → g ≡ now →
     empty ≡ (length piece == 0) → empty ≡ false → length piece ≤ room_of now side → IsFree g side
 free_for {g} side piece same e f few =
     free_of g side (rw same (let some = not_empty piece (sym e ∙ f) in omega (arith, some, few)))
 
 -- what has room, as the traffic sees it
-pub fits : (t : Traffic) (s : Stage) (side : Side) (piece : List ℕ) (now : Gateway) → gateway_of t s ≡ now →
+pub fits : (t : Traffic) (s : Stage) (side : Side) (piece : List ℕ) (now : SessionView) → gateway_of t s ≡ now →
     room_of (gateway_of t s) side ≡ missing t.cap (coming (state_of t s) side).pending →
     length piece ≤ room_of now side → length piece ≤ missing t.cap (pending t side)
 fits t s side piece now same room few =
     subst (λ (c : Coming). length piece ≤ missing t.cap c.pending) (coming_at t s side)
     (subst (λ (n : ℕ). length piece ≤ n) room
-    (subst (λ (g : Gateway). length piece ≤ room_of g side) (sym same) few))
+    (subst (λ (g : SessionView). length piece ≤ room_of g side) (sym same) few))
 
-pub room_over : (g : Gateway) (side : Side) → is_over g.state.phase ≡ true → room_of g side ≡ 0
+pub room_over : (g : SessionView) (side : Side) → is_over g.state.phase ≡ true → room_of g side ≡ 0
 unfolding room_of
 room_over g side e = rw e refl
 
-pub room_awaited : (g : Gateway) (side : Side) → is_awaited (waiting g) side ≡ true → room_of g side ≡ 0
+pub room_awaited : (g : SessionView) (side : Side) → is_awaited (waiting g) side ≡ true → room_of g side ≡ 0
 unfolding room_of
 room_awaited g side e = go (is_over g.state.phase) refl
   where
@@ -161,7 +161,7 @@ room_awaited g side e = go (is_over g.state.phase) refl
     go true f = rw f refl
     go false f = rw (f, e) refl
 
-pub room_open : (g : Gateway) (side : Side) → is_over g.state.phase ≡ false → is_awaited (waiting g) side ≡ false →
+pub room_open : (g : SessionView) (side : Side) → is_over g.state.phase ≡ false → is_awaited (waiting g) side ≡ false →
     room_of g side ≡ missing g.state.limits.cap (coming g.state side).pending
 unfolding room_of
 room_open g side e f = rw (e, f) refl

@@ -11,8 +11,8 @@ use Rattle.daide_frame.specs.Frames.{Item, Begun, Whole, Wrong, last_items}
 use Rattle.daide_reader.specs.declared.verdict.Verdict.{Verdict}
 use Rattle.daide_machine.specs.declared.phase.Phase.{Phase}
 use Rattle.daide_machine.specs.declared.phase.Phase.TheVariants.{WaitIm, WaitRm, Open, Over}
-use Rattle.daide_machine.specs.Events.{Event, Comes, Ends, Loses, Pops}
-use Rattle.daide_machine.specs.Machine.{Sent, Effect, Outcome, SessionState, Step, Runs, coming, with_pending, is_over}
+use Rattle.daide_machine.specs.Events.{Event, Comes, Ends, Loses, TimerExpires}
+use Rattle.daide_machine.specs.Machine.{Sent, Effect, Outcome, SessionState, Transition, Runs, coming, with_pending, is_over}
 use Rattle.daide_machine.specs.Machine.{begun, untimely, answered, im_answered, destination, is_sent}
 use Rattle.daide_machine.specs.Machine.{answer_to, item_outcome, items_outcome, popped, event_outcome}
 use Rattle.daide_machine.specs.Wires.{same_side, sent_to}
@@ -114,7 +114,7 @@ items_send s side (item ∷ items) v o = go (is_over s.phase) refl (items_send f
 
 -- ---- a run
 
-step_sends : (s : SessionState) (e : Event) (effects : List Effect) (m : SessionState) → Step s e effects m →
+step_sends : (s : SessionState) (e : Event) (effects : List Effect) (m : SessionState) → Transition s e effects m →
     is_over s.phase ≡ false → is_over m.phase ≡ false → NoEnd effects
 step_sends s (Comes side x) effects m t o p =
     let bytes = (coming s side).pending ++ x ∷ [] in
@@ -126,7 +126,7 @@ step_sends s (Comes side x) effects m t o p =
     (items_send (with_pending s side bytes) side (last_items s.limits.cap bytes) t.verdict live)
 step_sends s (Ends side) effects m t o p = absurd (not_both (is_over m.phase) (ended s side effects m t o) p)
 step_sends s (Loses side) effects m t o p = absurd (not_both (is_over m.phase) (lost s side effects m t o) p)
-step_sends s Pops effects m t o p =
+step_sends s TimerExpires effects m t o p =
     subst NoEnd (ap (λ (q : Outcome). q.effects) t.outcome)
     (timer s.phase s (ap (λ (q : Outcome). is_over q.state.phase) t.outcome ∙ p))
   where

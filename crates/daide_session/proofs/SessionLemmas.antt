@@ -15,10 +15,10 @@ use Rattle.daide_reader.specs.declared.verdict.Verdict.TheVariants.{Relay}
 use Rattle.daide_machine.specs.declared.note.Note.{Note}
 use Rattle.daide_machine.specs.declared.note.Note.TheVariants as Notes
 use Rattle.daide_machine.specs.declared.phase.Phase.TheVariants.{WaitIm}
-use Rattle.daide_machine.specs.Events.{Event, Pops, other}
+use Rattle.daide_machine.specs.Events.{Event, TimerExpires, other}
 use Rattle.daide_machine.specs.Machine.{Sent, Outcome, SessionState, Question, Runs, IsRight, question, coming}
 use Rattle.daide_machine.specs.Machine.{is_over, fault, popped, event_outcome, opening}
-use Rattle.daide_machine.specs.Wires.{Gateway, waiting, sent_to, note_of, without, IsNew, Goes, Wrote}
+use Rattle.daide_machine.specs.Wires.{SessionView, waiting, sent_to, note_of, without, IsNew, Goes, Wrote}
 use Rattle.daide_machine.proofs.FramesHeard.{not_both, over_for_good, run_waits}
 use Rattle.daide_machine.proofs.EndingLemmas.{IsTold, runs_told}
 use Rattle.daide_machine.specs.declared.ending.Ending.{Ending}
@@ -51,7 +51,7 @@ one_event s e o q h =
     )
 
 -- what one event makes of a session
-pub goes_event : (g n : Gateway) (e : Event) (o : Outcome) (told : Note) → question g.state e ≡ None →
+pub goes_event : (g n : SessionView) (e : Event) (o : Outcome) (told : Note) → question g.state e ≡ None →
     event_outcome g.state e Relay ≡ o → Moves g o n → told ≡ note_of o.effects → Goes g (e ∷ []) told n
 goes_event g n e o told q h m t = record {
   effects = o.effects;
@@ -78,17 +78,17 @@ stopped_over s ending side = go (is_over s.phase) refl
     go false e = rw e refl
 
 -- the timer, in the phase that waits for the IM
-pub goes_popped : (g n : Gateway) (told : Note) → g.state.phase ≡ WaitIm → Moves g (fault g.state Bot ImTimeout) n →
-    told ≡ Notes.Fault ImTimeout → Goes g (Pops ∷ []) told n
+pub goes_popped : (g n : SessionView) (told : Note) → g.state.phase ≡ WaitIm → Moves g (fault g.state Bot ImTimeout) n →
+    told ≡ Notes.Fault ImTimeout → Goes g (TimerExpires ∷ []) told n
 goes_popped g n told waits m t =
     let same : fault g.state Bot ImTimeout ≡ popped g.state.phase g.state = rw waits refl in
-    goes_event g n Pops (popped g.state.phase g.state) told refl refl
+    goes_event g n TimerExpires (popped g.state.phase g.state) told refl refl
     (subst (λ (o : Outcome). Moves g o n) same m)
     (t ∙ ap (λ (o : Outcome). note_of o.effects) same)
 
 -- ---- what holds between calls
 
-pub standing_on : (g n : Gateway) (events : List Event) (told : Note) → Goes g events told n → IsStanding g →
+pub standing_on : (g n : SessionView) (events : List Event) (told : Note) → Goes g events told n → IsStanding g →
     IsStanding n
 standing_on g n events told goes standing = record {
   wanted = λ live. run_waits g.state events goes.effects n.state goes.run live (standing.wanted (before live));
@@ -105,7 +105,7 @@ standing_on g n events told goes standing = record {
         go true e = absurd (not_both (is_over n.state.phase)
             (over_for_good g.state events goes.effects n.state goes.run e) live)
 
-pub standing_over : (g : Gateway) → is_over g.state.phase ≡ true → IsTold g.state → IsStanding g
+pub standing_over : (g : SessionView) → is_over g.state.phase ≡ true → IsTold g.state → IsStanding g
 standing_over g over told = record {
   wanted = λ live. absurd (not_both (is_over g.state.phase) over live);
   no_end = λ live. absurd (not_both (is_over g.state.phase) over live);
@@ -124,7 +124,7 @@ has_end-without n (x ∷ xs) e = go (nat_lt n (length x.bytes)) refl
     go true t = rw t e
     go false t = rw t (both (is_end x.answers) (has_end xs) e)
 
-pub standing_wrote : (g n : Gateway) (side : Side) (k : ℕ) → Wrote g side k n → IsStanding g → IsStanding n
+pub standing_wrote : (g n : SessionView) (side : Side) (k : ℕ) → Wrote g side k n → IsStanding g → IsStanding n
 standing_wrote g n side k w standing = record {
   wanted = λ live. rw w.same_state (standing.wanted (before live));
   no_end = λ live wire. by_wire side wire w.taken w.other_wire (standing.no_end (before live));
@@ -142,7 +142,7 @@ standing_wrote g n side k w standing = record {
     by_wire Server Bot e f h = rw f (h Bot)
     by_wire Server Server e f h = rw e (has_end-without k (waiting g Server) (h Server))
 
-pub standing_dropped : (g n : Gateway) (side : Side) → Dropped g side n → IsStanding g → IsStanding n
+pub standing_dropped : (g n : SessionView) (side : Side) → Dropped g side n → IsStanding g → IsStanding n
 standing_dropped g n side d standing = record {
   wanted = λ live. rw d.same_state (standing.wanted (before live));
   no_end = λ live wire. by_wire side wire d.dropped d.other_wire (standing.no_end (before live));

@@ -19,7 +19,7 @@ use Rattle.daide_machine.specs.declared.note.Note.{Note}
 use Rattle.daide_machine.specs.declared.note.Note.TheVariants as Notes
 use Rattle.daide_machine.specs.Machine.{Limits}
 use Rattle.daide_machine.specs.Weight.{tokens_held}
-use Rattle.daide_machine.specs.Wires.{AsksNothing, Gateway, Holding, HoldsTheSame, holding, held_after, is_dm_head}
+use Rattle.daide_machine.specs.Wires.{AsksNothing, SessionView, Holding, HoldsTheSame, holding, held_after, is_dm_head}
 use Rattle.daide_traffic.specs.Inbound.{tokens_ended}
 use Rattle.daide_traffic.proofs.InboundLemmas.{Grows, all_held, below_four, fed_grows, head_in-more, no_dm_before}
 use Rattle.daide_traffic.proofs.InboundLemmas.{none_held, not_below_four}
@@ -31,13 +31,13 @@ use Rattle.daide_session.specs.Reaction.{Asks}
 pub nothing_left : (cap : ℕ) → left_of cap [] ≡ 0
 nothing_left cap = omega arith
 
-left_same : (side : Side) (a b : Gateway) → b.state.limits ≡ a.state.limits →
+left_same : (side : Side) (a b : SessionView) → b.state.limits ≡ a.state.limits →
     (holding b side).held ≡ (holding a side).held → unspent b side ≡ unspent a side
 left_same side a b limits same =
     ap (left_of b.state.limits.cap) same
     ∙ ap (λ (l : Limits). left_of l.cap (holding a side).held) limits
 
-pub paid_idle : (side : Side) (a b : Gateway) → b.state.limits ≡ a.state.limits →
+pub paid_idle : (side : Side) (a b : SessionView) → b.state.limits ≡ a.state.limits →
     (holding b side).total ≡ (holding a side).total →
     ((holding b side).held ≡ (holding a side).held) ⊎ ((holding b side).held ≡ []) → IsPaidBy 0 side a b
 paid_idle side a b limits total held = record {
@@ -52,23 +52,23 @@ paid_idle side a b limits total held = record {
   sum = omega (arith, total);
 }
 
-pub paid_same : (side : Side) (a b : Gateway) → b.state.limits ≡ a.state.limits → holding b side ≡ holding a side →
+pub paid_same : (side : Side) (a b : SessionView) → b.state.limits ≡ a.state.limits → holding b side ≡ holding a side →
     IsPaidBy 0 side a b
 paid_same side a b limits same =
     paid_idle side a b limits (ap (λ (h : Holding). h.total) same) (inl (ap (λ (h : Holding). h.held) same))
 
-pub paid_held : (a b : Gateway) → b.state.limits ≡ a.state.limits → HoldsTheSame a b → (side : Side) → IsPaidBy 0 side a b
+pub paid_held : (a b : SessionView) → b.state.limits ≡ a.state.limits → HoldsTheSame a b → (side : Side) → IsPaidBy 0 side a b
 paid_held a b limits same Bot = paid_same Bot a b limits same.0
 paid_held a b limits same Server = paid_same Server a b limits same.1
 
-pub paid_freed : (a b : Gateway) → b.state.limits ≡ a.state.limits → AsksNothing a b → HoldsNoMore a b →
+pub paid_freed : (a b : SessionView) → b.state.limits ≡ a.state.limits → AsksNothing a b → HoldsNoMore a b →
     (side : Side) → IsPaidBy 0 side a b
 paid_freed a b limits asked held Bot = paid_idle Bot a b limits asked.0 (held Bot)
 paid_freed a b limits asked held Server = paid_idle Server a b limits asked.1 (held Server)
 
 -- ---- one stretch after another
 
-pub paid_then : (m n : ℕ) (side : Side) (a b c : Gateway) → IsPaidBy m side a b → IsPaidBy n side b c →
+pub paid_then : (m n : ℕ) (side : Side) (a b c : SessionView) → IsPaidBy m side a b → IsPaidBy n side b c →
     IsPaidBy (m + n) side a c
 paid_then m n side a b c h k = record {
   by = h.by + k.by;
@@ -222,7 +222,7 @@ held_after_less cap (Notes.Frame head (Deeds.Huh place)) bytes = omega arith
 held_after_less cap (Notes.Fault code) bytes = omega arith
 
 -- what is held of a side, before a piece, after it, and after what its last byte made
-pub fed_paid : (side : Side) (a b : Gateway) (mid : Holding) (piece : List ℕ) (note : Note) →
+pub fed_paid : (side : Side) (a b : SessionView) (mid : Holding) (piece : List ℕ) (note : Note) →
     let cap = a.state.limits.cap in
     let now = fed cap (holding a side).held piece in
     b.state.limits ≡ a.state.limits → 0 < missing cap (holding a side).held →

@@ -8,7 +8,7 @@ use Rattle.daide_machine.specs.declared.phase.Phase.{Phase}
 use Rattle.daide_machine.specs.declared.phase.Phase.TheVariants.{WaitIm, WaitRm, Open, Over}
 use Rattle.daide_machine.specs.Machine.{SessionState, coming, is_over}
 use Rattle.daide_machine.specs.Events.{other}
-use Rattle.daide_machine.specs.Wires.{Gateway, waiting, LetsGo}
+use Rattle.daide_machine.specs.Wires.{SessionView, waiting, LetsGo}
 use Rattle.daide_machine.specs.declared.config.Config.{Config}
 use Rattle.daide_session.specs.declared.session.SessionError.{SessionError}
 use Rattle.daide_session.specs.declared.session.SessionError.TheVariants as Errors
@@ -35,7 +35,7 @@ state_of t stage = record {
 }
 
 -- that state, what waits for each wire, what is held of each side, and the counts
-abbrev pub gateway_of : Traffic → Stage → Gateway
+abbrev pub gateway_of : Traffic → Stage → SessionView
 gateway_of t stage = record {
   state = state_of t stage;
   to_bot = t.waiting.bot;
@@ -58,7 +58,7 @@ level_in Over level = L0
 
 -- While a session is not over, bytes of each side's next frame are missing, so none lies there whole; and no
 -- frame that waits ends the session. What ended it is known exactly once it is over.
-pub record IsStanding (g : Gateway) : Type 0 where
+pub record IsStanding (g : SessionView) : Type 0 where
   pub wanted : is_over g.state.phase ≡ false → (side : Side) →
       0 < missing g.state.limits.cap (coming g.state side).pending
   pub no_end : is_over g.state.phase ≡ false → (wire : Side) → has_end (waiting g wire) ≡ false
@@ -67,7 +67,7 @@ pub record IsStanding (g : Gateway) : Type 0 where
 -- ---- what is dropped
 
 -- nothing waits for a wire any more, and nothing else changed of the state, the wires and the counts
-pub record Dropped (old : Gateway) (side : Side) (new : Gateway) : Type 0 where
+pub record Dropped (old : SessionView) (side : Side) (new : SessionView) : Type 0 where
   pub same_state : new.state ≡ old.state
   pub dropped : waiting new side ≡ []
   pub other_wire : waiting new (other side) ≡ waiting old (other side)

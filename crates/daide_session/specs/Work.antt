@@ -4,7 +4,7 @@ use Rattle.std.specs.Prelude.{◌≡◌, ℕ, ◌+◌, ◌-◌, ◌*◌, ◌%◌
 use Rattle.std.specs.Prelude.{if◌then◌else◌}
 use Rattle.daide_frame.specs.declared.side.Side.{Side}
 use Rattle.daide_frame.specs.Frames.{head_in, missing}
-use Rattle.daide_machine.specs.Wires.{Gateway, holding, is_dm_head}
+use Rattle.daide_machine.specs.Wires.{SessionView, holding, is_dm_head}
 use Rattle.daide_machine.specs.Weight.{tokens_held}
 
 -- whether the bytes of a side's frame are a whole message
@@ -20,17 +20,17 @@ abbrev pub left_of : ℕ → List ℕ → ℕ
 left_of cap held = 2 * length held - answers_for cap held
 
 -- what is left of two answers for each byte that is held of a side
-abbrev pub unspent : Gateway → Side → ℕ
+abbrev pub unspent : SessionView → Side → ℕ
 unspent g side = left_of g.state.limits.cap (holding g side).held
 
 -- So many bytes of a side came. Its table gave no more than two answers for each of them, with what was left for the
 -- bytes that were held before, and without what is left for those that are held now.
-pub record IsPaidBy (bytes : ℕ) (side : Side) (old new : Gateway) : Type 0 where
+pub record IsPaidBy (bytes : ℕ) (side : Side) (old new : SessionView) : Type 0 where
   pub by : ℕ
   pub few : by + unspent new side ≤ 2 * bytes + unspent old side
   pub sum : (holding new side).total % 2 ^ 64 ≡ ((holding old side).total + by) % 2 ^ 64
 
 -- of each side the bytes are held that were, or none
-abbrev pub HoldsNoMore : Gateway → Gateway → Type 0
+abbrev pub HoldsNoMore : SessionView → SessionView → Type 0
 HoldsNoMore old new =
     (side : Side) → ((holding new side).held ≡ (holding old side).held) ⊎ ((holding new side).held ≡ [])

@@ -32,7 +32,7 @@ pub enum Act {
     /// The wire toward the side fails; all that waits is taken.
     Loses(Side),
     /// The timer of the initial message pops; all that waits is taken.
-    Pops,
+    TimerExpires,
     /// This holds now.
     Sees(Look),
 }
@@ -361,7 +361,7 @@ impl Script {
                 self.session.ended(side);
             }
             Act::Loses(side) => self.session.lost(side),
-            Act::Pops => {
+            Act::TimerExpires => {
                 self.session.im_timeout();
             }
             _ => {}
@@ -376,7 +376,7 @@ impl Script {
             Act::Sends(side, text) => self.send(alloc, side, text),
             Act::Tells(side, text, note) => self.tell(alloc, side, text, note),
             Act::Takes(side, most) => self.take(side, most),
-            Act::Ends(_) | Act::Loses(_) | Act::Pops => self.hear(act),
+            Act::Ends(_) | Act::Loses(_) | Act::TimerExpires => self.hear(act),
             Act::Stops(side) => holds(self.session.ended(side), "an end is told once"),
             Act::Sees(look) => self.look(alloc, look),
         }

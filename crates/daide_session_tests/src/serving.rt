@@ -49,7 +49,7 @@ struct Scene {
 
 /// A system that plays a scene; its server is quiet.
 #[derive(Drop)]
-struct Stage {
+struct Harness {
     alloc: Global,
     scene: Scene,
     accepts: usize,
@@ -63,10 +63,10 @@ struct Stage {
     ends: Vec<SessionEnd>,
 }
 
-impl Stage {
+impl Harness {
     /// Nobody came yet.
-    fn new(alloc: Global, scene: Scene) -> Stage {
-        Stage {
+    fn new(alloc: Global, scene: Scene) -> Harness {
+        Harness {
             alloc,
             scene,
             accepts: 0,
@@ -85,7 +85,7 @@ impl Stage {
     }
 }
 
-impl System<MemoryPorts<'static>> for Stage {
+impl System<MemoryPorts<'static>> for Harness {
     ghost use Rattle.std.specs.Prelude.{None};
 
     ghost told = { λ _. None };
@@ -316,9 +316,9 @@ const RUNS: &[(Scene, Limits, &[Event])] = &[
 ];
 
 /// The stage after a whole run of a scene by these limits.
-fn stage_after(alloc: Global, scene: Scene, limits: Limits) -> Result<Stage, Fail> {
+fn stage_after(alloc: Global, scene: Scene, limits: Limits) -> Result<Harness, Fail> {
     let settings = settings(alloc, limits)?;
-    let mut stage = Stage::new(alloc, scene);
+    let mut stage = Harness::new(alloc, scene);
     serve(alloc, &settings, &mut stage)?;
     Ok(stage)
 }
@@ -360,7 +360,7 @@ const OPENING: Scene = Scene {
 };
 
 /// The system was asked that, and the server got no more than the IM.
-fn assert_spent(alloc: Global, stage: &Stage) -> Result<(), Fail> {
+fn assert_spent(alloc: Global, stage: &Harness) -> Result<(), Fail> {
     holds(stage.events.as_slice() == SPENT, "the events")?;
     match stage.retired.first() {
         Some(ports) => assert_sent(alloc, ports.calls(), Server, "00 00 00 04 00 01 DA 10"),
@@ -467,7 +467,7 @@ fn try_within(
     seen: &mut Growths,
 ) -> Result<(), Fail> {
     let heap = LocalHeap::new(alloc, bytes)?;
-    let mut stage = Stage::new(alloc, ENDING);
+    let mut stage = Harness::new(alloc, ENDING);
     let Err(fault) = serve(&heap, settings, &mut stage) else {
         seen.whole = true;
         return Ok(());
@@ -493,7 +493,7 @@ fn want_of_memory_ends_a_run(rt: HostRuntime) -> Result<(), Fail> {
 
 /// The fault of a run by these settings, before which nobody was asked.
 fn assert_fault(alloc: Global, settings: &Settings, want: ServeFault) -> Result<(), Fail> {
-    let mut stage = Stage::new(alloc, ENDING);
+    let mut stage = Harness::new(alloc, ENDING);
     let fault = serve(alloc, settings, &mut stage).err();
     same(&fault, &Some(want), &"the fault")?;
     holds(stage.events.is_empty(), "nobody was asked")

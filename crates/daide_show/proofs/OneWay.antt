@@ -14,7 +14,7 @@ use Rattle.daide_words.specs.declared.word.Word.{Word}
 use Rattle.daide_words.specs.Word.{grammar_words}
 use Rattle.daide_reader.specs.declared.verdict.Verdict.{Verdict}
 use Rattle.daide_reader.proofs.VerdictLemmas.{verdict_is_one}
-use Rattle.daide_machine.specs.Bounds.{longest_body, deepest}
+use Rattle.daide_machine.specs.Bounds.{longest_body, greatest_depth}
 use Rattle.daide_show.specs.declared.frame_view.ShowFault.{ShowFault}
 use Rattle.daide_show.specs.declared.frame_view.ShowFault.TheVariants.{TooLong, NotHex}
 use Rattle.daide_show.specs.Input.{limit, bytes_of}
@@ -30,7 +30,7 @@ module _ (words : List Word) where
   frame_is_one end level Dm len body s t x y =
       x.2
       ∙ ap (λ (v : Verdict). message_shown words len body v)
-      (verdict_is_one (IsMessageOver (grammar_words words) end level) deepest (tokens_of body) x.0 y.0 x.1 y.1)
+      (verdict_is_one (IsMessageOver (grammar_words words) end level) greatest_depth (tokens_of body) x.0 y.0 x.1 y.1)
       ∙ sym y.2
   frame_is_one end level Fm len body s t x y = x ∙ sym y
   frame_is_one end level Em len body s t x y = x ∙ sym y

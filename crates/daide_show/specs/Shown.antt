@@ -24,7 +24,7 @@ use Rattle.daide_reader.specs.Verdict.{HasVerdict}
 use Rattle.daide_reader.specs.declared.verdict.Verdict.{Verdict}
 use Rattle.daide_reader.specs.declared.verdict.Verdict.TheVariants.{Relay, Prn, Huh}
 use Rattle.daide_machine.specs.Answers.{answer_body}
-use Rattle.daide_machine.specs.Bounds.{longest_body, deepest}
+use Rattle.daide_machine.specs.Bounds.{longest_body, greatest_depth}
 use Rattle.daide_machine.specs.Machine.{side2_of}
 use Rattle.daide_show.specs.Input.{limit, bytes_of}
 use Rattle.daide_show.specs.declared.frame_view.ShowFault.{ShowFault}
@@ -100,7 +100,7 @@ IsFrameShownAs words end level Im len body shown = shown ≡ im_shown len (im_of
 IsFrameShownAs words end level Rm len body shown = shown ≡ relayed_shown Rm len
 IsFrameShownAs words end level Dm len body shown =
     (verdict : Verdict)
-    × HasVerdict (IsMessageOver (grammar_words words) end level) deepest (tokens_of body) verdict
+    × HasVerdict (IsMessageOver (grammar_words words) end level) greatest_depth (tokens_of body) verdict
     × (shown ≡ message_shown words len body verdict)
 IsFrameShownAs words end level Fm len body shown = shown ≡ relayed_shown Fm len
 IsFrameShownAs words end level Em len body shown = shown ≡ relayed_shown Em len

@@ -3,8 +3,8 @@
 //! Neither an accept nor a connect is waited for. The server's name was resolved at the start; where it has several
 //! addresses they are tried in turn, within one time for all.
 
+use crate::poller::{Poller, Registration};
 use crate::ports::{Socket, SocketPorts};
-use crate::watch::{Place, Watch};
 use mio::Interest;
 use mio::net::{TcpListener, TcpStream};
 use std::io;
@@ -18,23 +18,23 @@ const ACCEPT_PAUSE: u64 = 100;
 
 /// Where bots come.
 #[derive(Drop)]
-pub struct Door<'w> {
+pub struct Acceptor<'w> {
     listener: TcpListener,
-    place: Place<'w>,
+    place: Registration<'w>,
 }
 
-impl<'w> Door<'w> {
+impl<'w> Acceptor<'w> {
     /// Follows a listener; none where the table has no row for it, or the system refuses.
-    pub fn new<R: Clock>(watch: &'w Watch<R>, listener: TcpListener) -> Option<Door<'w>> {
+    pub fn new<R: Clock>(poller: &'w Poller<R>, listener: TcpListener) -> Option<Acceptor<'w>> {
         let mut listener = listener;
-        let place = watch.follow(&mut listener, Interest::READABLE)?;
-        Some(Door { listener, place })
+        let place = poller.follow(&mut listener, Interest::READABLE)?;
+        Some(Acceptor { listener, place })
     }
 
     /// Ends the pause after an accept that failed, where it is over.
-    pub(crate) fn reopen<R: Clock>(&self, watch: &Watch<R>) {
+    pub(crate) fn reopen<R: Clock>(&self, poller: &Poller<R>) {
         let flags = self.place.flags;
-        if watch.is_over(flags.due.get()) {
+        if poller.is_over(flags.due.get()) {
             flags.due.set(None);
             flags.note(true, false);
         }
@@ -42,34 +42,34 @@ impl<'w> Door<'w> {
 
     /// The connection of a bot that came, and its address, if the system has one; it isn't asked during the pause after an
     /// accept that failed.
-    pub fn accept<R: Clock>(&self, watch: &Watch<R>) -> Option<(TcpStream, SocketAddr)> {
-        self.reopen(watch);
+    pub fn accept<R: Clock>(&self, poller: &Poller<R>) -> Option<(TcpStream, SocketAddr)> {
+        self.reopen(poller);
         if !self.place.flags.readiness.get().may_read {
             return None;
         }
-        match self.take(watch) {
+        match self.take(poller) {
             Ok(came) => Some(came),
             Err(error) => {
-                self.refused(watch, error.kind());
+                self.refused(poller, error.kind());
                 None
             }
         }
     }
 
     /// Accepts, where a descriptor is left for the bot's connect to the server too.
-    fn take<R: Clock>(&self, watch: &Watch<R>) -> io::Result<(TcpStream, SocketAddr)> {
-        let _spare = watch.spare()?;
+    fn take<R: Clock>(&self, poller: &Poller<R>) -> io::Result<(TcpStream, SocketAddr)> {
+        let _spare = poller.spare()?;
         self.listener.accept()
     }
 
     /// Notes that an accept gave none: another is made once a bot comes, or after a pause where it failed.
-    pub fn refused<R: Clock>(&self, watch: &Watch<R>, why: ErrorKind) {
+    pub fn refused<R: Clock>(&self, poller: &Poller<R>, why: ErrorKind) {
         let flags = self.place.flags;
         flags.found_nothing();
         if why != ErrorKind::WouldBlock {
             flags
                 .due
-                .set(watch.after(Duration::from_millis(ACCEPT_PAUSE)));
+                .set(poller.after(Duration::from_millis(ACCEPT_PAUSE)));
         }
     }
 }
@@ -114,7 +114,7 @@ pub(crate) enum Outcome<'w, R: Clock> {
 impl<'w> Arrival<'w> {
     /// A bot that came now, whose connect is still to begin.
     pub(crate) fn new<R: Clock>(
-        watch: &Watch<R>,
+        poller: &Poller<R>,
         (number, bot): (u32, Socket<'w>),
         im_time: Duration,
         connect_time: Duration,
@@ -124,15 +124,15 @@ impl<'w> Arrival<'w> {
             bot,
             server: None,
             tried: 0,
-            gives_up: watch.after(connect_time),
-            im_over: watch.after(im_time),
+            gives_up: poller.after(connect_time),
+            im_over: poller.after(im_time),
         }
     }
 
     /// Begins to connect to the next address to which that can be done.
     pub(crate) fn try_next<R: Clock, N: Net>(
         &mut self,
-        watch: &'w Watch<R>,
+        poller: &'w Poller<R>,
         net: &N,
         servers: &[SocketAddr],
     ) {
@@ -142,7 +142,7 @@ impl<'w> Arrival<'w> {
             let Ok(stream) = TcpStream::connect(net, *address) else {
                 continue;
             };
-            if let Some(socket) = Socket::new(watch, stream) {
+            if let Some(socket) = Socket::new(poller, stream) {
                 socket.place.flags.due.set(self.gives_up);
                 self.server = Some(socket);
                 return;
@@ -174,7 +174,7 @@ impl<'w> Arrival<'w> {
     /// Goes on with the connect, as far as that is without waiting. Once it is there, either side may be silent for so long.
     pub(crate) fn advance<R: Clock, N: Net>(
         self,
-        watch: &'w Watch<R>,
+        poller: &'w Poller<R>,
         net: &N,
         servers: &[SocketAddr],
         idle_time: Option<Duration>,
@@ -182,22 +182,22 @@ impl<'w> Arrival<'w> {
         let mut arrival = self;
         for _ in 0..=servers.len() {
             match arrival.progress() {
-                Progress::Connected => return arrival.join(watch, idle_time),
+                Progress::Connected => return arrival.join(poller, idle_time),
                 Progress::Pending => break,
                 Progress::Failed if arrival.tried < servers.len() => {
-                    arrival.try_next(watch, net, servers);
+                    arrival.try_next(poller, net, servers);
                 }
                 Progress::Failed => return Outcome::Unreached(arrival.number, arrival.bot),
             }
         }
-        if watch.is_over(arrival.gives_up) {
+        if poller.is_over(arrival.gives_up) {
             return Outcome::Unreached(arrival.number, arrival.bot);
         }
         Outcome::Pending(arrival)
     }
 
     /// The ports of a bot whose server is there, either of which may be silent for so long; none for ever.
-    fn join<R: Clock>(self, watch: &'w Watch<R>, idle_time: Option<Duration>) -> Outcome<'w, R> {
+    fn join<R: Clock>(self, poller: &'w Poller<R>, idle_time: Option<Duration>) -> Outcome<'w, R> {
         let Arrival {
             number,
             bot,
@@ -211,7 +211,7 @@ impl<'w> Arrival<'w> {
         };
         server.place.flags.due.set(None);
         bot.place.flags.due.set(im_over);
-        let ports = SocketPorts::new(watch, bot, server);
+        let ports = SocketPorts::new(poller, bot, server);
         Outcome::Joined(ports.of_session(number, idle_time))
     }
 }

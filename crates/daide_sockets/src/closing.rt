@@ -8,8 +8,8 @@ ghost use Rattle.std.specs.Prelude.{◌≡◌, ◌+◌, List, [], ℕ, length};
 ghost use Rattle.daide_streams.specs.Buffers.{Passes, IsUnread, IsUnwritten};
 
 use crate::connection::Connection;
+use crate::poller::Poller;
 use crate::ports::{Socket, SocketPorts};
-use crate::watch::Watch;
 use daide_streams::dropping::Dropping;
 use daide_streams::duplex::Duplex;
 use std::alloc::{AllocError, Global};
@@ -68,7 +68,7 @@ impl<'w, S: Duplex + Drop> Closing<'w, S> {
     }
 
     /// Writes what is held, and shuts down writing once that is all. Of its bytes none is read, and none is lost.
-    fn end_writing<R: Clock>(&mut self, watch: &Watch<R>)
+    fn end_writing<R: Clock>(&mut self, poller: &Poller<R>)
         ensures rest { self.new.rest ≡ self.old.rest }
         ensures passes { Passes S.to_give S.taken self.old.socket.stream [] [] self.new.socket.stream }
         ensures unread { IsUnread S.to_give self.old.socket.stream self.new.socket.stream }
@@ -78,14 +78,14 @@ impl<'w, S: Duplex + Drop> Closing<'w, S> {
             return;
         }
         self.is_ended = true;
-        let due = watch.after(Duration::from_secs(SECONDS));
+        let due = poller.after(Duration::from_secs(SECONDS));
         self.socket.place.flags.due.set(due);
         self.shut_down();
     }
 
     /// Drops a piece of what came, and answers whether the socket is to be closed now. What it drops is what the stream
     /// gives next, behind all that its session read, and the stream takes nothing more.
-    fn drops_last<R: Clock>(&mut self, watch: &Watch<R>) -> bool
+    fn drops_last<R: Clock>(&mut self, poller: &Poller<R>) -> bool
         ensures dropped { (bytes : List ℕ) × (self.old.rest ≡ self.new.rest + length bytes)
             × Passes S.to_give S.taken self.old.socket.stream bytes [] self.new.socket.stream }
         ensures unwritten { IsUnwritten S.taken self.old.socket.stream self.new.socket.stream }
@@ -101,15 +101,15 @@ impl<'w, S: Duplex + Drop> Closing<'w, S> {
         let is_last = self.rest.drop_piece(stream, *pool, &mut readiness);
         flags.readiness.set(readiness);
         let due = flags.due.get();
-        is_last || due.is_none() || watch.is_over(due)
+        is_last || due.is_none() || poller.is_over(due)
     }
 
     /// Goes on, and answers whether the socket is to be closed now.
-    fn advances<R: Clock>(&mut self, watch: &Watch<R>) -> bool {
+    fn advances<R: Clock>(&mut self, poller: &Poller<R>) -> bool {
         if self.is_ended {
-            return self.drops_last(watch);
+            return self.drops_last(poller);
         }
-        self.end_writing(watch);
+        self.end_writing(poller);
         false
     }
 
@@ -143,33 +143,33 @@ impl<'w, S: Duplex + Drop> Closings<'w, S> {
     }
 
     /// Begins to close a socket. Where there are `MOST_CLOSING` already, the one that began first is closed.
-    pub fn begin<R: Clock>(&mut self, watch: &Watch<R>, socket: Socket<'w, S>) {
+    pub fn begin<R: Clock>(&mut self, poller: &Poller<R>, socket: Socket<'w, S>) {
         if self.sockets.len() >= MOST_CLOSING {
             self.sockets.remove(0);
             self.next = self.next.saturating_sub(1);
         }
         let mut closing = Closing::new(socket);
-        closing.end_writing(watch);
+        closing.end_writing(poller);
         // There is room: a socket for which there were none would be closed at once.
         let _ = self.sockets.push(closing);
     }
 
     /// Begins to close both sockets of a session.
-    pub fn begin_both<R: Clock>(&mut self, watch: &Watch<R>, ports: SocketPorts<'w, R, S>) {
+    pub fn begin_both<R: Clock>(&mut self, poller: &Poller<R>, ports: SocketPorts<'w, R, S>) {
         let (bot, server) = ports.into_sockets();
-        self.begin(watch, bot);
-        self.begin(watch, server);
+        self.begin(poller, bot);
+        self.begin(poller, server);
     }
 
     /// Goes on with the next, behind the last with the first, and closes it where it is to be.
-    fn advance_next<R: Clock>(&mut self, watch: &Watch<R>) {
+    fn advance_next<R: Clock>(&mut self, poller: &Poller<R>) {
         if self.next >= self.sockets.len() {
             self.next = 0;
         }
         let Some(closing) = self.sockets.get_mut(self.next) else {
             return;
         };
-        if closing.advances(watch) {
+        if closing.advances(poller) {
             self.sockets.remove(self.next);
         } else {
             self.next = self.next.saturating_add(1);
@@ -177,9 +177,9 @@ impl<'w, S: Duplex + Drop> Closings<'w, S> {
     }
 
     /// Goes on with the next few.
-    pub fn advance<R: Clock>(&mut self, watch: &Watch<R>) {
+    pub fn advance<R: Clock>(&mut self, poller: &Poller<R>) {
         for _ in 0..self.sockets.len().min(MOST_LOOKS) {
-            self.advance_next(watch);
+            self.advance_next(poller);
         }
     }
 

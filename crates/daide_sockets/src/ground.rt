@@ -4,8 +4,8 @@ ghost use Rattle.std.specs.Prelude.{◌≡◌, ◌+◌, ◌*◌, ◌^◌, ◌<�
 ghost use Rattle.daide_sockets.specs.Times.{IsSeconds, IsIdleTime};
 
 use crate::closing::MOST_CLOSING;
+use crate::poller::{Poller, PollerError};
 use crate::system::{Sockets, most_sockets};
-use crate::watch::{Watch, WatchFault};
 use daide_settings::Settings;
 use mio::net::TcpListener;
 use std::alloc::{AllocError, Global};
@@ -20,7 +20,7 @@ const CONNECT_SECONDS: u64 = 5;
 
 /// Why there is no ground to run on.
 #[derive(Clone, Copy, Debug, PartialEq, Eq, Error)]
-pub enum GroundFault {
+pub enum GroundError {
     /// The address can't be listened on, or the system has no descriptor for the table of sockets.
     #[error("cannot listen")]
     Listen,
@@ -66,7 +66,7 @@ pub struct Ground<'r, R: Clock> {
     /// Where the server is.
     pub servers: Vec<SocketAddr>,
     /// The table of the sockets.
-    pub watch: Watch<&'r R>,
+    pub poller: Poller<&'r R>,
 }
 
 /// Listens at the address of settings, and looks up the server's. The table has a row for each socket of the run; which
@@ -74,24 +74,24 @@ pub struct Ground<'r, R: Clock> {
 pub fn ground_of<'r, R: AllocGlobal + Clock + Net>(
     rt: &'r R,
     settings: &Settings,
-) -> Result<Ground<'r, R>, GroundFault>
+) -> Result<Ground<'r, R>, GroundError>
     ensures rows { IfOk result (λ ground. settings.now.max_sessions < 2 ^ 62 →
-        vec_len ground.watch.flags ≡ 2 * settings.now.max_sessions + MOST_CLOSING + 1) }
+        vec_len ground.poller.flags ≡ 2 * settings.now.max_sessions + MOST_CLOSING + 1) }
 {
     let Some(listener) = listener_at(rt, settings.listen.as_str()) else {
-        return Err(GroundFault::Listen);
+        return Err(GroundError::Listen);
     };
     let Ok(servers) = servers_at(rt.alloc(), rt, settings.server.as_str()) else {
-        return Err(GroundFault::Memory);
+        return Err(GroundError::Memory);
     };
-    match Watch::new(rt.alloc(), rt, rt, most_sockets(settings.max_sessions)) {
-        Ok(watch) => Ok(Ground {
+    match Poller::new(rt.alloc(), rt, rt, most_sockets(settings.max_sessions)) {
+        Ok(poller) => Ok(Ground {
             listener,
             servers,
-            watch,
+            poller,
         }),
-        Err(WatchFault::System) => Err(GroundFault::Listen),
-        Err(WatchFault::Memory) => Err(GroundFault::Memory),
+        Err(PollerError::System) => Err(GroundError::Listen),
+        Err(PollerError::Memory) => Err(GroundError::Memory),
     }
 }
 
@@ -100,7 +100,7 @@ pub fn ground_of<'r, R: AllocGlobal + Clock + Net>(
 pub fn sockets_on<'w, R: AllocGlobal + Clock + Net, E: Write + Drop>(
     rt: &'w R,
     settings: &Settings,
-    ground: (TcpListener, &'w [SocketAddr], &'w Watch<&'w R>),
+    ground: (TcpListener, &'w [SocketAddr], &'w Poller<&'w R>),
     errors: E,
 ) -> Option<Sockets<'w, R, E>>
     ensures none_came { IfSome result (λ sockets. (sockets.came ≡ 0) × (sockets.is_verbose ≡ false)) }
@@ -108,11 +108,11 @@ pub fn sockets_on<'w, R: AllocGlobal + Clock + Net, E: Write + Drop>(
     ensures idle_time { IfSome result (λ sockets. IsIdleTime settings.now.idle_seconds sockets.idle_time) }
     ensures connect_time { IfSome result (λ sockets. IsSeconds CONNECT_SECONDS sockets.connect_time) }
 {
-    let (listener, servers, watch) = ground;
+    let (listener, servers, poller) = ground;
     Sockets::new(
         rt.alloc(),
         rt,
-        watch,
+        poller,
         (listener, servers),
         settings,
         Duration::from_secs(CONNECT_SECONDS),

@@ -1,6 +1,6 @@
 //! The system over sockets: what the loop of a run asks of it.
 //!
-//! No call waits but the loop's own wait. `watch` is what is known of each socket, `connection` is a connection as a
+//! No call waits but the loop's own wait. `poller` is what is known of each socket, `connection` is a connection as a
 //! stream both ways, `ports` are a session's, `admission` takes bots and connects them, `closing` closes in stages,
 //! `session_notice` has the lines of a session, `system` puts them together for the loop, and `ground` is what a run
 //! stands on at the addresses of settings.
@@ -13,10 +13,10 @@ pub mod admission;
 pub mod closing;
 pub mod connection;
 pub mod ground;
+pub mod poller;
 pub mod ports;
 pub mod session_notice;
 pub mod system;
-pub mod watch;
 
 // No other crate knows `mio`, so what a caller names of it has its name here.
 pub use mio::Interest;

@@ -13,7 +13,7 @@ ghost use Rattle.daide_streams.specs.Taking.{front_of};
 ghost use Rattle.daide_sockets.specs.Lines.{silent_of};
 
 use crate::connection::Connection;
-use crate::watch::{Flags, Place, Watch};
+use crate::poller::{Flags, Poller, Registration};
 use daide_frame::side::Side;
 use daide_machine::ports::{Ports, Pull, Put};
 use daide_streams::buffered::Buffered;
@@ -33,7 +33,7 @@ pub struct Socket<'w, S: Drop = Connection> {
     /// The connection, and what is held of it.
     pub stream: Buffered<S>,
     /// Its row, by which its flags are seen.
-    pub place: Place<'w>,
+    pub place: Registration<'w>,
     /// Room for what is held.
     pub(crate) pool: &'w Pool,
     /// Whether nothing came of its peer for too long, so that it was taken as ended.
@@ -43,27 +43,31 @@ pub struct Socket<'w, S: Drop = Connection> {
 impl<'w> Socket<'w> {
     /// Follows a connection; none where the table has no row for it, or the system refuses. Small writes go out at
     /// once.
-    pub fn new<R: Clock>(watch: &'w Watch<R>, stream: TcpStream) -> Option<Socket<'w>> {
+    pub fn new<R: Clock>(poller: &'w Poller<R>, stream: TcpStream) -> Option<Socket<'w>> {
         let mut stream = stream;
         // A connection that keeps small writes back is slower, and right.
         let _ = stream.set_nodelay(true);
         // A read stops before an urgent byte, and that is told as a priority.
         let interest = Interest::READABLE | Interest::WRITABLE | Interest::PRIORITY;
-        let place = watch.follow(&mut stream, interest)?;
-        Some(Socket::over(watch, Connection(stream), place))
+        let place = poller.follow(&mut stream, interest)?;
+        Some(Socket::over(poller, Connection(stream), place))
     }
 }
 
 impl<'w, S: Drop> Socket<'w, S> {
     /// Any stream, of which nothing is held yet, and its row of the table.
-    pub fn over<R: Clock>(watch: &'w Watch<R>, stream: S, place: Place<'w>) -> Socket<'w, S>
+    pub fn over<R: Clock>(
+        poller: &'w Poller<R>,
+        stream: S,
+        place: Registration<'w>,
+    ) -> Socket<'w, S>
         ensures stream { result.stream ≡ record { stream = stream; ahead = []; behind = [] } }
         ensures silent { result.is_silent ≡ false }
     {
         Socket {
             stream: Buffered::new(stream),
             place,
-            pool: watch.pool(),
+            pool: poller.pool(),
             is_silent: false,
         }
     }
@@ -132,7 +136,7 @@ impl<S: Duplex + Drop> Socket<'_, S> {
 /// How long the peers of a session may be silent; none for ever.
 #[derive(Drop)]
 struct Patience<'w, R: Clock> {
-    watch: &'w Watch<R>,
+    poller: &'w Poller<R>,
     time: Option<Duration>,
 }
 
@@ -142,7 +146,7 @@ impl<R: Clock> Patience<'_, R> {
         let Some(time) = self.time else {
             return;
         };
-        flags.silent_from.set(self.watch.after(time));
+        flags.silent_from.set(self.poller.after(time));
     }
 
     /// Whether nothing came of a socket for too long: never, where its peer may be silent for ever. What the time is, the
@@ -150,7 +154,7 @@ impl<R: Clock> Patience<'_, R> {
     fn is_over(&self, flags: &Flags) -> bool
         ensures { IsNone self.now.time → result ≡ false }
     {
-        self.time.is_some() && self.watch.is_over(flags.silent_from.get())
+        self.time.is_some() && self.poller.is_over(flags.silent_from.get())
     }
 }
 
@@ -227,7 +231,7 @@ pub struct SocketPorts<'w, R: Clock, S: Drop = Connection> {
 impl<'w, R: Clock, S: Drop> SocketPorts<'w, R, S> {
     /// The ports of a bot and of the server that it is joined to.
     pub fn new(
-        watch: &'w Watch<R>,
+        poller: &'w Poller<R>,
         bot: Socket<'w, S>,
         server: Socket<'w, S>,
     ) -> SocketPorts<'w, R, S>
@@ -238,7 +242,7 @@ impl<'w, R: Clock, S: Drop> SocketPorts<'w, R, S> {
         ensures silent { (result.bot.is_silent ≡ bot.entry.is_silent)
             × (result.server.is_silent ≡ server.entry.is_silent) }
     {
-        let patience = Patience { watch, time: None };
+        let patience = Patience { poller, time: None };
         SocketPorts {
             number: 0,
             patience,
@@ -266,7 +270,7 @@ impl<'w, R: Clock, S: Drop> SocketPorts<'w, R, S> {
             server,
         } = self;
         let patience = Patience {
-            watch: patience.watch,
+            poller: patience.poller,
             time,
         };
         patience.begin(bot.place.flags);
@@ -320,7 +324,7 @@ impl<'w, R: Clock, S: Drop> SocketPorts<'w, R, S> {
         ensures bot { self.new.bot ≡ self.old.bot }
         ensures server { self.new.server ≡ self.old.server }
     {
-        self.patience.watch.note_turn();
+        self.patience.poller.note_turn();
         self.held = if self.bot.stream.is_behind() || self.server.stream.is_behind() {
             self.held.saturating_add(1)
         } else {
@@ -371,7 +375,7 @@ impl<R: Clock, S: Duplex + Drop> Ports for SocketPorts<'_, R, S> {
         self.begin_turn();
         self.flush_late();
         let due = &self.bot.place.flags.due;
-        let is_over = self.patience.watch.is_over(due.get());
+        let is_over = self.patience.poller.is_over(due.get());
         if is_over {
             due.set(None);
         }

@@ -3,11 +3,11 @@
 ghost use Rattle.std.specs.Prelude.{◌≡◌, ◌+◌, ◌*◌, ◌^◌, ◌<◌, IfSome, None, false};
 ghost use Rattle.daide_sockets.specs.Times.{IsSeconds, IsIdleTime};
 
-use crate::admission::{Arrival, Door, Outcome};
+use crate::admission::{Acceptor, Arrival, Outcome};
 use crate::closing::{Closings, MOST_CLOSING};
+use crate::poller::Poller;
 use crate::ports::{Socket, SocketPorts};
 use crate::session_notice::SessionNotice;
-use crate::watch::Watch;
 use daide_machine::system::{Connect, Notice, SessionEnd, System};
 use daide_settings::Settings;
 use mio::net::TcpListener;
@@ -41,8 +41,8 @@ fn idle_time_of(seconds: u32) -> Option<Duration>
 #[derive(Drop)]
 pub struct Sockets<'w, R: Clock + Net, E: Write + Drop> {
     runtime: &'w R,
-    watch: &'w Watch<&'w R>,
-    door: Door<'w>,
+    poller: &'w Poller<&'w R>,
+    acceptor: Acceptor<'w>,
     servers: &'w [SocketAddr],
     im_time: Duration,
     /// How long a side may be silent; none for ever.
@@ -63,7 +63,7 @@ impl<'w, R: Clock + Net, E: Write + Drop> Sockets<'w, R, E> {
     pub fn new(
         alloc: Global,
         runtime: &'w R,
-        watch: &'w Watch<&'w R>,
+        poller: &'w Poller<&'w R>,
         at: (TcpListener, &'w [SocketAddr]),
         settings: &Settings,
         connect_time: Duration,
@@ -75,7 +75,7 @@ impl<'w, R: Clock + Net, E: Write + Drop> Sockets<'w, R, E> {
         ensures connect_time { IfSome result (λ sockets. sockets.connect_time ≡ connect_time) }
     {
         let (listener, servers) = at;
-        let door = Door::new(watch, listener)?;
+        let acceptor = Acceptor::new(poller, listener)?;
         let Ok(arrivals) = Vec::with_capacity(alloc, settings.max_sessions) else {
             return None;
         };
@@ -84,8 +84,8 @@ impl<'w, R: Clock + Net, E: Write + Drop> Sockets<'w, R, E> {
         };
         Some(Sockets {
             runtime,
-            watch,
-            door,
+            poller,
+            acceptor,
             servers,
             im_time: Duration::from_secs(u64::from(settings.im_seconds)),
             idle_time: idle_time_of(settings.idle_seconds),
@@ -118,10 +118,10 @@ impl<'w, R: Clock + Net, E: Write + Drop> Sockets<'w, R, E> {
         }
     }
 
-    /// Goes on with the sockets that close, and reopens the door where its pause is over.
+    /// Goes on with the sockets that close, and reopens the acceptor where its pause is over.
     fn tidy(&mut self) {
-        self.door.reopen(self.watch);
-        self.closings.advance(self.watch);
+        self.acceptor.reopen(self.poller);
+        self.closings.advance(self.poller);
     }
 
     /// Waits until the last sockets are closed, which takes a second at most once their peers took what they hold.
@@ -143,9 +143,9 @@ impl<'w, R: Clock + Net, E: Write + Drop> Sockets<'w, R, E> {
     /// Waits, but where a socket that closes may have more to drop.
     fn rest(&mut self) {
         if self.closings.is_ready() {
-            self.watch.look();
+            self.poller.look();
         } else {
-            self.watch.wait();
+            self.poller.wait();
         }
     }
 }
@@ -156,15 +156,15 @@ impl<'w, R: Clock + Net, E: Write + Drop> System<SocketPorts<'w, &'w R>> for Soc
     ghost told = { λ _. None };
 
     fn begin_round(&mut self) {
-        self.watch.look_by_turns();
+        self.poller.look_by_turns();
         self.tidy();
     }
 
     fn accept(&mut self) -> bool {
-        let Some((stream, address)) = self.door.accept(self.watch) else {
+        let Some((stream, address)) = self.acceptor.accept(self.poller) else {
             return false;
         };
-        let Some(bot) = Socket::new(self.watch, stream) else {
+        let Some(bot) = Socket::new(self.poller, stream) else {
             return false;
         };
         self.came = self.came.saturating_add(1);
@@ -173,8 +173,8 @@ impl<'w, R: Clock + Net, E: Write + Drop> System<SocketPorts<'w, &'w R>> for Soc
             bot: address,
         });
         let came = (self.came, bot);
-        let mut arrival = Arrival::new(self.watch, came, self.im_time, self.connect_time);
-        arrival.try_next(self.watch, self.runtime, self.servers);
+        let mut arrival = Arrival::new(self.poller, came, self.im_time, self.connect_time);
+        arrival.try_next(self.poller, self.runtime, self.servers);
         self.arrivals.push(arrival).is_ok()
     }
 
@@ -185,11 +185,11 @@ impl<'w, R: Clock + Net, E: Write + Drop> System<SocketPorts<'w, &'w R>> for Soc
                 break;
             }
             let arrival = self.arrivals.remove(0);
-            match arrival.advance(self.watch, self.runtime, self.servers, self.idle_time) {
+            match arrival.advance(self.poller, self.runtime, self.servers, self.idle_time) {
                 Outcome::Joined(ports) => return Connect::Ready(ports),
                 Outcome::Unreached(number, bot) => {
                     self.tell_of_session(SessionNotice::of_no_server(number));
-                    self.closings.begin(self.watch, bot);
+                    self.closings.begin(self.poller, bot);
                     return Connect::Failed;
                 }
                 Outcome::Pending(arrival) => {
@@ -204,7 +204,7 @@ impl<'w, R: Clock + Net, E: Write + Drop> System<SocketPorts<'w, &'w R>> for Soc
     fn retire(&mut self, ports: SocketPorts<'w, &'w R>, end: SessionEnd) {
         let notice = SessionNotice::of_end(ports.number(), end, ports.silent_side());
         self.tell_of_session(notice);
-        self.closings.begin_both(self.watch, ports);
+        self.closings.begin_both(self.poller, ports);
     }
 
     fn tell(&mut self, notice: Notice) {

@@ -8,8 +8,8 @@ use Rattle.daide_token.specs.Token.{bra, ket, number_of, tokens_of}
 use Rattle.daide_token.specs.Names.{Named}
 use Rattle.daide_token.specs.Text.{is_quotable, word_with}
 use Rattle.daide_token.specs.TextSteps.{before_item, number_text, place_after, token_text, rest_of_text}
-use Rattle.daide_token.specs.declared.text.Place.{Place}
-use Rattle.daide_token.specs.declared.text.Place.TheVariants as place
+use Rattle.daide_token.specs.declared.text.PrinterState.{PrinterState}
+use Rattle.daide_token.specs.declared.text.PrinterState.TheVariants as place
 
 number_small : (t : ℕ) (n : ℤ) → number_of t ≡ Some n → t < 0x4000
 number_small t n e = grind (arith, nat_tests)
@@ -28,7 +28,7 @@ number_word added t n e =
     let less = number_small t n e in
     rw (not_bra t less) (rw (not_ket t less) (rw e refl))
 
-pub token_text-number : (added : List Named) (p : Place) (t : ℕ) (n : ℤ) → number_of t ≡ Some n →
+pub token_text-number : (added : List Named) (p : PrinterState) (t : ℕ) (n : ℤ) → number_of t ≡ Some n →
     token_text added p t ≡ before_item p ++ number_text t
 token_text-number added p t n e =
     rw (not_quotable t (number_small t n e)) (ap (λ (text : List ℕ). before_item p ++ text) (number_word added t n e))
@@ -69,13 +69,13 @@ first_token (high ∷ low ∷ rest) h =
     let all : take (length (high ∷ low ∷ rest) - 2) rest ≡ rest = ap (λ (k : ℕ). take k rest) size ∙ whole rest in
     ap (λ (r : List ℕ). (high * 256 + low) ∷ tokens_of r) (sym all)
 
-first_text : (added : List Named) (p : Place) (t : ℕ) (ts : List ℕ) →
+first_text : (added : List Named) (p : PrinterState) (t : ℕ) (ts : List ℕ) →
     rest_of_text added p (t ∷ ts) ≡ token_text added p t ++ rest_of_text added (place_after t) ts
 first_text added place.Start t ts = refl
 first_text added place.Word t ts = refl
 first_text added place.Quote t ts = refl
 
-pub number_on : (added : List Named) (a b c final : Option (List ℕ)) (p next : Place) (held text left rest : List ℕ)
+pub number_on : (added : List Named) (a b c final : Option (List ℕ)) (p next : PrinterState) (held text left rest : List ℕ)
     (t : ℕ) (n : ℤ) → 2 ≤ length rest → t ≡ get_or rest 0 0 * 256 + get_or rest 1 0 → number_of t ≡ Some n →
     next ≡ place.Word → left ≡ [] →
     ((more : List ℕ) → Appends b final (text ++ more) → Appends a final (held ++ more)) →
@@ -85,9 +85,9 @@ pub number_on : (added : List Named) (a b c final : Option (List ℕ)) (p next :
 number_on added a b c final p next held text left rest t n two same number word none before written h =
     let ts = tokens_of (take (length rest - 2) (drop 2 rest)) in
     let said = before_item p ++ number_text t in
-    let after : ◌≡◌ {A = Place} next (place_after t) = word ∙ sym (number_place t n number) in
+    let after : ◌≡◌ {A = PrinterState} next (place_after t) = word ∙ sym (number_place t n number) in
     let behind : Appends c final (rest_of_text added (place_after t) ts) =
-    subst (λ (q : Place). Appends c final (rest_of_text added q ts)) after
+    subst (λ (q : PrinterState). Appends c final (rest_of_text added q ts)) after
     (subst (λ (u : List ℕ). Appends c final (u ++ rest_of_text added next ts)) none h) in
     let both = appends_on b c final (text ++ said) (rest_of_text added (place_after t) ts) written behind in
     let all : rest_of_text added p (tokens_of rest) ≡ said ++ rest_of_text added (place_after t) ts =
@@ -99,7 +99,7 @@ number_on added a b c final p next held text left rest t n two same number word 
 
 -- A token that is no number is gathered
 
-pub word_on : (added : List Named) (a b final : Option (List ℕ)) (p next : Place) (held text left rest : List ℕ)
+pub word_on : (added : List Named) (a b final : Option (List ℕ)) (p next : PrinterState) (held text left rest : List ℕ)
     (t : ℕ) → 2 ≤ length rest → t ≡ get_or rest 0 0 * 256 + get_or rest 1 0 → next ≡ place_after t →
     left ≡ text ++ token_text added p t →
     ((more : List ℕ) → Appends b final (text ++ more) → Appends a final (held ++ more)) →
@@ -113,7 +113,7 @@ word_on added a b final p next held text left rest t two same after gathered bef
     subst (λ (u : List ℕ). Appends a final (held ++ u)) (sym all)
     (before (said ++ rest_of_text added (place_after t) ts)
     (subst (λ (u : List ℕ). Appends b final u) (append_assoc text said (rest_of_text added (place_after t) ts))
-    (subst (λ (q : Place). Appends b final ((text ++ said) ++ rest_of_text added q ts)) after
+    (subst (λ (q : PrinterState). Appends b final ((text ++ said) ++ rest_of_text added q ts)) after
     (subst (λ (u : List ℕ). Appends b final (u ++ rest_of_text added next ts)) gathered h))))
 
 -- What is left at the end is no token

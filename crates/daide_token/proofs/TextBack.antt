@@ -14,8 +14,8 @@ use Rattle.daide_token.specs.Token.{bra, ket, number_of, token_of_number}
 use Rattle.daide_token.specs.Names.{Named, names, name_of, token_named}
 use Rattle.daide_token.specs.Text.{hex_digit_of, hex_text, word_with, is_quotable, text_of, text_with}
 use Rattle.daide_token.specs.TextSteps.{place_after, rest_of_text}
-use Rattle.daide_token.specs.declared.text.Place.{Place}
-use Rattle.daide_token.specs.declared.text.Place.TheVariants as place
+use Rattle.daide_token.specs.declared.text.PrinterState.{PrinterState}
+use Rattle.daide_token.specs.declared.text.PrinterState.TheVariants as place
 use Rattle.daide_token.proofs.TableLemmas.{found_passes}
 use Rattle.daide_token.proofs.NameLaws.{token_named-name_of}
 use Rattle.daide_token.proofs.WholeText.{rest_of_text-start}
@@ -294,7 +294,7 @@ separated (c ∷ w) (d ∷ v) x y p q h k e =
 
 -- ---- the text from a place on
 
-abbrev text : Place → List ℕ → List ℕ
+abbrev text : PrinterState → List ℕ → List ℕ
 text p ts = rest_of_text [] p ts
 
 word_tail : (ts : List ℕ) → IsTail (text place.Word ts)
@@ -412,17 +412,17 @@ module _ (t u : ℕ) (ts us : List ℕ) (h : t < 65536) (l : u < 65536) where
           (let x = rw (a, b) at e in x) in
           absurd (quotable-apart u b (cc))
 
-first_follows : (p : Place) (t u : ℕ) (ts us : List ℕ) → t < 65536 → u < 65536 →
+first_follows : (p : PrinterState) (t u : ℕ) (ts us : List ℕ) → t < 65536 → u < 65536 →
     text p (t ∷ ts) ≡ text p (u ∷ us) → Follows t u ts us
 first_follows place.Start t u ts us h l e = from_start t u ts us h l e
 first_follows place.Word t u ts us h l e = from_word t u ts us h l e
 first_follows place.Quote t u ts us h l e = from_quote t u ts us h l e
 
 -- the end is no other token
-not_end : (p : Place) (t : ℕ) (ts : List ℕ) → t < 65536 → text p [] ≡ text p (t ∷ ts) → ⊥
+not_end : (p : PrinterState) (t : ℕ) (ts : List ℕ) → t < 65536 → text p [] ≡ text p (t ∷ ts) → ⊥
 not_end p t ts h = go p (is_quotable t) refl
   where
-    go : (p : Place) (b : Bool) → is_quotable t ≡ b → text p [] ≡ text p (t ∷ ts) → ⊥
+    go : (p : PrinterState) (b : Bool) → is_quotable t ≡ b → text p [] ≡ text p (t ∷ ts) → ⊥
     go place.Start true q e =
         let f : [] ≡ 39 ∷ (t % 256) ∷ text place.Quote ts = (let x = rw q at e in x) in absurd (cc)
     go place.Start false q e = some (word t) (word_some t h) (let x = rw q at e in x)
@@ -450,7 +450,7 @@ are_tokens : (ts : List ℕ) → All (λ t. t < 65536) ts → AreTokens ts
 are_tokens [] h = tt
 are_tokens (t ∷ ts) h = (h 0 t (omega arith), are_tokens ts (λ k d l. h (suc k) d (omega arith)))
 
-same_from : (ts us : List ℕ) (p : Place) → AreTokens ts → AreTokens us → text p ts ≡ text p us → ts ≡ us
+same_from : (ts us : List ℕ) (p : PrinterState) → AreTokens ts → AreTokens us → text p ts ≡ text p us → ts ≡ us
 same_from [] [] p h l e = refl
 same_from [] (u ∷ us) p h l e = absurd (not_end p u us l.0 e)
 same_from (t ∷ ts) [] p h l e = absurd (not_end p t ts h.0 (sym e))

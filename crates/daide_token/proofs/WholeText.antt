@@ -6,8 +6,8 @@ use Rattle.std.specs.List.{join_with_byte}
 use Rattle.daide_token.specs.Text.{Item, Word, Quote, before_items, is_quotable, items_of, item_text, text_with, word_with}
 use Rattle.daide_token.specs.Names.{Named}
 use Rattle.daide_token.specs.TextSteps.{before_item, before_character, rest_of_text}
-use Rattle.daide_token.specs.declared.text.Place.{Place}
-use Rattle.daide_token.specs.declared.text.Place.TheVariants as place
+use Rattle.daide_token.specs.declared.text.PrinterState.{PrinterState}
+use Rattle.daide_token.specs.declared.text.PrinterState.TheVariants as place
 
 module _ (added : List Named) where
   -- items after another item
@@ -26,7 +26,7 @@ module _ (added : List Named) where
   from_start (i ∷ is) = item_text added i ++ after_word is
 
   -- the items as they are to be written at each place
-  abbrev items_from : Place → List Item → List ℕ
+  abbrev items_from : PrinterState → List Item → List ℕ
   items_from place.Start is = from_start is
   items_from place.Word is = after_word is
   items_from place.Quote is = after_quote is
@@ -37,7 +37,7 @@ module _ (added : List Named) where
   join_with_byte-item_text (i ∷ j ∷ is) = ap (λ text. item_text added i ++ (32 ∷ text)) (join_with_byte-item_text (j ∷ is))
 
   -- a character goes before the items, whatever stands first there
-  character_first : (p : Place) (c : ℕ) (is : List Item) →
+  character_first : (p : PrinterState) (c : ℕ) (is : List Item) →
       before_character p ++ (c ∷ []) ++ after_quote is ≡ items_from p (before_items c is)
   character_first place.Start c [] = refl
   character_first place.Start c (Quote cs ∷ is) =
@@ -51,22 +51,22 @@ module _ (added : List Named) where
   character_first place.Quote c (Quote cs ∷ is) = refl
   character_first place.Quote c (Word t ∷ is) = refl
 
-  word_first : (p : Place) (t : ℕ) (is : List Item) →
+  word_first : (p : PrinterState) (t : ℕ) (is : List Item) →
       before_item p ++ word_with added t ++ after_word is ≡ items_from p (Word t ∷ is)
   word_first place.Start t is = refl
   word_first place.Word t is = refl
   word_first place.Quote t is = refl
 
   -- one token, by the test of whether it is a character
-  token_first : (b : Bool) (p : Place) (t : ℕ) (ts : List ℕ)
-      → ((q : Place) → rest_of_text added q ts ≡ items_from q (items_of ts))
+  token_first : (b : Bool) (p : PrinterState) (t : ℕ) (ts : List ℕ)
+      → ((q : PrinterState) → rest_of_text added q ts ≡ items_from q (items_of ts))
       → (if b then before_character p ++ (t % 256) ∷ [] else before_item p ++ word_with added t)
       ++ rest_of_text added (if b then place.Quote else place.Word) ts
       ≡ items_from p (if b then before_items (t % 256) (items_of ts) else Word t ∷ items_of ts)
   token_first true p t ts ih = rw (ih place.Quote) (character_first p (t % 256) (items_of ts))
   token_first false p t ts ih = rw (ih place.Word) (word_first p t (items_of ts))
 
-  rest_of_text-items : (ts : List ℕ) (p : Place) → rest_of_text added p ts ≡ items_from p (items_of ts)
+  rest_of_text-items : (ts : List ℕ) (p : PrinterState) → rest_of_text added p ts ≡ items_from p (items_of ts)
   rest_of_text-items [] place.Start = refl
   rest_of_text-items [] place.Word = refl
   rest_of_text-items [] place.Quote = refl

@@ -8,7 +8,7 @@ ghost use Rattle.daide_token.specs.Text.{added_name_of, hex_digit_of, hex_text, 
 ghost use Rattle.daide_token.specs.TextSteps.{before_character, before_item, number_text, place_after, rest_of_text};
 ghost use Rattle.daide_token.specs.TextSteps.{token_text};
 ghost use Rattle.daide_token.specs.Token.{number_of, tokens_of};
-ghost use Rattle.daide_token.specs.declared.text.Place.TheVariants.{Word};
+ghost use Rattle.daide_token.specs.declared.text.PrinterState.TheVariants.{Word};
 
 use crate::gathered::Gathered;
 use crate::token::Token;
@@ -23,7 +23,7 @@ const CHARACTERS: u8 = 0x4B;
 
 /// What was written last.
 #[derive(Clone, Copy)]
-enum Place {
+enum PrinterState {
     /// Nothing yet.
     Start,
     /// A token by itself.
@@ -56,7 +56,7 @@ pub fn write_text_with<W: Write>(
         (Appends (W.contents writer.old) (W.contents writer.new) (text_with added.now (tokens_of tokens.now))) }
 {
     let mut text = Gathered::new();
-    let mut place = Place::Start;
+    let mut place = PrinterState::Start;
     let mut rest = tokens;
     while let [high, low, others @ ..] = rest {
         if text.len() > MOST_GATHERED {
@@ -76,10 +76,10 @@ pub fn write_text_with<W: Write>(
 /// Writes what was gathered, and a token's number behind it.
 fn write_number<W: Write>(
     token: Token,
-    place: Place,
+    place: PrinterState,
     text: &mut Gathered,
     writer: &mut W,
-) -> Result<Place, io::Error>
+) -> Result<PrinterState, io::Error>
     requires { length text.old ≤ 240 }
     ensures { IfOk result (λ next. (next ≡ Word) × (text.new ≡ []) × Appends (W.contents writer.old)
         (W.contents writer.new) (text.old ++ before_item place ++ number_text token)) }
@@ -89,12 +89,17 @@ fn write_number<W: Write>(
     if let Some(number) = token.number() {
         write!(writer, "{number}")?;
     }
-    Ok(Place::Word)
+    Ok(PrinterState::Word)
 }
 
 /// Gathers the text of one token that is no number, and says what was gathered last.
 #[inline(always)]
-fn put_token(added: &[(Token, [u8; 3])], place: Place, token: Token, text: &mut Gathered) -> Place
+fn put_token(
+    added: &[(Token, [u8; 3])],
+    place: PrinterState,
+    token: Token,
+    text: &mut Gathered,
+) -> PrinterState
     requires room { length text.old ≤ 240 }
     requires word { number_of token ≡ None }
     ensures place { result ≡ place_after token }
@@ -106,16 +111,16 @@ fn put_token(added: &[(Token, [u8; 3])], place: Place, token: Token, text: &mut 
         return put_character(added, place, token, text);
     }
     put_word(added, place, token, text);
-    Place::Word
+    PrinterState::Word
 }
 
 /// Gathers the text of one token that may be a character.
 fn put_character(
     added: &[(Token, [u8; 3])],
-    place: Place,
+    place: PrinterState,
     token: Token,
     text: &mut Gathered,
-) -> Place
+) -> PrinterState
     requires room { length text.old ≤ 240 }
     requires word { number_of token ≡ None }
     ensures place { result ≡ place_after token }
@@ -124,25 +129,25 @@ fn put_character(
 {
     if !quotable(token) {
         put_word(added, place, token, text);
-        return Place::Word;
+        return PrinterState::Word;
     }
     begin_character(place, text);
     let [_category, character] = token.to_be();
     text.push(character);
-    Place::Quote
+    PrinterState::Quote
 }
 
 /// Opens a run, and gathers the space before it, unless one is open.
 #[inline(always)]
-fn begin_character(place: Place, text: &mut Gathered)
+fn begin_character(place: PrinterState, text: &mut Gathered)
     requires { length text.old ≤ 240 }
     ensures text { text.new ≡ text.old ++ before_character place }
     ensures room { length text.new ≤ 242 }
 {
     match place {
-        Place::Start => text.push(b'\''),
-        Place::Word => text.extend(*b" '"),
-        Place::Quote => {}
+        PrinterState::Start => text.push(b'\''),
+        PrinterState::Word => text.extend(*b" '"),
+        PrinterState::Quote => {}
     }
 }
 
@@ -155,34 +160,34 @@ fn quotable(token: Token) -> bool
 
 /// Ends the run that is open, and gathers the space before the next item.
 #[inline(always)]
-fn begin_item(place: Place, text: &mut Gathered)
+fn begin_item(place: PrinterState, text: &mut Gathered)
     requires { length text.old ≤ 240 }
     ensures text { text.new ≡ text.old ++ before_item place }
     ensures room { length text.new ≤ 242 }
 {
     match place {
-        Place::Start => {}
-        Place::Word => text.push(b' '),
-        Place::Quote => text.extend(*b"' "),
+        PrinterState::Start => {}
+        PrinterState::Word => text.push(b' '),
+        PrinterState::Quote => text.extend(*b"' "),
     }
 }
 
 /// Ends the run that is open, behind the last token.
 #[inline(always)]
-fn end_last(place: Place, text: &mut Gathered)
+fn end_last(place: PrinterState, text: &mut Gathered)
     requires { length text.old ≤ 250 }
     ensures { (added : List Named) → text.new ≡ text.old ++ rest_of_text added place [] }
 {
     match place {
-        Place::Start => {}
-        Place::Word => {}
-        Place::Quote => text.push(b'\''),
+        PrinterState::Start => {}
+        PrinterState::Word => {}
+        PrinterState::Quote => text.push(b'\''),
     }
 }
 
 /// Gathers a token by itself that is no number, and what goes before it.
 #[inline(always)]
-fn put_word(added: &[(Token, [u8; 3])], place: Place, token: Token, text: &mut Gathered)
+fn put_word(added: &[(Token, [u8; 3])], place: PrinterState, token: Token, text: &mut Gathered)
     requires room { length text.old ≤ 240 }
     requires word { number_of token ≡ None }
     ensures text { text.new ≡ text.old ++ before_item place ++ word_with added.now token }
@@ -203,13 +208,13 @@ fn put_word(added: &[(Token, [u8; 3])], place: Place, token: Token, text: &mut G
 
 /// Gathers a bracket's sign, and what goes before it.
 #[inline(always)]
-fn put_sign(place: Place, sign: u8, text: &mut Gathered)
+fn put_sign(place: PrinterState, sign: u8, text: &mut Gathered)
     requires { length text.old ≤ 240 }
     ensures text { text.new ≡ text.old ++ before_item place ++ sign ∷ [] }
     ensures room { length text.new ≤ 250 }
 {
     match place {
-        Place::Word => text.extend([b' ', sign]),
+        PrinterState::Word => text.extend([b' ', sign]),
         _ => {
             begin_item(place, text);
             text.push(sign);
@@ -219,7 +224,7 @@ fn put_sign(place: Place, sign: u8, text: &mut Gathered)
 
 /// Gathers a name of three letters, and what goes before it.
 #[inline(always)]
-fn put_name(place: Place, name: &str, text: &mut Gathered)
+fn put_name(place: PrinterState, name: &str, text: &mut Gathered)
     requires room { length text.old ≤ 240 }
     requires three { length name.now ≡ 3 }
     ensures text { text.new ≡ text.old ++ before_item place ++ name.now }
@@ -229,7 +234,7 @@ fn put_name(place: Place, name: &str, text: &mut Gathered)
         unreachable!();
     };
     match place {
-        Place::Word => text.extend([b' ', *a, *b, *c]),
+        PrinterState::Word => text.extend([b' ', *a, *b, *c]),
         _ => {
             begin_item(place, text);
             text.extend([*a, *b, *c]);

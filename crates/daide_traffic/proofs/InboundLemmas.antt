@@ -5,7 +5,7 @@ use Rattle.std.proofs.Common.{Option, None, refl, sym, ap, ◌∙◌, subst, ari
 use Rattle.std.proofs.Common.{append-nil}
 use Rattle.std.specs.Prelude.{nat_lt, if◌then◌else◌}
 use Rattle.std.proofs.lemmas.Bool.Decides.{nat_tests}
-use Rattle.std.proofs.lemmas.List.{take-append-le, drop-append-le}
+use Rattle.std.proofs.lemmas.List.{take-append-le, drop-append-le, drop_all}
 use Rattle.daide_token.specs.Token.{tokens_of}
 use Rattle.daide_frame.specs.declared.side.Side.{Side}
 use Rattle.daide_frame.specs.declared.head.Head.{Head}
@@ -150,6 +150,13 @@ fed_on limit b piece cut same bytes dm =
           ∙ ap (λ (x : List ℕ). length (tokens_held limit x)) bytes);
       all = all;
     }
+
+-- where no byte of a body is held, none was before
+pub bodiless_before : (limit : ℕ) (b piece : List ℕ) → drop 4 (fed limit b piece) ≡ [] → drop 4 b ≡ []
+bodiless_before limit b piece none =
+    let g = fed_grows limit b piece in
+    let empty : length (drop 4 (b ++ g.more)) ≡ 0 = ap length (ap (drop 4) (sym g.longer) ∙ none) in
+    drop_all 4 b (omega (arith, empty, length-drop 4 (b ++ g.more), length-append b g.more))
 
 -- a piece ends few tokens: those that lie in it, and one that began before it
 pub few_ended : (limit : ℕ) (b piece : List ℕ) → tokens_ended limit b piece ≤ length piece / 2 + 1

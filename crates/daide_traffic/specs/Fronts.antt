@@ -5,7 +5,7 @@ use Rattle.daide_frame.specs.declared.side.Side.{Side}
 use Rattle.daide_reader.specs.declared.verdict.Verdict.{Verdict}
 use Rattle.daide_machine.specs.Answers.{answer_body}
 use Rattle.daide_machine.specs.Machine.{Sent, destination}
-use Rattle.daide_machine.specs.Wires.{Gateway, waiting, parts_of, no_frame}
+use Rattle.daide_machine.specs.Wires.{SessionView, waiting, parts_of, no_frame}
 use Rattle.daide_traffic.specs.Both.{at}
 use Rattle.daide_traffic.specs.Inbound.{parts_by}
 use Rattle.daide_traffic.specs.Traffic.{Traffic}
@@ -39,7 +39,7 @@ pub record ArePartsKept (parts : List (List ℕ)) (waited : List Sent) (parts_no
   pub fresh : no_frame waited ≡ true → no_frame waits ≡ false → AreFresh parts_now waits
 
 -- so it is for the wire toward a side
-abbrev pub KeepsFront : Gateway → Side → Gateway → Type 0
+abbrev pub KeepsFront : SessionView → Side → SessionView → Type 0
 KeepsFront old side new = ArePartsKept (parts_of old side) (waiting old side) (parts_of new side) (waiting new side)
 
 -- so it is for both, as traffic stores them

@@ -17,7 +17,7 @@ ghost use Rattle.daide_machine.specs.HloLevel.{found_in};
 ghost use Rattle.daide_machine.specs.Machine.{IsRight, question_of, is_dm};
 ghost use Rattle.daide_machine.specs.Weight.{tokens_held};
 ghost use Rattle.daide_machine.specs.Wires.{is_dm_head};
-ghost use Rattle.daide_machine.specs.Bounds.{deepest};
+ghost use Rattle.daide_machine.specs.Bounds.{greatest_depth, longest_body};
 ghost use Rattle.daide_reader.specs.Reading.{IsRaised};
 ghost use Rattle.daide_words.specs.Word.{grammar_words};
 ghost use Rattle.daide_words.specs.Words.{words_of};
@@ -121,9 +121,9 @@ impl<A: Allocator> Inbound<A> {
         max_depth: u16,
         words: Words,
     ) -> Result<Inbound<A>, AllocError>
-        requires cap { cap ≤ 65526 }
+        requires cap { cap ≤ longest_body }
         requires low { 4 ≤ max_depth }
-        requires high { max_depth ≤ deepest }
+        requires high { max_depth ≤ greatest_depth }
         ensures side { IfOk result (λ i. i.side ≡ side) }
         ensures limits { IfOk result (λ i. (i.cap ≡ cap) × (i.level ≡ Level.L0)) }
         ensures rules { IfOk result (λ i. i.rules
@@ -174,7 +174,7 @@ impl<A: Allocator> Inbound<A> {
         ensures value { result.now ≡ drop 4 self.now.held }
         ensures within { length result.now ≤ announced self.now.cap self.now.held }
         ensures capped { announced self.now.cap self.now.held ≤ self.now.cap }
-        ensures short { length result.now ≤ 65526 }
+        ensures short { length result.now ≤ longest_body }
     {
         self.cutter.body()
     }
@@ -205,6 +205,9 @@ impl<A: Allocator> Inbound<A> {
         ensures full { result ≡ Bodied → IsWholeBody (head_in self.new.cap self.new.held) (drop 4 self.new.held) }
     {
         let step = self.cutter.feed(piece);
+        if self.cutter.body().is_empty() {
+            return step;
+        }
         if is_message(self.cutter.head()) {
             let read = self.reader.tokens();
             self.reader.read(self.cutter.body());

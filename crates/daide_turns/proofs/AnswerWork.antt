@@ -3,9 +3,9 @@ use Rattle.std.proofs.Common.{◌≡◌, ℕ, ◌+◌, Bool, true, false, cond, 
 use Rattle.std.proofs.Common.{subst, arith, length-append, append-nil}
 use Rattle.daide_frame.specs.declared.side.Side.{Side}
 use Rattle.daide_frame.specs.declared.side.Side.TheVariants.{Bot, Server}
-use Rattle.daide_machine.specs.Events.{Event, Comes, Ends, Loses, Pops, bytes_come, other}
+use Rattle.daide_machine.specs.Events.{Event, Comes, Ends, Loses, TimerExpires, bytes_come, other}
 use Rattle.daide_machine.specs.Heard.{bytes_from}
-use Rattle.daide_machine.specs.Wires.{Gateway, same_side}
+use Rattle.daide_machine.specs.Wires.{SessionView, same_side}
 use Rattle.daide_session.specs.Work.{IsPaidBy}
 use Rattle.daide_session.proofs.WorkLemmas.{paid_then}
 use Rattle.daide_machine.specs.declared.ports.Pull.TheVariants.{Got}
@@ -26,9 +26,9 @@ bytes_from-append side (Comes from byte ∷ xs) ys = go (same_side from side) (b
     go false e = e
 bytes_from-append side (Ends from ∷ xs) ys = bytes_from-append side xs ys
 bytes_from-append side (Loses from ∷ xs) ys = bytes_from-append side xs ys
-bytes_from-append side (Pops ∷ xs) ys = bytes_from-append side xs ys
+bytes_from-append side (TimerExpires ∷ xs) ys = bytes_from-append side xs ys
 
-pub works_then : (a : Gateway) (xs : List PortAnswer) (b : Gateway) (ys : List PortAnswer) (c : Gateway) →
+pub works_then : (a : SessionView) (xs : List PortAnswer) (b : SessionView) (ys : List PortAnswer) (c : SessionView) →
     events_of (xs ++ ys) ≡ events_of xs ++ events_of ys → Works a xs b → Works b ys c → Works a (xs ++ ys) c
 works_then a xs b ys c joined h k side =
     subst (λ (n : ℕ). IsPaidBy n side a c) (sym count)
@@ -41,7 +41,7 @@ works_then a xs b ys c joined h k side =
 
 -- ---- an answer by which no byte came
 
-pub works_clock : (a b : Gateway) (popped : Bool) → ((side : Side) → IsPaidBy 0 side a b) → Works a (Clock popped ∷ []) b
+pub works_clock : (a b : SessionView) (popped : Bool) → ((side : Side) → IsPaidBy 0 side a b) → Works a (Clock popped ∷ []) b
 works_clock a b true h side = h side
 works_clock a b false h side = h side
 
@@ -59,7 +59,7 @@ others_bytes Bot (x ∷ bytes) = others_bytes Bot bytes
 others_bytes Server [] = refl
 others_bytes Server (x ∷ bytes) = others_bytes Server bytes
 
-pub works_got : (a b : Gateway) (side : Side) (len n : ℕ) (bytes : List ℕ) → IsPaidBy (length bytes) side a b →
+pub works_got : (a b : SessionView) (side : Side) (len n : ℕ) (bytes : List ℕ) → IsPaidBy (length bytes) side a b →
     IsPaidBy 0 (other side) a b → Works a (Pulled side len (Got n) bytes ∷ []) b
 works_got a b side len n bytes own rest = by_side side own rest
   where

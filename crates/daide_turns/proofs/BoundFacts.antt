@@ -6,7 +6,7 @@ use Rattle.daide_frame.specs.declared.side.Side.{Side}
 use Rattle.daide_frame.specs.declared.side.Side.TheVariants.{Bot, Server}
 use Rattle.daide_reader.specs.Reading.{IsRaised}
 use Rattle.daide_machine.specs.Machine.{Limits}
-use Rattle.daide_machine.specs.Wires.{Gateway, holding, room_of}
+use Rattle.daide_machine.specs.Wires.{SessionView, holding, room_of}
 use Rattle.daide_machine.specs.declared.config.Config.{Config}
 use Rattle.daide_turns.specs.declared.hub.HubError.TheVariants as Errors
 use Rattle.daide_machine.specs.declared.ports.Pull.TheVariants.{Got}
@@ -25,13 +25,13 @@ work_of_a_turn : turn_steps ≡ 1032
 work_of_a_turn = refl
 
 -- 64 frames at most wait for both wires, beside what is kept of each direction
-frames_that_wait : (g : Gateway) → IsWithinBounds g → length g.to_bot + length g.to_server ≤ 64
+frames_that_wait : (g : SessionView) → IsWithinBounds g → length g.to_bot + length g.to_server ≤ 64
 frames_that_wait g bounds = bounds.further
 
 -- so much room there is, and of so many bytes is the buffer of the one pull into it
 abbrev IsPulledInto : ℕ → ℕ → Type 0
 IsPulledInto room buffer =
-    (side : Side) (old new : Gateway) (answers : List PortAnswer) (pull : FillsRoom side old answers new) →
+    (side : Side) (old new : SessionView) (answers : List PortAnswer) (pull : FillsRoom side old answers new) →
     room_of old side ≡ room → answers ≡ Pulled side buffer pull.pull pull.bytes ∷ []
 
 -- as long as the room, and 512 at most
@@ -43,7 +43,7 @@ pulled_bytes = (buffer, buffer, buffer, buffer, buffer, buffer, buffer)
     buffer side old new answers pull is = pull.asked ∙ ap (λ n. Pulled side (min n 512) pull.pull pull.bytes ∷ []) is
 
 -- over all that came, two answers a byte: eight for four bytes of the bot, and none for the server
-work_of_bytes : (limits : Limits) (g : Gateway) →
+work_of_bytes : (limits : Limits) (g : SessionView) →
     IsBoundedAndExact limits (Pulled Bot 4 (Got 4) (0x02 ∷ 0x00 ∷ 0x00 ∷ 0x02 ∷ []) ∷ []) g →
     IsRaised 8 0 (holding g Bot).total × IsRaised 0 0 (holding g Server).total
 work_of_bytes limits g holds = (holds.work Bot, holds.work Server)

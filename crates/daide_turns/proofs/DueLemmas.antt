@@ -7,7 +7,7 @@ use Rattle.daide_frame.specs.declared.side.Side.{Side}
 use Rattle.daide_frame.specs.declared.side.Side.TheVariants.{Bot, Server}
 use Rattle.daide_machine.specs.Events.{Event, other}
 use Rattle.daide_machine.specs.Machine.{Sent}
-use Rattle.daide_machine.specs.Wires.{Gateway, waiting, sent_to, bytes_of, front_of}
+use Rattle.daide_machine.specs.Wires.{SessionView, waiting, sent_to, bytes_of, front_of}
 use Rattle.daide_machine.proofs.WireLemmas.{same_self, bytes_of-append}
 use Rattle.daide_machine.specs.declared.ports.Pull.{Pull}
 use Rattle.daide_machine.specs.declared.ports.Pull.TheVariants.{Got, Idle, Ended}
@@ -32,15 +32,15 @@ split side [] b h = (tt, h)
 split side (x ∷ a) b h = let r = split side a b h.1 in ((h.0, r.0), r.1)
 
 -- how many bytes wait for the wire toward a side
-abbrev due : Gateway → Side → ℕ
+abbrev due : SessionView → Side → ℕ
 due g side = length (bytes_of (waiting g side))
 
 -- none is lost
-abbrev Keeps : Side → Gateway → List PortAnswer → Gateway → Type 0
+abbrev Keeps : Side → SessionView → List PortAnswer → SessionView → Type 0
 Keeps side old answers new = due old side ≤ length (taken side answers) + due new side
 
 -- where answers in a row say so, each of its own
-then_keeps : (side : Side) (a b : List PortAnswer) (old mid new : Gateway) → Keeps side old a mid →
+then_keeps : (side : Side) (a b : List PortAnswer) (old mid new : SessionView) → Keeps side old a mid →
     Keeps side mid b new →
     Keeps side old (a ++ b) new
 then_keeps side a b old mid new h k =
@@ -52,10 +52,10 @@ then_keeps side a b old mid new h k =
 none_taken : (a b : ℕ) → a ≤ b → a ≤ 0 + b
 none_taken a b h = omega arith
 
-same_due : (side : Side) (old new : Gateway) → new ≡ old → due old side ≤ due new side
-same_due side old new e = subst (λ (g : Gateway). due old side ≤ due g side) (sym e) (omega arith)
+same_due : (side : Side) (old new : SessionView) → new ≡ old → due old side ≤ due new side
+same_due side old new e = subst (λ (g : SessionView). due old side ≤ due g side) (sym e) (omega arith)
 
-more_due : (side : Side) (old new : Gateway) (more : List Sent) → waiting new side ≡ waiting old side ++ more →
+more_due : (side : Side) (old new : SessionView) (more : List Sent) → waiting new side ≡ waiting old side ++ more →
     due old side ≤ due new side
 more_due side old new more e =
     omega (
@@ -65,10 +65,10 @@ more_due side old new more e =
       length-append (bytes_of (waiting old side)) (bytes_of more),
     )
 
-goes_due : (side : Side) (events : List Event) (old new : Gateway) → GoesOn old events new → due old side ≤ due new side
+goes_due : (side : Side) (events : List Event) (old new : SessionView) → GoesOn old events new → due old side ≤ due new side
 goes_due side events old new g = more_due side old new (sent_to side g.1.effects) (g.1.kept side)
 
-clock_keeps : (side : Side) (old : Gateway) (answers : List PortAnswer) (new : Gateway) → AsksClock old answers new →
+clock_keeps : (side : Side) (old : SessionView) (answers : List PortAnswer) (new : SessionView) → AsksClock old answers new →
     Keeps side old answers new
 clock_keeps side old answers new h = subst (λ (a : List PortAnswer). Keeps side old a new) (sym h.1) (go h.0 h.2)
   where
@@ -76,13 +76,13 @@ clock_keeps side old answers new h = subst (λ (a : List PortAnswer). Keeps side
     go true k = none_taken (due old side) (due new side) (goes_due side _ old new k.0)
     go false k = none_taken (due old side) (due new side) (same_due side old new k)
 
-gets_due : (side from : Side) (pull : Pull) (bytes : List ℕ) (old new : Gateway) → Gets from pull bytes old new →
+gets_due : (side from : Side) (pull : Pull) (bytes : List ℕ) (old new : SessionView) → Gets from pull bytes old new →
     due old side ≤ due new side
 gets_due side from (Got n) bytes old new g = goes_due side _ old new g.0
 gets_due side from Idle bytes old new g = same_due side old new g
 gets_due side from Ended bytes old new g = goes_due side _ old new g.0
 
-pull_keeps : (side from : Side) (old : Gateway) (answers : List PortAnswer) (new : Gateway) →
+pull_keeps : (side from : Side) (old : SessionView) (answers : List PortAnswer) (new : SessionView) →
     Pulls from old answers new →
     Keeps side old answers new
 pull_keeps side from old answers new (inl h) =
@@ -93,7 +93,7 @@ pull_keeps side from old answers new (inr h) =
     (none_taken (due old side) (due new side) (gets_due side from h.pull h.bytes old new h.gets))
 
 -- a put to the other wire
-beside_hands : (side : Side) (old new : Gateway) (bytes : List ℕ) (put : Put) → Hands (other side) put old new →
+beside_hands : (side : Side) (old new : SessionView) (bytes : List ℕ) (put : Put) → Hands (other side) put old new →
     Keeps side old (Offered (other side) bytes put ∷ []) new
 beside_hands Bot old new bytes (Took n) k =
     none_taken (due old Bot) (due new Bot) (more_due Bot old new [] (k.0.other_wire ∙ sym (append-nil
@@ -106,7 +106,7 @@ beside_hands Bot old new bytes Failed k =
 beside_hands Server old new bytes Failed k =
     none_taken (due old Server) (due new Server) (more_due Server old new (sent_to Server k.0.effects) k.0.other_wire)
 
-put_beside : (side : Side) (old : Gateway) (answers : List PortAnswer) (new : Gateway) →
+put_beside : (side : Side) (old : SessionView) (answers : List PortAnswer) (new : SessionView) →
     Puts (other side) old answers new → Keeps side old answers new
 put_beside side old answers new (inl h) =
     subst (λ (a : List PortAnswer). Keeps side old a new) (sym h.1)
@@ -116,7 +116,7 @@ put_beside side old answers new (inr h) =
     (beside_hands side old new (front_of old (other side)) h.put h.hands)
 
 -- a put to this wire takes something where something waits
-abbrev Gains : Side → Gateway → List PortAnswer → Gateway → Type 0
+abbrev Gains : Side → SessionView → List PortAnswer → SessionView → Type 0
 Gains side old answers new = 0 < due old side → 0 < length (taken side answers)
 
 pub own_taken : (side : Side) (bytes : List ℕ) (n : ℕ) → n ≤ length bytes →
@@ -124,7 +124,7 @@ pub own_taken : (side : Side) (bytes : List ℕ) (n : ℕ) → n ≤ length byte
 own_taken side bytes n h =
     rw (same_self side) (omega (arith, length-append (take n bytes) [], length-take n bytes, h))
 
-own_hands : (side : Side) (old new : Gateway) (bytes : List ℕ) (put : Put) → IsPutWithin put (length bytes) →
+own_hands : (side : Side) (old new : SessionView) (bytes : List ℕ) (put : Put) → IsPutWithin put (length bytes) →
     Hands side put old new → TakesSome side (Offered side bytes put) →
     Keeps side old (Offered side bytes put ∷ []) new × Gains side old (Offered side bytes put ∷ []) new
 own_hands side old new bytes (Took n) within k some =
@@ -134,7 +134,7 @@ own_hands side old new bytes (Took n) within k some =
     )
 own_hands side old new bytes Failed within k some = absurd (some (same_self side))
 
-put_own : (side : Side) (old : Gateway) (answers : List PortAnswer) (new : Gateway) → Puts side old answers new →
+put_own : (side : Side) (old : SessionView) (answers : List PortAnswer) (new : SessionView) → Puts side old answers new →
     EachTakesSome side answers → Keeps side old answers new × Gains side old answers new
 put_own side old answers new (inl h) some = (
   subst (λ (a : List PortAnswer). Keeps side old a new) (sym h.1)
@@ -152,13 +152,13 @@ put_own side old answers new (inr h) some =
 -- ---- one stretch, and then another
 
 -- stretches of a kind in which a wire takes something at each put lose nothing
-abbrev AllKeep : Side → (Gateway → List PortAnswer → Gateway → Type 0) → Type 0
-AllKeep side K = (o : Gateway) (a : List PortAnswer) (n : Gateway) → K o a n → EachTakesSome side a → Keeps side o a n
+abbrev AllKeep : Side → (SessionView → List PortAnswer → SessionView → Type 0) → Type 0
+AllKeep side K = (o : SessionView) (a : List PortAnswer) (n : SessionView) → K o a n → EachTakesSome side a → Keeps side o a n
 
-abbrev AllGain : Side → (Gateway → List PortAnswer → Gateway → Type 0) → Type 0
-AllGain side K = (o : Gateway) (a : List PortAnswer) (n : Gateway) → K o a n → EachTakesSome side a → Gains side o a n
+abbrev AllGain : Side → (SessionView → List PortAnswer → SessionView → Type 0) → Type 0
+AllGain side K = (o : SessionView) (a : List PortAnswer) (n : SessionView) → K o a n → EachTakesSome side a → Gains side o a n
 
-module _ (side : Side) (First Second : Gateway → List PortAnswer → Gateway → Type 0) where
+module _ (side : Side) (First Second : SessionView → List PortAnswer → SessionView → Type 0) where
   both_keep : AllKeep side First → AllKeep side Second → AllKeep side (Then First Second)
   both_keep f g o a n t some =
       let r = split side t.1 t.2 (subst (EachTakesSome side) t.3 some) in
@@ -232,7 +232,7 @@ turn_gains Server =
 
 -- ---- turns in a row
 
-pub due_go : (side : Side) (turns : List (List PortAnswer)) (old new : Gateway) → AreTurns old turns new →
+pub due_go : (side : Side) (turns : List (List PortAnswer)) (old new : SessionView) → AreTurns old turns new →
     EachTurnTakesSome side turns → min (length turns) (length (bytes_of (waiting old side))) ≤ length (taken_in
     side turns)
 due_go side [] old new are some = omega arith

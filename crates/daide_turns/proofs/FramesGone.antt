@@ -12,7 +12,7 @@ use Rattle.daide_frame.specs.declared.side.Side.TheVariants.{Bot, Server}
 use Rattle.daide_machine.specs.Answers.{answer_body, huh_open, err_word, close_word}
 use Rattle.daide_machine.specs.Events.{other}
 use Rattle.daide_machine.specs.Machine.{Sent}
-use Rattle.daide_machine.specs.Wires.{Gateway, waiting, parts_of, next_part, parts_after, front_of, no_frame}
+use Rattle.daide_machine.specs.Wires.{SessionView, waiting, parts_of, next_part, parts_after, front_of, no_frame}
 use Rattle.daide_machine.specs.Wires.{without, first_len, sent_to}
 use Rattle.daide_machine.proofs.WireLemmas.{same_self}
 use Rattle.daide_traffic.specs.Inbound.{parts_by}
@@ -95,7 +95,7 @@ one_gone ((byte ∷ part) ∷ parts) h =
 -- ---- what is left of a frame
 
 -- n bytes of the first frame are left, in k parts at most
-record HasLeft (side : Side) (k n : ℕ) (g : Gateway) : Type 0 where
+record HasLeft (side : Side) (k n : ℕ) (g : SessionView) : Type 0 where
   frame : Sent
   frames : List Sent
   waits : waiting g side ≡ frame ∷ frames
@@ -103,7 +103,7 @@ record HasLeft (side : Side) (k n : ℕ) (g : Gateway) : Type 0 where
   few : left_of (parts_of g side) ≤ k
   size : length frame.bytes ≡ n
 
-kept_left : (side : Side) (k n : ℕ) (old new : Gateway) (more : List Sent) → waiting new side ≡ waiting old side ++ more →
+kept_left : (side : Side) (k n : ℕ) (old new : SessionView) (more : List Sent) → waiting new side ≡ waiting old side ++ more →
     KeepsFront old side new → HasLeft side k n old → HasLeft side k n new
 kept_left side k n old new more e kept h =
     let same : parts_of new side ≡ parts_of old side = kept.same (ap no_frame h.waits) in
@@ -116,25 +116,25 @@ kept_left side k n old new more e kept h =
       size = h.size;
     }
 
-same_left : (side : Side) (k n : ℕ) (old new : Gateway) → new ≡ old → HasLeft side k n old → HasLeft side k n new
+same_left : (side : Side) (k n : ℕ) (old new : SessionView) → new ≡ old → HasLeft side k n old → HasLeft side k n new
 same_left side k n old new e h = subst (HasLeft side k n) (sym e) h
 
 -- ---- the steps of a turn
 
 -- a stretch of this kind leaves it
-abbrev AllLeave : Side → (Gateway → List PortAnswer → Gateway → Type 0) → Type 0
-AllLeave side K = (o : Gateway) (a : List PortAnswer) (n : Gateway) (k size : ℕ) → K o a n → HasLeft side k size o →
+abbrev AllLeave : Side → (SessionView → List PortAnswer → SessionView → Type 0) → Type 0
+AllLeave side K = (o : SessionView) (a : List PortAnswer) (n : SessionView) (k size : ℕ) → K o a n → HasLeft side k size o →
     HasLeft side k size n
 
 -- a stretch of this kind takes what is left, or a part of it at least
-abbrev Advances : Side → ℕ → ℕ → List PortAnswer → Gateway → Type 0
+abbrev Advances : Side → ℕ → ℕ → List PortAnswer → SessionView → Type 0
 Advances side k size answers new =
     (size ≤ length (taken side answers))
     ⊎ ((fewer : ℕ) × (less : ℕ) × (k ≡ suc fewer) × (size ≤ length (taken side answers) + less)
     × HasLeft side fewer less new)
 
-abbrev AllAdvance : Side → (Gateway → List PortAnswer → Gateway → Type 0) → Type 0
-AllAdvance side K = (o : Gateway) (a : List PortAnswer) (n : Gateway) (k size : ℕ) → K o a n → EachTakesAll side a →
+abbrev AllAdvance : Side → (SessionView → List PortAnswer → SessionView → Type 0) → Type 0
+AllAdvance side K = (o : SessionView) (a : List PortAnswer) (n : SessionView) (k size : ℕ) → K o a n → EachTakesAll side a →
     HasLeft side k size o → Advances side k size a n
 
 clock_leaves : (side : Side) → AllLeave side AsksClock
@@ -144,7 +144,7 @@ clock_leaves side old answers new k size h left = go h.0 h.2
     go true heard = kept_left side k size old new (sent_to side heard.0.1.effects) (heard.0.1.kept side) (heard.1 side) left
     go false heard = same_left side k size old new heard left
 
-gets_leaves : (side from : Side) (pull : Pull) (bytes : List ℕ) (old new : Gateway) (k size : ℕ) →
+gets_leaves : (side from : Side) (pull : Pull) (bytes : List ℕ) (old new : SessionView) (k size : ℕ) →
     Gets from pull bytes old new → HasLeft side k size old → HasLeft side k size new
 gets_leaves side from (Got n) bytes old new k size g left =
     kept_left side k size old new (sent_to side g.0.1.effects) (g.0.1.kept side) (g.1 side) left
@@ -157,7 +157,7 @@ pull_leaves side from old answers new k size (inl h) left = same_left side k siz
 pull_leaves side from old answers new k size (inr h) left =
     gets_leaves side from h.pull h.bytes old new k size h.gets left
 
-hands_leaves : (side : Side) (put : Put) (old new : Gateway) (k size : ℕ) → Hands (other side) put old new →
+hands_leaves : (side : Side) (put : Put) (old new : SessionView) (k size : ℕ) → Hands (other side) put old new →
     HasLeft side k size old → HasLeft side k size new
 hands_leaves Bot (Took n) old new k size h left =
     kept_left Bot k size old new [] (h.0.other_wire ∙ sym (append-nil (waiting old Bot))) h.2 left
@@ -173,7 +173,7 @@ beside_leaves side old answers new k size (inl h) left = same_left side k size o
 beside_leaves side old answers new k size (inr h) left = hands_leaves side h.put old new k size h.hands left
 
 -- this wire takes the whole front
-own_hands : (side : Side) (put : Put) (old new : Gateway) (k size : ℕ) → 0 < length (front_of old side) →
+own_hands : (side : Side) (put : Put) (old new : SessionView) (k size : ℕ) → 0 < length (front_of old side) →
     Hands side put old new → TakesAll side (Offered side (front_of old side) put) → HasLeft side k size old →
     Advances side k size (Offered side (front_of old side) put ∷ []) new
 own_hands side Failed old new k size some h all left = absurd (all (same_self side))
@@ -253,7 +253,7 @@ more_taken : (side : Side) (a b : List PortAnswer) →
     length (taken side (a ++ b)) ≡ length (taken side a) + length (taken side b)
 more_taken side a b = ap length (taken-append side a b) ∙ length-append (taken side a) (taken side b)
 
-module _ (side : Side) (First Second : Gateway → List PortAnswer → Gateway → Type 0) where
+module _ (side : Side) (First Second : SessionView → List PortAnswer → SessionView → Type 0) where
   both_leave : AllLeave side First → AllLeave side Second → AllLeave side (Then First Second)
   both_leave f g o a n k size t left = g t.0 t.2 n k size t.5 (f o t.1 t.0 k size t.4 left)
 
@@ -302,7 +302,7 @@ turn_advances Server =
 
 -- ---- turns in a row
 
-part_by_part : (side : Side) (turns : List (List PortAnswer)) (old new : Gateway) (k size : ℕ) →
+part_by_part : (side : Side) (turns : List (List PortAnswer)) (old new : SessionView) (k size : ℕ) →
     AreTurns old turns new → EachTurnTakesAll side turns → HasLeft side k size old → k ≤ length turns →
     size ≤ length (taken_in side turns)
 part_by_part side [] old new k size are all left enough =
@@ -339,7 +339,7 @@ six_parts header body Relay = omega arith
 six_parts header body Prn = omega arith
 six_parts header body (Huh place) = omega arith
 
-fresh_left : (side : Side) (g : Gateway) (frame : Sent) (frames : List Sent) (from : Option Side) →
+fresh_left : (side : Side) (g : SessionView) (frame : Sent) (frames : List Sent) (from : Option Side) →
     waiting g side ≡ frame ∷ frames → frame.answers ≡ from → ArePartsOf from (parts_of g side) frame →
     HasLeft side 6 (length frame.bytes) g
 fresh_left side g frame frames None waits is parts = record {
@@ -364,7 +364,7 @@ fresh_left side g frame frames (Some from) waits is parts = record {
   size = refl;
 }
 
-pub frames_gone : (side : Side) (turns : List (List PortAnswer)) (old new : Gateway) → AreTurns old turns new →
+pub frames_gone : (side : Side) (turns : List (List PortAnswer)) (old new : SessionView) → AreTurns old turns new →
     EachTurnTakesAll side turns → AreFresh (parts_of old side) (waiting old side) → 6 ≤ length turns →
     first_len (waiting old side) ≤ length (taken_in side turns)
 frames_gone side turns old new are all fresh enough = go (waiting old side) refl fresh

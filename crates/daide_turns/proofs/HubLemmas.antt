@@ -12,7 +12,7 @@ use Rattle.daide_frame.specs.declared.side.Side.{Side}
 use Rattle.daide_frame.specs.declared.side.Side.TheVariants.{Bot, Server}
 use Rattle.daide_words.specs.declared.word.Word.{Word}
 use Rattle.daide_machine.specs.Machine.{Limits, SessionState}
-use Rattle.daide_machine.specs.Wires.{Gateway, holding, IsNew}
+use Rattle.daide_machine.specs.Wires.{SessionView, holding, IsNew}
 use Rattle.daide_machine.specs.Weight.{weight_of}
 use Rattle.daide_machine.specs.declared.config.Config.{Config}
 use Rattle.daide_machine.specs.declared.config.ConfigError.{ConfigError}
@@ -20,7 +20,7 @@ use Rattle.daide_machine.specs.declared.config.ConfigError.TheVariants as Errors
 use Rattle.daide_machine.specs.Config.{config_fault, is_level, is_body, is_depth}
 use Rattle.daide_machine.specs.Weight.{IsKeptSmall}
 use Rattle.daide_machine.specs.Config.{limits_with}
-use Rattle.daide_turns.specs.Hub.{Hosting, IsHosting, with_places, session_bound}
+use Rattle.daide_turns.specs.Hub.{HubView, IsHosting, with_places, session_bound}
 use Rattle.std.proofs.lemmas.Bool.{leb-true}
 use Rattle.std.proofs.Math.Nat.{add-mul}
 
@@ -31,58 +31,58 @@ pub same_read : {X : Type 0} (items : List X) (i : ℕ) (x y : X) → i < length
     y ≡ get_or items i y → x ≡ y
 same_read items i x y lt e f = get_or_read items i x lt e y ∙ sym f
 
-module _ {X P : Type 0} (v : X → Gateway × P) where
-  pub place_inside : (limits : Limits) (max : ℕ) (items : List X) (i : ℕ) (now : Hosting P) →
-      ◌≡◌ {A = Hosting P} (record { limits = limits; max = max; places = map v items }) now →
+module _ {X P : Type 0} (v : X → SessionView × P) where
+  pub place_inside : (limits : Limits) (max : ℕ) (items : List X) (i : ℕ) (now : HubView P) →
+      ◌≡◌ {A = HubView P} (record { limits = limits; max = max; places = map v items }) now →
       i < length now.places → i < length items
   place_inside limits max items i now e lt =
-      let places : map v items ≡ now.places = ap (λ (h : Hosting P). h.places) e in
+      let places : map v items ≡ now.places = ap (λ (h : HubView P). h.places) e in
       omega (arith, length-map items v, ap length places)
 
   -- the pair at a place that was read
-  pub place_read : (limits : Limits) (max : ℕ) (items : List X) (i : ℕ) (x : X) (now : Hosting P) →
-      ◌≡◌ {A = Hosting P} (record { limits = limits; max = max; places = map v items }) now →
+  pub place_read : (limits : Limits) (max : ℕ) (items : List X) (i : ℕ) (x : X) (now : HubView P) →
+      ◌≡◌ {A = HubView P} (record { limits = limits; max = max; places = map v items }) now →
       i < length now.places → x ≡ get_or items i x → slice_get now.places i ≡ Some (v x)
   place_read limits max items i x now e lt read =
-      let places : map v items ≡ now.places = ap (λ (h : Hosting P). h.places) e in
+      let places : map v items ≡ now.places = ap (λ (h : HubView P). h.places) e in
       let inside = place_inside limits max items i now e lt in
-      sym (ap (λ (ps : List (Gateway × P)). slice_get ps i) places)
+      sym (ap (λ (ps : List (SessionView × P)). slice_get ps i) places)
       ∙ slice_get-map v items i ∙ ap (option_map v) (slice_get_read items (length items) i x refl inside read)
 
   -- one place changed
-  pub place_set : (limits : Limits) (max : ℕ) (items : List X) (i : ℕ) (x : X) (now : Hosting P) →
-      ◌≡◌ {A = Hosting P} (record { limits = limits; max = max; places = map v items }) now →
-      ◌≡◌ {A = Hosting P} (record { limits = limits; max = max; places = map v (set items i x) })
+  pub place_set : (limits : Limits) (max : ℕ) (items : List X) (i : ℕ) (x : X) (now : HubView P) →
+      ◌≡◌ {A = HubView P} (record { limits = limits; max = max; places = map v items }) now →
+      ◌≡◌ {A = HubView P} (record { limits = limits; max = max; places = map v (set items i x) })
       (with_places now (set now.places i (v x)))
   place_set limits max items i x now e =
-      subst (λ (h : Hosting P). ◌≡◌ {A = Hosting P}
+      subst (λ (h : HubView P). ◌≡◌ {A = HubView P}
       (record { limits = limits; max = max; places = map v (set items i x) }) (with_places h (set h.places i (v x)))) e
-      (ap (λ (ps : List (Gateway × P)). record { limits = limits; max = max; places = ps }) (map-set v items i x))
+      (ap (λ (ps : List (SessionView × P)). record { limits = limits; max = max; places = ps }) (map-set v items i x))
 
   -- how many places there are
-  pub places_counted : (limits : Limits) (max : ℕ) (items : List X) (now : Hosting P) →
-      ◌≡◌ {A = Hosting P} (record { limits = limits; max = max; places = map v items }) now →
+  pub places_counted : (limits : Limits) (max : ℕ) (items : List X) (now : HubView P) →
+      ◌≡◌ {A = HubView P} (record { limits = limits; max = max; places = map v items }) now →
       length items ≡ length now.places
   places_counted limits max items now e =
-      sym (length-map items v) ∙ ap (λ (h : Hosting P). length h.places) e
+      sym (length-map items v) ∙ ap (λ (h : HubView P). length h.places) e
 
   -- there is room for one more
-  pub room_here : (limits : Limits) (max : ℕ) (items : List X) (now : Hosting P) →
-      ◌≡◌ {A = Hosting P} (record { limits = limits; max = max; places = map v items }) now →
+  pub room_here : (limits : Limits) (max : ℕ) (items : List X) (now : HubView P) →
+      ◌≡◌ {A = HubView P} (record { limits = limits; max = max; places = map v items }) now →
       length items < max → length now.places < now.max
   room_here limits max items now e lt =
-      subst (λ (h : Hosting P). length h.places < h.max) e (rw (length-map items v) lt)
+      subst (λ (h : HubView P). length h.places < h.max) e (rw (length-map items v) lt)
 
   -- one place added
-  pub place_added : (limits : Limits) (max : ℕ) (items : List X) (x : X) (now : Hosting P) →
-      ◌≡◌ {A = Hosting P} (record { limits = limits; max = max; places = map v items }) now →
-      ◌≡◌ {A = Hosting P} (record { limits = limits; max = max; places = map v (items ++ x ∷ []) })
+  pub place_added : (limits : Limits) (max : ℕ) (items : List X) (x : X) (now : HubView P) →
+      ◌≡◌ {A = HubView P} (record { limits = limits; max = max; places = map v items }) now →
+      ◌≡◌ {A = HubView P} (record { limits = limits; max = max; places = map v (items ++ x ∷ []) })
       (with_places now (now.places ++ v x ∷ []))
   place_added limits max items x now e =
-      subst (λ (h : Hosting P). ◌≡◌ {A = Hosting P}
+      subst (λ (h : HubView P). ◌≡◌ {A = HubView P}
       (record { limits = limits; max = max; places = map v (items ++ x ∷ []) })
       (with_places h (h.places ++ v x ∷ []))) e
-      (ap (λ (ps : List (Gateway × P)). record { limits = limits; max = max; places = ps })
+      (ap (λ (ps : List (SessionView × P)). record { limits = limits; max = max; places = ps })
       (map-append v items (x ∷ [])))
 
   map-remove : (items : List X) (i : ℕ) → map v (remove items i) ≡ remove (map v items) i
@@ -91,14 +91,14 @@ module _ {X P : Type 0} (v : X → Gateway × P) where
       ∙ rw (take-map v i items, drop-map v (suc i) items) refl
 
   -- one place taken out
-  pub place_removed : (limits : Limits) (max : ℕ) (items : List X) (i : ℕ) (now : Hosting P) →
-      ◌≡◌ {A = Hosting P} (record { limits = limits; max = max; places = map v items }) now →
-      ◌≡◌ {A = Hosting P} (record { limits = limits; max = max; places = map v (remove items i) })
+  pub place_removed : (limits : Limits) (max : ℕ) (items : List X) (i : ℕ) (now : HubView P) →
+      ◌≡◌ {A = HubView P} (record { limits = limits; max = max; places = map v items }) now →
+      ◌≡◌ {A = HubView P} (record { limits = limits; max = max; places = map v (remove items i) })
       (with_places now (remove now.places i))
   place_removed limits max items i now e =
-      subst (λ (h : Hosting P). ◌≡◌ {A = Hosting P}
+      subst (λ (h : HubView P). ◌≡◌ {A = HubView P}
       (record { limits = limits; max = max; places = map v (remove items i) }) (with_places h (remove h.places i))) e
-      (ap (λ (ps : List (Gateway × P)). record { limits = limits; max = max; places = ps }) (map-remove items i))
+      (ap (λ (ps : List (SessionView × P)). record { limits = limits; max = max; places = ps }) (map-remove items i))
 
 pub all_removed : {X : Type 0} (Q : X → Type 0) (items : List X) (i : ℕ) → All Q items → All Q (remove items i)
 all_removed Q items i h =
@@ -106,7 +106,7 @@ all_removed Q items i h =
 
 -- ---- what holds between calls
 
-module _ {X : Type 0} (seen : X → Gateway) (config : Config) (words : List Word) (max : ℕ) where
+module _ {X : Type 0} (seen : X → SessionView) (config : Config) (words : List Word) (max : ℕ) where
   abbrev Limited : X → Type 0
   Limited x = (seen x).state.limits ≡ limits_with config words
 
@@ -139,7 +139,7 @@ module _ {X : Type 0} (seen : X → Gateway) (config : Config) (words : List Wor
 -- ---- the weight
 
 -- what one session weighs at most, whatever came
-pub weight_small : (g : Gateway) → ((side : Side) → IsKeptSmall g.state.limits.cap (holding g side)) →
+pub weight_small : (g : SessionView) → ((side : Side) → IsKeptSmall g.state.limits.cap (holding g side)) →
     ((side : Side) → (holding g side).entries ≤ 8 * g.state.limits.max_depth + 16) →
     (length g.to_bot ≤ 3) × (length g.to_server ≤ 3) → weight_of g ≤ session_bound g.state.limits
 unfolding weight_of
@@ -178,7 +178,7 @@ config_small config e = go (is_level config.top_level) (is_body config.max_body)
     go false b d eb ed e = absurd (cc)
 
 -- each place is within its bound
-pub place_small : {X : Type 0} (seen : X → Gateway) (config : Config) (words : List Word) (max capacity : ℕ)
+pub place_small : {X : Type 0} (seen : X → SessionView) (config : Config) (words : List Word) (max capacity : ℕ)
     (items : List X) (i : ℕ) (x : X) → IsHosting seen config words max capacity items → i < length items → x ≡ get_or items i x →
     ((side : Side) → IsKeptSmall (seen x).state.limits.cap (holding (seen x) side)) →
     ((side : Side) → (holding (seen x) side).entries ≤ 8 * (seen x).state.limits.max_depth + 16) →

@@ -9,9 +9,9 @@ use Rattle.std.proofs.lemmas.Bool.Decides.{leb_tells}
 use Rattle.daide_frame.specs.declared.side.Side.{Side}
 use Rattle.daide_frame.specs.declared.side.Side.TheVariants.{Bot, Server}
 use Rattle.daide_machine.specs.declared.note.Note.{Note}
-use Rattle.daide_machine.specs.Events.{Event, Ends, Pops, bytes_come, other}
+use Rattle.daide_machine.specs.Events.{Event, Ends, TimerExpires, bytes_come, other}
 use Rattle.daide_machine.specs.Machine.{Sent, Effect, Runs, is_over}
-use Rattle.daide_machine.specs.Wires.{Gateway, waiting, sent_to, bytes_of, without}
+use Rattle.daide_machine.specs.Wires.{SessionView, waiting, sent_to, bytes_of, without}
 use Rattle.daide_machine.specs.Wires.{Goes, Lost, Wrote, IsFrontOf}
 use Rattle.daide_machine.proofs.WireLemmas.{bytes_of-append}
 use Rattle.daide_session.proofs.GatewayFronts.{apart}
@@ -20,24 +20,24 @@ use Rattle.daide_machine.specs.declared.ports.Put.TheVariants.{Took, Failed}
 use Rattle.daide_machine.specs.Ports.{Clock, Pulled, Offered, taken, has_failed}
 use Rattle.daide_turns.specs.Record.{Moved, Relays, Works}
 
-goes_wire : (a : Gateway) (es : List Event) (note : Note) (b : Gateway) (g : Goes a es note b) (side : Side) →
+goes_wire : (a : SessionView) (es : List Event) (note : Note) (b : SessionView) (g : Goes a es note b) (side : Side) →
     bytes_of (waiting a side) ++ bytes_of (sent_to side g.effects) ≡ bytes_of (waiting b side)
 goes_wire a es note b g side =
     sym (ap bytes_of (g.kept side) ∙ bytes_of-append (waiting a side) (sent_to side g.effects))
 
 -- ---- the clock and the pulls
 
-pub clock_pops : (a b : Gateway) (note : Note) → Works a (Clock true ∷ []) b → Goes a (Pops ∷ []) note b →
+pub clock_pops : (a b : SessionView) (note : Note) → Works a (Clock true ∷ []) b → Goes a (TimerExpires ∷ []) note b →
     Relays a (Clock true ∷ []) b
 clock_pops a b note work g = record {
   effects = g.effects;
   run = g.run;
-  wires = λ side. goes_wire a (Pops ∷ []) note b g side;
+  wires = λ side. goes_wire a (TimerExpires ∷ []) note b g side;
   counts = g.counts;
   work = work;
 }
 
-pub clock_runs : (a : Gateway) → Works a (Clock false ∷ []) a → Relays a (Clock false ∷ []) a
+pub clock_runs : (a : SessionView) → Works a (Clock false ∷ []) a → Relays a (Clock false ∷ []) a
 clock_runs a work = record {
   effects = [];
   run = (refl, refl);
@@ -46,7 +46,7 @@ clock_runs a work = record {
   work = work;
 }
 
-pub got_bytes : (a : Gateway) (side : Side) (len n : ℕ) (bytes : List ℕ) (note : Note) (b : Gateway) →
+pub got_bytes : (a : SessionView) (side : Side) (len n : ℕ) (bytes : List ℕ) (note : Note) (b : SessionView) →
     Works a (Pulled side len (Got n) bytes ∷ []) b → Goes a (bytes_come side bytes) note b →
     Relays a (Pulled side len (Got n) bytes ∷ []) b
 got_bytes a side len n bytes note b work g = record {
@@ -57,7 +57,7 @@ got_bytes a side len n bytes note b work g = record {
   work = work;
 }
 
-pub was_idle : (a : Gateway) (side : Side) (len : ℕ) (bytes : List ℕ) → Works a (Pulled side len Idle bytes ∷ []) a →
+pub was_idle : (a : SessionView) (side : Side) (len : ℕ) (bytes : List ℕ) → Works a (Pulled side len Idle bytes ∷ []) a →
     Relays a (Pulled side len Idle bytes ∷ []) a
 was_idle a side len bytes work = record {
   effects = [];
@@ -67,7 +67,7 @@ was_idle a side len bytes work = record {
   work = work;
 }
 
-pub has_ended : (a : Gateway) (side : Side) (len : ℕ) (bytes : List ℕ) (note : Note) (b : Gateway) →
+pub has_ended : (a : SessionView) (side : Side) (len : ℕ) (bytes : List ℕ) (note : Note) (b : SessionView) →
     Works a (Pulled side len Ended bytes ∷ []) b → Goes a (Ends side ∷ []) note b →
     Relays a (Pulled side len Ended bytes ∷ []) b
 has_ended a side len bytes note b work g = record {
@@ -114,7 +114,7 @@ without_bytes n xs (frame ∷ frames) f h =
 -- ---- the puts
 
 -- the wire that took n bytes
-this_wire : (a : Gateway) (side : Side) (bytes : List ℕ) (n : ℕ) (b : Gateway) → IsFrontOf bytes (waiting a side) →
+this_wire : (a : SessionView) (side : Side) (bytes : List ℕ) (n : ℕ) (b : SessionView) → IsFrontOf bytes (waiting a side) →
     n ≤ length bytes → Wrote a side n b →
     bytes_of (waiting a side) ++ [] ≡ (take n bytes ++ []) ++ bytes_of (waiting b side)
 this_wire a side bytes n b f h g =
@@ -122,11 +122,11 @@ this_wire a side bytes n b f h g =
     ∙ rw (append-nil (take n bytes)) (ap (λ (t : List Sent). take n bytes ++ bytes_of t) (sym g.taken))
 
 -- a wire that waits for what it waited for
-same_wire : (a : Gateway) (side : Side) (b : Gateway) → waiting b side ≡ waiting a side →
+same_wire : (a : SessionView) (side : Side) (b : SessionView) → waiting b side ≡ waiting a side →
     bytes_of (waiting a side) ++ [] ≡ [] ++ bytes_of (waiting b side)
 same_wire a side b e = append-nil (bytes_of (waiting a side)) ∙ ap bytes_of (sym e)
 
-pub took_bytes : (a : Gateway) (side : Side) (bytes : List ℕ) (n : ℕ) (b : Gateway) → IsFrontOf bytes (waiting a side) →
+pub took_bytes : (a : SessionView) (side : Side) (bytes : List ℕ) (n : ℕ) (b : SessionView) → IsFrontOf bytes (waiting a side) →
     n ≤ length bytes → Works a (Offered side bytes (Took n) ∷ []) b → Wrote a side n b →
     Relays a (Offered side bytes (Took n) ∷ []) b
 took_bytes a side bytes n b f h work g = record {
@@ -145,7 +145,7 @@ took_bytes a side bytes n b f h work g = record {
     wire Server Bot f g = same_wire a Bot b g.other_wire
     wire Server Server f g = this_wire a Server bytes n b f h g
 
-pub put_failed : (a : Gateway) (side : Side) (bytes : List ℕ) (b : Gateway) → Works a (Offered side bytes Failed ∷ []) b →
+pub put_failed : (a : SessionView) (side : Side) (bytes : List ℕ) (b : SessionView) → Works a (Offered side bytes Failed ∷ []) b →
     Lost a side b → Relays a (Offered side bytes Failed ∷ []) b
 put_failed a side bytes b work g = record {
   effects = g.effects;

@@ -1,7 +1,7 @@
 -- Turns in a row.
 use Rattle.std.proofs.Common.{◌≡◌, ℕ, zero, suc, ◌+◌, false, List, [], refl}
 use Rattle.std.proofs.Common.{sym, subst, add-one}
-use Rattle.daide_machine.specs.Wires.{Gateway, is_closed}
+use Rattle.daide_machine.specs.Wires.{SessionView, is_closed}
 use Rattle.daide_machine.specs.Ports.{PortAnswer}
 use Rattle.daide_turns.specs.Record.{Relays, Carries}
 use Rattle.daide_turns.specs.Turn.{Then}
@@ -14,19 +14,19 @@ use Rattle.daide_turns.proofs.Stretches.{relays_append, relays_nil, carries_then
 use Rattle.daide_turns.proofs.Standing.{headline_of}
 
 -- n turns, of a session that isn't closed then
-abbrev pub StaysOpen : ℕ → Gateway → List PortAnswer → Gateway → Type 0
+abbrev pub StaysOpen : ℕ → SessionView → List PortAnswer → SessionView → Type 0
 StaysOpen n old answers new = Turns n old answers new × (is_closed new ≡ false)
 
 -- turns relay
-turns_relay : (n : ℕ) (a : Gateway) (xs : List PortAnswer) (b : Gateway) → Turns n a xs b → Relays a xs b
+turns_relay : (n : ℕ) (a : SessionView) (xs : List PortAnswer) (b : SessionView) → Turns n a xs b → Relays a xs b
 turns_relay zero a xs b h =
     subst (λ (ys : List PortAnswer). Relays a ys b) (sym h.0)
-    (subst (λ (c : Gateway). Relays a [] c) (sym h.1) (relays_nil a))
+    (subst (λ (c : SessionView). Relays a [] c) (sym h.1) (relays_nil a))
 turns_relay (suc n) a xs b h =
     subst (λ (ys : List PortAnswer). Relays a ys b) (sym h.3)
     (relays_append a h.1 h.0 h.2 b (turns_relay n a h.1 h.0 h.4) h.6.delivered)
 
-pub relayed : (end : RelayEnd) (turns : ℕ) (a : Gateway) (xs : List PortAnswer) (b : Gateway) → IsWithinBounds b →
+pub relayed : (end : RelayEnd) (turns : ℕ) (a : SessionView) (xs : List PortAnswer) (b : SessionView) → IsWithinBounds b →
     MakesTurns end turns a xs b → WholeRelay end turns a xs b
 relayed Closed turns a xs b within h =
     let relays = turns_relay h.0 a xs b h.2 in
@@ -35,15 +35,15 @@ relayed TurnsSpent turns a xs b within h =
     let relays = turns_relay turns a xs b h in
     record { in_order = h; delivered = relays; headline = headline_of a xs b within relays }
 
-one_more : (n : ℕ) (a : Gateway) (xs : List PortAnswer) (b : Gateway) → Then (StaysOpen n) WholeTurn a xs b →
+one_more : (n : ℕ) (a : SessionView) (xs : List PortAnswer) (b : SessionView) → Then (StaysOpen n) WholeTurn a xs b →
     Turns (n + 1) a xs b
 one_more n a xs b h = rw add-one (h.0, h.1, h.2, h.3, h.4.0, h.4.1, h.5)
 
 module _ {P : Type 0} (becomes : P → PortAnswer → P → Type 0) where
-  pub no_turn : (a : Gateway) (p : P) → Carries becomes (Turns 0) (a, p) (a, p)
+  pub no_turn : (a : SessionView) (p : P) → Carries becomes (Turns 0) (a, p) (a, p)
   no_turn a p = carries_nothing becomes (Turns 0) a a p (refl, refl)
 
-  pub another_turn : (n : ℕ) (a b c : Gateway × P) → Carries becomes (Turns n) a b → is_closed b.0 ≡ false →
+  pub another_turn : (n : ℕ) (a b c : SessionView × P) → Carries becomes (Turns n) a b → is_closed b.0 ≡ false →
       Carries becomes WholeTurn b c → Carries becomes (Turns (n + 1)) a c
   another_turn n a b c h e k =
       carries_weaker becomes (Then (StaysOpen n) WholeTurn) (Turns (n + 1)) a c (λ xs. one_more n a.0 xs c.0)

@@ -6,7 +6,7 @@ use Rattle.daide_frame.specs.declared.side.Side.{Side}
 use Rattle.daide_frame.specs.declared.side.Side.TheVariants.{Bot, Server}
 use Rattle.daide_reader.specs.Reading.{IsRaised}
 use Rattle.daide_machine.specs.Machine.{Limits, Sent, SessionState, is_over}
-use Rattle.daide_machine.specs.Wires.{Gateway, IsNew, holding, waiting, bytes_of, is_closed, no_frame}
+use Rattle.daide_machine.specs.Wires.{SessionView, IsNew, holding, waiting, bytes_of, is_closed, no_frame}
 use Rattle.daide_machine.specs.Ports.{PortAnswer, has_failed}
 use Rattle.daide_turns.specs.Record.{Moved, Relays, Works, came}
 use Rattle.daide_turns.specs.Turn.{Then}
@@ -29,7 +29,7 @@ all_three true true false e = absurd (cc)
 all_three true false c e = absurd (cc)
 all_three false b c e = absurd (cc)
 
-closed_wire : (g : Gateway) → is_closed g ≡ true → (side : Side) → waiting g side ≡ []
+closed_wire : (g : SessionView) → is_closed g ≡ true → (side : Side) → waiting g side ≡ []
 closed_wire g e Bot =
     none_of g.to_bot (all_three (is_over g.state.phase) (no_frame g.to_bot) (no_frame g.to_server) e).0
 closed_wire g e Server =
@@ -47,7 +47,7 @@ moved_all false over waited answers took waits f e n h =
 
 -- ---- the work from a run's opening on
 
-whole_work : (limits : Limits) (history : List PortAnswer) (g : Gateway) → Stands limits history g → (side : Side) →
+whole_work : (limits : Limits) (history : List PortAnswer) (g : SessionView) → Stands limits history g → (side : Side) →
     IsRaised (2 * came side history) 0 (holding g side).total
 whole_work limits history g stands side =
     let paid = stands.work side in
@@ -69,7 +69,7 @@ whole_work limits history g stands side =
 
 -- ---- the headline
 
-pub headline_of : (a : Gateway) (xs : List PortAnswer) (b : Gateway) → IsWithinBounds b → Relays a xs b →
+pub headline_of : (a : SessionView) (xs : List PortAnswer) (b : SessionView) → IsWithinBounds b → Relays a xs b →
     Headline a xs b
 headline_of a xs b within r limits history stands =
     let all = relays_append (untouched limits) history a xs b stands r in
@@ -82,7 +82,7 @@ headline_of a xs b within r limits history stands =
     }
 
 -- a new session stands at a run's opening
-pub new_stands : (limits : Limits) (g : Gateway) → IsNew limits g → Stands limits [] g
+pub new_stands : (limits : Limits) (g : SessionView) → IsNew limits g → Stands limits [] g
 new_stands limits g n = record {
   effects = [];
   run = (refl, n.state);
@@ -104,7 +104,7 @@ new_stands limits g n = record {
     wire Server e f = sym (ap bytes_of f)
 
 -- all that a turn's answers do
-pub one_turn : (a : Gateway) (xs : List PortAnswer) (b : Gateway) → IsWithinBounds b → WorkingTurn a xs b →
+pub one_turn : (a : SessionView) (xs : List PortAnswer) (b : SessionView) → IsWithinBounds b → WorkingTurn a xs b →
     WholeTurn a xs b
 one_turn a xs b within t =
     let relays = turn_relays a xs b t in
@@ -116,7 +116,7 @@ one_turn a xs b within t =
     }
 
 -- one headline after another is a headline of both stretches
-pub headlines_join : (a : Gateway) (xs : List PortAnswer) (c : Gateway) → Then Headline Headline a xs c →
+pub headlines_join : (a : SessionView) (xs : List PortAnswer) (c : SessionView) → Then Headline Headline a xs c →
     Headline a xs c
 headlines_join a xs c h limits history stands =
     let first = h.4 limits history stands in

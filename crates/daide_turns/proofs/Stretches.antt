@@ -5,7 +5,7 @@ use Rattle.std.specs.Prelude.{◌||◌, unwrap_or}
 use Rattle.daide_frame.specs.declared.side.Side.{Side}
 use Rattle.daide_machine.specs.Events.{Event}
 use Rattle.daide_machine.specs.Machine.{SessionState, Effect, Runs, is_over}
-use Rattle.daide_machine.specs.Wires.{Gateway, waiting, sent_to, bytes_of}
+use Rattle.daide_machine.specs.Wires.{SessionView, waiting, sent_to, bytes_of}
 use Rattle.daide_machine.proofs.OneRun.{one_run, runs_join}
 use Rattle.daide_machine.proofs.PieceRuns.{over_stays}
 use Rattle.daide_machine.proofs.SummaryLemmas.{tallied_then}
@@ -82,7 +82,7 @@ over_runs : (a b : SessionState) (es : List Event) (effects : List Effect) → i
     Runs a es effects b → (effects ≡ []) × (b ≡ a)
 over_runs a b es effects over run = one_run es a effects [] b a run (over_stays a es over)
 
-pub relays_append : (a : Gateway) (xs : List PortAnswer) (b : Gateway) (ys : List PortAnswer) (c : Gateway) →
+pub relays_append : (a : SessionView) (xs : List PortAnswer) (b : SessionView) (ys : List PortAnswer) (c : SessionView) →
     Relays a xs b → Relays b ys c → Relays a (xs ++ ys) c
 relays_append a xs b ys c h k = record {
   effects = h.effects ++ k.effects;
@@ -105,7 +105,7 @@ relays_append a xs b ys c h k = record {
   work = works_then a xs b ys c (events_of-append xs ys) h.work k.work;
 }
 
-pub relays_nil : (a : Gateway) → Relays a [] a
+pub relays_nil : (a : SessionView) → Relays a [] a
 relays_nil a = record {
   effects = [];
   run = (refl, refl);
@@ -142,7 +142,7 @@ module _ {P : Type 0} (becomes : P → PortAnswer → P → Type 0) where
   becomes_then [] ys p q r h k = subst (λ (x : P). BecomesBy becomes x ys r) h k
   becomes_then (x ∷ xs) ys p q r h k = (h.0, h.1, becomes_then xs ys h.0 q r h.2 k)
 
-  pub carries_then : (K L : Gateway → List PortAnswer → Gateway → Type 0) (a b c : Gateway × P) →
+  pub carries_then : (K L : SessionView → List PortAnswer → SessionView → Type 0) (a b c : SessionView × P) →
       Carries becomes K a b → Carries becomes L b c → Carries becomes (Then K L) a c
   carries_then K L a b c h k = record {
     call = h.call ++ k.call;
@@ -150,16 +150,16 @@ module _ {P : Type 0} (becomes : P → PortAnswer → P → Type 0) where
     ports = becomes_then h.call k.call a.1 b.1 c.1 h.ports k.ports;
   }
 
-  pub carries_weaker : (K L : Gateway → List PortAnswer → Gateway → Type 0) (a b : Gateway × P) →
+  pub carries_weaker : (K L : SessionView → List PortAnswer → SessionView → Type 0) (a b : SessionView × P) →
       ((xs : List PortAnswer) → K a.0 xs b.0 → L a.0 xs b.0) → Carries becomes K a b → Carries becomes L a b
   carries_weaker K L a b f h = record { call = h.call; session = f h.call h.session; ports = h.ports }
 
   -- the ports were asked nothing
-  pub carries_nothing : (K : Gateway → List PortAnswer → Gateway → Type 0) (a b : Gateway) (p : P) →
+  pub carries_nothing : (K : SessionView → List PortAnswer → SessionView → Type 0) (a b : SessionView) (p : P) →
       K a [] b → Carries becomes K (a, p) (b, p)
   carries_nothing K a b p h = record { call = []; session = h; ports = refl }
 
   -- the ports answered once
-  pub carries_one : (K : Gateway → List PortAnswer → Gateway → Type 0) (a b : Gateway) (p q : P) (answer : PortAnswer) →
+  pub carries_one : (K : SessionView → List PortAnswer → SessionView → Type 0) (a b : SessionView) (p q : P) (answer : PortAnswer) →
       becomes p answer q → K a (answer ∷ []) b → Carries becomes K (a, p) (b, q)
   carries_one K a b p q answer given h = record { call = answer ∷ []; session = h; ports = (q, given, refl) }

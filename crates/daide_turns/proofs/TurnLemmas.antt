@@ -4,7 +4,7 @@ use Rattle.std.proofs.Common.{subst, arith, length-append, inl, inr}
 use Rattle.std.proofs.Common.{⊎_elim}
 use Rattle.daide_frame.specs.declared.side.Side.{Side}
 use Rattle.daide_frame.specs.declared.side.Side.TheVariants.{Bot, Server}
-use Rattle.daide_machine.specs.Wires.{Gateway, waiting, front_of, first_len, room_of, IsFrontOf}
+use Rattle.daide_machine.specs.Wires.{SessionView, waiting, front_of, first_len, room_of, IsFrontOf}
 use Rattle.daide_machine.specs.Machine.{Sent}
 use Rattle.daide_machine.specs.declared.ports.Pull.{Pull}
 use Rattle.daide_machine.specs.declared.ports.Pull.TheVariants.{Got, Idle, Ended}
@@ -21,29 +21,29 @@ use Rattle.daide_turns.proofs.PortAnswers.{clock_pops, clock_runs, got_bytes, wa
 use Rattle.daide_turns.proofs.PortAnswers.{took_bytes, put_failed, filled, none_left}
 
 -- nothing was asked, and nothing changed
-unmoved : (a b : Gateway) (xs : List PortAnswer) → xs ≡ [] → b ≡ a → Relays a xs b
+unmoved : (a b : SessionView) (xs : List PortAnswer) → xs ≡ [] → b ≡ a → Relays a xs b
 unmoved a b xs e f =
     subst (λ (ys : List PortAnswer). Relays a ys b) (sym e)
-    (subst (λ (c : Gateway). Relays a [] c) (sym f) (relays_nil a))
+    (subst (λ (c : SessionView). Relays a [] c) (sym f) (relays_nil a))
 
-heard : (popped : Bool) (a b : Gateway) → Works a (Clock popped ∷ []) b → Hears popped a b →
+heard : (popped : Bool) (a b : SessionView) → Works a (Clock popped ∷ []) b → Hears popped a b →
     Relays a (Clock popped ∷ []) b
 heard true a b w h = clock_pops a b h.0.0 w h.0.1
-heard false a b w h = subst (λ (c : Gateway). Works a (Clock false ∷ []) c → Relays a (Clock false ∷ []) c) (sym h)
+heard false a b w h = subst (λ (c : SessionView). Works a (Clock false ∷ []) c → Relays a (Clock false ∷ []) c) (sym h)
     (clock_runs a) w
 
-clock_relays : (a : Gateway) (xs : List PortAnswer) (b : Gateway) → Working AsksClock a xs b → Relays a xs b
+clock_relays : (a : SessionView) (xs : List PortAnswer) (b : SessionView) → Working AsksClock a xs b → Relays a xs b
 clock_relays a xs b h =
     subst (λ (ys : List PortAnswer). Works a ys b → Relays a ys b) (sym h.0.1)
     (λ w. heard h.0.0 a b w h.0.2) h.1
 
-handed : (side : Side) (put : Put) (front : List ℕ) (a b : Gateway) → IsFrontOf front (waiting a side) →
+handed : (side : Side) (put : Put) (front : List ℕ) (a b : SessionView) → IsFrontOf front (waiting a side) →
     IsPutWithin put (length front) → Works a (Offered side front put ∷ []) b → Hands side put a b →
     Relays a (Offered side front put ∷ []) b
 handed side (Took n) front a b f within w h = took_bytes a side front n b f within w h.0
 handed side Failed front a b f within w h = put_failed a side front b w h.0
 
-puts_relay : (side : Side) (a : Gateway) (xs : List PortAnswer) (b : Gateway) → Working (Puts side) a xs b →
+puts_relay : (side : Side) (a : SessionView) (xs : List PortAnswer) (b : SessionView) → Working (Puts side) a xs b →
     Relays a xs b
 puts_relay side a xs b h = ⊎_elim
     (λ (n : HasNone side a xs b). unmoved a b xs n.1 n.2)
@@ -51,15 +51,15 @@ puts_relay side a xs b h = ⊎_elim
     (λ w. handed side p.put (front_of a side) a b p.front p.within w p.hands) h.1)
     h.0
 
-gotten : (side : Side) (len : ℕ) (pull : Pull) (bytes : List ℕ) (a b : Gateway) →
+gotten : (side : Side) (len : ℕ) (pull : Pull) (bytes : List ℕ) (a b : SessionView) →
     Works a (Pulled side len pull bytes ∷ []) b → Gets side pull bytes a b → Relays a (Pulled side len pull bytes ∷ []) b
 gotten side len (Got n) bytes a b w h = got_bytes a side len n bytes h.0.0 b w h.0.1
 gotten side len Idle bytes a b w h =
-    subst (λ (c : Gateway). Works a (Pulled side len Idle bytes ∷ []) c → Relays a (Pulled side len Idle bytes ∷ []) c)
+    subst (λ (c : SessionView). Works a (Pulled side len Idle bytes ∷ []) c → Relays a (Pulled side len Idle bytes ∷ []) c)
     (sym h) (was_idle a side len bytes) w
 gotten side len Ended bytes a b w h = has_ended a side len bytes h.0.0 b w h.0.1
 
-pulls_relay : (side : Side) (a : Gateway) (xs : List PortAnswer) (b : Gateway) → Working (Pulls side) a xs b →
+pulls_relay : (side : Side) (a : SessionView) (xs : List PortAnswer) (b : SessionView) → Working (Pulls side) a xs b →
     Relays a xs b
 pulls_relay side a xs b h = ⊎_elim
     (λ (n : HasNoRoom side a xs b). unmoved a b xs n.1 n.2)
@@ -67,21 +67,21 @@ pulls_relay side a xs b h = ⊎_elim
     (λ w. gotten side _ p.pull p.bytes a b w p.gets) h.1)
     h.0
 
-then_relays : (K L : Gateway → List PortAnswer → Gateway → Type 0) →
-    ((a : Gateway) (xs : List PortAnswer) (b : Gateway) → K a xs b → Relays a xs b) →
-    ((a : Gateway) (xs : List PortAnswer) (b : Gateway) → L a xs b → Relays a xs b) →
-    (a : Gateway) (xs : List PortAnswer) (b : Gateway) → Then K L a xs b → Relays a xs b
+then_relays : (K L : SessionView → List PortAnswer → SessionView → Type 0) →
+    ((a : SessionView) (xs : List PortAnswer) (b : SessionView) → K a xs b → Relays a xs b) →
+    ((a : SessionView) (xs : List PortAnswer) (b : SessionView) → L a xs b → Relays a xs b) →
+    (a : SessionView) (xs : List PortAnswer) (b : SessionView) → Then K L a xs b → Relays a xs b
 then_relays K L f g a xs b h =
     subst (λ (ys : List PortAnswer). Relays a ys b) (sym h.3)
     (relays_append a h.1 h.0 h.2 b (f a h.1 h.0 h.4) (g h.0 h.2 b h.5))
 
 -- the steps of a turn, each with what the tables were asked in it
-abbrev pub WorkingTurn : Gateway → List PortAnswer → Gateway → Type 0
+abbrev pub WorkingTurn : SessionView → List PortAnswer → SessionView → Type 0
 WorkingTurn =
     Then (Working AsksClock) (Then (Working (Puts Bot)) (Then (Working (Puts Server))
     (Then (Working (Pulls Bot)) (Working (Pulls Server)))))
 
-pub turn_relays : (a : Gateway) (xs : List PortAnswer) (b : Gateway) → WorkingTurn a xs b → Relays a xs b
+pub turn_relays : (a : SessionView) (xs : List PortAnswer) (b : SessionView) → WorkingTurn a xs b → Relays a xs b
 turn_relays =
     then_relays (Working AsksClock) (Then (Working (Puts Bot)) (Then (Working (Puts Server))
     (Then (Working (Pulls Bot)) (Working (Pulls Server))))) clock_relays
@@ -90,17 +90,17 @@ turn_relays =
     (then_relays (Working (Puts Server)) (Then (Working (Pulls Bot)) (Working (Pulls Server))) (puts_relay Server)
     (then_relays (Working (Pulls Bot)) (Working (Pulls Server)) (pulls_relay Bot) (pulls_relay Server))))
 
-then_weaker : (K L M N : Gateway → List PortAnswer → Gateway → Type 0) →
-    ((a : Gateway) (xs : List PortAnswer) (b : Gateway) → K a xs b → M a xs b) →
-    ((a : Gateway) (xs : List PortAnswer) (b : Gateway) → L a xs b → N a xs b) →
-    (a : Gateway) (xs : List PortAnswer) (b : Gateway) → Then K L a xs b → Then M N a xs b
+then_weaker : (K L M N : SessionView → List PortAnswer → SessionView → Type 0) →
+    ((a : SessionView) (xs : List PortAnswer) (b : SessionView) → K a xs b → M a xs b) →
+    ((a : SessionView) (xs : List PortAnswer) (b : SessionView) → L a xs b → N a xs b) →
+    (a : SessionView) (xs : List PortAnswer) (b : SessionView) → Then K L a xs b → Then M N a xs b
 then_weaker K L M N f g a xs b h = (h.0, h.1, h.2, h.3, f a h.1 h.0 h.4, g h.0 h.2 b h.5)
 
-step_of : (K : Gateway → List PortAnswer → Gateway → Type 0) (a : Gateway) (xs : List PortAnswer) (b : Gateway) →
+step_of : (K : SessionView → List PortAnswer → SessionView → Type 0) (a : SessionView) (xs : List PortAnswer) (b : SessionView) →
     Working K a xs b → K a xs b
 step_of K a xs b h = h.0
 
-pub turn_in_order : (a : Gateway) (xs : List PortAnswer) (b : Gateway) → WorkingTurn a xs b → Turn a xs b
+pub turn_in_order : (a : SessionView) (xs : List PortAnswer) (b : SessionView) → WorkingTurn a xs b → Turn a xs b
 turn_in_order =
     then_weaker (Working AsksClock) (Then (Working (Puts Bot)) (Then (Working (Puts Server))
     (Then (Working (Pulls Bot)) (Working (Pulls Server)))))
@@ -115,12 +115,12 @@ turn_in_order =
 -- ---- what a turn's steps make
 
 -- nothing waits, and no put is made
-pub no_put : (side : Side) (front : List ℕ) (a : Gateway) (empty : Bool) → IsFrontOf front (waiting a side) →
+pub no_put : (side : Side) (front : List ℕ) (a : SessionView) (empty : Bool) → IsFrontOf front (waiting a side) →
     empty ≡ eqb (length front) 0 → empty ≡ true → Puts side a [] a
 no_put side front a empty is e f = inl (none_left front (waiting a side) empty e f is, refl, refl)
 
 -- a put of the whole front
-pub whole_put : (side : Side) (put : Put) (front : List ℕ) (a b : Gateway) (empty : Bool) → front ≡ front_of a side →
+pub whole_put : (side : Side) (put : Put) (front : List ℕ) (a b : SessionView) (empty : Bool) → front ≡ front_of a side →
     IsFrontOf front (waiting a side) → empty ≡ eqb (length front) 0 → empty ≡ false →
     IsPutWithin put (length front) → Hands side put a b → Puts side a (Offered side front put ∷ []) b
 whole_put side put front a b empty same is e f within hands = inr (record {
@@ -140,11 +140,11 @@ front_short xs (frame ∷ frames) f =
     omega (arith, same, length-append xs f.1.0)
 
 -- there is no room, and no pull is made
-pub no_pull : (side : Side) (room : ℕ) (a : Gateway) → room ≡ room_of a side → room ≡ 0 → Pulls side a [] a
+pub no_pull : (side : Side) (room : ℕ) (a : SessionView) → room ≡ room_of a side → room ≡ 0 → Pulls side a [] a
 no_pull side room a same none = inl (sym same ∙ none, refl, refl)
 
 -- a pull into a buffer as long as the room
-pub whole_pull : (side : Side) (pull : Pull) (len : ℕ) (bytes : List ℕ) (a b : Gateway) → 0 < room_of a side →
+pub whole_pull : (side : Side) (pull : Pull) (len : ℕ) (bytes : List ℕ) (a b : SessionView) → 0 < room_of a side →
     len ≡ min (room_of a side) 512 → length bytes ≡ pulled_len pull → Gets side pull bytes a b →
     Pulls side a (Pulled side len pull bytes ∷ []) b
 whole_pull side pull len bytes a b room same counted gets = inr (record {

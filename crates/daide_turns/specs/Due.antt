@@ -1,16 +1,16 @@
 -- That bytes which wait for a wire go, while the wire takes some; and frames, while it takes all that it is handed.
 use Rattle.std.specs.Prelude.{◌≡◌, ℕ, ◌<◌, ◌≤◌, min, true, List, [], ◌∷◌, ◌++◌, length}
 use Rattle.daide_frame.specs.declared.side.Side.{Side}
-use Rattle.daide_machine.specs.Wires.{Gateway, waiting, same_side, bytes_of, first_len, parts_of}
+use Rattle.daide_machine.specs.Wires.{SessionView, waiting, same_side, bytes_of, first_len, parts_of}
 use Rattle.daide_traffic.specs.Fronts.{AreFresh}
 use Rattle.daide_machine.specs.declared.ports.Put.TheVariants.{Took, Failed}
 use Rattle.daide_machine.specs.Ports.{PortAnswer, Clock, Pulled, Offered, taken}
 use Rattle.daide_turns.specs.Turn.{Turn}
 
 -- turns in a row, each by the answers of its own
-abbrev pub AreTurns : Gateway → List (List PortAnswer) → Gateway → Type 0
+abbrev pub AreTurns : SessionView → List (List PortAnswer) → SessionView → Type 0
 AreTurns old [] new = new ≡ old
-AreTurns old (answers ∷ turns) new = (mid : Gateway) × Turn old answers mid × AreTurns mid turns new
+AreTurns old (answers ∷ turns) new = (mid : SessionView) × Turn old answers mid × AreTurns mid turns new
 
 -- a put to the wire toward a side takes one byte at least
 abbrev pub TakesSome : Side → PortAnswer → Type 0
@@ -37,7 +37,7 @@ taken_in side (answers ∷ turns) = taken side answers ++ taken_in side turns
 -- them,
 -- whatever else the turns bring.
 abbrev pub DueBytesGo : Type 0
-DueBytesGo = (side : Side) (turns : List (List PortAnswer)) (old new : Gateway) → AreTurns old turns new →
+DueBytesGo = (side : Side) (turns : List (List PortAnswer)) (old new : SessionView) → AreTurns old turns new →
     EachTurnTakesSome side turns →
     min (length turns) (length (bytes_of (waiting old side))) ≤ length (taken_in side turns)
 
@@ -59,6 +59,6 @@ EachTurnTakesAll side (answers ∷ turns) = EachTakesAll side answers × EachTur
 -- While a wire takes all that it is handed, a frame of which nothing is gone yet is gone after six turns, whatever else
 -- the turns bring: an answer is handed over in six parts at most.
 abbrev pub FramesGo : Type 0
-FramesGo = (side : Side) (turns : List (List PortAnswer)) (old new : Gateway) → AreTurns old turns new →
+FramesGo = (side : Side) (turns : List (List PortAnswer)) (old new : SessionView) → AreTurns old turns new →
     EachTurnTakesAll side turns → AreFresh (parts_of old side) (waiting old side) → 6 ≤ length turns →
     first_len (waiting old side) ≤ length (taken_in side turns)

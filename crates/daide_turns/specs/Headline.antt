@@ -7,7 +7,7 @@ use Rattle.daide_frame.specs.declared.side.Side.{Side}
 use Rattle.daide_reader.specs.Reading.{IsRaised}
 use Rattle.daide_machine.specs.Machine.{Limits, opening}
 use Rattle.daide_machine.specs.Summary.{nothing_counted}
-use Rattle.daide_machine.specs.Wires.{Gateway, Holding, holding, sent_to, bytes_of, is_closed}
+use Rattle.daide_machine.specs.Wires.{SessionView, Holding, holding, sent_to, bytes_of, is_closed}
 use Rattle.daide_session.specs.Bounds.{IsWithinBounds}
 use Rattle.daide_machine.specs.Ports.{PortAnswer, taken, has_failed}
 use Rattle.daide_turns.specs.Record.{Relays, came}
@@ -20,7 +20,7 @@ abbrev pub nothing_held : Holding
 nothing_held = record { held = []; entries = 0; total = 0; total_before = 0; looked_at = 0 }
 
 -- a session that nothing came to
-abbrev pub untouched : Limits → Gateway
+abbrev pub untouched : Limits → SessionView
 untouched limits = record {
   state = opening limits;
   to_bot = [];
@@ -35,13 +35,13 @@ untouched limits = record {
 -- The session stands where a run from its opening stands, by all that its ports answered since it was made: its
 -- state is the machine's, each wire took the machine's answers, but for what waits, all moves are counted, and no table
 -- was asked more than twice for a byte that came.
-abbrev pub Stands : Limits → List PortAnswer → Gateway → Type 0
+abbrev pub Stands : Limits → List PortAnswer → SessionView → Type 0
 Stands limits history g = Relays (untouched limits) history g
 
 -- ---- the headline
 
 -- what holds of a session after all that its ports answered since it was made
-pub record IsBoundedAndExact (limits : Limits) (history : List PortAnswer) (g : Gateway) : Type 0 where
+pub record IsBoundedAndExact (limits : Limits) (history : List PortAnswer) (g : SessionView) : Type 0 where
   -- it keeps in each direction at most one message's announced length, capped, and eight stack entries for
   -- each open bracket plus sixteen, with 64 further entries in all, takes at most four table steps a token,
   pub bounds : IsWithinBounds g
@@ -56,13 +56,13 @@ pub record IsBoundedAndExact (limits : Limits) (history : List PortAnswer) (g : 
 
 -- Whatever the ports answer in a call, and whatever they answered before: a session that stood where a run from its
 -- opening stands is bounded and exact, by all of it.
-abbrev pub Headline : Gateway → List PortAnswer → Gateway → Type 0
+abbrev pub Headline : SessionView → List PortAnswer → SessionView → Type 0
 Headline old call new = (limits : Limits) (history : List PortAnswer) →
     Stands limits history old → IsBoundedAndExact limits (history ++ call) new
 
 -- what one turn does, all of it by the same answers: the ports were asked in order, what each wire took and what waits
 -- are the machine's answers, the session is within its bounds then, and it has the headline
-pub record WholeTurn (old : Gateway) (call : List PortAnswer) (new : Gateway) : Type 0 where
+pub record WholeTurn (old : SessionView) (call : List PortAnswer) (new : SessionView) : Type 0 where
   pub in_order : Turn old call new
   pub delivered : Relays old call new
   pub bounds : IsWithinBounds new

@@ -3,7 +3,7 @@ use Rattle.std.specs.Prelude.{◌≡◌, ℕ, ◌+◌, ◌*◌, ◌<◌, ◌≤�
 use Rattle.std.specs.Prelude.{Some, Ok, Err, slice_get, slice_set, remove, All}
 use Rattle.daide_words.specs.declared.word.Word.{Word}
 use Rattle.daide_machine.specs.Machine.{Limits}
-use Rattle.daide_machine.specs.Wires.{Gateway, IsNew, is_closed}
+use Rattle.daide_machine.specs.Wires.{SessionView, IsNew, is_closed}
 use Rattle.daide_machine.specs.Weight.{weight_of, weight_bound}
 use Rattle.daide_machine.specs.declared.config.Config.{Config}
 use Rattle.daide_machine.specs.declared.ending.Ending.{Ending}
@@ -12,6 +12,7 @@ use Rattle.daide_turns.specs.declared.hub.AddFault.{AddFault}
 use Rattle.daide_turns.specs.declared.hub.AddFault.TheVariants as Faults
 use Rattle.daide_turns.specs.declared.hub.HubError.{HubError}
 use Rattle.daide_turns.specs.declared.hub.HubError.TheVariants as Errors
+use Rattle.daide_machine.specs.Bounds.{most_sessions}
 use Rattle.daide_machine.specs.Config.{config_fault}
 use Rattle.daide_machine.specs.Config.{limits_with}
 use Rattle.daide_machine.specs.Ports.{PortAnswer}
@@ -21,67 +22,67 @@ use Rattle.daide_turns.specs.Headline.{WholeTurn}
 
 -- what a hub holds: the limits of its sessions, how many it has room for, and at each place a session and its
 -- ports
-pub record Hosting (P : Type 0) : Type 0 where
+pub record HubView (P : Type 0) : Type 0 where
   pub limits : Limits
   pub max : ℕ
-  pub places : List (Gateway × P)
+  pub places : List (SessionView × P)
 
 -- the same with other places
-abbrev pub with_places : {P : Type 0} → Hosting P → List (Gateway × P) → Hosting P
+abbrev pub with_places : {P : Type 0} → HubView P → List (SessionView × P) → HubView P
 with_places hub places = record { limits = hub.limits; max = hub.max; places = places }
 
 -- what holds of a hub between calls; `seen` is a place's session
-pub record IsHosting {X : Type 0} (seen : X → Gateway) (config : Config) (words : List Word) (max capacity : ℕ)
+pub record IsHosting {X : Type 0} (seen : X → SessionView) (config : Config) (words : List Word) (max capacity : ℕ)
     (items : List X) : Type 0 where
   pub checked : config_fault config ≡ Ok tt
-  pub size : (0 < max) × (max ≤ 256)
+  pub size : (0 < max) × (max ≤ most_sessions)
   pub fits : length items ≤ max
   pub room : max ≤ capacity
   pub same_limits : All (λ x. (seen x).state.limits ≡ limits_with config words) items
 
 -- ---- refusals
 
--- a hub is for 1 to 256 sessions
+-- a hub is for one session to as many as there may be at once
 abbrev pub IsHubSize : ℕ → Type 0
-IsHubSize max = (0 < max) × (max ≤ 256)
+IsHubSize max = (0 < max) × (max ≤ most_sessions)
 
 -- the limits are looked at first, then the number of sessions; memory is wanted only where these are right
 abbrev pub IsHubCause : Config → ℕ → HubError → Type 0
 IsHubCause config max (Errors.Config fault) = config_fault config ≡ Err fault
-IsHubCause config max Errors.Sessions = (config_fault config ≡ Ok tt) × ((max ≡ 0) ⊎ (256 < max))
+IsHubCause config max Errors.Sessions = (config_fault config ≡ Ok tt) × ((max ≡ 0) ⊎ (most_sessions < max))
 IsHubCause config max Errors.Memory = (config_fault config ≡ Ok tt) × IsHubSize max
 
 -- a session is refused where the hub is full; memory is wanted only where it isn't
-abbrev pub IsAddCause : {P : Type 0} → Hosting P → AddFault → Type 0
+abbrev pub IsAddCause : {P : Type 0} → HubView P → AddFault → Type 0
 IsAddCause hub Faults.Full = length hub.places ≡ hub.max
 IsAddCause hub Faults.Memory = length hub.places < hub.max
 
 -- ---- calls
 
 -- a session in its opening state is at the last place, with the ports that were handed in
-abbrev pub Adds : {P : Type 0} → Hosting P → P → Hosting P → Type 0
+abbrev pub Adds : {P : Type 0} → HubView P → P → HubView P → Type 0
 Adds old ports new =
-    (opened : Gateway) × IsNew old.limits opened × (new ≡ with_places old (old.places ++ (opened, ports) ∷ []))
+    (opened : SessionView) × IsNew old.limits opened × (new ≡ with_places old (old.places ++ (opened, ports) ∷ []))
 
 -- the session at this place is closed and is taken out, and these were its ports
-abbrev pub Removes : {P : Type 0} → Hosting P → ℕ → P → Hosting P → Type 0
+abbrev pub Removes : {P : Type 0} → HubView P → ℕ → P → HubView P → Type 0
 Removes old i ports new =
-    (session : Gateway) × (slice_get old.places i ≡ Some (session, ports)) × (is_closed session ≡ true)
+    (session : SessionView) × (slice_get old.places i ≡ Some (session, ports)) × (is_closed session ≡ true)
     × (new ≡ with_places old (remove old.places i))
 
 -- what is told of a session that is taken out: its moves counted, and which event ended it
-abbrev pub IsToldOf : Gateway → Summary → Ending → Type 0
+abbrev pub IsToldOf : SessionView → Summary → Ending → Type 0
 IsToldOf session summary ending = (summary ≡ session.summary) × (session.state.ending ≡ Some ending)
 
 -- The session and the ports at this place went from one pair to another, by a call of this kind; every other
 -- place is as it was.
-abbrev pub Changes : {P : Type 0} → (Gateway × P → Gateway × P → Type 0) → Hosting P → ℕ → Hosting P → Type 0
+abbrev pub Changes : {P : Type 0} → (SessionView × P → SessionView × P → Type 0) → HubView P → ℕ → HubView P → Type 0
 Changes {P} Kind old i new =
-    (before : Gateway × P) × (after : Gateway × P) × (slice_get old.places i ≡ Some before)
+    (before : SessionView × P) × (after : SessionView × P) × (slice_get old.places i ≡ Some before)
     × (new ≡ with_places old (slice_set old.places i after)) × Kind before after
 
 -- what a turn does to a session and its ports: all that `turn` promises
-pub record IsTurned {P : Type 0} (becomes : P → PortAnswer → P → Type 0) (old new : Gateway × P) : Type 0 where
+pub record IsTurned {P : Type 0} (becomes : P → PortAnswer → P → Type 0) (old new : SessionView × P) : Type 0 where
   pub exchange : Carries becomes WholeTurn old new
   pub asked : AsksAtMost turn_steps old.0 new.0
   pub weight : weight_of new.0 ≤ weight_bound new.0
@@ -89,7 +90,7 @@ pub record IsTurned {P : Type 0} (becomes : P → PortAnswer → P → Type 0) (
 
 -- ---- the weight
 
-abbrev pub weight_at : {P : Type 0} → Gateway × P → ℕ
+abbrev pub weight_at : {P : Type 0} → SessionView × P → ℕ
 weight_at place = weight_of place.0
 
 -- the most that one session of these limits weighs

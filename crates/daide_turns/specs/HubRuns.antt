@@ -2,11 +2,11 @@
 use Rattle.std.specs.Prelude.{◌≡◌, ℕ, zero, suc, ◌<◌, true, List, [], ◌∷◌, ◌++◌, map, length, Some}
 use Rattle.std.specs.Prelude.{slice_get, remove}
 use Rattle.daide_machine.specs.Machine.{Limits}
-use Rattle.daide_machine.specs.Wires.{Gateway, IsNew, is_closed}
+use Rattle.daide_machine.specs.Wires.{SessionView, IsNew, is_closed}
 use Rattle.daide_machine.specs.Ports.{PortAnswer, BecomesBy}
 use Rattle.daide_turns.specs.Record.{Carries}
 use Rattle.daide_turns.specs.Headline.{Stands, Headline}
-use Rattle.daide_turns.specs.Hub.{Hosting, Adds, Removes, Changes, IsTurned}
+use Rattle.daide_turns.specs.Hub.{HubView, Adds, Removes, Changes, IsTurned}
 
 -- ---- the calls
 
@@ -17,22 +17,22 @@ pub data HubCall (P : Type 0) : Type 0 where
   Removed : ℕ → P → HubCall P
 
 -- what one call does, as its contract says
-abbrev pub HubStep : {P : Type 0} → (P → PortAnswer → P → Type 0) → Hosting P → HubCall P → Hosting P → Type 0
+abbrev pub HubStep : {P : Type 0} → (P → PortAnswer → P → Type 0) → HubView P → HubCall P → HubView P → Type 0
 HubStep becomes old (Added ports) new = Adds old ports new
 HubStep becomes old (Turned i) new = Changes (IsTurned becomes) old i new
 HubStep becomes old (Removed i ports) new = Removes old i ports new
 
 -- what calls do, one after another
-abbrev pub HubRuns : {P : Type 0} → (P → PortAnswer → P → Type 0) → Hosting P → List (HubCall P) → Hosting P → Type 0
+abbrev pub HubRuns : {P : Type 0} → (P → PortAnswer → P → Type 0) → HubView P → List (HubCall P) → HubView P → Type 0
 HubRuns becomes old [] new = new ≡ old
 HubRuns {P} becomes old (call ∷ calls) new =
-    (mid : Hosting P) × HubStep becomes old call mid × HubRuns becomes mid calls new
+    (mid : HubView P) × HubStep becomes old call mid × HubRuns becomes mid calls new
 
 -- ---- the places
 
 -- how a session began: as it stood in the hub before the calls, or as it was opened in one of them, with these ports
 pub data Beginning (P : Type 0) : Type 0 where
-  Stood : Gateway × P → Beginning P
+  Stood : SessionView × P → Beginning P
   Opened : P → Beginning P
 
 -- a session by the calls alone: how it began, and how many of the calls turned it
@@ -67,44 +67,44 @@ lives_after_all [] lives = lives
 lives_after_all (call ∷ calls) lives = lives_after_all calls (lives_after call lives)
 
 -- those at the places of a hub, after these calls of it
-abbrev pub lives_of : {P : Type 0} → Hosting P → List (HubCall P) → List (Life P)
+abbrev pub lives_of : {P : Type 0} → HubView P → List (HubCall P) → List (Life P)
 lives_of hub calls = lives_after_all calls (map (λ place. fresh_life (Stood place)) hub.places)
 
 -- ---- alone
 
 -- a session and its ports went on by n turns of its own, and by nothing else
-abbrev pub TurnsAlone : {P : Type 0} → (P → PortAnswer → P → Type 0) → ℕ → Gateway × P → Gateway × P → Type 0
+abbrev pub TurnsAlone : {P : Type 0} → (P → PortAnswer → P → Type 0) → ℕ → SessionView × P → SessionView × P → Type 0
 TurnsAlone becomes zero old new = new ≡ old
-TurnsAlone {P} becomes (suc n) old new = (mid : Gateway × P) × TurnsAlone becomes n old mid × IsTurned becomes mid new
+TurnsAlone {P} becomes (suc n) old new = (mid : SessionView × P) × TurnsAlone becomes n old mid × IsTurned becomes mid new
 
 -- a session and its ports at their beginning
-abbrev pub BeginsAs : {P : Type 0} → Limits → Beginning P → Gateway × P → Type 0
+abbrev pub BeginsAs : {P : Type 0} → Limits → Beginning P → SessionView × P → Type 0
 BeginsAs limits (Stood place) first = first ≡ place
 BeginsAs limits (Opened ports) first = IsNew limits first.0 × (first.1 ≡ ports)
 
 -- from its beginning on a session went on by as many turns of its own as calls turned it, and by nothing else
-abbrev pub WentAlone : {P : Type 0} → (P → PortAnswer → P → Type 0) → Limits → Life P → Gateway × P → Type 0
+abbrev pub WentAlone : {P : Type 0} → (P → PortAnswer → P → Type 0) → Limits → Life P → SessionView × P → Type 0
 WentAlone {P} becomes limits life now =
-    (first : Gateway × P) × BeginsAs limits life.begun first × TurnsAlone becomes life.turns first now
+    (first : SessionView × P) × BeginsAs limits life.begun first × TurnsAlone becomes life.turns first now
 
 -- the sessions of a hub are those of these lives, each at its place, and each went alone
 pub record AreApart {P : Type 0} (becomes : P → PortAnswer → P → Type 0) (limits : Limits) (lives : List (Life P))
-    (places : List (Gateway × P)) : Type 0 where
+    (places : List (SessionView × P)) : Type 0 where
   pub counted : length places ≡ length lives
-  pub alone : (i : ℕ) (life : Life P) (now : Gateway × P) → slice_get lives i ≡ Some life →
+  pub alone : (i : ℕ) (life : Life P) (now : SessionView × P) → slice_get lives i ≡ Some life →
       slice_get places i ≡ Some now → WentAlone becomes limits life now
 
 -- Whatever calls are made of a hub, no session knows of another: each went on by the turns of its own place alone, of
 -- those that the hub had as of those that were added.
 abbrev pub SessionsAreApart : {P : Type 0} → (P → PortAnswer → P → Type 0) → Type 0
-SessionsAreApart {P} becomes = (calls : List (HubCall P)) (old new : Hosting P) → HubRuns becomes old calls new →
+SessionsAreApart {P} becomes = (calls : List (HubCall P)) (old new : HubView P) → HubRuns becomes old calls new →
     AreApart becomes old.limits (lives_of old calls) new.places
 
 -- So did each that is taken out: the ports that are handed back are as its own turns left them.
 abbrev pub PortsComeBackApart : {P : Type 0} → (P → PortAnswer → P → Type 0) → Type 0
-PortsComeBackApart {P} becomes = (calls : List (HubCall P)) (i : ℕ) (ports : P) (old new : Hosting P) →
+PortsComeBackApart {P} becomes = (calls : List (HubCall P)) (i : ℕ) (ports : P) (old new : HubView P) →
     HubRuns becomes old (calls ++ Removed i ports ∷ []) new →
-    (life : Life P) × (session : Gateway) × (slice_get (lives_of old calls) i ≡ Some life)
+    (life : Life P) × (session : SessionView) × (slice_get (lives_of old calls) i ≡ Some life)
     × (is_closed session ≡ true) × WentAlone becomes old.limits life (session, ports)
 
 -- ---- the headline of each
@@ -112,16 +112,16 @@ PortsComeBackApart {P} becomes = (calls : List (HubCall P)) (i : ℕ) (ports : P
 -- Whatever calls are made of a hub, each of its sessions that they turned is bounded and exact, by all that its ports
 -- answered from its beginning on.
 abbrev pub EachHasItsHeadline : {P : Type 0} → (P → PortAnswer → P → Type 0) → Type 0
-EachHasItsHeadline {P} becomes = (calls : List (HubCall P)) (old new : Hosting P) → HubRuns becomes old calls new →
-    (i : ℕ) (life : Life P) (now : Gateway × P) → slice_get (lives_of old calls) i ≡ Some life →
+EachHasItsHeadline {P} becomes = (calls : List (HubCall P)) (old new : HubView P) → HubRuns becomes old calls new →
+    (i : ℕ) (life : Life P) (now : SessionView × P) → slice_get (lives_of old calls) i ≡ Some life →
     slice_get new.places i ≡ Some now → 0 < life.turns →
-    (first : Gateway × P) × BeginsAs old.limits life.begun first
+    (first : SessionView × P) × BeginsAs old.limits life.begun first
     × Carries becomes Headline first now
 
 -- Each that they added stands where a run from its opening stands, by all that its ports answered since they were
 -- handed in.
 abbrev pub OpenedSessionsStand : {P : Type 0} → (P → PortAnswer → P → Type 0) → Type 0
-OpenedSessionsStand {P} becomes = (calls : List (HubCall P)) (old new : Hosting P) → HubRuns becomes old calls new →
-    (i : ℕ) (life : Life P) (ports : P) (now : Gateway × P) → slice_get (lives_of old calls) i ≡ Some life →
+OpenedSessionsStand {P} becomes = (calls : List (HubCall P)) (old new : HubView P) → HubRuns becomes old calls new →
+    (i : ℕ) (life : Life P) (ports : P) (now : SessionView × P) → slice_get (lives_of old calls) i ≡ Some life →
     slice_get new.places i ≡ Some now → life.begun ≡ Opened ports →
     (history : List PortAnswer) × Stands old.limits history now.0 × BecomesBy becomes ports history now.1

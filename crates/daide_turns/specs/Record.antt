@@ -5,7 +5,7 @@ use Rattle.daide_machine.specs.Heard.{bytes_from}
 use Rattle.daide_machine.specs.Machine.{Effect, Runs, is_over}
 use Rattle.daide_machine.specs.Ports.{PortAnswer, BecomesBy, events_of, taken, has_failed}
 use Rattle.daide_machine.specs.Summary.{tallied}
-use Rattle.daide_machine.specs.Wires.{Gateway, waiting, sent_to, bytes_of}
+use Rattle.daide_machine.specs.Wires.{SessionView, waiting, sent_to, bytes_of}
 use Rattle.daide_session.specs.Work.{IsPaidBy}
 
 -- ---- the work
@@ -15,11 +15,11 @@ abbrev pub came : Side → List PortAnswer → ℕ
 came side answers = length (bytes_from side (events_of answers))
 
 -- each side's table was asked at most twice for each byte that came of that side
-abbrev pub Works : Gateway → List PortAnswer → Gateway → Type 0
+abbrev pub Works : SessionView → List PortAnswer → SessionView → Type 0
 Works old answers new = (side : Side) → IsPaidBy (came side answers) side old new
 
 -- a stretch of this kind, in which the tables were asked no more than that
-abbrev pub Working : (Gateway → List PortAnswer → Gateway → Type 0) → Gateway → List PortAnswer → Gateway → Type 0
+abbrev pub Working : (SessionView → List PortAnswer → SessionView → Type 0) → SessionView → List PortAnswer → SessionView → Type 0
 Working Kind old answers new = Kind old answers new × Works old answers new
 
 -- ---- sent and waiting are the answers
@@ -34,7 +34,7 @@ Moved true over waited answers took waits =
 -- By these answers of the ports the session goes from old to new: its state is the machine's, by the events
 -- that they tell, each wire took the machine's answers, the moves are counted, and no table was asked more than twice
 -- for a byte that came.
-pub record Relays (old : Gateway) (answers : List PortAnswer) (new : Gateway) : Type 0 where
+pub record Relays (old : SessionView) (answers : List PortAnswer) (new : SessionView) : Type 0 where
   pub effects : List Effect
   pub run : Runs old.state (events_of answers) effects new.state
   pub wires : (side : Side) → Moved (has_failed side answers) (is_over new.state.phase) (bytes_of (waiting old side))
@@ -47,7 +47,7 @@ pub record Relays (old : Gateway) (answers : List PortAnswer) (new : Gateway) : 
 -- A call of this kind: by the answers of the ports in it, told or not, the session and the ports went from one pair to
 -- the other.
 pub record Carries {P : Type 0} (becomes : P → PortAnswer → P → Type 0)
-    (Kind : Gateway → List PortAnswer → Gateway → Type 0) (old new : Gateway × P) : Type 0 where
+    (Kind : SessionView → List PortAnswer → SessionView → Type 0) (old new : SessionView × P) : Type 0 where
   pub call : List PortAnswer
   pub session : Kind old.0 call new.0
   pub ports : BecomesBy becomes old.1 call new.1

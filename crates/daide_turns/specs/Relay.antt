@@ -1,6 +1,6 @@
 -- What `relay` does: so many turns of a session, while it isn't closed.
 use Rattle.std.specs.Prelude.{◌≡◌, ℕ, zero, suc, ◌≤◌, Bool, true, false, List, [], ◌++◌}
-use Rattle.daide_machine.specs.Wires.{Gateway, is_closed}
+use Rattle.daide_machine.specs.Wires.{SessionView, is_closed}
 use Rattle.daide_machine.specs.Ports.{PortAnswer}
 use Rattle.daide_turns.specs.Record.{Relays}
 use Rattle.daide_turns.specs.Headline.{Headline, WholeTurn}
@@ -9,14 +9,14 @@ use Rattle.daide_turns.specs.declared.relaying.RelayEnd.TheVariants.{Closed, Tur
 
 -- n turns, each of a session that isn't closed: after each one the session is within its bounds, and what each wire is
 -- handed next is as that turn left it
-abbrev pub Turns : ℕ → Gateway → List PortAnswer → Gateway → Type 0
+abbrev pub Turns : ℕ → SessionView → List PortAnswer → SessionView → Type 0
 Turns zero old answers new = (answers ≡ []) × (new ≡ old)
 Turns (suc n) old answers new =
-    (mid : Gateway) × (first : List PortAnswer) × (second : List PortAnswer)
+    (mid : SessionView) × (first : List PortAnswer) × (second : List PortAnswer)
     × (answers ≡ first ++ second) × Turns n old first mid × (is_closed mid ≡ false) × WholeTurn mid second new
 
 -- all turns were made where they are told as spent, and else at most all
-abbrev pub MakesTurns : RelayEnd → ℕ → Gateway → List PortAnswer → Gateway → Type 0
+abbrev pub MakesTurns : RelayEnd → ℕ → SessionView → List PortAnswer → SessionView → Type 0
 MakesTurns Closed turns old answers new = (n : ℕ) × (n ≤ turns) × Turns n old answers new
 MakesTurns TurnsSpent turns old answers new = Turns turns old answers new
 
@@ -25,8 +25,8 @@ is_spent Closed = false
 is_spent TurnsSpent = true
 
 -- what a relay does that ended so, all of it by the same answers
-pub record WholeRelay (end : RelayEnd) (turns : ℕ) (old : Gateway) (call : List PortAnswer)
-    (new : Gateway) : Type 0 where
+pub record WholeRelay (end : RelayEnd) (turns : ℕ) (old : SessionView) (call : List PortAnswer)
+    (new : SessionView) : Type 0 where
   pub in_order : MakesTurns end turns old call new
   pub delivered : Relays old call new
   pub headline : Headline old call new

@@ -5,8 +5,8 @@ use Rattle.daide_frame.specs.declared.side.Side.{Side}
 use Rattle.daide_frame.specs.declared.side.Side.TheVariants.{Bot, Server}
 use Rattle.daide_reader.specs.Reading.{IsRaised}
 use Rattle.daide_machine.specs.declared.note.Note.{Note}
-use Rattle.daide_machine.specs.Events.{Event, Ends, Pops, bytes_come, other}
-use Rattle.daide_machine.specs.Wires.{Gateway, waiting, first_len, front_of, holding, room_of, IsFrontOf}
+use Rattle.daide_machine.specs.Events.{Event, Ends, TimerExpires, bytes_come, other}
+use Rattle.daide_machine.specs.Wires.{SessionView, waiting, first_len, front_of, holding, room_of, IsFrontOf}
 use Rattle.daide_machine.specs.Wires.{Goes, Lost, Wrote, parts_of, parts_after}
 use Rattle.daide_machine.specs.declared.ports.Pull.{Pull}
 use Rattle.daide_machine.specs.declared.ports.Pull.TheVariants.{Got, Idle, Ended}
@@ -15,52 +15,56 @@ use Rattle.daide_machine.specs.declared.ports.Put.TheVariants.{Took, Failed}
 use Rattle.daide_traffic.specs.Fronts.{KeepsFront, AreFresh}
 use Rattle.daide_machine.specs.Ports.{PortAnswer, Clock, Pulled, Offered, pulled_len, IsPutWithin}
 
+-- how many bytes a turn reads of a side at most (own)
+abbrev pub most_pulled : ℕ
+most_pulled = 512
+
 -- one stretch of answers, and then another
-abbrev pub Then : (Gateway → List PortAnswer → Gateway → Type 0) → (Gateway → List PortAnswer → Gateway → Type 0) →
-    Gateway → List PortAnswer → Gateway → Type 0
+abbrev pub Then : (SessionView → List PortAnswer → SessionView → Type 0) → (SessionView → List PortAnswer → SessionView → Type 0) →
+    SessionView → List PortAnswer → SessionView → Type 0
 Then First Second old answers new =
-    (mid : Gateway) × (first : List PortAnswer) × (second : List PortAnswer)
+    (mid : SessionView) × (first : List PortAnswer) × (second : List PortAnswer)
     × (answers ≡ first ++ second) × First old first mid × Second mid second new
 
 -- the session goes on by these events, whatever it tells of them
-abbrev pub GoesOn : Gateway → List Event → Gateway → Type 0
+abbrev pub GoesOn : SessionView → List Event → SessionView → Type 0
 GoesOn old events new = (note : Note) × Goes old events note new
 
 -- what each wire is handed next stays, and a wire of which nothing waited is handed a whole end or an answer's header
-abbrev pub KeepsBoth : Gateway → Gateway → Type 0
+abbrev pub KeepsBoth : SessionView → SessionView → Type 0
 KeepsBoth old new = (to : Side) → KeepsFront old to new
 
 -- ---- the clock
 
 -- the timer of the initial message, where it popped
-abbrev pub Hears : Bool → Gateway → Gateway → Type 0
-Hears true old new = GoesOn old (Pops ∷ []) new × KeepsBoth old new
+abbrev pub Hears : Bool → SessionView → SessionView → Type 0
+Hears true old new = GoesOn old (TimerExpires ∷ []) new × KeepsBoth old new
 Hears false old new = new ≡ old
 
 -- the clock is asked once
-abbrev pub AsksClock : Gateway → List PortAnswer → Gateway → Type 0
+abbrev pub AsksClock : SessionView → List PortAnswer → SessionView → Type 0
 AsksClock old answers new = (popped : Bool) × (answers ≡ Clock popped ∷ []) × Hears popped old new
 
 -- ---- the puts
 
 -- What the wire took is off the parts of its frame: where something is left of what it was handed, that is handed over
 -- next, else the frame's next part. Where the frame is gone, the next frame is handed over as one that waits only now.
-pub record TakesFront (side : Side) (n : ℕ) (old new : Gateway) : Type 0 where
+pub record TakesFront (side : Side) (n : ℕ) (old new : SessionView) : Type 0 where
   pub rest : n < first_len (waiting old side) → parts_of new side ≡ parts_after n (parts_of old side)
   pub next : first_len (waiting old side) ≤ n → AreFresh (parts_of new side) (waiting new side)
 
 -- what the wire took is taken off what waits; a wire that failed is lost; what the other wire is handed next stays
-abbrev pub Hands : Side → Put → Gateway → Gateway → Type 0
+abbrev pub Hands : Side → Put → SessionView → SessionView → Type 0
 Hands side (Took n) old new =
     Wrote old side n new × TakesFront side n old new × KeepsFront old (other side) new
 Hands side Failed old new = Lost old side new × KeepsFront old (other side) new
 
 -- nothing waits, and no put is made
-abbrev pub HasNone : Side → Gateway → List PortAnswer → Gateway → Type 0
+abbrev pub HasNone : Side → SessionView → List PortAnswer → SessionView → Type 0
 HasNone side old answers new = (waiting old side ≡ []) × (answers ≡ []) × (new ≡ old)
 
 -- something waits, and one put is made, of the whole front
-pub record HandsFront (side : Side) (old : Gateway) (answers : List PortAnswer) (new : Gateway) : Type 0 where
+pub record HandsFront (side : Side) (old : SessionView) (answers : List PortAnswer) (new : SessionView) : Type 0 where
   pub put : Put
   pub filled : 0 < length (front_of old side)
   pub front : IsFrontOf (front_of old side) (waiting old side)
@@ -68,36 +72,36 @@ pub record HandsFront (side : Side) (old : Gateway) (answers : List PortAnswer) 
   pub within : IsPutWithin put (length (front_of old side))
   pub hands : Hands side put old new
 
-abbrev pub Puts : Side → Gateway → List PortAnswer → Gateway → Type 0
+abbrev pub Puts : Side → SessionView → List PortAnswer → SessionView → Type 0
 Puts side old answers new = HasNone side old answers new ⊎ HandsFront side old answers new
 
 -- ---- the pulls
 
 -- bytes that came go in; an end is an end
-abbrev pub Gets : Side → Pull → List ℕ → Gateway → Gateway → Type 0
+abbrev pub Gets : Side → Pull → List ℕ → SessionView → SessionView → Type 0
 Gets side (Got n) bytes old new = GoesOn old (bytes_come side bytes) new × KeepsBoth old new
 Gets side Idle bytes old new = new ≡ old
 Gets side Ended bytes old new = GoesOn old (Ends side ∷ []) new × KeepsBoth old new
 
 -- there is no room, and no pull is made
-abbrev pub HasNoRoom : Side → Gateway → List PortAnswer → Gateway → Type 0
+abbrev pub HasNoRoom : Side → SessionView → List PortAnswer → SessionView → Type 0
 HasNoRoom side old answers new = (room_of old side ≡ 0) × (answers ≡ []) × (new ≡ old)
 
--- there is room, and one pull is made, into a buffer as long as the room, and of 512 bytes at most
-pub record FillsRoom (side : Side) (old : Gateway) (answers : List PortAnswer) (new : Gateway) : Type 0 where
+-- there is room, and one pull is made, into a buffer as long as the room, and of `most_pulled` bytes at most
+pub record FillsRoom (side : Side) (old : SessionView) (answers : List PortAnswer) (new : SessionView) : Type 0 where
   pub pull : Pull
   pub bytes : List ℕ
   pub room : 0 < room_of old side
-  pub asked : answers ≡ Pulled side (min (room_of old side) 512) pull bytes ∷ []
+  pub asked : answers ≡ Pulled side (min (room_of old side) most_pulled) pull bytes ∷ []
   pub counted : length bytes ≡ pulled_len pull
   pub gets : Gets side pull bytes old new
 
-abbrev pub Pulls : Side → Gateway → List PortAnswer → Gateway → Type 0
+abbrev pub Pulls : Side → SessionView → List PortAnswer → SessionView → Type 0
 Pulls side old answers new = HasNoRoom side old answers new ⊎ FillsRoom side old answers new
 
 -- ---- the turn
 
-abbrev pub Turn : Gateway → List PortAnswer → Gateway → Type 0
+abbrev pub Turn : SessionView → List PortAnswer → SessionView → Type 0
 Turn = Then AsksClock (Then (Puts Bot) (Then (Puts Server) (Then (Pulls Bot) (Pulls Server))))
 
 -- ---- its work
@@ -108,5 +112,5 @@ abbrev pub turn_steps : ℕ
 turn_steps = 4 * 257 + 4
 
 -- each side's table was asked at most so many times
-abbrev pub AsksAtMost : ℕ → Gateway → Gateway → Type 0
+abbrev pub AsksAtMost : ℕ → SessionView → SessionView → Type 0
 AsksAtMost most old new = (side : Side) → IsRaised most (holding old side).total (holding new side).total

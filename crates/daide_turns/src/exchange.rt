@@ -11,7 +11,7 @@ ghost use Rattle.daide_machine.specs.Events.{other};
 ghost use Rattle.daide_machine.specs.Wires.{holding, room_of, AsksNothing};
 ghost use Rattle.daide_machine.specs.Weight.{weight_of, weight_bound};
 ghost use Rattle.daide_turns.specs.Record.{Carries, Working};
-ghost use Rattle.daide_turns.specs.Turn.{AsksClock, Puts, Pulls, AsksAtMost, turn_steps};
+ghost use Rattle.daide_turns.specs.Turn.{AsksClock, Puts, Pulls, AsksAtMost, most_pulled, turn_steps};
 ghost use Rattle.daide_turns.specs.Headline.{WholeTurn};
 
 use daide_frame::side::Side;
@@ -57,7 +57,7 @@ fn pull_into<A: Allocator, P: Ports>(
     buffer: &mut [u8],
 )
     requires room { 0 < room_of session.old side }
-    requires len { length buffer.old ≡ min (room_of session.old side) 512 }
+    requires len { length buffer.old ≡ min (room_of session.old side) most_pulled }
     ensures pulls { Carries P.becomes (Working (Pulls side)) (session.old, ports.old) (session.new, ports.new) }
     ensures asked { IsRaised turn_steps (holding session.old side).total (holding session.new side).total }
     ensures other_side { (holding session.new (other side)).total ≡ (holding session.old (other side)).total }

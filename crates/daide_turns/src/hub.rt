@@ -9,10 +9,11 @@ ghost use Rattle.daide_machine.specs.Wires.{is_closed};
 ghost use Rattle.daide_machine.specs.Config.{config_fault};
 ghost use Rattle.daide_machine.specs.Config.{limits_of, limits_with};
 ghost use Rattle.daide_words.specs.Words.{words_of};
-ghost use Rattle.daide_turns.specs.Hub.{Hosting, IsHubSize, IsHubCause, IsAddCause, Adds, Removes, Changes, IsTurned};
+ghost use Rattle.daide_turns.specs.Hub.{HubView, IsHubSize, IsHubCause, IsAddCause, Adds, Removes, Changes, IsTurned};
 ghost use Rattle.daide_turns.specs.Hub.{IsToldOf, weight_at, session_bound};
 
 use crate::exchange::{BUFFER, turn_through};
+use daide_machine::bounds::MAX_SESSIONS;
 use daide_machine::config::{Config, ConfigError};
 use daide_machine::ending::Ending;
 use daide_machine::ports::Ports;
@@ -21,9 +22,6 @@ use daide_session::session::Session;
 use daide_words::words::Words;
 use std::alloc::{Allocator, Global};
 use std::marker::Model;
-
-/// The most sessions that a hub has.
-const MOST: usize = 256;
 
 /// Why there is no hub, in the order in which it is looked at.
 #[derive(Clone, Copy, Debug, PartialEq, Eq)]
@@ -79,9 +77,9 @@ impl<P: Ports, A: Allocator> Model for Hub<P, A> {
     ghost use Rattle.std.specs.Prelude.{map, vec_capacity};
     ghost use Rattle.daide_words.specs.Words.{words_of};
     ghost use Rattle.daide_machine.specs.Config.{limits_with};
-    ghost use Rattle.daide_turns.specs.Hub.{Hosting, IsHosting};
+    ghost use Rattle.daide_turns.specs.Hub.{HubView, IsHosting};
 
-    ghost Value = { Hosting P };
+    ghost Value = { HubView P };
 
     ghost view = { λ h. record {
       limits = limits_with h.config (words_of h.words);
@@ -119,7 +117,7 @@ impl<P: Ports, A: Allocator + Copy> Hub<P, A> {
         if let Err(fault) = config.check() {
             return Err(HubError::Config(fault));
         }
-        if max == 0 || max > MOST {
+        if max == 0 || max > MAX_SESSIONS {
             return Err(HubError::Sessions);
         }
         let Ok(places) = Vec::with_capacity(alloc, max) else {

@@ -6,7 +6,6 @@ ghost use Rattle.daide_grammar.specs.Table.Rules.{deed};
 ghost use Rattle.daide_grammar.specs.Table.Symbols.{slot_of};
 ghost use Rattle.daide_grammar.specs.Words.{an_arrangement};
 ghost use Rattle.daide_words.specs.Word.{grammar_operand, grammar_slot, grammar_word};
-ghost use Rattle.daide_grammar.specs.Table.Numbers.{level_place};
 ghost use Rattle.daide_words.specs.Table.Place.{grammar_place, operand_place};
 ghost use Rattle.daide_words.specs.Table.OverWords.{if_stands, makes, operand_symbol, stands};
 
@@ -19,7 +18,7 @@ use daide_grammar::numbers::{
     LEAVES_POWERS_GROUP, LEAVES_PRESS_GROUP, LEAVES_PROVINCES_GROUP, STOP,
 };
 use daide_grammar::predict::Move;
-use daide_grammar::symbol::Sym;
+use daide_grammar::symbol::{Sym, level_place};
 
 /// Where the grammar has a place for words.
 #[derive(Clone, Copy)]
@@ -103,21 +102,5 @@ fn arrangement_rule(place: Place, level: Level) -> u8
         Place::Press => LEAVES_ARRANGEMENT_GROUP + step,
         Place::Arrangement => LEAVES_ARRANGEMENT_GROUP + step,
         Place::Flat => LEAVES_OPERAND_GROUP + step,
-    }
-}
-
-/// The level's place among the levels.
-fn level_place(level: Level) -> u8
-    ensures place { result ≡ level_place level }
-    ensures few { result ≤ 6 }
-{
-    match level {
-        Level::L0 => 0,
-        Level::L10 => 1,
-        Level::L20 => 2,
-        Level::L30 => 3,
-        Level::L40 => 4,
-        Level::L50 => 5,
-        Level::L60 => 6,
     }
 }

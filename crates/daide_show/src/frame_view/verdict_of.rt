@@ -6,7 +6,7 @@ ghost use Rattle.daide_grammar.specs.SideMessages.{IsMessageOver};
 ghost use Rattle.daide_words.specs.Word.{grammar_words};
 ghost use Rattle.daide_words.specs.Words.{words_of};
 ghost use Rattle.daide_reader.specs.Verdict.{HasVerdict, IsPlaceIn};
-ghost use Rattle.daide_machine.specs.Bounds.{longest_body, deepest};
+ghost use Rattle.daide_machine.specs.Bounds.{longest_body, greatest_depth};
 
 use daide_grammar::{Level, Side2};
 use daide_machine::{MAX_DEPTH, STACK_ENTRIES};
@@ -16,7 +16,7 @@ use daide_words::{Extended, Words};
 /// What becomes of the message of a body, with an operator's words.
 pub(super) fn verdict_of(words: &Words, end: Side2, level: Level, body: &[u8]) -> Verdict
     requires capped { length body.now ≤ longest_body }
-    ensures verdict { HasVerdict (IsMessageOver (grammar_words (words_of words.now)) end level) deepest
+    ensures verdict { HasVerdict (IsMessageOver (grammar_words (words_of words.now)) end level) greatest_depth
         (tokens_of body.now) result }
     ensures within { IsPlaceIn body.now result }
 {

@@ -16,7 +16,7 @@ use Rattle.daide_grammar.specs.Table.Symbols.{form_of, Entry, entries, this_or, 
 use Rattle.daide_grammar.specs.Table.Symbols.{answer_by, table_answer}
 use Rattle.daide_grammar.specs.Table.Answers.{Take, Skip, Stop}
 use Rattle.daide_grammar.specs.Table.Languages.{SymbolMatchesIn}
-use Rattle.daide_grammar.specs.Table.Proved.Reading.{Reads, Head, starts, ends, unopened, HeadReads, heads, heads-cover}
+use Rattle.daide_grammar.specs.Table.Proved.Reading.{Reads, FirstItem, starts, ends, unopened, HeadReads, heads, heads-cover}
 use Rattle.daide_grammar.specs.Table.Proved.Reading.{heads-sound, Some-of, Some-first, Some-second, Some-split}
 use Rattle.daide_grammar.specs.Table.Proved.Reading.{MatchAll_from_Reads, Reads_from_MatchAll}
 use Rattle.daide_grammar.specs.Table.Proved.Alternatives.{same_level, same_level-means, same_kind, same_kind-sound, parts_all}
@@ -208,7 +208,7 @@ if_same-either P false ps qs h = inr h
 head-after : (d : Dialect) (ok : Proper d) (o : Option (Slot × Level)) (es : List Entry) (e : Entry) (t : ℕ)
     (w : List ℕ) → NoWord d o t →
     all_apart es ≡ true → entry_at (d.class_of t) es ≡ Some e →
-    (hs : List Head) → list_all (known o es) hs ≡ true → Some-of (HeadReads d (t ∷ w)) hs →
+    (hs : List FirstItem) → list_all (known o es) hs ≡ true → Some-of (HeadReads d (t ∷ w)) hs →
     Some-of (λ p. MatchAll d p w) (after e.kind hs)
 unfolding known after
 head-after d ok o es e t w std a f [] k h = h
@@ -230,7 +230,7 @@ head-after d ok o es e t w std a f (unopened gs ∷ hs) k (inr r) =
 
 -- and the other way round
 after-head : (d : Dialect) (e : Entry) (t : ℕ) (w : List ℕ) → accepts e.kind (d.class_of t) ≡ true →
-    (hs : List Head) → Some-of (λ p. MatchAll d p w) (after e.kind hs) → Some-of (HeadReads d (t ∷ w)) hs
+    (hs : List FirstItem) → Some-of (λ p. MatchAll d p w) (after e.kind hs) → Some-of (HeadReads d (t ∷ w)) hs
 unfolding after
 after-head d e t w i [] h = h
 after-head d e t w i (starts m fs ∷ hs) h =
@@ -249,7 +249,7 @@ after-head d e t w i (unopened gs ∷ hs) h = inr (after-head d e t w i hs h)
 no-head : (d : Dialect) (ok : Proper d) (o : Option (Slot × Level)) (es : List Entry) (t : ℕ) (w : List ℕ) →
     NoWord d o t →
     entry_at (d.class_of t) es ≡ None →
-    (hs : List Head) → list_all (known o es) hs ≡ true → Some-of (HeadReads d (t ∷ w)) hs → ⊥
+    (hs : List FirstItem) → list_all (known o es) hs ≡ true → Some-of (HeadReads d (t ∷ w)) hs → ⊥
 unfolding known
 no-head d ok o es t w std f [] k h = absurd h
 no-head d ok o es t w std f (starts m fs ∷ hs) k (inl r) =
@@ -265,7 +265,7 @@ no-head d ok o es t w std f (unopened gs ∷ hs) k (inr r) =
     no-head d ok o es t w std f hs (both-pass (is_added o gs) (list_all (known o es) hs) k).1 r
 
 -- the empty list is read where a head ends
-end-head : (d : Dialect) (hs : List Head) → list_any is_end hs ≡ true → Some-of (HeadReads d []) hs
+end-head : (d : Dialect) (hs : List FirstItem) → list_any is_end hs ≡ true → Some-of (HeadReads d []) hs
 end-head d [] e = cc
 end-head d (starts m fs ∷ hs) e = inr (end-head d hs e)
 end-head d (ends ∷ hs) e = inl refl
@@ -279,7 +279,7 @@ not-added-empty d ok None fs e r = cc
 not-added-empty d ok (Some p) fs e r = ok.not_empty p.0 p.1 (added-reads d p fs [] e r)
 
 -- and a head ends where the empty list is read
-head-end : (d : Dialect) (ok : Proper d) (o : Option (Slot × Level)) (es : List Entry) (hs : List Head) →
+head-end : (d : Dialect) (ok : Proper d) (o : Option (Slot × Level)) (es : List Entry) (hs : List FirstItem) →
     list_all (known o es) hs ≡ true →
     Some-of (HeadReads d []) hs → list_any is_end hs ≡ true
 unfolding known
@@ -311,7 +311,7 @@ beq-same true false e = cc
 beq-same false true e = cc
 
 -- what the test of a symbol consists of
-right_by_parts : (o : Option (Slot × Level)) (b : Bool) (es : List Entry) (hs : List Head) → right_by o b es hs ≡ true →
+right_by_parts : (o : Option (Slot × Level)) (b : Bool) (es : List Entry) (hs : List FirstItem) → right_by o b es hs ≡ true →
     (list_all (entry_right hs) es ≡ true) × (list_all (known o es) hs ≡ true) × (all_apart es ≡ true) ×
     (list_any is_end hs ≡ b) × (added_right o es hs ≡ true)
 unfolding right_by
@@ -346,7 +346,7 @@ pub from_heads : (d : Dialect) (s : Sym) (w : List ℕ) → Some-of (HeadReads d
 from_heads d s w h = unalone d (form_of s) w (MatchAll_from_Reads d (heads-sound d 60 (form_of s ∷ []) w h))
 
 -- an entry that is right covers what follows its token, and is covered by it
-covered : (hs : List Head) (e : Entry) → entry_right hs e ≡ true →
+covered : (hs : List FirstItem) (e : Entry) → entry_right hs e ≡ true →
     (covers (parts_all (forms e.rest)) (after e.kind hs) ≡ true) × (covers (after e.kind hs) (parts_all
     (forms e.rest)) ≡ true)
 unfolding entry_right

@@ -102,13 +102,13 @@ Some-split P (x ∷ xs) ys (inl h) = inl (inl h)
 Some-split P (x ∷ xs) ys (inr h) = elim (Some-split P xs ys h) [ inl a ↦ inl (inr a) | inr b ↦ inr b ]
 
 -- what a list of forms may begin with
-pub data Head : Type 0 where
-  starts : Kind → List Form → Head  -- a token of this kind, and then these forms
-  ends : Head  -- nothing: the list is empty
-  unopened : List Form → Head  -- as this list of forms, which was not opened
+pub data FirstItem : Type 0 where
+  starts : Kind → List Form → FirstItem  -- a token of this kind, and then these forms
+  ends : FirstItem  -- nothing: the list is empty
+  unopened : List Form → FirstItem  -- as this list of forms, which was not opened
 
 -- what a head reads
-abbrev pub HeadReads : Dialect → List ℕ → Head → Type 0
+abbrev pub HeadReads : Dialect → List ℕ → FirstItem → Type 0
 HeadReads d [] (starts k fs) = ⊥
 HeadReads d (t ∷ w) (starts k fs) = IsTrue (accepts k (d.class_of t)) × Reads d fs w
 HeadReads d w ends = w ≡ []
@@ -127,12 +127,12 @@ opened-rule d Place_name f e = cc
 opened-rule d n f e = cc
 
 -- the heads of what a name stands for, or the name's own
-abbrev pub by_opening : Option Form → Head → (Form → List Head) → List Head
+abbrev pub by_opening : Option Form → FirstItem → (Form → List FirstItem) → List FirstItem
 by_opening None h then = h ∷ []
 by_opening (Some f) h then = then f
 
 -- what a list of forms begins with; the number bounds how often forms are opened
-unfoldable pub heads : Dialect → ℕ → List Form → List Head
+unfoldable pub heads : Dialect → ℕ → List Form → List FirstItem
 heads d n [] = ends ∷ []
 heads d zero (f ∷ fs) = unopened (f ∷ fs) ∷ []
 heads d (suc n) (one k ∷ fs) = starts k fs ∷ []

@@ -14,7 +14,7 @@ use Rattle.daide_grammar.specs.Classes.{class_number, own_classes, same_class}
 use Rattle.daide_grammar.specs.Forms.{Kind, is, any_word, accepts, Slot, Press_slot, Arrangement_slot, Flat_slot, Added}
 use Rattle.daide_grammar.specs.Forms.{Form, named, Dialect}
 use Rattle.daide_grammar.specs.Table.Symbols.{form_of, Entry, entries, forms, may_end_of, slot_of}
-use Rattle.daide_grammar.specs.Table.Proved.Reading.{Head, starts, ends, unopened, heads}
+use Rattle.daide_grammar.specs.Table.Proved.Reading.{FirstItem, starts, ends, unopened, heads}
 use Rattle.daide_grammar.specs.Table.Proved.Reading
 use Rattle.daide_grammar.specs.Table.Proved.Alternatives.{same_level, same_kind, parts_all, covers}
 use Rattle.daide_grammar.specs.Table.Proved.Alternatives
@@ -25,7 +25,7 @@ if_same true ps qs = ps ++ qs
 if_same false ps qs = qs
 
 -- what follows a token of the kind
-unfoldable pub after : Kind → List Head → List (List Form)
+unfoldable pub after : Kind → List FirstItem → List (List Form)
 after k [] = []
 after k (starts m fs ∷ hs) = if_same (same_kind m k) (parts_all fs) (after k hs)
 after k (ends ∷ hs) = after k hs
@@ -56,25 +56,25 @@ is_added (Some p) (named (Added s l) ∷ []) = same_slot s p.0 && same_level l p
 is_added _ _ = false
 
 -- a head is that of an entry, or the end, or an added word's
-unfoldable pub known : Option (Slot × Level) → List Entry → Head → Bool
+unfoldable pub known : Option (Slot × Level) → List Entry → FirstItem → Bool
 known o es (starts k fs) = list_any (λ e. same_kind k e.kind) es
 known o es ends = true
 known o es (unopened fs) = is_added o fs
 
 -- an entry is right where its rest and what follows its token cover each other
-unfoldable pub entry_right : List Head → Entry → Bool
+unfoldable pub entry_right : List FirstItem → Entry → Bool
 entry_right hs e =
     let rest = parts_all (forms e.rest) in
     let next = after e.kind hs in
     covers rest next && covers next rest
 
 -- whether a head is the end
-abbrev pub is_end : Head → Bool
+abbrev pub is_end : FirstItem → Bool
 is_end ends = true
 is_end _ = false
 
 -- whether a head is unopened
-abbrev pub is_unopened : Head → Bool
+abbrev pub is_unopened : FirstItem → Bool
 is_unopened (unopened fs) = true
 is_unopened _ = false
 
@@ -84,13 +84,13 @@ is_plain (is c) = nat_lt (class_number c) own_classes
 is_plain any_word = false
 
 -- where words may be added, they are heads, and no entry takes them
-unfoldable pub added_right : Option (Slot × Level) → List Entry → List Head → Bool
+unfoldable pub added_right : Option (Slot × Level) → List Entry → List FirstItem → Bool
 added_right None es hs = true
 added_right (Some p) es hs = list_any is_unopened hs && list_all (λ e. is_plain e.kind) es
 
 -- whether a symbol with these entries and heads is right: each entry is, each head is known, the kinds are apart, and
 -- the end is told
-unfoldable pub right_by : Option (Slot × Level) → Bool → List Entry → List Head → Bool
+unfoldable pub right_by : Option (Slot × Level) → Bool → List Entry → List FirstItem → Bool
 right_by o b es hs =
     (((list_all (entry_right hs) es && list_all (known o es) hs) && all_apart es) && beq (list_any is_end hs) b)
     && added_right o es hs

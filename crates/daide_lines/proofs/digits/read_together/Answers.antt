@@ -1,9 +1,9 @@
-use Rattle.std.proofs.Common.{◌≡◌, ◌+◌, ◌*◌, ◌∙◌, refl, sym, ap, List, ℕ, get_or, length-set, arith}
+use Rattle.std.proofs.Common.{◌≡◌, ◌==◌, ◌+◌, ◌*◌, ◌∙◌, refl, sym, ap, List, ℕ, get_or, length-set, arith}
 use Rattle.std.proofs.lemmas.List.{take_all}
 use Rattle.std.proofs.lemmas.List.Folds.{list_all_more}
 use Rattle.std.specs.List.{list_all}
 use Rattle.hex.specs.Hex.{is_hex_digit}
-use Rattle.daide_lines.proofs.DigitLemmas.{all_read, byte_read, read_more, values_more}
+use Rattle.daide_lines.proofs.DigitLemmas.{all_read, byte_read, no_excess, read_more, values_more}
 use Rattle.daide_lines.proofs.digits.read_together.Goals as goal
 
 pub loop-j-init : goal.loop-j-init
@@ -13,13 +13,14 @@ pub loop-j-preserved : goal.loop-j-preserved
 loop-j-preserved c =
     let digits = c.args.digits.now in
     let j = c.loop-j.j in
-    let here : c.read_digit-is_digit.result.0 ≡ is_hex_digit (get_or digits j 0) = c.read_digit-is_digit.ensures.digit in
+    let here : (c.read_digit-more.result.0 == 0) ≡ is_hex_digit (get_or digits j 0) = c.read_digit-more.ensures.digit in
+    let both = no_excess c.loop-j.excess c.read_digit-more.result.0 in
     let more = list_all_more is_hex_digit digits j 0 c.loop-j-test.true in
     record {
       room = length-set c.loop-j.values j _ ∙ c.loop-j.invariant.room;
       all = cc;
       values = values_more c.loop-j.values digits j _ (omega arith) c.loop-j-test.true c.loop-j.invariant.values
-          c.read_digit-is_digit.ensures.value;
+          c.read_digit-more.ensures.value;
     }
 
 pub loop-i-init : goal.loop-i-init

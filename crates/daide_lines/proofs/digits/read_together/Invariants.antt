@@ -1,4 +1,4 @@
-use Rattle.std.proofs.Common.{◌≡◌, ◌<◌, ℕ, ◌*◌, ◌++◌, true, get_or, length, take, drop}
+use Rattle.std.proofs.Common.{◌≡◌, ◌==◌, ◌<◌, ℕ, ◌*◌, ◌++◌, true, get_or, length, take, drop}
 use Rattle.std.specs.List.{list_all}
 use Rattle.hex.specs.Hex.{is_hex_digit}
 use Rattle.daide_lines.specs.Digits.{bytes_in, value_of}
@@ -8,7 +8,7 @@ use Rattle.daide_lines.proofs.digits.read_together.Given as goal
 abbrev pub invariant-loop-j : goal.invariant-loop-j
 invariant-loop-j l = record {
   room : length l.values ≡ 32;
-  all : l.all ≡ list_all is_hex_digit (take l.j l.digits);
+  all : (l.excess == 0) ≡ list_all is_hex_digit (take l.j l.digits);
   values : list_all is_hex_digit (take l.j l.digits) ≡ true → (k : ℕ) → k < l.j →
       get_or l.values k 0 ≡ value_of (get_or l.digits k 0);
 }
@@ -17,5 +17,5 @@ invariant-loop-j l = record {
 abbrev pub invariant-loop-i : goal.invariant-loop-i
 invariant-loop-i l = record {
   same : length l.bytes ≡ length l.fn.bytes;
-  bytes : l.all ≡ true → take l.i l.bytes ++ bytes_in (drop (2 * l.i) l.digits) ≡ bytes_in l.digits;
+  bytes : (l.excess == 0) ≡ true → take l.i l.bytes ++ bytes_in (drop (2 * l.i) l.digits) ≡ bytes_in l.digits;
 }

@@ -6,7 +6,7 @@ use Rattle.daide_lines.proofs.lines.next_line.Given as goal
 
 abbrev pub invariant-loop-turn : goal.invariant-loop-turn
 invariant-loop-turn g l =
-    HasScanned (all_of g.W.Write.contents l.fn.output) (g.R.LogReader.told l.fn.input.reader.now) l.fn.input.block (g.R.LogReader.told l.input.reader.now)
-    l.input.text.items l.input.block l._turn
+    HasScanned (all_of g.W.Write.contents l.fn.output) (g.R.LogReader.told l.fn.input.reader.now) l.fn.input.block l.fn.count
+    (g.R.LogReader.told l.input.reader.now) l.input.text.items l.input.block l._turn
     × Keeps (all_of g.W.Write.contents l.fn.output) (all_of g.W.Write.contents l.output)
     × IsSameReader l.fn.input l.input × IsSameWriter l.fn.output l.output

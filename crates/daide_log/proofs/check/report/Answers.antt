@@ -8,39 +8,39 @@ use Rattle.daide_log.specs.Log.{Playing}
 use Rattle.daide_log.specs.Progress.{HasRead}
 use Rattle.daide_lines.proofs.PageLemmas.{keeps_appends}
 use Rattle.daide_log.proofs.LogLemmas.{fault_at_once, finished, write_failed}
-use Rattle.daide_log.proofs.HeadLemmas.{as_many, opened_last, opened_more, memory_wanted}
+use Rattle.daide_log.proofs.PreambleLemmas.{as_many, opened_last, opened_more, memory_wanted}
 use Rattle.daide_log.proofs.check.report.Goals as goal
 
 pub returns-in-Err-clause-refused : goal.returns-in-Err-clause-refused
 returns-in-Err-clause-refused g c =
-    fault_at_once (g.R.LogReader.told c.args.input.now.reader.now) (g.R.LogReader.told c.read_head.new.input.reader.now)
+    fault_at_once (g.R.LogReader.told c.args.input.now.reader.now) (g.R.LogReader.told c.read_preamble.new.input.reader.now)
     (all_of g.W.Write.contents c.args.account.now.output)
-    (all_of g.W.Write.contents c.read_head.new.output) c.in-Err.fault
+    (all_of g.W.Write.contents c.read_preamble.new.output) c.in-Err.fault
     c.in-Err.ensures.opened c.in-Err.ensures.kept_at_fault
 
 pub returns-in-Err-open_sessions-clause-refused : goal.returns-in-Err-open_sessions-clause-refused
 returns-in-Err-open_sessions-clause-refused g c =
-    memory_wanted c.in-Ok.opened (g.R.LogReader.told c.args.input.now.reader.now) (g.R.LogReader.told c.read_head.new.input.reader.now)
-    c.read_head.new.input.block (all_of g.W.Write.contents c.args.account.now.output)
-    (all_of g.W.Write.contents c.read_head.new.output) c.in-Err-open_sessions.fault
+    memory_wanted c.in-Ok.opened (g.R.LogReader.told c.args.input.now.reader.now) (g.R.LogReader.told c.read_preamble.new.input.reader.now)
+    c.read_preamble.new.input.block (all_of g.W.Write.contents c.args.account.now.output)
+    (all_of g.W.Write.contents c.read_preamble.new.output) c.in-Err-open_sessions.fault
     c.in-Err-open_sessions.ensures.refused c.in-Ok.ensures.opened c.in-Ok.ensures.kept
 
 pub returns-then-not-opened-clause-report : goal.returns-then-not-opened-clause-report
 returns-then-not-opened-clause-report g c =
     let head = c.in-Ok.opened.head in
     let first = all_of g.W.Write.contents c.args.account.now.output in
-    let mid = all_of g.W.Write.contents c.read_head.new.output in
-    finished (g.R.LogReader.told c.args.input.now.reader.now) (g.R.LogReader.told c.read_head.new.input.reader.now) c.in-Ok.opened.lines []
+    let mid = all_of g.W.Write.contents c.read_preamble.new.output in
+    finished (g.R.LogReader.told c.args.input.now.reader.now) (g.R.LogReader.told c.read_preamble.new.input.reader.now) c.in-Ok.opened.lines []
     head.version (replicate head.limits.sessions (opening (limits_with head.limits.config (words_of head.words))))
     c.args.account.now.summary first mid (all_of g.W.Write.contents c.finish.new.output)
     c.finish.result
-    (opened_last c.in-Ok.opened first (g.R.LogReader.told c.args.input.now.reader.now) (g.R.LogReader.told c.read_head.new.input.reader.now)
-    c.read_head.new.input.block c.if-not-opened.true c.in-Ok.ensures.opened)
+    (opened_last c.in-Ok.opened first (g.R.LogReader.told c.args.input.now.reader.now) (g.R.LogReader.told c.read_preamble.new.input.reader.now)
+    c.read_preamble.new.input.block c.if-not-opened.true c.in-Ok.ensures.opened)
     c.requires.nothing (keeps_appends first mid c.in-Ok.ensures.kept) c.finish.ensures.written
 
 pub returns-then-not-opened-clause-refused : goal.returns-then-not-opened-clause-refused
 returns-then-not-opened-clause-refused g c =
-    write_failed (g.R.LogReader.told c.args.input.now.reader.now) (g.R.LogReader.told c.read_head.new.input.reader.now)
+    write_failed (g.R.LogReader.told c.args.input.now.reader.now) (g.R.LogReader.told c.read_preamble.new.input.reader.now)
     (all_of g.W.Write.contents c.args.account.now.output)
     (all_of g.W.Write.contents c.finish.new.output) c.finish.result
     c.finish.ensures.refused
@@ -65,12 +65,12 @@ pub returns-clause-report : goal.returns-clause-report
 returns-clause-report g c =
     let head = c.in-Ok.opened.head in
     let old = g.R.LogReader.told c.args.input.now.reader.now in
-    let now = g.R.LogReader.told c.read_head.new.input.reader.now in
+    let now = g.R.LogReader.told c.read_preamble.new.input.reader.now in
     let first = all_of g.W.Write.contents c.args.account.now.output in
     c.play.ensures.report old first (
-      subst (λ (s : List SessionState). HasRead first old now c.read_head.new.input.block c.in-Ok.opened.lines []
+      subst (λ (s : List SessionState). HasRead first old now c.read_preamble.new.input.block c.in-Ok.opened.lines []
           (Playing head.version s)) (sym c.in-Ok-open_sessions.ensures.begun)
-          (opened_more c.in-Ok.opened first old now c.read_head.new.input.block c.if-not-opened.false c.in-Ok.ensures.opened),
+          (opened_more c.in-Ok.opened first old now c.read_preamble.new.input.block c.if-not-opened.false c.in-Ok.ensures.opened),
       c.in-Ok.ensures.kept,
     )
 
@@ -78,11 +78,11 @@ pub returns-clause-refused : goal.returns-clause-refused
 returns-clause-refused g c =
     let head = c.in-Ok.opened.head in
     let old = g.R.LogReader.told c.args.input.now.reader.now in
-    let now = g.R.LogReader.told c.read_head.new.input.reader.now in
+    let now = g.R.LogReader.told c.read_preamble.new.input.reader.now in
     let first = all_of g.W.Write.contents c.args.account.now.output in
     c.play.ensures.refused old first (
-      subst (λ (s : List SessionState). HasRead first old now c.read_head.new.input.block c.in-Ok.opened.lines []
+      subst (λ (s : List SessionState). HasRead first old now c.read_preamble.new.input.block c.in-Ok.opened.lines []
           (Playing head.version s)) (sym c.in-Ok-open_sessions.ensures.begun)
-          (opened_more c.in-Ok.opened first old now c.read_head.new.input.block c.if-not-opened.false c.in-Ok.ensures.opened),
+          (opened_more c.in-Ok.opened first old now c.read_preamble.new.input.block c.if-not-opened.false c.in-Ok.ensures.opened),
       c.in-Ok.ensures.kept,
     )

@@ -2,7 +2,7 @@ use Rattle.std.proofs.Common.{◌≤◌, List, sym, ◌∙◌, subst, arith, rul
 use Rattle.daide_machine.specs.Ports.{Tells}
 use Rattle.daide_service.specs.declared.serving.ServeFault.{ServeFault}
 use Rattle.daide_machine.specs.System.{SystemAnswer}
-use Rattle.daide_service.specs.Serving.{Serving, GivesUp, opening}
+use Rattle.daide_service.specs.Serving.{ServiceView, GivesUp, opening}
 use Rattle.daide_service.proofs.ServingLemmas.{Ran, no_rounds, another_round, at_memory, runs_out}
 use Rattle.daide_service.proofs.ServedLemmas.{whole_run}
 use Rattle.daide_service.proofs.serving.serve.Goals as goal
@@ -11,7 +11,7 @@ pub loop-round-init : goal.loop-round-init
 loop-round-init g c =
     let told = g.S.System.told c.args.system.now in
     let first = opening {P = g.row.P.Denot} c.args.settings.now in
-    subst (λ (s : Serving g.row.P.Denot). Ran g.P.Ports.becomes 0 first told s told) (sym c.in_ok-service.ensures.opening)
+    subst (λ (s : ServiceView g.row.P.Denot). Ran g.P.Ports.becomes 0 first told s told) (sym c.in_ok-service.ensures.opening)
     (no_rounds g.P.Ports.becomes first told)
 
 pub loop-round-preserved : goal.loop-round-preserved

@@ -1,5 +1,5 @@
 use Rattle.std.proofs.Common.{Bool, [], ◌∷◌, refl, sym, subst}
-use Rattle.daide_machine.specs.Events.{Pops}
+use Rattle.daide_machine.specs.Events.{TimerExpires}
 use Rattle.daide_machine.proofs.LimitsKept.{runs_limits}
 use Rattle.daide_machine.specs.Ports.{Clock}
 use Rattle.daide_turns.specs.Record.{Working}
@@ -22,7 +22,7 @@ returns-then-clock_popped-clause-clock g c =
             ((c.im_timeout.result, goes), c.im_timeout.ensures.fronts),
       ),
       works_clock now new c.clock_popped.result
-          (paid_held now new (runs_limits (Pops ∷ []) now.state new.state goes.effects goes.run) c.im_timeout.ensures.holds),
+          (paid_held now new (runs_limits (TimerExpires ∷ []) now.state new.state goes.effects goes.run) c.im_timeout.ensures.holds),
     )
 
 pub returns-else-clock_popped-clause-clock : goal.returns-else-clock_popped-clause-clock

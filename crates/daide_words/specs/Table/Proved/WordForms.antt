@@ -20,7 +20,7 @@ use Rattle.daide_grammar.specs.SideMessages.{dialect_from}
 use Rattle.daide_grammar.specs.Table.Languages.{SymbolMatchesIn}
 use Rattle.daide_grammar.specs.Words.{AddedWord, Words, WordSlot, press_word, arrangement_word, operand_in, stands_in}
 use Rattle.daide_grammar.specs.Words.{word_form}
-use Rattle.daide_grammar.specs.Table.Proved.Reading.{Reads, take, open', Head, starts, ends, unopened, HeadReads, heads}
+use Rattle.daide_grammar.specs.Table.Proved.Reading.{Reads, take, open', FirstItem, starts, ends, unopened, HeadReads, heads}
 use Rattle.daide_grammar.specs.Table.Proved.Reading.{Some-of}
 use Rattle.daide_grammar.specs.Table.Proved.Reading.{MatchAll_from_Reads, Reads_from_MatchAll}
 use Rattle.daide_grammar.specs.Table.Proved.Alternatives.{same_level, same_level-means, same_kind, same_kind-sound, both-pass}
@@ -172,7 +172,7 @@ plain-entries m c i (x ∷ es) p a e h =
     ]
 
 slot-to : (d : Dialect) (p : Slot × Level) (es : List Entry) (t i : ℕ) (w : List ℕ) → d.class_of t ≡ Word i →
-    list_all (λ e. is_plain e.kind) es ≡ true → (hs : List Head) → list_all (known (Some p) es) hs ≡ true →
+    list_all (λ e. is_plain e.kind) es ≡ true → (hs : List FirstItem) → list_all (known (Some p) es) hs ≡ true →
     Some-of (HeadReads d (t ∷ w)) hs → Matches d (d.added p.0 p.1) (t ∷ w)
 unfolding known
 slot-to d p es t i w e a [] k h = absurd h
@@ -201,7 +201,7 @@ added-back d p _ w e m = cc
 
 slot-from : (d : Dialect) (p : Slot × Level) (es : List Entry) (t : ℕ) (w : List ℕ) →
     Matches d (d.added p.0 p.1) (t ∷ w) →
-    (hs : List Head) → list_all (known (Some p) es) hs ≡ true → list_any is_unopened hs ≡ true →
+    (hs : List FirstItem) → list_all (known (Some p) es) hs ≡ true → list_any is_unopened hs ≡ true →
     Some-of (HeadReads d (t ∷ w)) hs
 unfolding known
 slot-from d p es t w m [] k u = cc

@@ -1,50 +1,23 @@
-use Rattle.std.proofs.Common.{ℕ, [], ◌∷◌, ◌++◌, ◌+◌, ◌≤◌, ◌≡◌, take, drop, length, sym, ap, ◌∙◌, arith, refl}
+use Rattle.std.proofs.Common.{◌≡◌, ◌==◌, ℕ, ◌+◌, false, List, [], ◌∷◌, ◌++◌, take, drop, sym, ap, ◌∙◌, rules, arith}
 use Rattle.std.proofs.lemmas.List.{take-append-drop}
-use Rattle.daide_token.specs.Token.{tokens_of}
-use Rattle.daide_frame.proofs.ListLemmas.{take_whole}
-use Rattle.daide_reader.proofs.BodyLemmas.{tokens_of-length}
+use Rattle.daide_token.specs.Token.{hlo, tokens_of}
 use Rattle.daide_reader.proofs.SliceLemmas.{tokens_of-next}
-use Rattle.daide_reader.proofs.ReadingLemmas.{raised_none, raised_by, raised_more, raised_within}
 use Rattle.daide_machine.specs.HloLevel.{found_in}
-use Rattle.daide_machine.proofs.HloLemmas.{first_tokens}
+use Rattle.daide_machine.proofs.HloLemmas.{first_tokens, no_hlo-begins, no_hlo-stays}
 use Rattle.daide_machine.proofs.hlo.HloScan.read.Goals as goal
 
-pub loop-i-init : goal.loop-i-init
-loop-i-init c = (
-  λ found. found ∙ ap found_in (first_tokens c.args.from c.args.body.now),
-  raised_none _ _ refl,
-)
-
-pub loop-i-preserved : goal.loop-i-preserved
-loop-i-preserved c =
+pub returns-then-code-ne-HLO-clause-found : goal.returns-then-code-ne-HLO-clause-found
+returns-then-code-ne-HLO-clause-found c = λ found.
     let m = tokens_of c.args.body.now in
-    let i = c.loop-i.i in
-    let from = c.loop-i.auto.i in
-    let next : take (i + 1) m ≡ take i m ++ c.from_be.result ∷ [] =
-    tokens_of-next i c.args.body.now (omega arith)
-    ∙ ap (λ (t : ℕ). take i m ++ t ∷ []) (sym c.from_be.ensures) in (
-      λ found. c.look.ensures.found (take i m) (c.loop-i.invariant.0 found) ∙ ap found_in (sym next),
-      raised_more _ 1 _ _ c.loop-i.self.looked_at _ (omega arith) c.loop-i.invariant.1
-          (raised_by 1 c.loop-i.self.looked_at _ _ (omega arith) refl (omega (arith, c.look.ensures.looked_at))),
-    )
-
-pub returns-then-is_settled-clause-found : goal.returns-then-is_settled-clause-found
-returns-then-is_settled-clause-found c = λ found.
-    let m = tokens_of c.args.body.now in
-    let i = c.loop-i.i in
-    c.is_settled.ensures c.if-is_settled.true (take i m) (drop i m) (c.loop-i.invariant.0 found)
-    ∙ ap found_in (take-append-drop i m)
-
-pub returns-then-is_settled-clause-looked_at : goal.returns-then-is_settled-clause-looked_at
-returns-then-is_settled-clause-looked_at c =
-    let test = c.loop-i-test.true in
-    raised_within _ _ _ _ _ (omega arith) refl c.loop-i.invariant.1
-
-pub returns-clause-found : goal.returns-clause-found
-returns-clause-found c = λ found.
-    let m = tokens_of c.args.body.now in
-    let all : length m ≤ c.loop-i.i = omega (arith, tokens_of-length c.args.body.now) in
-    c.loop-i.invariant.0 found ∙ ap found_in (take_whole c.loop-i.i m all)
-
-pub returns-clause-looked_at : goal.returns-clause-looked_at
-returns-clause-looked_at c = raised_within _ _ _ _ _ (omega arith) refl c.loop-i.invariant.1
+    let from = c.args.from in
+    let first = c.from_be-first.result in
+    let before = found ∙ ap found_in (first_tokens from c.args.body.now) in
+    let next : take (from + 1) m ≡ take from m ++ first ∷ [] =
+    tokens_of-next from c.args.body.now (omega arith)
+    ∙ ap (λ (t : ℕ). take from m ++ t ∷ []) (sym c.from_be-first.ensures) in
+    let whole : (take from m ++ first ∷ []) ++ drop (from + 1) m ≡ m =
+    ap (λ (l : List ℕ). l ++ drop (from + 1) m) (sym next) ∙ take-append-drop (from + 1) m in
+    let other : (first == hlo) ≡ false = search rules in
+    let none = no_hlo-begins (take from m) first (sym c.in-NoToken.is ∙ before) other in
+    c.look.ensures.found (take from m) before ∙ sym none
+    ∙ no_hlo-stays (take from m ++ first ∷ []) (drop (from + 1) m) none ∙ ap found_in whole

@@ -3,7 +3,7 @@ use Rattle.std.specs.Prelude.{◌||◌, OnErr}
 use Rattle.daide_machine.specs.declared.system.Connect.TheVariants.{Ready}
 use Rattle.daide_machine.specs.System.{SystemAnswer, Begins, Connects}
 use Rattle.daide_machine.specs.Ports.{Tells}
-use Rattle.daide_service.specs.Serving.{Serving, Admits, BreaksOff, Round, wait_where, accepts}
+use Rattle.daide_service.specs.Serving.{ServiceView, Admits, BreaksOff, Round, wait_where, accepts}
 use Rattle.daide_service.proofs.ServingLemmas.{waits_alike}
 use Rattle.daide_turns.proofs.Stretches.{tells_then}
 use Rattle.daide_service.proofs.serving.Service.round.Goals as goal
@@ -13,44 +13,44 @@ returns-clause-round g c =
     let told = g.S.System.told in
     let old = c.self.inside in
     let admits = c.admit-came.ensures.admits in
-    let meets = c.in_ok-met.ensures.meets in
+    let finishes = c.in_ok-met.ensures.finishes in
     let removes = c.remove_closed-removed.ensures.removes in
     let stirred = c.admit-came.result || c.in_ok-met.met || c.has_moved-moved.result || c.remove_closed-removed.result in
-    let asleep = waits_alike {P = g.row.P.Denot} _ _ _ _ _ _ _ _ _ _ admits.3 meets.3 c.has_moved-moved.ensures
-    removes.3 (c.accepts-more.ensures ∙ ap (accepts c.meet.new.tally) c.count-2.ensures) in
+    let asleep = waits_alike {P = g.row.P.Denot} _ _ _ _ _ _ _ _ _ _ admits.3 finishes.3 c.has_moved-moved.ensures
+    removes.3 (c.accepts-more.ensures ∙ ap (accepts c.finish_connect.new.tally) c.count-2.ensures) in
     let step : Round g.P.Ports.becomes (record { hub = old.hub; tally = old.tally })
-    (Begins ∷ admits.0 ++ meets.0 ++ removes.0 ++ wait_where stirred c.accepts-more.result)
-    (record { hub = c.remove_closed-removed.new.hub; tally = c.meet.new.tally }) = record {
+    (Begins ∷ admits.0 ++ finishes.0 ++ removes.0 ++ wait_where stirred c.accepts-more.result)
+    (record { hub = c.remove_closed-removed.new.hub; tally = c.finish_connect.new.tally }) = record {
       admission = admits.0;
-      meeting = meets.0;
+      meeting = finishes.0;
       removal = removes.0;
       came = c.admit-came.new.tally;
-      met = c.meet.new.hub;
+      met = c.finish_connect.new.hub;
       turned = c.turn_all.new.hub;
       admits = subst (λ (n : ℕ). Admits n old.tally admits.0 c.admit-came.new.tally) c.count.ensures admits.2;
-      meets = meets.2;
+      finishes = finishes.2;
       turns = c.turn_all.ensures.turns;
       removes = removes.2;
       within = record {
-        same_max = c.remove_closed-removed.ensures.max ∙ c.turn_all.ensures.max ∙ c.meet.ensures.within.same_max;
+        same_max = c.remove_closed-removed.ensures.max ∙ c.turn_all.ensures.max ∙ c.finish_connect.ensures.within.same_max;
         held =
-            let held = c.meet.ensures.within.held in
+            let held = c.finish_connect.ensures.within.held in
             let count = c.turn_all.ensures.count in
             let fewer = c.remove_closed-removed.ensures.fewer in
             omega (arith, held, count, fewer);
-        accepted = c.meet.ensures.within.accepted;
+        accepted = c.finish_connect.ensures.within.accepted;
       };
-      asked = ap (λ w. Begins ∷ admits.0 ++ meets.0 ++ removes.0 ++ w) asleep;
+      asked = ap (λ w. Begins ∷ admits.0 ++ finishes.0 ++ removes.0 ++ w) asleep;
     } in (
-      Begins ∷ admits.0 ++ meets.0 ++ removes.0 ++ wait_where stirred c.accepts-more.result,
-      tells_then _ _ _ (Begins ∷ admits.0 ++ meets.0 ++ removes.0) _
-          (tells_then _ _ _ (Begins ∷ admits.0 ++ meets.0) removes.0
-          (tells_then _ _ _ (Begins ∷ admits.0) meets.0
-          (tells_then _ _ _ (Begins ∷ []) admits.0 c.begin_round.ensures admits.1) meets.1) removes.1)
+      Begins ∷ admits.0 ++ finishes.0 ++ removes.0 ++ wait_where stirred c.accepts-more.result,
+      tells_then _ _ _ (Begins ∷ admits.0 ++ finishes.0 ++ removes.0) _
+          (tells_then _ _ _ (Begins ∷ admits.0 ++ finishes.0) removes.0
+          (tells_then _ _ _ (Begins ∷ admits.0) finishes.0
+          (tells_then _ _ _ (Begins ∷ []) admits.0 c.begin_round.ensures admits.1) finishes.1) removes.1)
           c.rest.ensures,
-      subst (λ (a : Serving g.row.P.Denot). Round g.P.Ports.becomes a
-          (Begins ∷ admits.0 ++ meets.0 ++ removes.0 ++ wait_where stirred c.accepts-more.result)
-          (record { hub = c.remove_closed-removed.new.hub; tally = c.meet.new.tally })) c.self.view_is step,
+      subst (λ (a : ServiceView g.row.P.Denot). Round g.P.Ports.becomes a
+          (Begins ∷ admits.0 ++ finishes.0 ++ removes.0 ++ wait_where stirred c.accepts-more.result)
+          (record { hub = c.remove_closed-removed.new.hub; tally = c.finish_connect.new.tally })) c.self.view_is step,
     )
 
 -- what holds anyway holds at an error
@@ -66,7 +66,7 @@ returns-in_err-met-clause-broken_off g c =
     let left = c.in_err-met.ensures.left in
     let old = c.self.inside in
     let answers = Begins ∷ admits.0 ++ Connects (Ready broken.0) ∷ [] in
-    let after : Serving g.row.P.Denot = record { hub = c.meet.new.hub; tally = c.meet.new.tally } in
+    let after : ServiceView g.row.P.Denot = record { hub = c.finish_connect.new.hub; tally = c.finish_connect.new.tally } in
     let breaks : BreaksOff (record { hub = old.hub; tally = old.tally }) answers after = record {
       admission = admits.0;
       came = c.admit-came.new.tally;
@@ -77,9 +77,9 @@ returns-in_err-met-clause-broken_off g c =
       leaves = rw (left.0, left.1) refl;
     } in
     at_error c.from_residual.result ((all : List (SystemAnswer g.row.P.Denot))
-    × Tells (told c.args.system.now) all (told c.meet.new.system) × BreaksOff c.args.self.now all after) (
+    × Tells (told c.args.system.now) all (told c.finish_connect.new.system) × BreaksOff c.args.self.now all after) (
       answers,
       tells_then _ _ _ (Begins ∷ admits.0) (Connects (Ready broken.0) ∷ [])
           (tells_then _ _ _ (Begins ∷ []) admits.0 c.begin_round.ensures admits.1) broken.1,
-      subst (λ (a : Serving g.row.P.Denot). BreaksOff a answers after) c.self.view_is breaks,
+      subst (λ (a : ServiceView g.row.P.Denot). BreaksOff a answers after) c.self.view_is breaks,
     )

@@ -1,5 +1,5 @@
 use Rattle.std.proofs.Common.{subst}
-use Rattle.daide_machine.specs.Wires.{Gateway}
+use Rattle.daide_machine.specs.Wires.{SessionView}
 use Rattle.daide_session.specs.Session.{gateway_of, Dropped}
 use Rattle.daide_session.proofs.WrittenLemmas.{dropped_of}
 use Rattle.daide_session.proofs.SessionLemmas.{standing_dropped}
@@ -17,5 +17,5 @@ invariant_of-self g c = standing_dropped _ _ c.args.to (done g c) c.self.invaria
 
 pub returns : goal.returns
 returns g c =
-    subst (λ (v : Gateway). Dropped v c.args.to (gateway_of c.lose.new.self c.self.inside.stage)) c.self.view_is
+    subst (λ (v : SessionView). Dropped v c.args.to (gateway_of c.lose.new.self c.self.inside.stage)) c.self.view_is
     (done g c)

@@ -1,10 +1,10 @@
 use Rattle.std.proofs.Common.{ap, ◌∙◌}
 use Rattle.daide_machine.specs.Machine.{is_over}
-use Rattle.daide_machine.specs.Wires.{Gateway}
+use Rattle.daide_machine.specs.Wires.{SessionView}
 use Rattle.daide_session.proofs.session.Session.ending.Goals as goal
 
 pub returns-clause-value : goal.returns-clause-value
-returns-clause-value g c = ap (λ (v : Gateway). v.state.ending) c.self.view_is
+returns-clause-value g c = ap (λ (v : SessionView). v.state.ending) c.self.view_is
 
 pub returns-clause-over : goal.returns-clause-over
-returns-clause-over g c = c.self.invariant.ending ∙ ap (λ (v : Gateway). is_over v.state.phase) c.self.view_is
+returns-clause-over g c = c.self.invariant.ending ∙ ap (λ (v : SessionView). is_over v.state.phase) c.self.view_is

@@ -1,7 +1,7 @@
 use Rattle.std.proofs.Common.{[], ◌∷◌, sym, ap, ◌∙◌, subst}
-use Rattle.daide_machine.specs.Events.{Pops}
+use Rattle.daide_machine.specs.Events.{TimerExpires}
 use Rattle.daide_machine.specs.Machine.{is_over}
-use Rattle.daide_machine.specs.Wires.{Gateway, Goes}
+use Rattle.daide_machine.specs.Wires.{SessionView, Goes}
 use Rattle.daide_traffic.specs.Traffic.{has_end}
 use Rattle.daide_traffic.specs.Fronts.{KeepsFront}
 use Rattle.daide_session.specs.Session.{gateway_of}
@@ -17,7 +17,7 @@ fail-requires g c = λ wire.
     ap has_end (sym (waiting_at t c.self.inside.stage wire)) ∙ c.self.invariant.no_end (ap is_over c.in-WaitIm.is) wire
 
 went : (g : Over) (c : goal.After-fail g) →
-    Goes (gateway_of c.self.inside.traffic c.self.inside.stage) (Pops ∷ []) c.fail.result
+    Goes (gateway_of c.self.inside.traffic c.self.inside.stage) (TimerExpires ∷ []) c.fail.result
     (gateway_of c.fail.new.traffic c.fail.new.stage)
 went g c = goes_popped (gateway_of c.self.inside.traffic c.self.inside.stage)
     (gateway_of c.fail.new.traffic c.fail.new.stage) c.fail.result c.in-WaitIm.is c.fail.ensures.moves
@@ -28,11 +28,11 @@ invariant_of-self g c = standing_on _ _ _ _ (went g c) c.self.invariant
 
 pub returns-in-WaitIm-clause-goes : goal.returns-in-WaitIm-clause-goes
 returns-in-WaitIm-clause-goes g c =
-    subst (λ (v : Gateway). Goes v (Pops ∷ []) c.fail.result (gateway_of c.fail.new.traffic c.fail.new.stage))
+    subst (λ (v : SessionView). Goes v (TimerExpires ∷ []) c.fail.result (gateway_of c.fail.new.traffic c.fail.new.stage))
     c.self.view_is (went g c)
 
 pub returns-in-WaitIm-clause-fronts : goal.returns-in-WaitIm-clause-fronts
 returns-in-WaitIm-clause-fronts g c = λ side.
-    subst (λ (v : Gateway). KeepsFront v side (gateway_of c.fail.new.traffic c.fail.new.stage)) c.self.view_is
+    subst (λ (v : SessionView). KeepsFront v side (gateway_of c.fail.new.traffic c.fail.new.stage)) c.self.view_is
     (fronts_seen c.self.inside.traffic c.fail.new.traffic c.self.inside.stage c.fail.new.stage c.fail.ensures.fronts
     side)

@@ -1,7 +1,7 @@
 use Rattle.std.proofs.Common.{ap, ◌∙◌}
 use Rattle.daide_machine.specs.Machine.{is_over}
-use Rattle.daide_machine.specs.Wires.{Gateway}
+use Rattle.daide_machine.specs.Wires.{SessionView}
 use Rattle.daide_session.proofs.session.Session.is_over.Goals as goal
 
 pub returns : goal.returns
-returns g c = c.is_over.ensures ∙ ap (λ (v : Gateway). is_over v.state.phase) c.self.view_is
+returns g c = c.is_over.ensures ∙ ap (λ (v : SessionView). is_over v.state.phase) c.self.view_is

@@ -1,7 +1,7 @@
 use Rattle.std.proofs.Common.{ℕ, ◌<◌, sym, ap, ◌∙◌, subst}
 use Rattle.daide_frame.specs.Frames.{missing}
 use Rattle.daide_machine.specs.Machine.{Coming, is_over}
-use Rattle.daide_machine.specs.Wires.{Gateway, waiting, room_of, is_awaited}
+use Rattle.daide_machine.specs.Wires.{SessionView, waiting, room_of, is_awaited}
 use Rattle.daide_machine.proofs.FramesHeard.{not_both}
 use Rattle.daide_session.specs.Session.{gateway_of}
 use Rattle.daide_session.proofs.MovesLemmas.{room_over, room_awaited, room_open, coming_at}
@@ -18,7 +18,7 @@ returns-then-is_over-clause-missing g c = elim c.then-is_over.branch [
       let s = c.self.inside.stage in
       sym (room_awaited (gateway_of t s) c.args.side (sym w.is_awaited.ensures.value
       ∙ w.if-is_awaited.true))
-      ∙ ap (λ (v : Gateway). room_of v c.args.side) c.self.view_is
+      ∙ ap (λ (v : SessionView). room_of v c.args.side) c.self.view_is
 ]
 
 pub returns-then-is_over-clause-waited_for : goal.returns-then-is_over-clause-waited_for
@@ -29,7 +29,7 @@ returns-then-is_over-clause-waited_for g c = λ live free. elim c.then-is_over.b
       let t = c.self.inside.traffic in
       let s = c.self.inside.stage in
       absurd (not_both (is_awaited (waiting c.args.self.now) c.args.side)
-      (ap (λ (v : Gateway). is_awaited (waiting v) c.args.side) (sym c.self.view_is) ∙ (sym w.is_awaited.ensures.value
+      (ap (λ (v : SessionView). is_awaited (waiting v) c.args.side) (sym c.self.view_is) ∙ (sym w.is_awaited.ensures.value
       ∙ w.if-is_awaited.true)) free)
 ]
 
@@ -40,20 +40,20 @@ returns-clause-missing g c =
     let s = c.self.inside.stage in
     let side = c.args.side in
     let free = sym c.is_awaited.ensures.value ∙ c.if-is_awaited.false in
-    let live = ap (λ (v : Gateway). is_over v.state.phase) c.self.view_is
+    let live = ap (λ (v : SessionView). is_over v.state.phase) c.self.view_is
     ∙ (sym c.is_over.ensures ∙ c.if-is_over.false) in
     c.room.ensures
     ∙ (ap (missing t.cap) (c.is_awaited.ensures.tied free)
     ∙ (ap (λ (x : Coming). missing t.cap x.pending) (sym (coming_at t s side))
     ∙ (sym (room_open (gateway_of t s) side live free)
-    ∙ ap (λ (v : Gateway). room_of v side) c.self.view_is)))
+    ∙ ap (λ (v : SessionView). room_of v side) c.self.view_is)))
 
 pub returns-clause-waited_for : goal.returns-clause-waited_for
 returns-clause-waited_for g c = λ live free.
     let t = c.self.inside.traffic in
     let s = c.self.inside.stage in
     let side = c.args.side in
-    let here = ap (λ (v : Gateway). is_over v.state.phase) c.self.view_is ∙ live in
+    let here = ap (λ (v : SessionView). is_over v.state.phase) c.self.view_is ∙ live in
     let some = c.self.invariant.wanted here side in
     subst (λ (n : ℕ). 0 < n)
     (ap (λ (x : Coming). missing t.cap x.pending) (coming_at t s side)

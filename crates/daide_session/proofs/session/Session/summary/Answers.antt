@@ -1,6 +1,6 @@
 use Rattle.std.proofs.Common.{ap}
-use Rattle.daide_machine.specs.Wires.{Gateway}
+use Rattle.daide_machine.specs.Wires.{SessionView}
 use Rattle.daide_session.proofs.session.Session.summary.Goals as goal
 
 pub returns : goal.returns
-returns g c = ap (λ (v : Gateway). v.summary) c.self.view_is
+returns g c = ap (λ (v : SessionView). v.summary) c.self.view_is

@@ -1,5 +1,5 @@
 use Rattle.std.proofs.Common.{◌+◌, ◌≤◌, length, ap, ◌∙◌, subst, arith}
-use Rattle.daide_machine.specs.Wires.{Gateway}
+use Rattle.daide_machine.specs.Wires.{SessionView}
 use Rattle.daide_machine.specs.Weight.{weight_of, weight_bound, IsTied}
 use Rattle.daide_session.proofs.WeightLemmas.{IsLight, light, weight_is, weight_few, tied_by}
 use Rattle.daide_session.proofs.session.Session.weight.Given.{Over}
@@ -55,7 +55,7 @@ pub returns-clause-weight : goal.returns-clause-weight
 returns-clause-weight g c =
     let a = bot g (goal.at.returns-clause-weight g c).After-entries in
     let b = server g (goal.at.returns-clause-weight g c).After-entries-2 in
-    subst (λ (v : Gateway). length c.body.result.now + c.entries.result
+    subst (λ (v : SessionView). length c.body.result.now + c.entries.result
     + (length c.body-2.result.now + c.entries-2.result) + (c.count.result + c.count-2.result) ≤ weight_bound v)
     c.self.view_is
     (weight_few c.self.inside.traffic c.self.inside.stage (length c.body.result.now) c.entries.result

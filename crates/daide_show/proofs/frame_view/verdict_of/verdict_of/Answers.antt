@@ -13,7 +13,7 @@ use Rattle.daide_words.proofs.AcceptedCodes.{accepted_free}
 use Rattle.daide_reader.specs.ViablePrefix.{IsMessageOf}
 use Rattle.daide_reader.specs.Verdict.{HasVerdict}
 use Rattle.daide_reader.proofs.BodyLemmas.{place_in}
-use Rattle.daide_machine.specs.Bounds.{deepest}
+use Rattle.daide_machine.specs.Bounds.{greatest_depth}
 use Rattle.daide_machine.proofs.WordedVerdicts.{worded_verdicts}
 use Rattle.daide_show.proofs.frame_view.verdict_of.verdict_of.Goals as goal
 
@@ -30,8 +30,8 @@ returns-clause-verdict c =
     ap (λ (t : Extended). spoken (spoken_words t)) c.new-reader.ensures.table ∙ ap spoken c.new.ensures.words
     ∙ c.new.ensures.all_spoken in
     worded_verdicts words (accepted_free (words_of c.args.words.now) c.args.words.now.accepted) c.args.end c.args.level
-    deepest m v
-    (subst (λ (ws : Words). HasVerdict (IsMessageOf (SymbolMatchesIn (dialect_of ws) first)) deepest m v) all
+    greatest_depth m v
+    (subst (λ (ws : Words). HasVerdict (IsMessageOf (SymbolMatchesIn (dialect_of ws) first)) greatest_depth m v) all
     (subst
     (λ (d : ℕ). HasVerdict (IsMessageOf (SymbolMatchesIn (dialect_of (spoken (spoken_words table))) first)) d m v)
     c.new-reader.ensures.stands_after.depth_kept read))

@@ -1,5 +1,6 @@
-use Rattle.std.proofs.Common.{◌≡◌, ℕ, ◌+◌, ◌-◌, ◌*◌, ◌/◌, ◌≤◌, List, None, true, false, length, take, drop, rules}
+use Rattle.std.proofs.Common.{◌≡◌, ℕ, ◌+◌, ◌-◌, ◌*◌, ◌/◌, ◌≤◌, List, [], None, true, false, length, take, drop, rules}
 use Rattle.std.proofs.Common.{refl, sym, ap, ◌∙◌, subst, arith}
+use Rattle.std.proofs.lemmas.List.{nil_from_length}
 use Rattle.daide_token.specs.Token.{tokens_of}
 use Rattle.daide_frame.specs.Frames.{fed, head_in}
 use Rattle.daide_grammar.specs.Table.Symbols.{opening_of}
@@ -13,7 +14,8 @@ use Rattle.daide_machine.specs.Weight.{tokens_held}
 use Rattle.daide_machine.specs.Wires.{is_dm_head}
 use Rattle.daide_reader.specs.Reading.{Reading, IsRaised, StandsAfter, tokens_read}
 use Rattle.daide_traffic.specs.Inbound.{Inbound, Reads, inbound_of, tokens_ended, words_in}
-use Rattle.daide_traffic.proofs.InboundLemmas.{few_ended, fed_on, fed_past, none_held, raised_most}
+use Rattle.daide_traffic.proofs.InboundLemmas.{bodiless_before, few_ended, fed_on, fed_past, none_begun}
+use Rattle.daide_traffic.proofs.InboundLemmas.{none_held, raised_most}
 use Rattle.daide_traffic.proofs.InboundLemmas.{read_along, reads_of, rules_kept}
 use Rattle.daide_traffic.proofs.inbound.Inbound.feed.Goals as goal
 
@@ -28,9 +30,9 @@ read-requires g c =
     let none : i.verdict ≡ None = ap (λ (v : Inbound). v.verdict) c.self.view_is ∙ c.requires.free in
     let read = c.self.invariant.stands.outline.tokens in
     let within = on.within in
-    let value = ap length c.body.ensures.value in
-    let capped = c.body.ensures.capped in
-    let inside = c.body.ensures.within in
+    let value = ap length c.body-then-is_message.ensures.value in
+    let capped = c.body-then-is_message.ensures.capped in
+    let inside = c.body-then-is_message.ensures.within in
     let limit = c.self.invariant.capped in
     let same = c.feed-step.ensures.cap in
     (search rules, (c.self.invariant.unfinished none, (omega arith, omega arith)))
@@ -45,11 +47,30 @@ read-requires-then-is_message-clause-came_before g c =
     dm in
     let read = c.tokens-read.ensures ∙ c.self.invariant.stands.outline.tokens in
     let within = on.within in
-    let value = ap length c.body-then-is_message.ensures.value in
+    let value = ap length c.body-then-is_message-2.ensures.value in
     omega arith
 
 pub invariant_of-self : goal.invariant_of-self
 invariant_of-self g c =
+    let i = c.self.inside in
+    let cut = c.feed-step.new.self in
+    let first = opening_of (side2_of i.side) i.level in
+    let none : i.verdict ≡ None = ap (λ (v : Inbound). v.verdict) c.self.view_is ∙ c.requires.free in
+    let empty : length c.body.result.now ≡ 0 = search rules in
+    let now : drop 4 cut.bytes ≡ [] = sym c.body.ensures.value ∙ nil_from_length c.body.result.now empty in
+    let before = bodiless_before i.cutter.cap i.cutter.bytes c.args.piece.now
+    (ap (drop 4) (sym c.feed-step.ensures.bytes) ∙ now) in
+    let same = none_begun i.cutter.cap i.cutter.bytes before ∙ sym (none_begun cut.cap cut.bytes now) in
+    read_along ghosts answers_given i.side i.level i.cutter cut i.reader i.reader i.hlo i.hlo i.header i.verdict
+    c.self.invariant none c.feed-step.ensures.cap refl refl (c.self.invariant.unfinished none)
+    (subst (λ (p : List ℕ). StandsAfter ghosts (spoken_words i.reader.table) first i.reader.max_depth i.reader p) same
+    c.self.invariant.stands)
+    (c.self.invariant.found ∙ ap found_in same)
+    (λ no. c.self.invariant.uncounted (fed_past i.cutter.cap i.cutter.bytes c.args.piece.now cut
+    c.feed-step.ensures.cap c.feed-step.ensures.bytes no))
+
+pub invariant_of-self-then-is_message : goal.invariant_of-self-then-is_message
+invariant_of-self-then-is_message g c =
     let i = c.self.inside in
     let cut = c.feed-step.new.self in
     let first = opening_of (side2_of i.side) i.level in
@@ -59,16 +80,17 @@ invariant_of-self g c =
     dm in
     let read = c.self.invariant.stands.outline.tokens in
     let none : i.verdict ≡ None = ap (λ (v : Inbound). v.verdict) c.self.view_is ∙ c.requires.free in
-    let seen : tokens_of (take (2 * tokens_read i.reader) c.body.result.now) ≡ tokens_held i.cutter.cap i.cutter.bytes =
-    ap (λ (n : ℕ). tokens_of (take (2 * n) c.body.result.now)) read
+    let seen : tokens_of (take (2 * tokens_read i.reader) c.body-then-is_message.result.now)
+    ≡ tokens_held i.cutter.cap i.cutter.bytes =
+    ap (λ (n : ℕ). tokens_of (take (2 * n) c.body-then-is_message.result.now)) read
     ∙ ap (λ (x : List ℕ). tokens_of (take (2 * length (tokens_held i.cutter.cap i.cutter.bytes)) x))
-    c.body.ensures.value
+    c.body-then-is_message.ensures.value
     ∙ on.front in
     let stands = c.read.ensures.stands_after (spoken_words i.reader.table) first i.reader.max_depth
     (subst (λ (p : List ℕ). StandsAfter ghosts (spoken_words i.reader.table) first i.reader.max_depth i.reader p)
     (sym seen) c.self.invariant.stands) in
     let hlo = c.read-then-is_message in
-    let whole = c.body-then-is_message in
+    let whole = c.body-then-is_message-2 in
     let seen_again : tokens_of (take (2 * c.tokens-read.result) whole.result.now)
     ≡ tokens_held i.cutter.cap i.cutter.bytes =
     ap (λ (n : ℕ). tokens_of (take (2 * n) whole.result.now)) (c.tokens-read.ensures ∙ read)
@@ -81,7 +103,7 @@ invariant_of-self g c =
     i.verdict
     c.self.invariant none c.feed-step.ensures.cap c.read.ensures.depth c.read.ensures.words c.read.ensures.unfinished
     (subst (λ (p : List ℕ). StandsAfter ghosts (spoken_words i.reader.table) first i.reader.max_depth c.read.new.self p)
-    (ap tokens_of c.body.ensures.value ∙ sym on.all) stands) found (λ no. absurd (cc))
+    (ap tokens_of c.body-then-is_message.ensures.value ∙ sym on.all) stands) found (λ no. absurd (cc))
 
 pub invariant_of-self-else-is_message : goal.invariant_of-self-else-is_message
 invariant_of-self-else-is_message g c =
@@ -112,7 +134,8 @@ returns-then-is_message-clause-reads g c =
     let read = c.self.invariant.stands.outline.tokens in
     let within = on.within in
     let none : i.verdict ≡ None = ap (λ (v : Inbound). v.verdict) c.self.view_is ∙ c.requires.free in
-    let value : length c.body.result.now ≡ length (drop 4 cut.bytes) = ap length c.body.ensures.value in
+    let value : length c.body-then-is_message.result.now ≡ length (drop 4 cut.bytes) =
+    ap length c.body-then-is_message.ensures.value in
     let hlo = c.read-then-is_message.new.self in
     let new = inbound_of words_in answers_given i.side i.level cut c.read.new.self hlo i.header i.verdict in
     subst (λ (v : Inbound). Reads v (fed v.cap v.held c.args.piece.now) new) c.self.view_is
@@ -134,8 +157,9 @@ returns-then-is_message-clause-raised g c =
     dm in
     let read = c.self.invariant.stands.outline.tokens in
     let ended = on.ended in
-    let value : length c.body.result.now ≡ length (drop 4 cut.bytes) = ap length c.body.ensures.value in
-    let le : 4 * (length c.body.result.now / 2 - tokens_read i.reader)
+    let value : length c.body-then-is_message.result.now ≡ length (drop 4 cut.bytes) =
+    ap length c.body-then-is_message.ensures.value in
+    let le : 4 * (length c.body-then-is_message.result.now / 2 - tokens_read i.reader)
     ≤ 4 * tokens_ended i.cutter.cap i.cutter.bytes c.args.piece.now = rw (value, read) (omega (arith, ended)) in
     subst (λ (v : Inbound). IsRaised (4 * tokens_ended v.cap v.held c.args.piece.now) v.total
     (answers_given c.read.new.self.table))
@@ -153,7 +177,7 @@ returns-then-is_message-clause-looked_at g c =
     let ended = on.ended in
     let few = few_ended i.cutter.cap i.cutter.bytes c.args.piece.now in
     let hlo = c.read-then-is_message in
-    let whole = c.body-then-is_message in
+    let whole = c.body-then-is_message-2 in
     let value : length whole.result.now ≡ length (drop 4 cut.bytes) = ap length whole.ensures.value in
     let le : length whole.result.now / 2 - c.tokens-read.result ≤ length c.args.piece.now / 2 + 1 = rw
     (value, read) (omega (arith, ended, few)) in

@@ -2,7 +2,7 @@ use Rattle.std.proofs.Common.{◌∙◌, refl, sym, ap, subst, arith}
 use Rattle.std.specs.Prelude.{vec_capacity}
 use Rattle.daide_words.specs.Words.{words_of}
 use Rattle.daide_machine.specs.Wires.{IsNew}
-use Rattle.daide_turns.specs.Hub.{Hosting}
+use Rattle.daide_turns.specs.Hub.{HubView}
 use Rattle.daide_machine.specs.Config.{limits_with}
 use Rattle.daide_turns.proofs.HubLemmas.{hosting_added, place_added, places_counted, room_here}
 use Rattle.daide_turns.proofs.hub.Hub.add.Goals as goal
@@ -43,7 +43,7 @@ returns-then-place-self-clause-refused g c =
     sym (places_counted (λ p. (p.session, p.ports)) (limits_with s.config (words_of s.words)) s.max s.places.items
     c.args.self.now c.self.view_is)
     ∙ (sym s.places.ok.0 ∙ (sym c.len-place.ensures ∙ (c.if-place-self.true
-    ∙ ap (λ (h : Hosting g.row.P.Denot). h.max) c.self.view_is)))
+    ∙ ap (λ (h : HubView g.row.P.Denot). h.max) c.self.view_is)))
 
 pub returns-then-place-self-clause-unchanged : goal.returns-then-place-self-clause-unchanged
 returns-then-place-self-clause-unchanged g c = refl
@@ -88,7 +88,7 @@ pub returns-clause-added : goal.returns-clause-added
 returns-clause-added g c =
     let s = c.self.inside in (
       c.in-Ok.session,
-      subst (λ (h : Hosting g.row.P.Denot). IsNew h.limits c.in-Ok.session) c.self.view_is c.in-Ok.ensures.opening,
+      subst (λ (h : HubView g.row.P.Denot). IsNew h.limits c.in-Ok.session) c.self.view_is c.in-Ok.ensures.opening,
       rw c.push_reserved.ensures.items
           (place_added (λ p. (p.session, p.ports)) (limits_with s.config (words_of s.words)) s.max s.places.items
           (record { session = c.in-Ok.session; ports = c.args.ports }) c.args.self.now c.self.view_is),

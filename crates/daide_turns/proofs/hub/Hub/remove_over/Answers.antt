@@ -2,7 +2,7 @@ use Rattle.std.proofs.Common.{◌≡◌, sym, ◌∙◌, ap, subst, arith}
 use Rattle.std.specs.Prelude.{false, true, IfSome}
 use Rattle.daide_words.specs.Words.{words_of}
 use Rattle.daide_machine.specs.Machine.{is_over}
-use Rattle.daide_machine.specs.Wires.{Gateway, is_closed}
+use Rattle.daide_machine.specs.Wires.{SessionView, is_closed}
 use Rattle.daide_machine.specs.Config.{limits_with}
 use Rattle.daide_turns.specs.Hub.{IsToldOf}
 use Rattle.daide_turns.proofs.HubLemmas.{place_inside, same_read, place_read, place_removed, all_removed}
@@ -29,7 +29,7 @@ returns-then-not-is_closed-clause-open g c =
     let place = c.index.result.now in
     let read = place_read (λ p. (p.session, p.ports)) (limits_with s.config (words_of s.words)) s.max s.places.items c.args.i place
     c.args.self.now c.self.view_is c.requires c.index.ensures in
-    subst (λ found. IfSome found (λ (p : Gateway × g.row.P.Denot). is_closed p.0 ≡ false)) (sym read)
+    subst (λ found. IfSome found (λ (p : SessionView × g.row.P.Denot). is_closed p.0 ≡ false)) (sym read)
     (sym c.is_closed.ensures ∙ c.if-not-is_closed.true)
 
 pub invariant_of-self : goal.invariant_of-self
@@ -86,5 +86,5 @@ returns-clause-told g c =
     let place = c.remove-session.result in
     let read = place_read (λ p. (p.session, p.ports)) (limits_with s.config (words_of s.words)) s.max s.places.items
     c.args.i place c.args.self.now c.self.view_is c.requires c.remove-session.ensures.value in
-    subst (λ found. IfSome found (λ (p : Gateway × g.row.P.Denot). IsToldOf p.0 c.summary.result c.unwrap.result))
+    subst (λ found. IfSome found (λ (p : SessionView × g.row.P.Denot). IsToldOf p.0 c.summary.result c.unwrap.result))
     (sym read) (c.summary.ensures, sym c.ending.ensures.value ∙ c.unwrap.ensures)

@@ -1,7 +1,7 @@
 use Rattle.std.proofs.Common.{◌≡◌, refl, sym, subst, arith}
 use Rattle.std.specs.Prelude.{IfSome}
 use Rattle.daide_words.specs.Words.{words_of}
-use Rattle.daide_machine.specs.Wires.{Gateway}
+use Rattle.daide_machine.specs.Wires.{SessionView}
 use Rattle.daide_machine.specs.Config.{limits_with}
 use Rattle.daide_turns.proofs.HubLemmas.{place_inside, place_read}
 use Rattle.daide_turns.proofs.hub.Hub.session.Goals as goal
@@ -19,4 +19,4 @@ returns g c =
     let place = c.index.result.now in
     let read = place_read (λ p. (p.session, p.ports)) (limits_with s.config (words_of s.words)) s.max s.places.items
     c.args.i place c.args.self.now c.self.view_is c.requires c.index.ensures in
-    subst (λ found. IfSome found (λ (p : Gateway × g.row.P.Denot). place.session ≡ p.0)) (sym read) refl
+    subst (λ found. IfSome found (λ (p : SessionView × g.row.P.Denot). place.session ≡ p.0)) (sym read) refl

@@ -1,8 +1,8 @@
 use Rattle.std.proofs.Common.{◌-◌}
 use Rattle.daide_lines.specs.Input.{IsSameReader}
 use Rattle.daide_lines.specs.Output.{IsSameWriter, all_of}
-use Rattle.daide_log.proofs.HeadLemmas.{IsReading}
-use Rattle.daide_log.proofs.opening.read_head.Given as goal
+use Rattle.daide_log.proofs.PreambleLemmas.{IsReading}
+use Rattle.daide_log.proofs.opening.read_preamble.Given as goal
 
 abbrev pub invariant-lines : goal.invariant-lines
 invariant-lines g l =

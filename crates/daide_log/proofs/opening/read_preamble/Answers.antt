@@ -1,14 +1,14 @@
 use Rattle.std.proofs.Common.{◌∙◌, refl, sym, ap, subst, arith, List, ℕ, [], Ok}
 use Rattle.daide_lines.specs.Output.{all_of}
-use Rattle.daide_log.specs.declared.opening.Step.TheVariants.{More}
+use Rattle.daide_log.specs.declared.opening.PreambleProgress.TheVariants.{More}
 use Rattle.daide_log.specs.Heading.{Unnamed, heading_after}
 use Rattle.daide_log.specs.Held.{heading_of}
 use Rattle.daide_log.specs.Log.{Opening}
-use Rattle.daide_log.specs.Progress.{HasRead, IsStep}
+use Rattle.daide_log.specs.Progress.{HasRead, IsPreambleProgress}
 use Rattle.daide_lines.proofs.PageLemmas.{keeps_all, keeps_more}
 use Rattle.daide_log.proofs.LogLemmas.{nothing_read}
-use Rattle.daide_log.proofs.HeadLemmas.{head_judged, step_kept, fault_keeps, next_is, next_held}
-use Rattle.daide_log.proofs.opening.read_head.Goals as goal
+use Rattle.daide_log.proofs.PreambleLemmas.{head_judged, step_kept, fault_keeps, next_is, next_held}
+use Rattle.daide_log.proofs.opening.read_preamble.Goals as goal
 
 pub lines-init : goal.lines-init
 lines-init g c =
@@ -30,7 +30,7 @@ returns-in-Err-clause-opened g c =
     let old = g.R.LogReader.told c.args.input.now.reader.now in
     let now = g.R.LogReader.told c.lines.input.reader.now in
     let new = g.R.LogReader.told c.next_line-found.new.input.reader.now in
-    subst (IsStep (all_of g.W.Write.contents c.args.output.now) old new c.next_line-found.new.input.block c.lines.count) (sym c.after_line.ensures ∙ c.in-Err.is)
+    subst (IsPreambleProgress (all_of g.W.Write.contents c.args.output.now) old new c.next_line-found.new.input.block c.lines.count) (sym c.after_line.ensures ∙ c.in-Err.is)
     (head_judged (all_of g.W.Write.contents c.args.output.now) (all_of g.W.Write.contents c.lines.output) old now new c.lines.input.block c.next_line-found.new.input.text.items c.next_line-found.new.input.block c.lines.count
     c.next_line-found.result c.lines.heading c.with_line-more.result c.lines.invariant.0.has_read c.lines.invariant.0.kept
     c.next_line-found.ensures.found
@@ -50,7 +50,7 @@ returns-in-Ok-Done-clause-opened g c =
     let old = g.R.LogReader.told c.args.input.now.reader.now in
     let now = g.R.LogReader.told c.lines.input.reader.now in
     let new = g.R.LogReader.told c.next_line-found.new.input.reader.now in
-    subst (IsStep (all_of g.W.Write.contents c.args.output.now) old new c.next_line-found.new.input.block c.lines.count)
+    subst (IsPreambleProgress (all_of g.W.Write.contents c.args.output.now) old new c.next_line-found.new.input.block c.lines.count)
     (sym c.after_line.ensures ∙ c.in-Ok-Done.is ∙ ap Ok c.in-Ok-Done.field-0-is)
     (head_judged (all_of g.W.Write.contents c.args.output.now) (all_of g.W.Write.contents c.lines.output) old now new c.lines.input.block c.next_line-found.new.input.text.items c.next_line-found.new.input.block c.lines.count
     c.next_line-found.result c.lines.heading c.with_line-more.result c.lines.invariant.0.has_read c.lines.invariant.0.kept
@@ -66,8 +66,8 @@ lines-preserved g c =
     let mid = all_of g.W.Write.contents c.lines.output in
     let last = all_of g.W.Write.contents c.next_line-found.new.output in
     let is = sym c.after_line.ensures ∙ c.in-Ok-More.is ∙ ap Ok c.in-Ok-More.field-0-is in
-    let step : IsStep (all_of g.W.Write.contents c.args.output.now) old new c.next_line-found.new.input.block c.lines.count (Ok (More c.in-Ok-More.next)) =
-    subst (IsStep (all_of g.W.Write.contents c.args.output.now) old new c.next_line-found.new.input.block c.lines.count) is
+    let step : IsPreambleProgress (all_of g.W.Write.contents c.args.output.now) old new c.next_line-found.new.input.block c.lines.count (Ok (More c.in-Ok-More.next)) =
+    subst (IsPreambleProgress (all_of g.W.Write.contents c.args.output.now) old new c.next_line-found.new.input.block c.lines.count) is
     (head_judged (all_of g.W.Write.contents c.args.output.now) (all_of g.W.Write.contents c.lines.output) old now new c.lines.input.block c.next_line-found.new.input.text.items c.next_line-found.new.input.block c.lines.count
     c.next_line-found.result c.lines.heading c.with_line-more.result c.lines.invariant.0.has_read c.lines.invariant.0.kept
     c.next_line-found.ensures.found

@@ -1,6 +1,6 @@
 use Rattle.std.proofs.Common.{◌≡◌}
 use Rattle.std.specs.Prelude.{vec_len}
-use Rattle.daide_sockets.proofs.watch.Flags.free_rows.Given as goal
+use Rattle.daide_sockets.proofs.poller.Flags.free_rows.Given as goal
 
 -- a row for each step
 abbrev pub invariant-loop : goal.invariant-loop

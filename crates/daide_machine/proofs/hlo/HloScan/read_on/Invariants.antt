@@ -2,7 +2,7 @@ use Rattle.std.proofs.Common.{◌≡◌, ◌-◌, ◌*◌, take}
 use Rattle.daide_token.specs.Token.{tokens_of}
 use Rattle.daide_reader.specs.Reading.{IsRaised}
 use Rattle.daide_machine.specs.HloLevel.{found_in}
-use Rattle.daide_machine.proofs.hlo.HloScan.read.Given as goal
+use Rattle.daide_machine.proofs.hlo.HloScan.read_on.Given as goal
 
 -- each token before i was looked at, once
 abbrev pub invariant-loop-i : goal.invariant-loop-i

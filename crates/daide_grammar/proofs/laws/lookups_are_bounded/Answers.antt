@@ -1,5 +1,5 @@
 use Rattle.daide_grammar.specs.Table.Proved.PlainLaws.{plain_laws}
-use Rattle.daide_grammar.proofs.laws.few_questions.Goals as goal
+use Rattle.daide_grammar.proofs.laws.lookups_are_bounded.Goals as goal
 
 pub returns-clause-skips : goal.returns-clause-skips
 returns-clause-skips c = λ stack k c l. plain_laws.few_skips stack k c l

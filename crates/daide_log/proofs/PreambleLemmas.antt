@@ -4,16 +4,16 @@ use Rattle.std.proofs.Common.{◌∷◌, length, Option, Some, None, Result, Ok,
 use Rattle.std.proofs.Common.{refl, sym, ap, subst, arith, ◌≢◌, OnOk, IfErr, IfSome}
 use Rattle.std.specs.Prelude.{option_map, not, replicate}
 use Rattle.daide_machine.specs.Machine.{SessionState}
-use Rattle.daide_machine.specs.Wires.{Gateway}
+use Rattle.daide_machine.specs.Wires.{SessionView}
 use Rattle.std.proofs.lemmas.Option.{same_Some}
 use Rattle.daide_lines.specs.declared.lines.Found.{Found}
 use Rattle.daide_lines.specs.declared.lines.Found.TheVariants.{Held, Line, Last, End}
 use Rattle.daide_lines.specs.declared.fault.LogFault.{LogFault}
 use Rattle.daide_lines.specs.declared.fault.LogFault.TheVariants as Faults
 use Rattle.daide_log.specs.declared.opening.Opened.{Opened}
-use Rattle.daide_log.specs.declared.opening.Step.{Step}
-use Rattle.daide_log.specs.declared.opening.Step.TheVariants.{More}
-use Rattle.daide_log.specs.declared.heading.Head as heads
+use Rattle.daide_log.specs.declared.opening.PreambleProgress.{PreambleProgress}
+use Rattle.daide_log.specs.declared.opening.PreambleProgress.TheVariants.{More}
+use Rattle.daide_log.specs.declared.heading.Preamble as heads
 use Rattle.daide_log.specs.declared.heading.Heading as headings
 use Rattle.daide_log.specs.declared.heading.Heading.TheVariants as Variants
 use Rattle.daide_log.specs.Heading.{Headed, heading_after, is_whole}
@@ -24,7 +24,7 @@ use Rattle.daide_log.specs.Log.{Opening, stage_at, begun}
 use Rattle.daide_lines.specs.Reader.{Reader}
 use Rattle.daide_lines.specs.Lines.{IsFound}
 use Rattle.daide_lines.proofs.PageLemmas.{keeps_appends}
-use Rattle.daide_log.specs.Progress.{HasRead, HasReadAll, IsStep, IsOpened, IsOpenedBy, IsFaultAfter, states_of}
+use Rattle.daide_log.specs.Progress.{HasRead, HasReadAll, IsPreambleProgress, IsOpened, IsOpenedBy, IsFaultAfter, states_of}
 use Rattle.daide_log.proofs.LogLemmas.{line_read, last_read, end_read, bad_line, bad_last, ends_early, fault_found}
 
 -- where a head is not whole a line of it is to come
@@ -40,7 +40,7 @@ more_to_come (Variants.Headed head) e = go (is_whole (head_of head)) e
     go false e = refl
 
 -- where it is the sessions begin
-pub whole_begun : (heading : headings.Heading) (head : heads.Head) → whole heading ≡ Some head →
+pub whole_begun : (heading : headings.Heading) (head : heads.Preamble) → whole heading ≡ Some head →
     stage_at (heading_of heading) ≡ begun (head_of head)
 whole_begun Variants.Unnamed head e = absurd (cc)
 whole_begun (Variants.Named version) head e = absurd (cc)
@@ -48,7 +48,7 @@ whole_begun (Variants.Headed held) head e = go (is_whole (head_of held)) e
   where
     go : (b : Bool) → cond b (Some held) None ≡ Some head →
         cond b (begun (head_of held)) (Opening (Headed (head_of held))) ≡ begun (head_of head)
-    go true e = ap (λ (h : heads.Head). begun (head_of h)) (same_Some held head e)
+    go true e = ap (λ (h : heads.Preamble). begun (head_of h)) (same_Some held head e)
     go false e = absurd (cc)
 
 -- so many lines of the head were read, and nothing was written
@@ -61,7 +61,7 @@ pub record IsReading (old now : Reader) (held : List ℕ) (number : ℕ) (headin
 
 -- ---- what was kept, and what is held
 
-pub step_kept : (found : Result Found LogFault) (next : Option headings.Heading) (n : ℕ) (step : Step) (P : Type 0) →
+pub step_kept : (found : Result Found LogFault) (next : Option headings.Heading) (n : ℕ) (step : PreambleProgress) (P : Type 0) →
     after_line found next n ≡ Ok step → OnOk found P → P
 step_kept (Err fault) next n step P e h = absurd (cc)
 step_kept (Ok found) next n step P e h = h
@@ -72,8 +72,8 @@ pub fault_keeps : (found : Result Found LogFault) (next : Option headings.Headin
 fault_keeps (Err f) next n fault P e h k other = k (λ w. other (cc))
 fault_keeps (Ok found) next n fault P e h k other = h
 
-next_of : (next heading : headings.Heading) (n : ℕ) (o : Option heads.Head) →
-    ◌≡◌ {A = Result Step LogFault} (Ok (further next (n + 1) o)) (Ok (More heading)) → Some next ≡ Some heading
+next_of : (next heading : headings.Heading) (n : ℕ) (o : Option heads.Preamble) →
+    ◌≡◌ {A = Result PreambleProgress LogFault} (Ok (further next (n + 1) o)) (Ok (More heading)) → Some next ≡ Some heading
 next_of next heading n None w = cc
 next_of next heading n (Some head) w = absurd (cc)
 
@@ -87,7 +87,7 @@ next_is (Ok Line) (Some next) n heading e = next_of next heading n (whole next) 
 next_is (Ok Last) None n heading e = absurd (cc)
 next_is (Ok Last) (Some next) n heading e = go (whole next) e
   where
-    go : (o : Option heads.Head) → at_last (n + 1) o ≡ Ok (More heading) → Some next ≡ Some heading
+    go : (o : Option heads.Preamble) → at_last (n + 1) o ≡ Ok (More heading) → Some next ≡ Some heading
     go None w = absurd (cc)
     go (Some head) w = absurd (cc)
 next_is (Ok End) next n heading e = absurd (cc)
@@ -121,7 +121,7 @@ pub memory_wanted : (opened : Opened) (old new : Reader) (held : List ℕ) (a b 
 memory_wanted opened old new held a b fault e h k = subst (IsFaultAfter old new a b) (sym e) (opened, held, h, k)
 
 -- as many sessions were made as the head says
-pub as_many : (sessions : List Gateway) (n : ℕ) (state : SessionState) → states_of sessions ≡ replicate n state →
+pub as_many : (sessions : List SessionView) (n : ℕ) (state : SessionState) → states_of sessions ≡ replicate n state →
     length sessions ≡ n
 as_many [] zero state e = refl
 as_many [] (suc n) state e = absurd (cc)
@@ -136,7 +136,7 @@ as_many (session ∷ sessions) (suc n) state e =
 line_judged : (before all : Option (List ℕ)) (old now new : Reader) (held line rest : List ℕ) (n : ℕ) (heading : headings.Heading)
     (next : Option headings.Heading) → HasRead before old now held n [] (Opening (heading_of heading)) → Keeps before all →
     IsFound all now held n (Ok Line) line new rest → option_map heading_of next ≡ heading_after (heading_of heading) line →
-    IsStep before old new rest n (after_line (Ok Line) next n)
+    IsPreambleProgress before old new rest n (after_line (Ok Line) next n)
 line_judged before all old now new held line rest n heading None h k f e =
     bad_line before all old now new held rest line n [] (Opening (heading_of heading)) h (keeps_appends before all k) f (sym e)
 line_judged before all old now new held line rest n heading (Some next) h k f e = go (whole next) refl
@@ -145,7 +145,7 @@ line_judged before all old now new held line rest n heading (Some next) h k f e 
     read = line_read before all old now new held rest line n [] [] (Opening (heading_of heading)) (stage_at (heading_of next)) h (keeps_appends before all k) f
         (heading_of next, sym e, refl, refl)
 
-    go : (o : Option heads.Head) → whole next ≡ o → IsStep before old new rest n (Ok (further next (n + 1) o))
+    go : (o : Option heads.Preamble) → whole next ≡ o → IsPreambleProgress before old new rest n (Ok (further next (n + 1) o))
     go None w = (subst (HasRead before old new rest (n + 1) []) (more_to_come next w) read, f.4)
     go (Some head) w = (subst (HasRead before old new rest (n + 1) []) (whole_begun next head w) read, omega (arith, f.4))
 
@@ -153,7 +153,7 @@ line_judged before all old now new held line rest n heading (Some next) h k f e 
 pub head_judged : (before all : Option (List ℕ)) (old now new : Reader) (held line rest : List ℕ) (n : ℕ) (found : Result Found LogFault)
     (heading : headings.Heading) (next : Option headings.Heading) →
     HasRead before old now held n [] (Opening (heading_of heading)) → Keeps before all → IsFound all now held n found line new rest →
-    option_map heading_of next ≡ heading_after (heading_of heading) line → IsStep before old new rest n (after_line found next n)
+    option_map heading_of next ≡ heading_after (heading_of heading) line → IsPreambleProgress before old new rest n (after_line found next n)
 head_judged before all old now new held line rest n (Err fault) heading next h k f e =
     fault_found before all old now new held rest line n [] (Opening (heading_of heading)) fault h (keeps_appends before all k) f
 head_judged before all old now new held line rest n (Ok (Held j)) heading None h k f e =
@@ -170,7 +170,7 @@ head_judged before all old now new held line rest n (Ok Last) heading (Some next
     read = last_read before all old now new held rest line n [] [] (Opening (heading_of heading)) (stage_at (heading_of next)) h (keeps_appends before all k) f
         (heading_of next, sym e, refl, refl)
 
-    go : (o : Option heads.Head) → whole next ≡ o → IsStep before old new rest n (at_last (n + 1) o)
+    go : (o : Option heads.Preamble) → whole next ≡ o → IsPreambleProgress before old new rest n (at_last (n + 1) o)
     go None w = ends_early before old new (n + 1) [] (Opening (heading_of next))
         (subst (HasReadAll before old new (n + 1) []) (more_to_come next w) read) tt
     go (Some head) w = (subst (HasReadAll before old new (n + 1) []) (whole_begun next head w) read, omega (arith, f.6))

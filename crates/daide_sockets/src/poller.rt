@@ -38,7 +38,7 @@ pub struct Flags {
 
 /// The table of a run, and the moment at which the system was asked last.
 #[derive(Drop)]
-pub struct Watch<R: Clock> {
+pub struct Poller<R: Clock> {
     clock: R,
     registry: Registry,
     waiter: RefCell<Waiter>,
@@ -63,7 +63,7 @@ struct Waiter {
 
 /// Why there is no table.
 #[derive(Clone, Copy, Debug)]
-pub enum WatchFault {
+pub enum PollerError {
     /// The system has no descriptor for it.
     System,
     /// Memory was refused.
@@ -71,15 +71,15 @@ pub enum WatchFault {
 }
 
 /// A socket's row of the table, which is free again where this is dropped.
-pub struct Place<'w> {
+pub struct Registration<'w> {
     /// What is known of the socket.
     pub flags: &'w Flags,
 }
 
-impl Drop for Place<'_> {
+impl Drop for Registration<'_> {
     fn drop(self) {
         self.flags.is_taken.set(false);
-        let Place { flags: _ } = self;
+        let Registration { flags: _ } = self;
     }
 }
 
@@ -164,30 +164,30 @@ impl Flags {
     }
 }
 
-impl<R: Clock + Drop> Watch<R> {
+impl<R: Clock + Drop> Poller<R> {
     /// A table of so many sockets, of which none is followed. Its descriptors and its memory are taken at once.
     pub fn new<N: Net>(
         alloc: Global,
         clock: R,
         net: &N,
         sockets: usize,
-    ) -> Result<Watch<R>, WatchFault>
-        ensures rows { IfOk result (λ watch. vec_len watch.flags ≡ sockets) }
+    ) -> Result<Poller<R>, PollerError>
+        ensures rows { IfOk result (λ poller. vec_len poller.flags ≡ sockets) }
     {
         let Ok(poll) = Poll::new(net) else {
-            return Err(WatchFault::System);
+            return Err(PollerError::System);
         };
         let Ok(registry) = poll.registry().try_clone() else {
-            return Err(WatchFault::System);
+            return Err(PollerError::System);
         };
         let Ok(events) = Events::with_capacity(alloc, EVENTS) else {
-            return Err(WatchFault::Memory);
+            return Err(PollerError::Memory);
         };
         let Ok(flags) = Flags::free_rows(alloc, sockets) else {
-            return Err(WatchFault::Memory);
+            return Err(PollerError::Memory);
         };
         let now = Instant::now(&clock).ok();
-        Ok(Watch {
+        Ok(Poller {
             clock,
             registry,
             waiter: RefCell::new(Waiter { poll, events }),
@@ -201,7 +201,7 @@ impl<R: Clock + Drop> Watch<R> {
     }
 }
 
-impl<R: Clock> Watch<R> {
+impl<R: Clock> Poller<R> {
     /// The room for what the sockets hold.
     pub fn pool(&self) -> &Pool {
         &self.pool
@@ -223,12 +223,16 @@ impl<R: Clock> Watch<R> {
     }
 
     /// Follows a socket, where the table has a row for it and the system agrees.
-    pub fn follow<S: Source>(&self, source: &mut S, interest: Interest) -> Option<Place<'_>> {
+    pub fn follow<S: Source>(
+        &self,
+        source: &mut S,
+        interest: Interest,
+    ) -> Option<Registration<'_>> {
         for (token, flags) in self.flags.iter().enumerate() {
             if !flags.is_taken.get() {
                 flags.take();
                 self.used.set(self.used.get().max(token.saturating_add(1)));
-                let place = Place { flags };
+                let place = Registration { flags };
                 self.registry.register(source, Token(token), interest).ok()?;
                 return Some(place);
             }

@@ -1,6 +1,6 @@
 use Rattle.daide_grammar.specs.Table.Proved.PlainLaws.{plain_laws}
 use Rattle.daide_grammar.proofs.PredictionLemmas.{short-rest}
-use Rattle.daide_grammar.proofs.laws.stacks_are_short.Goals as goal
+use Rattle.daide_grammar.proofs.laws.stack_is_bounded.Goals as goal
 
 pub returns-clause-entries : goal.returns-clause-entries
 returns-clause-entries c = plain_laws.few_entries
