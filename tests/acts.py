@@ -1,0 +1,358 @@
+"""What a scene is made of: acts of the bots and of the server, played one after another on a stage.
+
+An act is played again and again until it is done; it is wrong once it can't be done any more.
+"""
+
+import resource
+import select
+import selectors
+import socket
+import time
+from dataclasses import dataclass, fields
+
+from frames import UNCLOSED
+from held import Wrong, brief
+
+
+@dataclass(frozen=True)
+class Bot:
+    """A bot, numbered as they come."""
+
+    number: int
+
+    def __str__(self):
+        return f"bot {self.number}"
+
+
+@dataclass(frozen=True)
+class Server:
+    """The server's end of a connection, numbered as it accepts them."""
+
+    number: int
+
+    def __str__(self):
+        return f"server {self.number}"
+
+
+class Act:
+    """What is done, or waited for."""
+
+    def play(self, stage):
+        """Whether it is done; where not, the stage knows what it waits for."""
+        raise NotImplementedError
+
+    def __str__(self):
+        words = ", ".join(brief(getattr(self, field.name)) for field in fields(self))
+        return f"{type(self).__name__}({words})"
+
+
+@dataclass(frozen=True)
+class Listens(Act):
+    """The program says that bots may come."""
+
+    def play(self, stage):
+        return stage.run.printed == b"listening\n"
+
+
+@dataclass(frozen=True)
+class Comes(Act):
+    """A bot connects."""
+
+    def play(self, stage):
+        stage.add_bot()
+        return True
+
+
+@dataclass(frozen=True)
+class FinishesConnect(Act):
+    """The server accepts a connection."""
+
+    def play(self, stage):
+        return stage.meets() or stage.awaits(stage.listener)
+
+
+@dataclass(frozen=True)
+class MeetsNobody(Act):
+    """Nobody connects to the server, nor does within a twentieth of a second."""
+
+    def play(self, stage):
+        came, _, _ = select.select([stage.listener], [], [], 0.05)
+        if came:
+            raise Wrong("somebody came, and nobody should")
+        return True
+
+
+@dataclass(frozen=True)
+class Empties(Act):
+    """The server accepts all connections that wait, and lets them go."""
+
+    def play(self, stage):
+        try:
+            while True:
+                stage.listener.accept()[0].close()
+        except BlockingIOError:
+            return True
+
+
+@dataclass(frozen=True)
+class Hoards(Act):
+    """The program may take so many descriptors more, and no others."""
+
+    left: int
+
+    def play(self, stage):
+        taken, limit = stage.run.descriptors(), 0
+        for _ in range(self.left):
+            while limit in taken:
+                limit += 1
+            limit += 1
+        pid = stage.run.process.pid
+        stage.hoard = resource.prlimit(pid, resource.RLIMIT_NOFILE)
+        resource.prlimit(pid, resource.RLIMIT_NOFILE, (limit, stage.hoard[1]))
+        return True
+
+
+@dataclass(frozen=True)
+class Frees(Act):
+    """It may take as many again as before."""
+
+    def play(self, stage):
+        resource.prlimit(stage.run.process.pid, resource.RLIMIT_NOFILE, stage.hoard)
+        return True
+
+
+@dataclass(frozen=True)
+class Says(Act):
+    """Sends these bytes."""
+
+    who: object
+    data: bytes
+
+    def play(self, stage):
+        stream = stage.peer(self.who).stream
+        try:
+            count = stream.send(self.data)
+        except BlockingIOError:
+            return stage.awaits(stream, to_write=True)
+        except OSError as fault:
+            raise Wrong(f"its connection failed: {fault}") from None
+        if count != len(self.data):
+            raise Wrong(f"{count} bytes had room, of {len(self.data)}")
+        return True
+
+
+@dataclass(frozen=True)
+class Hears(Act):
+    """Has heard these bytes, and no more, since it last did."""
+
+    who: object
+    wanted: bytes
+
+    def play(self, stage):
+        peer = stage.peer(self.who)
+        peer.listen()
+        if peer.heard == self.wanted:
+            peer.heard.clear()
+            return True
+        if peer.has_ended or not self.wanted.startswith(peer.heard):
+            raise Wrong(f"saw {peer.told()}, wanted {brief(self.wanted)}")
+        return stage.awaits(peer.stream)
+
+
+@dataclass(frozen=True)
+class HearsEnd(Act):
+    """Hears the end of the other's stream, and nothing before it."""
+
+    who: object
+
+    def play(self, stage):
+        peer = stage.peer(self.who)
+        peer.listen()
+        if peer.heard:
+            raise Wrong(f"saw {peer.told()}, wanted the end")
+        return peer.has_ended or stage.awaits(peer.stream)
+
+
+@dataclass(frozen=True)
+class HearsEndAlone(Act):
+    """The same, and no reset in place of it."""
+
+    who: object
+
+    def play(self, stage):
+        peer = stage.peer(self.who)
+        peer.listen()
+        fault = peer.fault or peer.stream.getsockopt(socket.SOL_SOCKET, socket.SO_ERROR)
+        if fault:
+            raise Wrong(f"saw {fault}, wanted the end alone")
+        return HearsEnd(self.who).play(stage)
+
+
+@dataclass(frozen=True)
+class Ends(Act):
+    """Ends its stream, and hears further."""
+
+    who: object
+
+    def play(self, stage):
+        try:
+            stage.peer(self.who).stream.shutdown(socket.SHUT_WR)
+        except OSError as fault:
+            raise Wrong(f"its connection failed: {fault}") from None
+        return True
+
+
+@dataclass(frozen=True)
+class FindsOpen(Act):
+    """Sends, and finds the other end's socket open still."""
+
+    who: object
+
+    def play(self, stage):
+        if not stage.peer(self.who).finds_open():
+            raise Wrong("saw a closed socket, wanted an open one")
+        return True
+
+
+@dataclass(frozen=True)
+class FindsClosed(Act):
+    """Sends, and finds it closed."""
+
+    who: object
+
+    def play(self, stage):
+        if stage.peer(self.who).finds_open():
+            raise Wrong("saw an open socket, wanted a closed one")
+        return True
+
+
+@dataclass(frozen=True)
+class Passes(Act):
+    """So many milliseconds pass."""
+
+    millis: int
+
+    def play(self, stage):
+        return stage.awaits_moment(stage.act_began + self.millis / 1000)
+
+
+@dataclass(frozen=True)
+class Pours(Act):
+    """Begins to send these bytes so many times, as they are taken, beside the acts that follow."""
+
+    who: object
+    data: bytes
+    times: int
+
+    def play(self, stage):
+        stage.flows.append(Flow(stage.peer(self.who), self.data * self.times))
+        return True
+
+
+@dataclass(frozen=True)
+class Floods(Act):
+    """A bot begins to send messages without end whose bracket never closes, and drops what it hears."""
+
+    number: int
+
+    def play(self, stage):
+        stage.flows.append(Flow(stage.peer(Bot(self.number)), UNCLOSED * 4096, has_end=False))
+        stage.flood_began = time.monotonic()
+        return True
+
+
+@dataclass(frozen=True)
+class Flooded(Act):
+    """It has done so for a second."""
+
+    def play(self, stage):
+        return stage.awaits_moment(stage.flood_began + 1)
+
+
+@dataclass(frozen=True)
+class Leave(Act):
+    """All bots go, and leave unread what was sent to them."""
+
+    def play(self, stage):
+        stage.flows.clear()
+        for bot in stage.bots:
+            bot.stream.close()
+        stage.bots.clear()
+        return True
+
+
+@dataclass(frozen=True)
+class Rests(Act):
+    """The run is left alone until it ends."""
+
+    def play(self, stage):
+        return stage.run.has_ended()
+
+
+class Peer:
+    """One end of a connection."""
+
+    def __init__(self, stream):
+        stream.setblocking(False)
+        self.stream, self.heard = stream, bytearray()
+        self.has_ended, self.fault, self.is_gone = False, None, False
+
+    def listen(self):
+        """Takes what is there."""
+        try:
+            while not self.has_ended:
+                piece = self.stream.recv(65_536)
+                self.heard += piece
+                self.has_ended = not piece
+        except BlockingIOError:
+            pass
+        except OSError as fault:
+            self.has_ended, self.fault = True, fault
+
+    def told(self):
+        """What it heard, for who reads of a test that failed."""
+        end = f", then {self.fault or 'the end'}" if self.has_ended else ""
+        return brief(self.heard) + end
+
+    def finds_open(self):
+        """Sends a byte thrice: where the other end's socket is closed, the first is answered by a reset."""
+        try:
+            for _ in range(3):
+                self.stream.send(b"\0")
+                time.sleep(0.001)
+        except OSError:
+            self.is_gone = True
+        return not self.is_gone
+
+
+class Flow:
+    """Bytes that an end sends beside the acts, as its socket takes them; without an end, again and again, and it drops
+    what it hears."""
+
+    def __init__(self, peer, data, has_end=True):
+        self.peer, self.data, self.has_end = peer, memoryview(data), has_end
+        self.sent = 0
+
+    def is_done(self):
+        """Whether all of it went out."""
+        return self.has_end and self.sent == len(self.data)
+
+    def events(self):
+        """What it waits for."""
+        return selectors.EVENT_WRITE if self.has_end else selectors.EVENT_WRITE | selectors.EVENT_READ
+
+    def go_on(self):
+        """Sends what the socket takes."""
+        if not self.has_end:
+            self.peer.listen()
+            self.peer.heard.clear()
+        try:
+            while self.sent < len(self.data):
+                self.sent += self.peer.stream.send(self.data[self.sent :])
+            if not self.has_end:
+                self.sent = 0
+        except BlockingIOError:
+            pass
+        except OSError as fault:
+            self.sent, self.has_end = len(self.data), True
+            self.peer.fault = fault

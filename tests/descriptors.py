@@ -1,0 +1,103 @@
+"""Scenes of many sockets that close, and of few descriptors."""
+
+import time
+
+from acts import (
+    Bot, Comes, Ends, FindsClosed, FindsOpen, FinishesConnect, Frees, Hears, HearsEnd, Hoards, MeetsNobody, Passes,
+    Says, Server,
+)
+from frames import FM, IM
+from gateway import asks, joins
+from held import Wrong
+from stage import Scene, begun
+
+# How many sessions end. With four descriptors each they are fewer than 1,024.
+SESSIONS = 150
+
+# Each session is served and ends, and both peers stay and say nothing.
+END_SILENTLY = [
+    act
+    for number in range(SESSIONS)
+    for act in (
+        *joins(),
+        *asks(number),
+        Says(Bot(number), FM),
+        Hears(Server(number), FM),
+        HearsEnd(Server(number)),
+        HearsEnd(Bot(number)),
+    )
+]
+
+# Of 300 sockets the 44 that began to close first are closed, which are those of 22 sessions.
+OLDEST_ARE_CLOSED = [
+    FindsClosed(Bot(0)),
+    FindsClosed(Server(0)),
+    FindsClosed(Bot(21)),
+    FindsClosed(Server(21)),
+    FindsOpen(Bot(22)),
+    FindsOpen(Server(22)),
+    FindsOpen(Bot(85)),
+    FindsOpen(Server(149)),
+]
+
+# A silent peer's socket is closed a second after its session. All is to be acted within less, or nothing is seen.
+QUICK = 0.9
+
+# How often it is tried.
+TIMES = 10
+
+# Where a bot was kept out, it alone waited, and the rest was quick.
+KEPT_OUT = 0.4
+
+
+class Many(Scene):
+    """Of the sockets that wait for silent peers the gateway keeps the last 256, so that there is a row for each bot
+    that comes. The program's clock can't be stopped, so where the machine was too slow it is played again."""
+
+    def play(self, program):
+        """Plays it until the machine was quick enough; a line says so where it never was."""
+        slow = []
+        for _ in range(TIMES):
+            with begun(program, self.settings, self.server) as stage:
+                seconds = self.play_once(stage)
+                if seconds < QUICK:
+                    return None
+                slow.append((seconds, seconds - stage.longest))
+        if all(seconds - rest > KEPT_OUT for seconds, rest in slow) and min(rest for _, rest in slow) < KEPT_OUT:
+            raise Wrong(f"each time a bot waited for more than {KEPT_OUT} s, wanted none that waits")
+        return f"not seen: {SESSIONS} sessions took {min(slow)[0]:.1f} s, and a silent peer's socket has one"
+
+    def play_once(self, stage):
+        """Plays it once, and tells how long that took; what is found of the sockets counts where it was quick."""
+        began = time.monotonic()
+        stage.play(END_SILENTLY)
+        try:
+            stage.play(OLDEST_ARE_CLOSED)
+        except Wrong:
+            if time.monotonic() - began < QUICK:
+                raise
+            return time.monotonic() - began
+        seconds = time.monotonic() - began
+        self.end(stage)
+        return seconds
+
+
+# One descriptor is left when a bot comes, and its session wants two. The bot waits in the queue, and is served once
+# there are two. The program accepts as soon as it can, so they are taken before the bot comes.
+ONE_IS_LEFT = [
+    Hoards(1),
+    Comes(),
+    Passes(250),
+    MeetsNobody(),
+    Frees(),
+    FinishesConnect(),
+    Says(Bot(0), IM),
+    Hears(Server(0), IM),
+    Ends(Bot(0)),
+    Hears(Server(0), FM),
+]
+
+SCENES = [
+    Many("silent_peers_keep_no_bot_out", END_SILENTLY, f"max_sessions = 1\nsessions = {SESSIONS}"),
+    Scene("few_descriptors_make_a_bot_wait", ONE_IS_LEFT, waits=True),
+]

@@ -1,0 +1,33 @@
+"""The frames that the scenes send and hear, each by its bytes as docs/PROTOCOL.md has them."""
+
+# The initial message, the answer to it, and the final message.
+IM = b"\x00\x00\x00\x04\x00\x01\xda\x10"
+RM = b"\x01\x00\x00\x00"
+FM = b"\x03\x00\x00\x00"
+IM_FM = IM + FM
+
+# The initial message came too late; a length above the cap, or a type that there is none of.
+EM_01 = b"\x04\x00\x00\x02\x00\x01"
+EM_08 = b"\x04\x00\x00\x02\x00\x08"
+
+# `OBS`, that and the final message behind it, and `YES ( OBS )`.
+OBS = b"\x02\x00\x00\x02\x48\x0f"
+OBS_FM = OBS + FM
+YES = b"\x02\x00\x00\x08\x48\x1c\x40\x00\x48\x0f\x40\x01"
+
+# `GOF (`, and `PRN ( GOF ( )`.
+UNCLOSED = b"\x02\x00\x00\x04\x48\x03\x40\x00"
+ITS_PRN = b"\x02\x00\x00\x0a\x48\x13\x40\x00\x48\x03\x40\x00\x40\x01"
+
+# `HLO ( ENG ) ( 1234 ) ( ( LVL 20 ) )`.
+HLO_20 = bytes.fromhex("02 00 001a 4804 4000 4101 4001 4000 04d2 4001 4000 4000 4903 0014 4001 4001")
+
+# `SND ( FRA ) ( XYZ ( ENG ) )`, XYZ being 4A40, and `HUH ( SND ( FRA ) ( ERR XYZ ( ENG ) ) )`.
+XYZ = bytes.fromhex("02 00 0014 4817 4000 4102 4001 4000 4a40 4000 4101 4001 4001")
+ITS_HUH = bytes.fromhex("02 00 001c 4806 4000 4817 4000 4102 4001 4000 4902 4a40 4000 4101 4001 4001 4001")
+
+# `NME ( 'a..' ) ( 'a' )`, with a name of 480 letters: 976 bytes.
+LONG_NAME = b"\x02\x00\x03\xcc\x48\x0c\x40\x00" + b"Ka" * 480 + b"\x40\x01\x40\x00Ka\x40\x01"
+
+# Bytes of a type that there is none of, which nobody reads behind the first four.
+UNKNOWN = b"\x05" * 1024

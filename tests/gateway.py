@@ -1,0 +1,201 @@
+"""Scenes of the gateway at work, each by its acts; what is heard is worked out from docs/PROTOCOL.md."""
+
+from acts import (
+    Bot, Comes, Ends, FinishesConnect, Flooded, Floods, Hears, HearsEnd, HearsEndAlone, Leave, MeetsNobody, Pours,
+    Rests, Says, Server,
+)
+from frames import (
+    EM_01, EM_08, FM, HLO_20, IM, IM_FM, ITS_HUH, ITS_PRN, OBS, OBS_FM, RM, UNCLOSED, UNKNOWN, XYZ,
+)
+from stage import Scene, full_listener, silent_door
+
+UNREACHED = "daide-gate: cannot reach the server\n"
+
+
+def joins():
+    """A bot comes, and is joined with the server."""
+    return [Comes(), FinishesConnect()]
+
+
+def asks(number):
+    """A bot says its IM, which the server hears."""
+    return [Says(Bot(number), IM), Hears(Server(number), IM)]
+
+
+def greets(number):
+    """The server's answer to it."""
+    return [Says(Server(number), RM), Hears(Bot(number), RM)]
+
+
+def opens(number):
+    """A session opens."""
+    return asks(number) + greets(number)
+
+
+OPENS_AND_ENDS = [
+    *joins(),
+    *opens(0),
+    Says(Bot(0), FM),
+    Hears(Server(0), FM),
+    HearsEnd(Server(0)),
+    HearsEnd(Bot(0)),
+]
+
+GETS_PRN = [
+    *joins(),
+    *opens(0),
+    Says(Bot(0), UNCLOSED),
+    Hears(Bot(0), ITS_PRN),
+    Says(Bot(0), OBS),
+    Hears(Server(0), OBS),
+    Ends(Bot(0)),
+    Hears(Server(0), FM),
+    HearsEnd(Server(0)),
+    HearsEnd(Bot(0)),
+]
+
+# The settings of a press of a power from level 20 on.
+WITH_XYZ = 'words = [ { name = "XYZ", code = 0x4A40, slot = "press", level = 20, operand = "power" } ]'
+
+WORD_GOES_ON = [
+    *joins(),
+    *opens(0),
+    Says(Server(0), HLO_20),
+    Hears(Bot(0), HLO_20),
+    Says(Bot(0), XYZ),
+    Hears(Server(0), XYZ),
+    Says(Bot(0), FM),
+    Hears(Server(0), FM),
+]
+
+WORD_IS_UNKNOWN = [
+    *joins(),
+    *opens(0),
+    Says(Server(0), HLO_20),
+    Hears(Bot(0), HLO_20),
+    Says(Bot(0), XYZ),
+    Hears(Bot(0), ITS_HUH),
+    Says(Bot(0), FM),
+    Hears(Server(0), FM),
+]
+
+# A bot that no server is there for counts as a served one.
+NOBODY_SERVES = [Comes(), HearsEnd(Bot(0)), Comes(), HearsEnd(Bot(1))]
+
+# A server that lets its queue run full doesn't answer at all; it is given up after its time, and the run goes on.
+NEVER_ANSWERS = [Comes(), HearsEnd(Bot(0))]
+
+# An end that comes together with the last bytes is heard behind them, though the system tells it but once.
+ENDS_WITH_ITS_LAST = [
+    *joins(),
+    *opens(0),
+    Says(Bot(0), OBS),
+    Ends(Bot(0)),
+    Hears(Server(0), OBS_FM),
+    HearsEnd(Server(0)),
+    HearsEnd(Bot(0)),
+]
+
+TWO_AT_ONCE = [
+    *joins(),
+    *joins(),
+    *asks(1),
+    *asks(0),
+    Says(Server(0), RM),
+    Says(Server(1), RM),
+    Hears(Bot(1), RM),
+    Hears(Bot(0), RM),
+    Says(Bot(0), UNCLOSED),
+    Says(Bot(1), OBS),
+    Hears(Server(1), OBS),
+    Hears(Bot(0), ITS_PRN),
+    Says(Server(1), FM),
+    Hears(Bot(1), FM),
+    HearsEnd(Bot(1)),
+    Says(Bot(0), OBS),
+    Hears(Server(0), OBS),
+    Says(Bot(0), FM),
+    Hears(Server(0), FM),
+    HearsEnd(Server(0)),
+]
+
+ONE_FLOODS = [
+    *joins(),
+    *joins(),
+    *opens(0),
+    *asks(1),
+    Floods(0),
+    *greets(1),
+    Says(Bot(1), OBS),
+    Hears(Server(1), OBS),
+    Flooded(),
+    Says(Bot(1), OBS),
+    Hears(Server(1), OBS),
+    Says(Bot(1), UNCLOSED),
+    Hears(Bot(1), ITS_PRN),
+    Says(Bot(1), FM),
+    Hears(Server(1), FM),
+    HearsEnd(Server(1)),
+    Leave(),
+    Hears(Server(0), FM),
+]
+
+SECOND_WAITS = [
+    Comes(),
+    Comes(),
+    FinishesConnect(),
+    Says(Bot(1), IM),
+    *opens(0),
+    MeetsNobody(),
+    Says(Bot(0), FM),
+    Hears(Server(0), FM),
+    FinishesConnect(),
+    Hears(Server(1), IM),
+    Says(Bot(1), FM),
+    Hears(Server(1), FM),
+]
+
+# How many bots are idle at once.
+IDLE = 60
+
+# Each bot is greeted at once, though all before it are idle: a wait that missed it would last for the whole scene.
+ALL_ARE_GREETED = [
+    *(act for number in range(IDLE) for act in joins() + opens(number)),
+    Leave(),
+    *(Hears(Server(number), FM) for number in range(IDLE)),
+]
+
+# The timer runs out while nothing comes, and the run waits.
+STAYS_SILENT = [
+    *joins(),
+    Rests(),
+    Hears(Bot(0), EM_01),
+    HearsEnd(Bot(0)),
+    HearsEnd(Server(0)),
+]
+
+HEARS_THE_END = [*joins(), HearsEnd(Bot(0)), HearsEnd(Server(0))]
+
+# A bot that opens and ends its session at once, and a server that accepts it once the run has ended.
+COMES_AND_GOES = [Comes(), Says(Bot(0), IM_FM), Rests(), FinishesConnect(), Hears(Server(0), IM_FM)]
+
+# The run ends once the last socket is closed in its stages: what its last bot sent and nobody read resets nothing.
+IS_NOT_RESET = [Comes(), Pours(Bot(0), UNKNOWN, 20), Rests(), Hears(Bot(0), EM_08), HearsEndAlone(Bot(0))]
+
+SCENES = [
+    Scene("opens_with_im_and_rm_over_sockets", OPENS_AND_ENDS),
+    Scene("unclosed_bracket_gets_prn_over_sockets", GETS_PRN),
+    Scene("word_of_the_settings_goes_on", WORD_GOES_ON, WITH_XYZ),
+    Scene("word_that_no_settings_have_gets_huh", WORD_IS_UNKNOWN),
+    Scene("nobody_listens_at_the_server", NOBODY_SERVES, "sessions = 2", UNREACHED * 2, server=silent_door),
+    Scene("server_that_never_answers_is_given_up", NEVER_ANSWERS, told=UNREACHED, server=full_listener, waits=True),
+    Scene("end_that_comes_with_the_last_bytes_is_heard", ENDS_WITH_ITS_LAST),
+    Scene("two_sessions_at_once", TWO_AT_ONCE, "sessions = 2"),
+    Scene("messages_pass_beside_a_flood", ONE_FLOODS, "sessions = 2"),
+    Scene("one_bot_more_than_held_waits", SECOND_WAITS, "max_sessions = 1\nsessions = 2"),
+    Scene("each_is_greeted_beside_idle_ones", ALL_ARE_GREETED, f"max_sessions = {IDLE}\nsessions = {IDLE}"),
+    Scene("silent_bot_gets_em_01_after_its_time", STAYS_SILENT, "im_seconds = 1", waits=True),
+    Scene("spent_turns_are_told", HEARS_THE_END, "turns = 1", "daide-gate: turns spent\n"),
+    Scene("whole_run_listens_serves_and_ends", COMES_AND_GOES),
+    Scene("run_ends_without_a_reset", IS_NOT_RESET),
+]

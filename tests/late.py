@@ -1,0 +1,39 @@
+"""Scenes of a server that accepts late. A bot's connect has 5 seconds, the program's own, as docs/OPERATING.md says."""
+
+from acts import Bot, Comes, Empties, FinishesConnect, Hears, HearsEnd, Passes, Says, Server
+from frames import EM_01, FM, IM
+from gateway import UNREACHED
+from stage import Scene, full_listener
+
+# The server is there only when the second that a bot has for its IM is over since it came: that time runs from the
+# accept of the bot, and not from when the server accepts.
+IS_MET_LATE = [
+    Comes(),
+    Passes(1_100),
+    Empties(),
+    FinishesConnect(),
+    Says(Bot(0), IM),
+    Hears(Bot(0), EM_01),
+    HearsEnd(Bot(0)),
+    HearsEnd(Server(0)),
+]
+
+# The server's queue is full until the first of two bots was told that it is given up, and then takes the second. Each
+# bot's connect has its own time: one that is given up doesn't wait for those that came later.
+FIRST_IS_GIVEN_UP = [
+    Comes(),
+    Passes(3_000),
+    Comes(),
+    HearsEnd(Bot(0)),
+    Empties(),
+    FinishesConnect(),
+    Says(Bot(1), IM),
+    Hears(Server(0), IM),
+    Says(Bot(1), FM),
+    Hears(Server(0), FM),
+]
+
+SCENES = [
+    Scene("late_server_leaves_the_im_no_more_time", IS_MET_LATE, "im_seconds = 1", server=full_listener),
+    Scene("each_connect_has_its_own_time", FIRST_IS_GIVEN_UP, "sessions = 2", UNREACHED, server=full_listener),
+]

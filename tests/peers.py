@@ -1,0 +1,138 @@
+"""Scenes of peers that are slow, silent or gone: what docs/OPERATING.md says of them."""
+
+from acts import (
+    Bot, Comes, Ends, FindsClosed, Flooded, Floods, Hears, HearsEnd, HearsEndAlone, Leave, Passes, Pours, Rests, Says,
+    Server,
+)
+from frames import EM_08, FM, IM, LONG_NAME, OBS, UNKNOWN
+from gateway import UNREACHED, asks, joins, opens
+from stage import Scene, silent_door
+
+# The frames of a megabyte and more.
+MEGABYTE = 1_100
+
+# What a peer doesn't read yet waits for it, and nothing of it is lost.
+READS_LATE = [
+    *joins(),
+    *opens(0),
+    Pours(Bot(0), LONG_NAME, MEGABYTE),
+    Passes(300),
+    Hears(Server(0), LONG_NAME * MEGABYTE),
+    Says(Bot(0), FM),
+    Hears(Server(0), FM),
+    HearsEnd(Server(0)),
+]
+
+# The time for the IM runs out while the session is open: nothing is told, and the run waits on.
+STAYS_QUIET = [
+    *joins(),
+    *opens(0),
+    Passes(1_500),
+    Says(Bot(0), OBS),
+    Hears(Server(0), OBS),
+    Says(Bot(0), FM),
+    Hears(Server(0), FM),
+]
+
+# What a bot sent and nobody read destroys neither its EM nor the end behind it, at the run's last session too, and no
+# reset comes once the socket is closed.
+IS_FLOODED = [
+    *joins(),
+    Pours(Bot(0), UNKNOWN, 100),
+    Passes(200),
+    Hears(Bot(0), EM_08),
+    HearsEnd(Bot(0)),
+    HearsEnd(Server(0)),
+    Passes(1_200),
+    HearsEndAlone(Bot(0)),
+]
+
+# While a socket closes whose peer is silent, the run waits.
+CLOSES_SLOWLY = [
+    *joins(),
+    *asks(0),
+    Ends(Bot(0)),
+    Hears(Server(0), FM),
+    Passes(500),
+    HearsEnd(Bot(0)),
+    HearsEnd(Server(0)),
+    *joins(),
+    Ends(Bot(1)),
+    HearsEnd(Server(1)),
+    Rests(),
+]
+
+# Where nothing moves, the round behind each wait goes on with the sockets that close.
+CLOSES_BESIDE = [
+    *joins(),
+    *joins(),
+    *asks(0),
+    *asks(1),
+    Says(Bot(0), FM),
+    Hears(Server(0), FM),
+    Passes(1_500),
+    FindsClosed(Bot(0)),
+    FindsClosed(Server(0)),
+    Says(Bot(1), FM),
+    Hears(Server(1), FM),
+]
+
+# Each round goes on with the sockets that close, though no bot more is let in and another one floods, so that nothing
+# is ever waited for: those of silent peers are closed a second after their session.
+CLOSES_BESIDE_A_FLOOD = [
+    *joins(),
+    *joins(),
+    *opens(0),
+    *asks(1),
+    Floods(0),
+    Says(Bot(1), FM),
+    Hears(Server(1), FM),
+    Flooded(),
+    Passes(300),
+    FindsClosed(Bot(1)),
+    FindsClosed(Server(1)),
+    Leave(),
+    Hears(Server(0), FM),
+]
+
+# A bot that said something before its connect failed hears the end, and no reset.
+SPEAKS_TO_NOBODY = [Comes(), Says(Bot(0), IM), HearsEndAlone(Bot(0))]
+
+# How many connects are refused.
+REFUSED = 40
+
+# A connect that is refused is told at once: the time for a connect, for each of these, is more than the scene has.
+ARE_REFUSED = [act for number in range(REFUSED) for act in (Comes(), HearsEnd(Bot(number)))]
+
+# How many bots come, one after another.
+MANY = 150
+
+# They have one place: what each took of the run is given back.
+ONE_AFTER_ANOTHER = [
+    act
+    for number in range(MANY)
+    for act in (
+        *joins(),
+        *asks(number),
+        Says(Bot(number), FM),
+        Hears(Server(number), FM),
+        Ends(Bot(number)),
+        Ends(Server(number)),
+        HearsEnd(Server(number)),
+    )
+]
+
+SCENES = [
+    Scene("late_reader_gets_every_byte", READS_LATE),
+    Scene("open_session_outlasts_the_time_for_its_im", STAYS_QUIET, "im_seconds = 1", waits=True),
+    Scene("unread_bytes_leave_the_em_whole", IS_FLOODED),
+    Scene("few_rounds_while_a_socket_closes", CLOSES_SLOWLY, "sessions = 2", waits=True),
+    Scene("sockets_close_beside_an_idle_session", CLOSES_BESIDE, "sessions = 2", waits=True),
+    Scene("sockets_close_beside_a_flood", CLOSES_BESIDE_A_FLOOD, "sessions = 2"),
+    Scene("failed_connect_ends_without_a_reset", SPEAKS_TO_NOBODY, told=UNREACHED, server=silent_door),
+    Scene(
+        "refused_connects_are_told_at_once", ARE_REFUSED, f"sessions = {REFUSED}", UNREACHED * REFUSED,
+        server=silent_door,
+    ),
+    Scene("many_bots_one_after_another", ONE_AFTER_ANOTHER, f"max_sessions = 1\nsessions = {MANY}"),
+]

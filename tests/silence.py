@@ -1,0 +1,44 @@
+"""A scene of peers of which nothing comes for as long as the settings allow."""
+
+from acts import Bot, Hears, HearsEnd, Passes, Says, Server
+from frames import FM, OBS, YES
+from gateway import joins, opens
+from stage import Scene
+
+# In the first session the server falls silent, and in the second the bot; in the third both speak now and then. A side
+# of which nothing comes for a second is taken as ended, and the other side hears an FM; one that speaks now and then
+# stays. The run waits between.
+FALL_SILENT = [
+    *joins(),
+    *joins(),
+    *joins(),
+    *opens(0),
+    *opens(1),
+    *opens(2),
+    Passes(300),
+    Says(Bot(0), OBS),
+    Hears(Server(0), OBS),
+    Says(Server(1), YES),
+    Hears(Bot(1), YES),
+    Passes(300),
+    Says(Bot(2), OBS),
+    Hears(Server(2), OBS),
+    Says(Server(2), YES),
+    Hears(Bot(2), YES),
+    Hears(Bot(0), FM),
+    HearsEnd(Bot(0)),
+    HearsEnd(Server(0)),
+    Hears(Server(1), FM),
+    HearsEnd(Server(1)),
+    HearsEnd(Bot(1)),
+    Says(Bot(2), OBS),
+    Hears(Server(2), OBS),
+    Says(Server(2), YES),
+    Hears(Bot(2), YES),
+    Passes(300),
+    Says(Bot(2), FM),
+    Hears(Server(2), FM),
+    HearsEnd(Server(2)),
+]
+
+SCENES = [Scene("silent_side_is_taken_as_ended", FALL_SILENT, "idle_seconds = 1\nsessions = 3", waits=True)]

@@ -1,0 +1,271 @@
+"""A stage: bots and a server over loopback, beside the program at work, in one thread.
+
+A scene is a list of acts and what is wanted at its end: the program's lines, its status, and that every end of a
+connection has heard what the acts say, and no more. Where no act can go on it waits, until bytes come or a moment is
+over.
+"""
+
+import contextlib
+import os
+import pathlib
+import selectors
+import socket
+import subprocess
+import tempfile
+import time
+from dataclasses import dataclass, field
+
+from acts import Bot, HearsEnd, Listens, Peer, Rests, Server
+from held import Wrong, same
+
+# The most seconds that a scene lasts.
+SECONDS = 30
+
+# The most seconds of a processor that a run takes which mostly waits. One that spins for half a second takes more.
+WAITING = 0.3
+
+# How many connections fill the queue of a listener, and how many fit into it.
+MORE_THAN_WAIT = 160
+QUEUE = 128
+
+HOST = "127.0.0.1"
+
+
+class Run:
+    """A run of the program at a port that was free, towards this address, with these lines of settings behind both."""
+
+    def __init__(self, program, room, settings, server):
+        self.port = free_port()
+        self.printed, self.status, self.seconds = b"", None, 0.0
+        file = pathlib.Path(room) / "settings.toml"
+        file.write_text(f"listen = '{HOST}:{self.port}'\nserver = '{HOST}:{server}'\n{settings}\n", encoding="utf-8")
+        self.errors = tempfile.TemporaryFile()
+        self.process = subprocess.Popen(
+            [str(program), "run", str(file)],
+            stdin=subprocess.DEVNULL, stdout=subprocess.PIPE, stderr=self.errors, bufsize=0,
+        )
+        os.set_blocking(self.process.stdout.fileno(), False)
+
+    def listen(self):
+        """Takes what was printed, and tells whether more may come."""
+        piece = self.process.stdout.read(4096)
+        self.printed += piece or b""
+        return piece != b""
+
+    def has_ended(self):
+        """Whether it has ended; what it took of a processor is known then."""
+        if self.status is None:
+            pid, status, usage = os.wait4(self.process.pid, os.WNOHANG)
+            if pid:
+                is_killed = os.WIFSIGNALED(status)
+                self.status = -os.WTERMSIG(status) if is_killed else os.WEXITSTATUS(status)
+                self.process.returncode = self.status
+                self.seconds = usage.ru_utime + usage.ru_stime
+                self.listen()
+        return self.status is not None
+
+    def told(self):
+        """What it told on standard error."""
+        self.errors.seek(0)
+        return self.errors.read().decode(errors="replace")
+
+    def descriptors(self):
+        """The numbers of its descriptors."""
+        return {int(name) for name in os.listdir(f"/proc/{self.process.pid}/fd")}
+
+    def close(self):
+        """Ends it, where it goes on still."""
+        if not self.has_ended():
+            self.process.kill()
+            self.process.wait()
+        self.process.stdout.close()
+        self.errors.close()
+
+
+class Stage:
+    """The bots and the server, and what they do."""
+
+    def __init__(self, run, listener):
+        listener.setblocking(False)
+        self.run, self.listener = run, listener
+        self.bots, self.servers, self.flows = [], [], []
+        self.hoard, self.flood_began = None, 0.0
+        self.over = time.monotonic() + SECONDS
+        self.awaited, self.moment, self.act_began = {}, None, 0.0
+        self.longest, self.may_print = 0.0, True
+
+    def peer(self, who):
+        """The end of this number."""
+        return (self.bots if isinstance(who, Bot) else self.servers)[who.number]
+
+    def add_bot(self):
+        """A bot connects."""
+        stream = socket.socket()
+        self.bots.append(Peer(stream))
+        stream.connect_ex((HOST, self.run.port))
+
+    def meets(self):
+        """Whether the server accepted a connection."""
+        try:
+            self.servers.append(Peer(self.listener.accept()[0]))
+        except BlockingIOError:
+            return False
+        return True
+
+    def awaits(self, stream, to_write=False):
+        """The act isn't done, and goes on once this has bytes, or room."""
+        self.awaited = {stream: selectors.EVENT_WRITE if to_write else selectors.EVENT_READ}
+        return False
+
+    def awaits_moment(self, moment):
+        """The act is done once this moment is over; whether it is."""
+        self.moment = moment
+        return time.monotonic() >= moment
+
+    def wait(self):
+        """Waits until what the act awaits came, a flow can go on, or the program printed something or ended."""
+        now = time.monotonic()
+        events = dict(self.awaited)
+        for flow in self.flows:
+            events[flow.peer.stream] = events.get(flow.peer.stream, 0) | flow.events()
+        if self.may_print:
+            events[self.run.process.stdout] = selectors.EVENT_READ
+        until = min(self.over, self.moment or self.over, self.over if self.may_print else now + 0.01)
+        with selectors.DefaultSelector() as selector:
+            for stream, event in events.items():
+                selector.register(stream, event)
+            selector.select(max(until - now, 0))
+
+    def go_on(self):
+        """Goes on with what isn't acted: what the program prints, and what flows."""
+        if self.may_print:
+            self.may_print = self.run.listen()
+        for flow in self.flows:
+            flow.go_on()
+        self.flows = [flow for flow in self.flows if not flow.is_done()]
+
+    def finish(self, act):
+        """Plays an act until it is done."""
+        self.act_began = time.monotonic()
+        while True:
+            self.awaited, self.moment = {}, None
+            self.go_on()
+            has_ended = self.run.has_ended()
+            if act.play(self):
+                break
+            if has_ended and self.moment is None:
+                raise Wrong(f"the program has ended, with status {self.run.status} and '{self.run.told()}'")
+            if time.monotonic() >= self.over:
+                raise Wrong(f"is not done within {SECONDS} s")
+            self.wait()
+        self.longest = max(self.longest, time.monotonic() - self.act_began)
+
+    def play(self, acts):
+        """Plays these acts, one after another."""
+        for number, act in enumerate(acts):
+            try:
+                self.finish(act)
+            except Wrong as wrong:
+                raise Wrong(f"act {number}, {act}: {wrong}") from None
+
+    def leave(self):
+        """All ends that are there end their streams, and hear nothing but the other's end."""
+        everyone = [(Bot(number), peer) for number, peer in enumerate(self.bots)]
+        everyone += [(Server(number), peer) for number, peer in enumerate(self.servers)]
+        left = [(who, peer) for who, peer in everyone if not peer.is_gone]
+        for _, peer in left:
+            # One that was reset has ended.
+            with contextlib.suppress(OSError):
+                peer.stream.shutdown(socket.SHUT_WR)
+        for who, _ in left:
+            self.play_beside(HearsEnd(who), "behind all acts")
+
+    def play_beside(self, act, place):
+        """Plays an act that isn't one of the scene's."""
+        try:
+            self.finish(act)
+        except Wrong as wrong:
+            raise Wrong(f"{place}, {act}: {wrong}") from None
+
+    def close(self):
+        """Lets go of all sockets."""
+        for peer in self.bots + self.servers:
+            peer.stream.close()
+        self.listener.close()
+
+
+def free_port():
+    """A port at which nobody listens."""
+    with socket.socket() as taken:
+        taken.bind((HOST, 0))
+        return taken.getsockname()[1]
+
+
+def open_listener():
+    """The listener of a server."""
+    return socket.create_server((HOST, 0), backlog=QUEUE)
+
+
+def full_listener():
+    """The same, whose queue is full of connections whose other ends are gone."""
+    listener = open_listener()
+    queue = [socket.socket() for _ in range(MORE_THAN_WAIT)]
+    for stream in queue:
+        stream.setblocking(False)
+        stream.connect_ex(listener.getsockname())
+    for stream in queue:
+        stream.close()
+    return listener
+
+
+def silent_door():
+    """A port that is kept, and at which nobody listens: it refuses each connect."""
+    door = socket.socket()
+    door.bind((HOST, 0))
+    return door
+
+
+@contextlib.contextmanager
+def begun(program, settings, server):
+    """A stage beside a run that listens, towards this server; both are let go of behind it."""
+    listener = server()
+    with tempfile.TemporaryDirectory() as room:
+        run = Run(program, room, settings, listener.getsockname()[1])
+        stage = Stage(run, listener)
+        try:
+            stage.play_beside(Listens(), "before all acts")
+            yield stage
+        finally:
+            stage.close()
+            run.close()
+
+
+@dataclass
+class Scene:
+    """Acts beside a run, and what is wanted of it."""
+
+    name: str
+    acts: list
+    settings: str = ""
+    told: str = ""
+    # What stands at the server's address.
+    server: object = field(default=open_listener)
+    # Whether the run takes nearly nothing of a processor, since it waits.
+    waits: bool = False
+
+    def play(self, program):
+        """Plays it."""
+        with begun(program, self.settings, self.server) as stage:
+            stage.play(self.acts)
+            self.end(stage)
+
+    def end(self, stage):
+        """All was served: the run ends by itself, and has printed and told what is wanted."""
+        stage.leave()
+        stage.play_beside(Rests(), "behind all acts")
+        run = stage.run
+        same(run.status, 0, f"status, told {run.told()!r}")
+        same(run.printed, b"listening\n", "printed")
+        same(run.told(), self.told, "told")
+        if self.waits and run.seconds >= WAITING:
+            raise Wrong(f"saw {run.seconds:.2f} s of a processor, wanted less than {WAITING} s")
