@@ -1,37 +1,27 @@
-//! Tests of the program: its runs, a row each, and the gateway at work over real sockets on loopback.
+//! Tests of the program and of its sockets, where something is seen from inside alone.
 //!
 //! There is nothing here to call. They stand apart, since a crate with tests is proved twice, with them and without.
 #![tactic(auto)]
 
 #[cfg(test)]
-mod descriptors;
+mod addresses;
 #[cfg(test)]
-mod gateway;
+mod admission;
 #[cfg(test)]
-mod late;
+mod doors;
+#[cfg(test)]
+mod frames;
 #[cfg(test)]
 mod memory;
-#[cfg(test)]
-mod peers;
 #[cfg(test)]
 mod program;
 #[cfg(test)]
 mod refusals;
 #[cfg(test)]
-mod runs;
-#[cfg(test)]
-mod runtimes;
-#[cfg(test)]
 mod session_lines;
 #[cfg(test)]
 mod settings;
 #[cfg(test)]
-mod silence;
-#[cfg(test)]
-mod stage;
-#[cfg(test)]
 mod streams;
 #[cfg(test)]
 mod wires;
-#[cfg(test)]
-mod words;

@@ -2,7 +2,7 @@
 //!
 //! The streams give and take little at once, are interrupted, and often have nothing. So a frame comes and goes in pieces.
 
-use crate::gateway::{FM, IM, ITS_PRN, OBS, RM, UNCLOSED};
+use crate::frames::{FM, IM, ITS_PRN, OBS, RM, UNCLOSED};
 use crate::wires::two_rows;
 use daide_machine::config::Config;
 use daide_session::session::Session;

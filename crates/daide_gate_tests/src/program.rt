@@ -1,6 +1,5 @@
 //! What the program tells of its faults and gives as its status, and what a person who types is told.
 
-use crate::runs::check_run;
 use daide_gate::ServeFault;
 use daide_gate::settings::SettingsError;
 use daide_program::answer;
@@ -12,9 +11,9 @@ use daide_tests::rows::{holds, same};
 use std::alloc::AllocError;
 use std::cell::Cell;
 use std::fmt::Display;
+use std::io;
 use std::io::{Eprint, IsTerminal, Read};
 use std::test::Fail;
-use std::{fs, io};
 
 /// The faults of a run, and the text of each.
 const FAULTS: &[(RunFault, &str)] = &[
@@ -41,30 +40,6 @@ fn faults_of_a_run_have_their_texts(rt: HostRuntime) -> Result<(), Fail> {
     for (fault, text) in FAULTS {
         holds(has_text(&rt, fault, text)?, text)?;
     }
-    Ok(())
-}
-
-/// Runs of the gateway that begin none, as the program's table has them.
-const RUNS: &str = "\
-run settings-without-port | | | cannot listen | 1
-run settings-with-a-typo | | | unknown key | 1
-run no-such-file | | | settings could not be read | 1
-run --record no-such-folder no-such-file | | | settings could not be read | 1
-run --record no-such-folder settings-without-port | | | record could not be written | 1
-run --record= settings-without-port | | | record could not be written | 1
-run --verbose --record . settings-without-port | | | cannot listen | 1
-";
-
-#[test]
-fn run_that_cannot_begin_has_status_1(rt: HostRuntime) -> Result<(), Fail> {
-    let text = "listen = '127.0.0.1'\nserver = '127.0.0.1:1'\n";
-    fs::write(&rt, "settings-without-port", text)?;
-    fs::write(&rt, "settings-with-a-typo", "sesions = 1")?;
-    for row in RUNS.lines() {
-        check_run(&rt, row)?;
-    }
-    fs::remove_file(&rt, "settings-without-port")?;
-    fs::remove_file(&rt, "settings-with-a-typo")?;
     Ok(())
 }
 

@@ -6,7 +6,7 @@
 
 ghost use Rattle.std.specs.Prelude.{◌≡◌, IfOk};
 
-use crate::stage::any_port;
+use crate::doors::{any_port, two_doors};
 use crate::wires::Step::{Idles, Puts, Turns};
 use daide_frame::side::Side;
 use daide_machine::ports::{Ports, Pull, Put};
@@ -143,12 +143,6 @@ pub fn two_rows<'w, R: Clock>(
         Some(flags) => Ok(flags),
         None => Err(Fail::new("no rows")),
     }
-}
-
-/// Two listeners.
-pub fn two_doors(rt: &HostRuntime) -> Result<(TcpListener, TcpListener), Fail> {
-    let first = TcpListener::bind(rt, any_port())?;
-    Ok((first, TcpListener::bind(rt, any_port())?))
 }
 
 /// A table of three sockets.

@@ -1,21 +1,46 @@
-//! A server that accepts late, and small writes.
+//! Bots that come, and their connects to the server, where that is seen from inside alone: a failed accept, a connect that
+//! isn't done, and small writes.
 
-use crate::gateway::{EM_01, FM, IM, check};
-use crate::stage::Act::{Comes, Empties, FinishesConnect, Hears, HearsEnd, Passes, Says};
-use crate::stage::Who::{Bot, Server};
-use crate::stage::{Act, any_port, run_towards};
-use crate::wires::two_doors;
+use crate::doors::{any_port, two_doors};
 use daide_gate::settings::{Settings, read_settings};
 use daide_gate::system::{Connect, System};
 use daide_sockets::Interest;
+use daide_sockets::admission::Acceptor;
 use daide_sockets::poller::{Flags, Poller};
 use daide_sockets::ports::SocketPorts;
 use daide_sockets::system::Sockets;
 use daide_tests::rows::holds;
 use std::alloc::Global;
-use std::net::{SocketAddr, TcpListener};
+use std::io::ErrorKind;
+use std::net::{SocketAddr, TcpListener, TcpStream};
 use std::test::Fail;
 use std::time::Duration;
+
+/// After an accept that fails none is made for a while, and then the bot that came is taken.
+fn check_acceptor(poller: &Poller<&HostRuntime>, acceptor: &Acceptor<'_>) -> Result<(), Fail> {
+    poller.wait();
+    acceptor.refused(poller, ErrorKind::Other);
+    holds(acceptor.accept(poller).is_none(), "none is made")?;
+    poller.wait();
+    holds(acceptor.accept(poller).is_some(), "the bot that came")
+}
+
+/// The same of a listener, in the one row of a table.
+fn check_listener(rt: &HostRuntime, listener: daide_sockets::TcpListener) -> Result<(), Fail> {
+    let poller = Poller::new(rt.alloc(), rt, rt, 1)?;
+    match Acceptor::new(&poller, listener) {
+        Some(acceptor) => check_acceptor(&poller, &acceptor),
+        None => Err(Fail::new("no row")),
+    }
+}
+
+/// Where an accept fails, as for want of descriptors, none is made for a while, and then the bot that came is taken.
+#[test]
+fn failed_accept_is_made_again(rt: HostRuntime) -> Result<(), Fail> {
+    let listener = daide_sockets::TcpListener::bind(&rt, any_port())?;
+    let _bot = TcpStream::connect(&rt, listener.local_addr()?)?;
+    check_listener(&rt, listener)
+}
 
 /// How many connections fill the queue of a listener.
 const MORE_THAN_WAIT: usize = 160;
@@ -30,53 +55,11 @@ fn fill_queue(rt: &HostRuntime, address: SocketAddr) -> Result<(), Fail> {
 }
 
 /// A listener whose queue is full of connections whose other ends are gone.
-pub fn full_listener(rt: &HostRuntime) -> Result<daide_sockets::TcpListener, Fail> {
+fn full_listener(rt: &HostRuntime) -> Result<daide_sockets::TcpListener, Fail> {
     let listener = TcpListener::bind(rt, any_port())?;
     fill_queue(rt, listener.local_addr()?)?;
     listener.set_nonblocking(true)?;
     Ok(daide_sockets::TcpListener::from_std(listener))
-}
-
-/// The server is there only when the second that a bot has for its IM is over since it came.
-const IS_MET_LATE: &[Act] = &[
-    Comes,
-    Passes(1_100),
-    Empties,
-    FinishesConnect,
-    Says(Bot(0), IM),
-    Hears(Bot(0), EM_01),
-    HearsEnd(Bot(0)),
-    HearsEnd(Server(0)),
-];
-
-/// The time for the IM runs from the accept of the bot, and not from when the server accepts.
-#[test]
-fn late_server_leaves_the_im_no_more_time(rt: HostRuntime) -> Result<(), Fail> {
-    let server = full_listener(&rt)?;
-    let report = run_towards(&rt, "im_seconds = 1", IS_MET_LATE, (server, 15_000))?;
-    check(&report, "")
-}
-
-/// The server's queue is full until the first of two bots was told that it is given up, and then takes the second.
-const FIRST_IS_GIVEN_UP: &[Act] = &[
-    Comes,
-    Passes(800),
-    Comes,
-    HearsEnd(Bot(0)),
-    Empties,
-    FinishesConnect,
-    Says(Bot(1), IM),
-    Hears(Server(0), IM),
-    Says(Bot(1), FM),
-    Hears(Server(0), FM),
-];
-
-/// Each bot's connect has its own time: one that is given up doesn't wait for those that came later.
-#[test]
-fn each_connect_has_its_own_time(rt: HostRuntime) -> Result<(), Fail> {
-    let server = full_listener(&rt)?;
-    let report = run_towards(&rt, "sessions = 2", FIRST_IS_GIVEN_UP, (server, 1_500))?;
-    check(&report, "daide-gate: cannot reach the server\n")
 }
 
 /// The most waits until a bot is joined with the server.
