@@ -6,7 +6,7 @@
 //! stands on at the addresses of settings.
 //!
 //! What the system answers, and what a shared cell holds, no contract can name. So a call that hangs on either is
-//! proved safe and to end, and its doc says what it does; the tests of `daide_gate_tests` show it.
+//! proved safe and to end, and its doc says what it does; tests show it, over loopback and in `daide_gate_tests`.
 #![tactic(auto)]
 
 pub mod admission;
