@@ -161,7 +161,8 @@ class Stage:
         self.longest = max(self.longest, time.monotonic() - self.act_began)
 
     def play(self, acts):
-        """Plays these acts, one after another."""
+        """Plays these acts, one after another; how long the longest took is known then."""
+        self.longest = 0.0
         for number, act in enumerate(acts):
             try:
                 self.finish(act)
