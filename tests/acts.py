@@ -51,7 +51,10 @@ class Listens(Act):
     """The program says that bots may come."""
 
     def play(self, stage):
-        return stage.run.printed == b"listening\n"
+        printed, wanted = stage.run.printed, b"listening\n"
+        if not wanted.startswith(printed):
+            raise Wrong(f"printed {brief(printed.decode(errors='replace'))}, wanted {brief(wanted.decode())}")
+        return printed == wanted
 
 
 @dataclass(frozen=True)

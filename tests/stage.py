@@ -154,11 +154,17 @@ class Stage:
             if act.play(self):
                 break
             if has_ended and self.moment is None:
-                raise Wrong(f"the program has ended, with status {self.run.status} and '{self.run.told()}'")
+                ended = f"the program has ended, with status {self.run.status}, and told {self.run.told()!r}"
+                raise Wrong(f"{self.seen(act)}{ended}")
             if time.monotonic() >= self.over:
-                raise Wrong(f"is not done within {SECONDS} s")
+                raise Wrong(f"{self.seen(act)}it is not done within {SECONDS} s")
             self.wait()
         self.longest = max(self.longest, time.monotonic() - self.act_began)
+
+    def seen(self, act):
+        """What the end that acts heard so far, for who reads of a test that failed."""
+        who = getattr(act, "who", None)
+        return f"saw {self.peer(who).told()}, and " if who else ""
 
     def play(self, acts):
         """Plays these acts, one after another; how long the longest took is known then."""
