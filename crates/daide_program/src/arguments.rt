@@ -6,7 +6,7 @@ use daide_grammar::level::Level;
 use std::alloc::{AllocError, Global};
 
 /// What the words ask for.
-#[derive(Clone, Copy, Debug, PartialEq, Eq)]
+#[derive(Clone, Copy)]
 pub(crate) enum Order<'a> {
     /// Show one frame, judged as the side's at the level, with the words of the settings at this path.
     Show(Side, Level, Option<&'a str>),
@@ -21,7 +21,7 @@ pub(crate) enum Order<'a> {
 }
 
 /// How to serve.
-#[derive(Clone, Copy, Debug, PartialEq, Eq)]
+#[derive(Clone, Copy)]
 pub(crate) struct RunOrder<'a> {
     /// The path of the file of settings.
     pub settings: &'a str,
@@ -78,12 +78,14 @@ fn show_command<'a>(alloc: Global) -> Result<Command<'a>, AllocError> {
     let side = "Whose frame it is, bot or server [default: bot]";
     let level = "The level of press, 0, 10, 20, 30, 40, 50 or 60 [default: 0]";
     let words = "The file of settings whose words count as words of press";
+    let mut options = Vec::new(alloc);
+    options.push(option(alloc, "side", "SIDE", side))?;
+    options.push(option(alloc, "level", "N", level))?;
+    options.push(option(alloc, "words", "SETTINGS", words))?;
     Command::new(alloc, "show")
         .about("Shows one frame, read as hexadecimal digits from standard input")
         .after_help(SHOW_NOTES)
-        .arg(option(alloc, "side", "SIDE", side))?
-        .arg(option(alloc, "level", "N", level))?
-        .arg(option(alloc, "words", "SETTINGS", words))
+        .args(options)
 }
 
 /// The word `check`, which takes no other.
@@ -95,35 +97,45 @@ fn check_command<'a>(alloc: Global) -> Command<'a> {
 
 /// The words of `run`.
 fn run_command<'a>(alloc: Global) -> Result<Command<'a>, AllocError> {
-    let settings = Arg::new(alloc, "SETTINGS")
-        .required(true)
-        .action(ArgAction::Set)
-        .help("The file of settings; docs/FORMATS.md and examples/settings.toml have its keys");
     let verbose = Arg::new(alloc, "verbose")
         .long("verbose")
         .action(ArgAction::SetTrue)
         .help("Tell where each session begins, and how it ended, on standard error");
+    let mut words = Vec::new(alloc);
+    words.push(verbose)?;
     let record = "The folder in which a log of each session is kept";
+    words.push(option(alloc, "record", "FOLDER", record))?;
+    let settings = Arg::new(alloc, "SETTINGS")
+        .required(true)
+        .action(ArgAction::Set)
+        .help("The file of settings; docs/FORMATS.md and examples/settings.toml have its keys");
+    words.push(settings)?;
     let about =
         "Serves bots, each with a connection of its own to the server, until all were served";
     Command::new(alloc, "run")
         .about(about)
         .after_help(RUN_NOTES)
-        .arg(verbose)?
-        .arg(option(alloc, "record", "FOLDER", record))?
-        .arg(settings)
+        .args(words)
+}
+
+/// The commands, in the order in which the help has them.
+fn subcommands<'a>(alloc: Global) -> Result<Vec<Command<'a>>, AllocError> {
+    let mut commands = Vec::new(alloc);
+    commands.push(show_command(alloc)?)?;
+    commands.push(check_command(alloc))?;
+    commands.push(run_command(alloc)?)?;
+    Ok(commands)
 }
 
 /// The command line that is understood.
 pub(crate) fn command<'a>(alloc: Global) -> Result<Command<'a>, AllocError> {
+    let subcommands = subcommands(alloc)?;
     Command::new(alloc, "daide-gate")
         .bin_name("daide-gate")?
         .version("1.0.0")
         .about("A gateway between one bot and a DAIDE server")
         .after_help(NOTES)
-        .subcommand(show_command(alloc)?)?
-        .subcommand(check_command(alloc))?
-        .subcommand(run_command(alloc)?)
+        .subcommands(subcommands)
 }
 
 /// The side that a word names.
@@ -149,30 +161,36 @@ fn level_named(word: &str) -> Option<Level> {
     }
 }
 
-/// What the words ask for; without any, what `show` does with its defaults. A bad side is told
-/// before a bad level.
+/// What the words of `run` ask for.
+fn run_order<'a>(run: &ArgMatches<'a>) -> RunOrder<'a> {
+    RunOrder {
+        settings: run.get_str("SETTINGS").unwrap_or(""),
+        is_verbose: run.get_flag("verbose"),
+        record: run.get_str("record"),
+    }
+}
+
+/// What the words of `show` ask for. A bad side is told before a bad level.
+fn show_order<'a>(side: Option<&str>, level: Option<&str>, words: Option<&'a str>) -> Order<'a> {
+    let Some(side) = side_of(side.unwrap_or("bot")) else {
+        return Order::BadSide;
+    };
+    match level_named(level.unwrap_or("0")) {
+        Some(level) => Order::Show(side, level, words),
+        None => Order::BadLevel,
+    }
+}
+
+/// What the words ask for; without any, what `show` does with its defaults.
 pub(crate) fn order_of<'a>(matches: &ArgMatches<'a>) -> Order<'a> {
-    let (side, level, words) = match matches.subcommand() {
-        Some(("run", run)) => {
-            return Order::Run(RunOrder {
-                settings: run.get_str("SETTINGS").unwrap_or(""),
-                is_verbose: run.get_flag("verbose"),
-                record: run.get_str("record"),
-            });
-        }
-        Some(("check", _)) => return Order::Check,
-        Some((_, show)) => (
+    match matches.subcommand() {
+        Some(("run", run)) => Order::Run(run_order(run)),
+        Some(("check", _)) => Order::Check,
+        Some((_, show)) => show_order(
             show.get_str("side"),
             show.get_str("level"),
             show.get_str("words"),
         ),
-        None => (None, None, None),
-    };
-    let Some(side) = side_of(side.unwrap_or("bot")) else {
-        return Order::BadSide;
-    };
-    let Some(level) = level_named(level.unwrap_or("0")) else {
-        return Order::BadLevel;
-    };
-    Order::Show(side, level, words)
+        None => show_order(None, None, None),
+    }
 }

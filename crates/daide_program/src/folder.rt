@@ -5,13 +5,15 @@
 
 ghost use Rattle.std.specs.Prelude.{◌≡◌, ◌⊎◌, ℕ, List, Option, IfOk, IfErr, IfSome, string_bytes};
 ghost use Rattle.std.specs.Io.KnownBytes.{append_known};
-ghost use Rattle.daide_gate.specs.RecordText.{head_text, head_count};
-ghost use Rattle.daide_gate.specs.Words.{words_of};
+ghost use Rattle.daide_log.specs.RecordText.{head_text, head_count};
+ghost use Rattle.daide_words.specs.Words.{words_of};
 ghost use Rattle.daide_program.specs.Folder.{path_in};
 
-use daide_gate::record::MOST_LINES;
-use daide_gate::settings::Settings;
-use daide_gate::{Config, Ports, Record, RecordEnd, Recording, Words};
+use daide_log::record::MOST_LINES;
+use daide_log::{Record, RecordEnd, Recording};
+use daide_machine::{Config, Ports};
+use daide_settings::Settings;
+use daide_words::Words;
 use std::alloc::{AllocError, Global};
 use std::fs::OpenOptions;
 use std::io;

@@ -8,9 +8,9 @@ ghost use Rattle.daide_service.specs.Serving.{IsServeCause, IsOfSettings, GivesU
 ghost use Rattle.daide_settings.specs.declared.settings.Settings.{Settings};
 ghost use Rattle.daide_program.specs.Gateway.{IsBeforeServing, IsGatewayCause, HasGivenUp};
 
-use daide_gate::ports::Ports;
-use daide_gate::system::System;
-use daide_gate::{ServeFault, Settings, serve};
+use daide_machine::{Ports, System};
+use daide_service::{ServeFault, serve};
+use daide_settings::Settings;
 use daide_sockets::ground::{Ground, GroundError, ground_of, sockets_on};
 use daide_sockets::ports::SocketPorts;
 use std::alloc::Global;

@@ -3,7 +3,7 @@
 
 ghost use Rattle.daide_program.specs.Exchanged.{SessionsExchange, ServedSessionsExchange};
 
-use daide_gate::ports::Ports;
+use daide_machine::Ports;
 use daide_sockets::ports::SocketPorts;
 use daide_streams::duplex::Duplex;
 use std::rt::Clock;

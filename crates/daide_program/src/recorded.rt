@@ -2,7 +2,8 @@
 //! ports. A run without one has the sockets' own system and nothing of this.
 
 use crate::folder::{Folder, SessionFile, end};
-use daide_gate::{Connect, Notice, Recording, SessionEnd, System};
+use daide_log::Recording;
+use daide_machine::{Connect, Notice, SessionEnd, System};
 use daide_sockets::ports::SocketPorts;
 use daide_sockets::system::Sockets;
 use std::io::Write;

@@ -8,7 +8,7 @@ use crate::folder::Folder;
 use crate::gateway::{GatewayFault, fault_of, serve_at, serve_with};
 use crate::recorded::RecordedSockets;
 use crate::text::{TextFault, read_text};
-use daide_gate::settings::{Settings, SettingsError, read_settings};
+use daide_settings::{Settings, SettingsError, read_settings};
 use daide_sockets::ground::{Ground, ground_of, sockets_on};
 use std::alloc::Allocator;
 use std::io::{Read, Write};
