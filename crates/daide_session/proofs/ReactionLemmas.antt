@@ -33,7 +33,7 @@ use Rattle.daide_machine.specs.Summary.{tallied, counted_on}
 use Rattle.daide_grammar.specs.Words.{Words}
 use Rattle.daide_machine.specs.Machine.{items_outcome, IsRight}
 use Rattle.daide_machine.specs.Machine.{question_of}
-use Rattle.daide_machine.specs.Wires.{Holding, waiting, holding, sent_to, note_of, held_after}
+use Rattle.daide_machine.specs.Wires.{SessionView, Holding, waiting, holding, sent_to, note_of, held_after}
 use Rattle.daide_machine.specs.Weight.{tokens_held}
 use Rattle.daide_machine.specs.Wires.{is_dm_head, frames_to}
 use Rattle.daide_session.specs.declared.stage.Stage.{Stage}
@@ -122,6 +122,34 @@ begun_alone t u s side head live timely bodiless tied b = record {
     total = rw (holding_at u s side, holding_at t s side) b.started.total
 
 -- ---- a header whose body is empty
+
+-- what is called by a code, and isn't nothing, has one
+pub some_code : (code : Option Code) (told : Note) → told ≡ note_by code → (told ≡ Notes.Nothing → ⊥) →
+    (x : Code) × (code ≡ Some x)
+some_code None told called more = absurd (more called)
+some_code (Some x) told called more = (x, refl)
+
+-- a header that is untimely ends the session, so that its empty body is no more looked at
+pub begun_late : (o n : SessionView) (side : Side) (head : Head) (told : Note) (code : Code) →
+    untimely o.state.phase side head.kind ≡ Some code →
+    Reacts o side (Begun head ∷ []) told n → Reacts o side (Begun head ∷ Whole head [] ∷ []) told n
+begun_late o n side head told code late h = record {
+  verdict = h.verdict;
+  right = rw late h.right;
+  moves = record {
+    state = h.moves.state ∙ ap (λ (x : Outcome). x.state) same;
+    sent = λ wire. h.moves.sent wire ∙ ap (λ (x : Outcome). waiting o wire ++ sent_to wire x.effects) same;
+    counts = h.moves.counts ∙ ap (λ (x : Outcome). tallied x.effects o.summary) same;
+  };
+  note = h.note ∙ ap (λ (x : Outcome). note_of x.effects) same;
+  held = h.held;
+  asks = h.asks;
+  other_side = h.other_side;
+}
+  where
+    same : items_outcome o.state side (Begun head ∷ []) h.verdict
+        ≡ items_outcome o.state side (Begun head ∷ Whole head [] ∷ []) h.verdict
+    same = rw late refl
 
 pub begun_and_empty : (t u v : Traffic) (s r q : Stage) (side : Side) (head : Head) (told : Note) →
     is_over s.phase ≡ false → untimely s.phase side head.kind ≡ None → drop 4 (at t.sides side).holding.held ≡ [] →
