@@ -5,7 +5,9 @@
 //! the grammar. Nothing is looked up in memory: the matches are jumps. That a `Move` is a rule's number
 //! is seen to last, in `rules`.
 
-ghost use Rattle.std.specs.Prelude.{◌≡◌, ◌≤◌, ◌+◌, ◌%◌, ◌^◌, [], if◌then◌else◌};
+ghost use Rattle.std.specs.Prelude.{◌≡◌, ◌≤◌, ◌+◌, ◌%◌, ◌^◌, [], ◌∷◌, if◌then◌else◌};
+ghost use Rattle.daide_token.specs.declared.class.Class.TheVariants.{Bra};
+ghost use Rattle.daide_grammar.specs.declared.symbol.Sym.TheVariants.{Closing};
 ghost use Rattle.daide_grammar.specs.Table.Answers.{Take, Skip, Stop, answer_of};
 ghost use Rattle.daide_grammar.specs.Table.AnswersGiven.{answers_given};
 ghost use Rattle.daide_grammar.specs.Classes.{same_class};
@@ -141,6 +143,27 @@ fn may<const N: usize>(wanted: Class, class: Class, rest: [Sym; N]) -> Meaning
     }
 }
 
+/// What a symbol does that is one token.
+fn token(wanted: Class, class: Class) -> Meaning
+    ensures { answer_of result ≡ (if same_class wanted class then Take [] else Stop) }
+{
+    must(wanted, class, [])
+}
+
+/// What a symbol does that is a pair of brackets with another symbol in it.
+fn group(inside: Sym, class: Class) -> Meaning
+    ensures { answer_of result ≡ (if same_class Bra class then Take (inside ∷ Closing ∷ []) else Stop) }
+{
+    must(Class::Bra, class, [inside, Sym::Closing])
+}
+
+/// What a symbol does that is any number of such pairs: behind the first one it stands again.
+fn groups(inside: Sym, all: Sym, class: Class) -> Meaning
+    ensures { answer_of result ≡ (if same_class Bra class then Take (inside ∷ Closing ∷ all ∷ []) else Skip) }
+{
+    may(Class::Bra, class, [inside, Sym::Closing, all])
+}
+
 /// What a token of the class means to the symbol. A closing bracket, the symbol that is met most
 /// often, is told before the jump.
 #[tactic(auto, unfolding(crate::specs::Table::Symbols::table_answer, crate::specs::Table::Symbols::entries, crate::specs::Table::Symbols::may_end_of))]
@@ -173,69 +196,69 @@ fn entry_of(sym: Sym, class: Class) -> Meaning
 {
     match sym {
         // single tokens
-        Sym::Closing => return must(Class::Ket, class, []),
-        Sym::OnePower => return must(Class::Power, class, []),
-        Sym::OneProvince => return must(Class::Province, class, []),
-        Sym::OneCoast => return must(Class::Coast, class, []),
-        Sym::OneNumber => return must(Class::Num, class, []),
-        Sym::OneNote => return must(Class::Note, class, []),
-        Sym::OneFleet => return must(Class::Flt, class, []),
-        Sym::Waived => return must(Class::Wve, class, []),
-        Sym::ConvoyTo => return must(Class::Cto, class, []),
-        Sym::Through => return must(Class::Via, class, []),
-        Sym::Against => return must(Class::Vss, class, []),
+        Sym::Closing => return token(Class::Ket, class),
+        Sym::OnePower => return token(Class::Power, class),
+        Sym::OneProvince => return token(Class::Province, class),
+        Sym::OneCoast => return token(Class::Coast, class),
+        Sym::OneNumber => return token(Class::Num, class),
+        Sym::OneNote => return token(Class::Note, class),
+        Sym::OneFleet => return token(Class::Flt, class),
+        Sym::Waived => return token(Class::Wve, class),
+        Sym::ConvoyTo => return token(Class::Cto, class),
+        Sym::Through => return token(Class::Via, class),
+        Sym::Against => return token(Class::Vss, class),
 
         // lists
-        Sym::TextGroup => return must(Class::Bra, class, [Sym::Texts, Sym::Closing]),
+        Sym::TextGroup => return group(Sym::Texts, class),
         Sym::Texts => return may(Class::Text, class, [Sym::Texts]),
-        Sym::PowerGroup => return must(Class::Bra, class, [Sym::OnePower, Sym::Closing]),
+        Sym::PowerGroup => return group(Sym::OnePower, class),
         Sym::PowersGroup => return must(Class::Bra, class, [Sym::OnePower, Sym::Powers, Sym::Closing]),
         Sym::MaybePowersGroup => return may(Class::Bra, class, [Sym::OnePower, Sym::Powers, Sym::Closing]),
         Sym::Powers => return may(Class::Power, class, [Sym::Powers]),
-        Sym::NumberGroup => return must(Class::Bra, class, [Sym::OneNumber, Sym::Closing]),
+        Sym::NumberGroup => return group(Sym::OneNumber, class),
         Sym::MaybeNumberGroup => return may(Class::Bra, class, [Sym::OneNumber, Sym::Closing]),
         Sym::MaybeNumber => return may(Class::Num, class, []),
         Sym::ProvincesGroup => return must(Class::Bra, class, [Sym::OneProvince, Sym::Provinces, Sym::Closing]),
-        Sym::MaybeProvincesGroup => return must(Class::Bra, class, [Sym::Provinces, Sym::Closing]),
+        Sym::MaybeProvincesGroup => return group(Sym::Provinces, class),
         Sym::Provinces => return may(Class::Province, class, [Sym::Provinces]),
-        Sym::TurnGroup => return must(Class::Bra, class, [Sym::OneTurn, Sym::Closing]),
+        Sym::TurnGroup => return group(Sym::OneTurn, class),
         Sym::OneTurn => return must(Class::Season, class, [Sym::OneNumber]),
-        Sym::WordsGroup => return must(Class::Bra, class, [Sym::WordList, Sym::Closing]),
+        Sym::WordsGroup => return group(Sym::WordList, class),
         Sym::WordList => return word_list(class),
-        Sym::AnyGroup => return must(Class::Bra, class, [Sym::Any, Sym::Closing]),
+        Sym::AnyGroup => return group(Sym::Any, class),
         Sym::Any => return any(class),
 
         // places and units
         Sym::OnePlace => return one_place(class),
-        Sym::PlacesGroup => return must(Class::Bra, class, [Sym::Places, Sym::Closing]),
+        Sym::PlacesGroup => return group(Sym::Places, class),
         Sym::Places => return places(class),
-        Sym::UnitGroup => return must(Class::Bra, class, [Sym::OneUnit, Sym::Closing]),
-        Sym::UnitGroups => return may(Class::Bra, class, [Sym::OneUnit, Sym::Closing, Sym::UnitGroups]),
+        Sym::UnitGroup => return group(Sym::OneUnit, class),
+        Sym::UnitGroups => return groups(Sym::OneUnit, Sym::UnitGroups, class),
         Sym::OneUnit => return must(Class::Power, class, [Sym::UnitType, Sym::OnePlace]),
         Sym::UnitType => return unit_type(class),
 
         // orders
-        Sym::OrderGroup => return must(Class::Bra, class, [Sym::OneOrder, Sym::Closing]),
-        Sym::Orders => return may(Class::Bra, class, [Sym::OneOrder, Sym::Closing, Sym::Orders]),
+        Sym::OrderGroup => return group(Sym::OneOrder, class),
+        Sym::Orders => return groups(Sym::OneOrder, Sym::Orders, class),
         Sym::OneOrder => return one_order(class),
         Sym::OrderTail => return order_tail(class),
         Sym::SupportTail => return may(Class::Mto, class, [Sym::OneProvince]),
 
         // arrangements and facts
-        Sym::ArrangementGroup(level) => return must(Class::Bra, class, [Sym::Arrangement(level), Sym::Closing]),
+        Sym::ArrangementGroup(level) => return group(Sym::Arrangement(level), class),
         Sym::Arrangement(level) => return arrangement(level, class),
-        Sym::FactGroup(level) => return must(Class::Bra, class, [Sym::Fact(level), Sym::Closing]),
+        Sym::FactGroup(level) => return group(Sym::Fact(level), class),
         Sym::Fact(level) => return fact(level, class),
-        Sym::OperandGroup(level) => return must(Class::Bra, class, [Sym::Operand(level), Sym::Closing]),
-        Sym::Operands(level) => return may(Class::Bra, class, [Sym::Operand(level), Sym::Closing, Sym::Operands(level)]),
+        Sym::OperandGroup(level) => return group(Sym::Operand(level), class),
+        Sym::Operands(level) => return groups(Sym::Operand(level), Sym::Operands(level), class),
         Sym::Operand(level) => return operand(level, class),
         Sym::ShareGroup => return must(Class::Bra, class, [Sym::OnePower, Sym::Provinces, Sym::Closing]),
         Sym::Shares => return may(Class::Bra, class, [Sym::OnePower, Sym::Provinces, Sym::Closing, Sym::Shares]),
 
         // press
-        Sym::PressGroup(level) => return must(Class::Bra, class, [Sym::Press(level), Sym::Closing]),
+        Sym::PressGroup(level) => return group(Sym::Press(level), class),
         Sym::Press(level) => return press(level, class),
-        Sym::SendGroup(level) => return must(Class::Bra, class, [Sym::Send(level), Sym::Closing]),
+        Sym::SendGroup(level) => return group(Sym::Send(level), class),
         Sym::MaybeSendGroup(level) => return maybe_send_group(level, class),
         Sym::Send(level) => return must(Class::Snd, class, [Sym::SendTail(level)]),
         Sym::SendTail(level) => return must(Class::Bra, class, [Sym::SendFirst(level)]),
@@ -243,43 +266,43 @@ fn entry_of(sym: Sym, class: Class) -> Meaning
 
         // client messages
         Sym::Client(level) => return client(level, class),
-        Sym::RequestGroup(level) => return must(Class::Bra, class, [Sym::Request(level), Sym::Closing]),
+        Sym::RequestGroup(level) => return group(Sym::Request(level), class),
         Sym::Request(level) => return request(level, class),
         Sym::SubmitTail => return may(Class::Bra, class, [Sym::SubmitFirst]),
         Sym::SubmitFirst => return submit_first(class),
-        Sym::CancelGroup => return must(Class::Bra, class, [Sym::Cancel, Sym::Closing]),
+        Sym::CancelGroup => return group(Sym::Cancel, class),
         Sym::Cancel => return cancel(class),
-        Sym::ReplyGroup => return must(Class::Bra, class, [Sym::Reply, Sym::Closing]),
+        Sym::ReplyGroup => return group(Sym::Reply, class),
         Sym::Reply => return reply(class),
 
         // server messages
         Sym::Server(level) => return server(level, class),
-        Sym::WhoGroup => return must(Class::Bra, class, [Sym::Who, Sym::Closing]),
+        Sym::WhoGroup => return group(Sym::Who, class),
         Sym::Who => return who(class),
-        Sym::ParamsGroup => return must(Class::Bra, class, [Sym::Params, Sym::Closing]),
-        Sym::Params => return may(Class::Bra, class, [Sym::OneParam, Sym::Closing, Sym::Params]),
+        Sym::ParamsGroup => return group(Sym::Params, class),
+        Sym::Params => return groups(Sym::OneParam, Sym::Params, class),
         Sym::OneParam => return one_param(class),
         Sym::CentresGroup => return must(Class::Bra, class, [Sym::OwnersGroup, Sym::MaybeProvincesGroup, Sym::Closing]),
-        Sym::OwnersGroup => return must(Class::Bra, class, [Sym::Owners, Sym::Closing]),
-        Sym::Owners => return may(Class::Bra, class, [Sym::Owned, Sym::Closing, Sym::Owners]),
+        Sym::OwnersGroup => return group(Sym::Owners, class),
+        Sym::Owners => return groups(Sym::Owned, Sym::Owners, class),
         Sym::Owned => return owned(class),
-        Sym::BordersGroup => return must(Class::Bra, class, [Sym::BordersList, Sym::Closing]),
-        Sym::BordersList => return may(Class::Bra, class, [Sym::Borders, Sym::Closing, Sym::BordersList]),
+        Sym::BordersGroup => return group(Sym::BordersList, class),
+        Sym::BordersList => return groups(Sym::Borders, Sym::BordersList, class),
         Sym::Borders => return must(Class::Province, class, [Sym::KindList]),
-        Sym::KindList => return may(Class::Bra, class, [Sym::KindPlaces, Sym::Closing, Sym::KindList]),
+        Sym::KindList => return groups(Sym::KindPlaces, Sym::KindList, class),
         Sym::KindPlaces => return kind_places(class),
-        Sym::Stands => return may(Class::Bra, class, [Sym::OneStand, Sym::Closing, Sym::Stands]),
+        Sym::Stands => return groups(Sym::OneStand, Sym::Stands, class),
         Sym::OneStand => return must(Class::Power, class, [Sym::UnitType, Sym::OnePlace, Sym::StandTail]),
         Sym::StandTail => return may(Class::Mrt, class, [Sym::PlacesGroup]),
         Sym::MissingTail => return may(Class::Bra, class, [Sym::MissingFirst]),
         Sym::MissingFirst => return missing_first(class),
-        Sym::NoteGroup => return must(Class::Bra, class, [Sym::OneNote, Sym::Closing]),
+        Sym::NoteGroup => return group(Sym::OneNote, class),
         Sym::OutcomesGroup => return must(Class::Bra, class, [Sym::OneOutcome, Sym::Outcomes, Sym::Closing]),
         Sym::Outcomes => return outcomes(class),
         Sym::OneOutcome => return one_outcome(class),
-        Sym::CivilDisorderGroup => return must(Class::Bra, class, [Sym::CivilDisorder, Sym::Closing]),
+        Sym::CivilDisorderGroup => return group(Sym::CivilDisorder, class),
         Sym::CivilDisorder => return must(Class::Ccd, class, [Sym::PowerGroup]),
-        Sym::Players => return may(Class::Bra, class, [Sym::OnePlayer, Sym::Closing, Sym::Players]),
+        Sym::Players => return groups(Sym::OnePlayer, Sym::Players, class),
         Sym::OnePlayer => return must(Class::Power, class, [Sym::TextGroup, Sym::TextGroup, Sym::OneNumber, Sym::MaybeNumber]),
     }
 }

@@ -30,62 +30,62 @@ use Rattle.daide_grammar.proofs.plain.entry_of.Goals as goal
 pub returns-in-Closing : goal.returns-in-Closing
 unfolding entries may_end_of
 returns-in-Closing c =
-    must_told Closing Ket c.args.class [] c.in-Closing.is refl refl c.must.ensures
+    must_told Closing Ket c.args.class [] c.in-Closing.is refl refl c.token.ensures
 
 pub returns-in-OnePower : goal.returns-in-OnePower
 unfolding entries may_end_of
 returns-in-OnePower c =
-    must_told OnePower Power c.args.class [] c.in-OnePower.is refl refl c.must-in-OnePower.ensures
+    must_told OnePower Power c.args.class [] c.in-OnePower.is refl refl c.token-in-OnePower.ensures
 
 pub returns-in-OneProvince : goal.returns-in-OneProvince
 unfolding entries may_end_of
 returns-in-OneProvince c =
-    must_told OneProvince Province c.args.class [] c.in-OneProvince.is refl refl c.must-in-OneProvince.ensures
+    must_told OneProvince Province c.args.class [] c.in-OneProvince.is refl refl c.token-in-OneProvince.ensures
 
 pub returns-in-OneCoast : goal.returns-in-OneCoast
 unfolding entries may_end_of
 returns-in-OneCoast c =
-    must_told OneCoast Coast c.args.class [] c.in-OneCoast.is refl refl c.must-in-OneCoast.ensures
+    must_told OneCoast Coast c.args.class [] c.in-OneCoast.is refl refl c.token-in-OneCoast.ensures
 
 pub returns-in-OneNumber : goal.returns-in-OneNumber
 unfolding entries may_end_of
 returns-in-OneNumber c =
-    must_told OneNumber Num c.args.class [] c.in-OneNumber.is refl refl c.must-in-OneNumber.ensures
+    must_told OneNumber Num c.args.class [] c.in-OneNumber.is refl refl c.token-in-OneNumber.ensures
 
 pub returns-in-OneNote : goal.returns-in-OneNote
 unfolding entries may_end_of
 returns-in-OneNote c =
-    must_told OneNote Note c.args.class [] c.in-OneNote.is refl refl c.must-in-OneNote.ensures
+    must_told OneNote Note c.args.class [] c.in-OneNote.is refl refl c.token-in-OneNote.ensures
 
 pub returns-in-OneFleet : goal.returns-in-OneFleet
 unfolding entries may_end_of
 returns-in-OneFleet c =
-    must_told OneFleet Flt c.args.class [] c.in-OneFleet.is refl refl c.must-in-OneFleet.ensures
+    must_told OneFleet Flt c.args.class [] c.in-OneFleet.is refl refl c.token-in-OneFleet.ensures
 
 pub returns-in-Waived : goal.returns-in-Waived
 unfolding entries may_end_of
 returns-in-Waived c =
-    must_told Waived Wve c.args.class [] c.in-Waived.is refl refl c.must-in-Waived.ensures
+    must_told Waived Wve c.args.class [] c.in-Waived.is refl refl c.token-in-Waived.ensures
 
 pub returns-in-ConvoyTo : goal.returns-in-ConvoyTo
 unfolding entries may_end_of
 returns-in-ConvoyTo c =
-    must_told ConvoyTo Cto c.args.class [] c.in-ConvoyTo.is refl refl c.must-in-ConvoyTo.ensures
+    must_told ConvoyTo Cto c.args.class [] c.in-ConvoyTo.is refl refl c.token-in-ConvoyTo.ensures
 
 pub returns-in-Through : goal.returns-in-Through
 unfolding entries may_end_of
 returns-in-Through c =
-    must_told Through Via c.args.class [] c.in-Through.is refl refl c.must-in-Through.ensures
+    must_told Through Via c.args.class [] c.in-Through.is refl refl c.token-in-Through.ensures
 
 pub returns-in-Against : goal.returns-in-Against
 unfolding entries may_end_of
 returns-in-Against c =
-    must_told Against Vss c.args.class [] c.in-Against.is refl refl c.must-in-Against.ensures
+    must_told Against Vss c.args.class [] c.in-Against.is refl refl c.token-in-Against.ensures
 
 pub returns-in-TextGroup : goal.returns-in-TextGroup
 unfolding entries may_end_of
 returns-in-TextGroup c =
-    must_told TextGroup Bra c.args.class (Texts ∷ Closing ∷ []) c.in-TextGroup.is refl refl c.must-in-TextGroup.ensures
+    must_told TextGroup Bra c.args.class (Texts ∷ Closing ∷ []) c.in-TextGroup.is refl refl c.group.ensures
 
 pub returns-in-Texts : goal.returns-in-Texts
 unfolding entries may_end_of
@@ -96,13 +96,13 @@ pub returns-in-PowerGroup : goal.returns-in-PowerGroup
 unfolding entries may_end_of
 returns-in-PowerGroup c =
     must_told PowerGroup Bra c.args.class (OnePower ∷ Closing ∷ [])
-    c.in-PowerGroup.is refl refl c.must-in-PowerGroup.ensures
+    c.in-PowerGroup.is refl refl c.group-in-PowerGroup.ensures
 
 pub returns-in-PowersGroup : goal.returns-in-PowersGroup
 unfolding entries may_end_of
 returns-in-PowersGroup c =
     must_told PowersGroup Bra c.args.class (OnePower ∷ Powers ∷ Closing ∷ [])
-    c.in-PowersGroup.is refl refl c.must-in-PowersGroup.ensures
+    c.in-PowersGroup.is refl refl c.must.ensures
 
 pub returns-in-MaybePowersGroup : goal.returns-in-MaybePowersGroup
 unfolding entries may_end_of
@@ -119,7 +119,7 @@ pub returns-in-NumberGroup : goal.returns-in-NumberGroup
 unfolding entries may_end_of
 returns-in-NumberGroup c =
     must_told NumberGroup Bra c.args.class (OneNumber ∷ Closing ∷ [])
-    c.in-NumberGroup.is refl refl c.must-in-NumberGroup.ensures
+    c.in-NumberGroup.is refl refl c.group-in-NumberGroup.ensures
 
 pub returns-in-MaybeNumberGroup : goal.returns-in-MaybeNumberGroup
 unfolding entries may_end_of
@@ -142,7 +142,7 @@ pub returns-in-MaybeProvincesGroup : goal.returns-in-MaybeProvincesGroup
 unfolding entries may_end_of
 returns-in-MaybeProvincesGroup c =
     must_told MaybeProvincesGroup Bra c.args.class (Provinces ∷ Closing ∷ [])
-    c.in-MaybeProvincesGroup.is refl refl c.must-in-MaybeProvincesGroup.ensures
+    c.in-MaybeProvincesGroup.is refl refl c.group-in-MaybeProvincesGroup.ensures
 
 pub returns-in-Provinces : goal.returns-in-Provinces
 unfolding entries may_end_of
@@ -153,7 +153,7 @@ pub returns-in-TurnGroup : goal.returns-in-TurnGroup
 unfolding entries may_end_of
 returns-in-TurnGroup c =
     must_told TurnGroup Bra c.args.class (OneTurn ∷ Closing ∷ [])
-    c.in-TurnGroup.is refl refl c.must-in-TurnGroup.ensures
+    c.in-TurnGroup.is refl refl c.group-in-TurnGroup.ensures
 
 pub returns-in-OneTurn : goal.returns-in-OneTurn
 unfolding entries may_end_of
@@ -164,7 +164,7 @@ pub returns-in-WordsGroup : goal.returns-in-WordsGroup
 unfolding entries may_end_of
 returns-in-WordsGroup c =
     must_told WordsGroup Bra c.args.class (WordList ∷ Closing ∷ [])
-    c.in-WordsGroup.is refl refl c.must-in-WordsGroup.ensures
+    c.in-WordsGroup.is refl refl c.group-in-WordsGroup.ensures
 
 pub returns-in-WordList : goal.returns-in-WordList
 returns-in-WordList c = c.word_list.ensures ∙ by_name c.args.class c.in-WordList.is
@@ -172,7 +172,7 @@ returns-in-WordList c = c.word_list.ensures ∙ by_name c.args.class c.in-WordLi
 pub returns-in-AnyGroup : goal.returns-in-AnyGroup
 unfolding entries may_end_of
 returns-in-AnyGroup c =
-    must_told AnyGroup Bra c.args.class (Any ∷ Closing ∷ []) c.in-AnyGroup.is refl refl c.must-in-AnyGroup.ensures
+    must_told AnyGroup Bra c.args.class (Any ∷ Closing ∷ []) c.in-AnyGroup.is refl refl c.group-in-AnyGroup.ensures
 
 pub returns-in-Any : goal.returns-in-Any
 returns-in-Any c = c.any.ensures ∙ by_name c.args.class c.in-Any.is
@@ -184,7 +184,7 @@ pub returns-in-PlacesGroup : goal.returns-in-PlacesGroup
 unfolding entries may_end_of
 returns-in-PlacesGroup c =
     must_told PlacesGroup Bra c.args.class (Places ∷ Closing ∷ [])
-    c.in-PlacesGroup.is refl refl c.must-in-PlacesGroup.ensures
+    c.in-PlacesGroup.is refl refl c.group-in-PlacesGroup.ensures
 
 pub returns-in-Places : goal.returns-in-Places
 returns-in-Places c = c.places.ensures ∙ by_name c.args.class c.in-Places.is
@@ -193,13 +193,13 @@ pub returns-in-UnitGroup : goal.returns-in-UnitGroup
 unfolding entries may_end_of
 returns-in-UnitGroup c =
     must_told UnitGroup Bra c.args.class (OneUnit ∷ Closing ∷ [])
-    c.in-UnitGroup.is refl refl c.must-in-UnitGroup.ensures
+    c.in-UnitGroup.is refl refl c.group-in-UnitGroup.ensures
 
 pub returns-in-UnitGroups : goal.returns-in-UnitGroups
 unfolding entries may_end_of
 returns-in-UnitGroups c =
     may_told UnitGroups Bra c.args.class (OneUnit ∷ Closing ∷ UnitGroups ∷ [])
-    c.in-UnitGroups.is refl refl c.may-in-UnitGroups.ensures
+    c.in-UnitGroups.is refl refl c.groups.ensures
 
 pub returns-in-OneUnit : goal.returns-in-OneUnit
 unfolding entries may_end_of
@@ -213,12 +213,12 @@ pub returns-in-OrderGroup : goal.returns-in-OrderGroup
 unfolding entries may_end_of
 returns-in-OrderGroup c =
     must_told OrderGroup Bra c.args.class (OneOrder ∷ Closing ∷ [])
-    c.in-OrderGroup.is refl refl c.must-in-OrderGroup.ensures
+    c.in-OrderGroup.is refl refl c.group-in-OrderGroup.ensures
 
 pub returns-in-Orders : goal.returns-in-Orders
 unfolding entries may_end_of
 returns-in-Orders c =
-    may_told Orders Bra c.args.class (OneOrder ∷ Closing ∷ Orders ∷ []) c.in-Orders.is refl refl c.may-in-Orders.ensures
+    may_told Orders Bra c.args.class (OneOrder ∷ Closing ∷ Orders ∷ []) c.in-Orders.is refl refl c.groups-in-Orders.ensures
 
 pub returns-in-OneOrder : goal.returns-in-OneOrder
 returns-in-OneOrder c = c.one_order.ensures ∙ by_name c.args.class c.in-OneOrder.is
@@ -236,7 +236,7 @@ unfolding entries may_end_of
 returns-in-ArrangementGroup c =
     must_told (ArrangementGroup c.in-ArrangementGroup.level) Bra c.args.class
     (Arrangement c.in-ArrangementGroup.level ∷ Closing ∷ [])
-    c.in-ArrangementGroup.is refl refl c.must-in-ArrangementGroup.ensures
+    c.in-ArrangementGroup.is refl refl c.group-in-ArrangementGroup.ensures
 
 pub returns-in-Arrangement : goal.returns-in-Arrangement
 returns-in-Arrangement c = c.arrangement.ensures ∙ by_name c.args.class c.in-Arrangement.is
@@ -245,7 +245,7 @@ pub returns-in-FactGroup : goal.returns-in-FactGroup
 unfolding entries may_end_of
 returns-in-FactGroup c =
     must_told (FactGroup c.in-FactGroup.level) Bra c.args.class (Fact c.in-FactGroup.level ∷ Closing ∷ [])
-    c.in-FactGroup.is refl refl c.must-in-FactGroup.ensures
+    c.in-FactGroup.is refl refl c.group-in-FactGroup.ensures
 
 pub returns-in-Fact : goal.returns-in-Fact
 returns-in-Fact c = c.fact.ensures ∙ by_name c.args.class c.in-Fact.is
@@ -254,14 +254,14 @@ pub returns-in-OperandGroup : goal.returns-in-OperandGroup
 unfolding entries may_end_of
 returns-in-OperandGroup c =
     must_told (OperandGroup c.in-OperandGroup.level) Bra c.args.class (Operand c.in-OperandGroup.level ∷ Closing ∷ [])
-    c.in-OperandGroup.is refl refl c.must-in-OperandGroup.ensures
+    c.in-OperandGroup.is refl refl c.group-in-OperandGroup.ensures
 
 pub returns-in-Operands : goal.returns-in-Operands
 unfolding entries may_end_of
 returns-in-Operands c =
     may_told (Operands c.in-Operands.level) Bra c.args.class
     (Operand c.in-Operands.level ∷ Closing ∷ Operands c.in-Operands.level ∷ [])
-    c.in-Operands.is refl refl c.may-in-Operands.ensures
+    c.in-Operands.is refl refl c.groups-in-Operands.ensures
 
 pub returns-in-Operand : goal.returns-in-Operand
 returns-in-Operand c = c.operand.ensures ∙ by_name c.args.class c.in-Operand.is
@@ -282,7 +282,7 @@ pub returns-in-PressGroup : goal.returns-in-PressGroup
 unfolding entries may_end_of
 returns-in-PressGroup c =
     must_told (PressGroup c.in-PressGroup.level) Bra c.args.class (Press c.in-PressGroup.level ∷ Closing ∷ [])
-    c.in-PressGroup.is refl refl c.must-in-PressGroup.ensures
+    c.in-PressGroup.is refl refl c.group-in-PressGroup.ensures
 
 pub returns-in-Press : goal.returns-in-Press
 returns-in-Press c = c.press.ensures ∙ by_name c.args.class c.in-Press.is
@@ -291,7 +291,7 @@ pub returns-in-SendGroup : goal.returns-in-SendGroup
 unfolding entries may_end_of
 returns-in-SendGroup c =
     must_told (SendGroup c.in-SendGroup.level) Bra c.args.class (Send c.in-SendGroup.level ∷ Closing ∷ [])
-    c.in-SendGroup.is refl refl c.must-in-SendGroup.ensures
+    c.in-SendGroup.is refl refl c.group-in-SendGroup.ensures
 
 pub returns-in-MaybeSendGroup : goal.returns-in-MaybeSendGroup
 returns-in-MaybeSendGroup c = c.maybe_send_group.ensures ∙ by_name c.args.class c.in-MaybeSendGroup.is
@@ -318,7 +318,7 @@ pub returns-in-RequestGroup : goal.returns-in-RequestGroup
 unfolding entries may_end_of
 returns-in-RequestGroup c =
     must_told (RequestGroup c.in-RequestGroup.level) Bra c.args.class (Request c.in-RequestGroup.level ∷ Closing ∷ [])
-    c.in-RequestGroup.is refl refl c.must-in-RequestGroup.ensures
+    c.in-RequestGroup.is refl refl c.group-in-RequestGroup.ensures
 
 pub returns-in-Request : goal.returns-in-Request
 returns-in-Request c = c.request.ensures ∙ by_name c.args.class c.in-Request.is
@@ -335,7 +335,7 @@ pub returns-in-CancelGroup : goal.returns-in-CancelGroup
 unfolding entries may_end_of
 returns-in-CancelGroup c =
     must_told CancelGroup Bra c.args.class (Cancel ∷ Closing ∷ [])
-    c.in-CancelGroup.is refl refl c.must-in-CancelGroup.ensures
+    c.in-CancelGroup.is refl refl c.group-in-CancelGroup.ensures
 
 pub returns-in-Cancel : goal.returns-in-Cancel
 returns-in-Cancel c = c.cancel.ensures ∙ by_name c.args.class c.in-Cancel.is
@@ -344,7 +344,7 @@ pub returns-in-ReplyGroup : goal.returns-in-ReplyGroup
 unfolding entries may_end_of
 returns-in-ReplyGroup c =
     must_told ReplyGroup Bra c.args.class (Reply ∷ Closing ∷ [])
-    c.in-ReplyGroup.is refl refl c.must-in-ReplyGroup.ensures
+    c.in-ReplyGroup.is refl refl c.group-in-ReplyGroup.ensures
 
 pub returns-in-Reply : goal.returns-in-Reply
 returns-in-Reply c = c.reply.ensures ∙ by_name c.args.class c.in-Reply.is
@@ -355,7 +355,7 @@ returns-in-Server c = c.server.ensures ∙ by_name c.args.class c.in-Server.is
 pub returns-in-WhoGroup : goal.returns-in-WhoGroup
 unfolding entries may_end_of
 returns-in-WhoGroup c =
-    must_told WhoGroup Bra c.args.class (Who ∷ Closing ∷ []) c.in-WhoGroup.is refl refl c.must-in-WhoGroup.ensures
+    must_told WhoGroup Bra c.args.class (Who ∷ Closing ∷ []) c.in-WhoGroup.is refl refl c.group-in-WhoGroup.ensures
 
 pub returns-in-Who : goal.returns-in-Who
 returns-in-Who c = c.who.ensures ∙ by_name c.args.class c.in-Who.is
@@ -364,12 +364,12 @@ pub returns-in-ParamsGroup : goal.returns-in-ParamsGroup
 unfolding entries may_end_of
 returns-in-ParamsGroup c =
     must_told ParamsGroup Bra c.args.class (Params ∷ Closing ∷ [])
-    c.in-ParamsGroup.is refl refl c.must-in-ParamsGroup.ensures
+    c.in-ParamsGroup.is refl refl c.group-in-ParamsGroup.ensures
 
 pub returns-in-Params : goal.returns-in-Params
 unfolding entries may_end_of
 returns-in-Params c =
-    may_told Params Bra c.args.class (OneParam ∷ Closing ∷ Params ∷ []) c.in-Params.is refl refl c.may-in-Params.ensures
+    may_told Params Bra c.args.class (OneParam ∷ Closing ∷ Params ∷ []) c.in-Params.is refl refl c.groups-in-Params.ensures
 
 pub returns-in-OneParam : goal.returns-in-OneParam
 returns-in-OneParam c = c.one_param.ensures ∙ by_name c.args.class c.in-OneParam.is
@@ -384,12 +384,12 @@ pub returns-in-OwnersGroup : goal.returns-in-OwnersGroup
 unfolding entries may_end_of
 returns-in-OwnersGroup c =
     must_told OwnersGroup Bra c.args.class (Owners ∷ Closing ∷ [])
-    c.in-OwnersGroup.is refl refl c.must-in-OwnersGroup.ensures
+    c.in-OwnersGroup.is refl refl c.group-in-OwnersGroup.ensures
 
 pub returns-in-Owners : goal.returns-in-Owners
 unfolding entries may_end_of
 returns-in-Owners c =
-    may_told Owners Bra c.args.class (Owned ∷ Closing ∷ Owners ∷ []) c.in-Owners.is refl refl c.may-in-Owners.ensures
+    may_told Owners Bra c.args.class (Owned ∷ Closing ∷ Owners ∷ []) c.in-Owners.is refl refl c.groups-in-Owners.ensures
 
 pub returns-in-Owned : goal.returns-in-Owned
 returns-in-Owned c = c.owned.ensures ∙ by_name c.args.class c.in-Owned.is
@@ -398,13 +398,13 @@ pub returns-in-BordersGroup : goal.returns-in-BordersGroup
 unfolding entries may_end_of
 returns-in-BordersGroup c =
     must_told BordersGroup Bra c.args.class (BordersList ∷ Closing ∷ [])
-    c.in-BordersGroup.is refl refl c.must-in-BordersGroup.ensures
+    c.in-BordersGroup.is refl refl c.group-in-BordersGroup.ensures
 
 pub returns-in-BordersList : goal.returns-in-BordersList
 unfolding entries may_end_of
 returns-in-BordersList c =
     may_told BordersList Bra c.args.class (Borders ∷ Closing ∷ BordersList ∷ [])
-    c.in-BordersList.is refl refl c.may-in-BordersList.ensures
+    c.in-BordersList.is refl refl c.groups-in-BordersList.ensures
 
 pub returns-in-Borders : goal.returns-in-Borders
 unfolding entries may_end_of
@@ -415,7 +415,7 @@ pub returns-in-KindList : goal.returns-in-KindList
 unfolding entries may_end_of
 returns-in-KindList c =
     may_told KindList Bra c.args.class (KindPlaces ∷ Closing ∷ KindList ∷ [])
-    c.in-KindList.is refl refl c.may-in-KindList.ensures
+    c.in-KindList.is refl refl c.groups-in-KindList.ensures
 
 pub returns-in-KindPlaces : goal.returns-in-KindPlaces
 returns-in-KindPlaces c = c.kind_places.ensures ∙ by_name c.args.class c.in-KindPlaces.is
@@ -423,7 +423,7 @@ returns-in-KindPlaces c = c.kind_places.ensures ∙ by_name c.args.class c.in-Ki
 pub returns-in-Stands : goal.returns-in-Stands
 unfolding entries may_end_of
 returns-in-Stands c =
-    may_told Stands Bra c.args.class (OneStand ∷ Closing ∷ Stands ∷ []) c.in-Stands.is refl refl c.may-in-Stands.ensures
+    may_told Stands Bra c.args.class (OneStand ∷ Closing ∷ Stands ∷ []) c.in-Stands.is refl refl c.groups-in-Stands.ensures
 
 pub returns-in-OneStand : goal.returns-in-OneStand
 unfolding entries may_end_of
@@ -448,7 +448,7 @@ pub returns-in-NoteGroup : goal.returns-in-NoteGroup
 unfolding entries may_end_of
 returns-in-NoteGroup c =
     must_told NoteGroup Bra c.args.class (OneNote ∷ Closing ∷ [])
-    c.in-NoteGroup.is refl refl c.must-in-NoteGroup.ensures
+    c.in-NoteGroup.is refl refl c.group-in-NoteGroup.ensures
 
 pub returns-in-OutcomesGroup : goal.returns-in-OutcomesGroup
 unfolding entries may_end_of
@@ -466,7 +466,7 @@ pub returns-in-CivilDisorderGroup : goal.returns-in-CivilDisorderGroup
 unfolding entries may_end_of
 returns-in-CivilDisorderGroup c =
     must_told CivilDisorderGroup Bra c.args.class (CivilDisorder ∷ Closing ∷ [])
-    c.in-CivilDisorderGroup.is refl refl c.must-in-CivilDisorderGroup.ensures
+    c.in-CivilDisorderGroup.is refl refl c.group-in-CivilDisorderGroup.ensures
 
 pub returns-in-CivilDisorder : goal.returns-in-CivilDisorder
 unfolding entries may_end_of
@@ -478,7 +478,7 @@ pub returns-in-Players : goal.returns-in-Players
 unfolding entries may_end_of
 returns-in-Players c =
     may_told Players Bra c.args.class (OnePlayer ∷ Closing ∷ Players ∷ [])
-    c.in-Players.is refl refl c.may-in-Players.ensures
+    c.in-Players.is refl refl c.groups-in-Players.ensures
 
 pub returns-in-OnePlayer : goal.returns-in-OnePlayer
 unfolding entries may_end_of
