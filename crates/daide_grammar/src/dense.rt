@@ -78,7 +78,7 @@ pub(crate) fn class_of(token: Token) -> Column
 fn class_cell(place: u16) -> u8
     ensures { result ≡ class_cell place }
 {
-    whole().classes[place as usize]
+    whole().classes.as_flattened()[place as usize]
 }
 
 /// Whether a symbol may be empty: whether a closing bracket skips it.

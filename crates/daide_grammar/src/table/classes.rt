@@ -188,9 +188,9 @@ macro_rules! class_4a {
     ($other:literal) => { class!(OTHER) };
 }
 
-/// The classes of each of these codes, category by category.
+/// The classes of each of these codes, category by category: all in one list, or those of a code in a row of their own.
 macro_rules! by_code {
-    ($($code:tt)*) => {
+    (in_one: $($code:tt)*) => {
         [$(
             // from 00 on
             2, 2, 2, 2, 2, 2, 2, 2, 2, 2, 2, 2, 2, 2, 2, 2, 2, 2, 2, 2, 2, 2, 2, 2, 2, 2, 2, 2, 2, 2, 2, 2,
@@ -216,12 +216,39 @@ macro_rules! by_code {
             78, 78, 78, 78, 78, 78,
         )*]
     };
+    (in_rows: $($code:tt)*) => {
+        [$([
+            // from 00 on
+            2, 2, 2, 2, 2, 2, 2, 2, 2, 2, 2, 2, 2, 2, 2, 2, 2, 2, 2, 2, 2, 2, 2, 2, 2, 2, 2, 2, 2, 2, 2, 2,
+            // from 20 on
+            2, 2, 2, 2, 2, 2, 2, 2, 2, 2, 2, 2, 2, 2, 2, 2, 2, 2, 2, 2, 2, 2, 2, 2, 2, 2, 2, 2, 2, 2, 2, 2,
+            // from 40 on
+            class_40!($code), 3, class_42!($code), class_43!($code), 4, 5, 6, 7, class_48!($code), class_49!($code),
+            class_4a!($code), 8, 78, 78, 78, 78, 9, 9, 9, 9, 9, 9, 9, 9, 78, 78, 78, 78, 78, 78, 78, 78,
+            // from 60 on
+            78, 78, 78, 78, 78, 78, 78, 78, 78, 78, 78, 78, 78, 78, 78, 78, 78, 78, 78, 78, 78, 78, 78, 78, 78, 78,
+            78, 78, 78, 78, 78, 78,
+            // from 80 on
+            78, 78, 78, 78, 78, 78, 78, 78, 78, 78, 78, 78, 78, 78, 78, 78, 78, 78, 78, 78, 78, 78, 78, 78, 78, 78,
+            78, 78, 78, 78, 78, 78,
+            // from A0 on
+            78, 78, 78, 78, 78, 78, 78, 78, 78, 78, 78, 78, 78, 78, 78, 78, 78, 78, 78, 78, 78, 78, 78, 78, 78, 78,
+            78, 78, 78, 78, 78, 78,
+            // from C0 on
+            78, 78, 78, 78, 78, 78, 78, 78, 78, 78, 78, 78, 78, 78, 78, 78, 78, 78, 78, 78, 78, 78, 78, 78, 78, 78,
+            78, 78, 78, 78, 78, 78,
+            // from E0 on
+            78, 78, 78, 78, 78, 78, 78, 78, 78, 78, 78, 78, 78, 78, 78, 78, 78, 78, 78, 78, 78, 78, 78, 78, 78, 78,
+            78, 78, 78, 78, 78, 78,
+        ]),*]
+    };
 }
 
 /// The numbers of the classes of all tokens: code by code, and there category by category.
 macro_rules! classes {
-    () => {
+    ($shape:ident) => {
         by_code! {
+            $shape:
             0x00 0x01 0x02 0x03 0x04 0x05 0x06 0x07 0x08 0x09 0x0A 0x0B 0x0C 0x0D 0x0E 0x0F 0x10 0x11 0x12 0x13 0x14
             0x15 0x16 0x17 0x18 0x19 0x1A 0x1B 0x1C 0x1D 0x1E 0x1F 0x20 0x21 0x22 0x23 0x24 0x25 0x26 0x27 0x28 0x29
             0x2A 0x2B 0x2C 0x2D 0x2E 0x2F 0x30 0x31 0x32 0x33 0x34 0x35 0x36 0x37 0x38 0x39 0x3A 0x3B 0x3C 0x3D 0x3E

@@ -776,7 +776,7 @@ pub(crate) static TABLE: Table = Table {
     rests: RESTS,
     lengths: LENGTHS,
     growths: GROWTHS,
-    classes: classes!(),
+    classes: classes!(in_one),
     brackets: BRACKETS,
     rows: columns!(),
 };
@@ -785,7 +785,7 @@ pub(crate) static LINKED: Linked = Linked {
     rests: RESTS,
     lengths: LENGTHS,
     growths: GROWTHS,
-    classes: classes!(),
+    classes: classes!(in_rows),
     brackets: BRACKETS,
     rows: columns!(&),
 };
