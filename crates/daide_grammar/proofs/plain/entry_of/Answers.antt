@@ -218,7 +218,8 @@ returns-in-OrderGroup c =
 pub returns-in-Orders : goal.returns-in-Orders
 unfolding entries may_end_of
 returns-in-Orders c =
-    may_told Orders Bra c.args.class (OneOrder ∷ Closing ∷ Orders ∷ []) c.in-Orders.is refl refl c.groups-in-Orders.ensures
+    may_told Orders Bra c.args.class (OneOrder ∷ Closing ∷ Orders ∷ [])
+    c.in-Orders.is refl refl c.groups-in-Orders.ensures
 
 pub returns-in-OneOrder : goal.returns-in-OneOrder
 returns-in-OneOrder c = c.one_order.ensures ∙ by_name c.args.class c.in-OneOrder.is
@@ -369,7 +370,8 @@ returns-in-ParamsGroup c =
 pub returns-in-Params : goal.returns-in-Params
 unfolding entries may_end_of
 returns-in-Params c =
-    may_told Params Bra c.args.class (OneParam ∷ Closing ∷ Params ∷ []) c.in-Params.is refl refl c.groups-in-Params.ensures
+    may_told Params Bra c.args.class (OneParam ∷ Closing ∷ Params ∷ [])
+    c.in-Params.is refl refl c.groups-in-Params.ensures
 
 pub returns-in-OneParam : goal.returns-in-OneParam
 returns-in-OneParam c = c.one_param.ensures ∙ by_name c.args.class c.in-OneParam.is
@@ -423,7 +425,8 @@ returns-in-KindPlaces c = c.kind_places.ensures ∙ by_name c.args.class c.in-Ki
 pub returns-in-Stands : goal.returns-in-Stands
 unfolding entries may_end_of
 returns-in-Stands c =
-    may_told Stands Bra c.args.class (OneStand ∷ Closing ∷ Stands ∷ []) c.in-Stands.is refl refl c.groups-in-Stands.ensures
+    may_told Stands Bra c.args.class (OneStand ∷ Closing ∷ Stands ∷ [])
+    c.in-Stands.is refl refl c.groups-in-Stands.ensures
 
 pub returns-in-OneStand : goal.returns-in-OneStand
 unfolding entries may_end_of
