@@ -2,7 +2,7 @@
 use Rattle.std.proofs.Common.{◌≡◌, ℕ, zero, suc, ◌+◌, ◌-◌, ◌≤◌, List, [], ◌∷◌, ◌++◌, length, take, drop, arith, refl, sym, ap, ◌∙◌}
 use Rattle.std.proofs.Common.{Option, Some, None, append_assoc, append-nil, take-append-drop, length-append, length-take-le}
 use Rattle.std.proofs.Common.{length-drop, subst}
-use Rattle.std.proofs.lemmas.List.{drop-take, drop-drop, drop-append-le, take_at}
+use Rattle.std.proofs.lemmas.List.{drop-take, drop-drop, drop-append-le, take_at, nil_from_length}
 use Rattle.std.proofs.lemmas.Slice.{between_is}
 use Rattle.std.proofs.KnownBytes.{Consumes-nil, Consumes-trans, Appends-nil, Appends-trans}
 use Rattle.std.specs.Io.KnownBytes.{Consumes, Keeps, Appends}
@@ -78,6 +78,15 @@ module _ {S : Type 0} (to_give got : S → Option (List ℕ)) where
     ahead = ahead;
     behind = append-nil old.behind ∙ sym unwritten.behind;
   }
+
+  -- nothing came
+  pub none_passes : (old new : Buffer S) (came : List ℕ) → length came ≡ 0 →
+      Consumes (to_give old.stream) (to_give new.stream) came → new.ahead ≡ old.ahead → IsUnwritten got old new →
+      Passes to_give got old [] [] new
+  none_passes old new came none gives ahead unwritten =
+      read_passes old new [] []
+      (subst (λ (l : List ℕ). Consumes (to_give old.stream) (to_give new.stream) l) (nil_from_length came none) gives)
+      (append-nil old.ahead ∙ sym ahead) unwritten
 
   -- bytes were handed over, and some went
   pub write_passes : (old new : Buffer S) (went over : List ℕ) → Appends (got old.stream) (got new.stream) went →

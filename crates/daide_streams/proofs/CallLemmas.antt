@@ -1,20 +1,145 @@
--- Pulls of a stream with buffers, by those of the stream.
-use Rattle.std.proofs.Common.{◌≡◌, ℕ, ◌≤◌, subst, true, List, [], Option, arith, refl}
+-- A pull and a put by the call that was made of the stream, and pulls of a stream with buffers by those of the stream.
+use Rattle.std.proofs.Common.{◌≡◌, ℕ, zero, suc, ◌-◌, ◌<◌, ◌≤◌, ◌==◌, true, false, List, [], length, take}
+use Rattle.std.proofs.Common.{Option, Some, None, ◌⊎◌, inl, inr, arith, refl, sym, ap, ◌∙◌, subst}
+use Rattle.std.proofs.lemmas.Bool.Decides.{nat_tests}
 use Rattle.daide_machine.specs.declared.ports.Pull.{Pull}
 use Rattle.daide_machine.specs.declared.ports.Pull.TheVariants.{Got, Idle, Ended}
+use Rattle.daide_machine.specs.declared.ports.Put.{Put}
+use Rattle.daide_machine.specs.declared.ports.Put.TheVariants.{Took}
+use Rattle.daide_machine.specs.Ports.{pulled_len}
 use Rattle.daide_streams.specs.declared.readiness.Readiness.{Readiness}
+use Rattle.daide_streams.specs.declared.outcome.Outcome.{Outcome}
+use Rattle.daide_streams.specs.declared.outcome.Outcome.TheVariants.{Moved, Interrupted, NotNow}
 use Rattle.daide_streams.specs.Buffers.{is_alike}
-use Rattle.daide_streams.specs.Calls.{StreamCall, IsPull}
+use Rattle.daide_streams.specs.Calls.{StreamCall, Tries, Read, Written, IsPull, IsPut, pull_of, put_of}
+use Rattle.daide_streams.specs.Calls.{after_read, after_write}
 
 alike_self : (pull : Pull) → is_alike pull pull ≡ true
 alike_self (Got n) = refl
 alike_self Idle = refl
 alike_self Ended = refl
 
+-- ---- what an outcome is told as
+
+pub some_room : (room : ℕ) → false ≡ (room == 0) → 0 < room
+some_room room e = grind (arith, nat_tests, e)
+
+pub no_room : (room : ℕ) → true ≡ (room == 0) → room ≡ 0
+no_room room e = grind (arith, nat_tests, e)
+
+-- a buffer that room was taken for is shorter than that
+pub short : {A : Type 0} (n most : ℕ) (room : Option A) (held : A) → room ≡ Some held →
+    (n < most) ⊎ (room ≡ None) → n ≤ most
+short n most room held some (inl less) = omega (arith, less)
+short n most room held some (inr none) = absurd (let e = sym none ∙ some in cc)
+
+pub is_some : (held ahead : List ℕ) → held ≡ ahead → 0 < length held → ahead ≡ [] → ⊥
+is_some held ahead same some none = omega (arith, some, ap length (same ∙ none))
+
+-- bytes read in place of those that were held
+pub filled : (items buffer : List ℕ) (count : ℕ) → items ≡ buffer → take (count - 0) items ≡ take count buffer
+filled items buffer count same =
+    let whole : count - 0 ≡ count = omega arith in
+    ap (λ (n : ℕ). take n items) whole ∙ ap (take count) same
+
+pub nothing_pulled : (pull : Pull) → ((n : ℕ) → pull ≡ Got n → ⊥) → pulled_len pull ≡ 0
+nothing_pulled (Got n) other = absurd (other n refl)
+nothing_pulled Idle other = refl
+nothing_pulled Ended other = refl
+
+pub got_is : (outcome : Outcome) (count : ℕ) → outcome ≡ Moved count → 0 < count → Got count ≡ pull_of outcome
+got_is outcome zero e some = absurd (omega (arith, some))
+got_is outcome (suc n) e some = ap pull_of (sym e)
+
+pub idle_is : (outcome : Outcome) → (outcome ≡ Interrupted) ⊎ (outcome ≡ NotNow) → Idle ≡ pull_of outcome
+idle_is outcome (inl e) = ap pull_of (sym e)
+idle_is outcome (inr e) = ap pull_of (sym e)
+
+pub none_is : (outcome : Outcome) → (outcome ≡ Interrupted) ⊎ (outcome ≡ NotNow) → Took 0 ≡ put_of outcome
+none_is outcome (inl e) = ap put_of (sym e)
+none_is outcome (inr e) = ap put_of (sym e)
+
 module _ {S : Type 0} (calls : S → Option (List StreamCall)) where
+  -- ---- a pull
+
+  -- where nothing can come, or there is no room
+  pub idle_pull : (room : ℕ) (known : Readiness) (stream : S) → (known.may_read ≡ false) ⊎ (room ≡ 0) →
+      IsPull calls room known stream Idle known stream
+  idle_pull room known stream spared = record {
+    spared = λ e. (refl, refl, refl);
+    made = λ ready some. absurd (neither spared ready some);
+  }
+    where
+      neither : (known.may_read ≡ false) ⊎ (room ≡ 0) → known.may_read ≡ true → 0 < room → ⊥
+      neither (inl e) ready some = cc
+      neither (inr e) ready some = omega (arith, e, some)
+
+  -- one that was made
+  pub made_pull : (room : ℕ) (known still : Readiness) (old new : S) (pull : Pull) (outcome : Outcome) →
+      known.may_read ≡ true → 0 < room → Tries (Read room) (calls old) outcome (calls new) → pull ≡ pull_of outcome →
+      still ≡ after_read known room outcome → IsPull calls room known old pull still new
+  made_pull room known still old new pull outcome ready some tries told noted = record {
+    spared = λ e. absurd (neither e);
+    made = λ r s. (outcome, tries, told, noted);
+  }
+    where
+      neither : (known.may_read ≡ false) ⊎ (room ≡ 0) → ⊥
+      neither (inl e) = cc
+      neither (inr e) = omega (arith, e, some)
+
+  -- what a pull of a stream with buffers is, where nothing is held ahead: one of the stream, into as much room or more
+  abbrev OfStream : ℕ → Readiness → S → Pull → Readiness → S → Type 0
+  OfStream room known stream pull still now = (more : ℕ) × (room ≤ more) × (own : Pull)
+      × IsPull calls more known stream own still now × (is_alike pull own ≡ true)
+
+  -- one into more room
+  pub more_pull : (ahead : List ℕ) (room more : ℕ) (known still : Readiness) (seen stream read now : S)
+      (pull own : Pull) → seen ≡ stream → room ≤ more → now ≡ read → is_alike pull own ≡ true →
+      IsPull calls more known seen own still read → ahead ≡ [] → OfStream room known stream pull still now
+  more_pull ahead room more known still seen stream read now pull own view wide same alike made none = (
+    more,
+    wide,
+    own,
+    subst (λ (s : S). IsPull calls more known s own still now) view
+        (subst (λ (s : S). IsPull calls more known seen own still s) (sym same) made),
+    alike,
+  )
+
+  -- one that leaves the stream alone
+  pub left_alone : (ahead : List ℕ) (room : ℕ) (known : Readiness) (stream now : S) → now ≡ stream →
+      (known.may_read ≡ false) ⊎ (room ≡ 0) → ahead ≡ [] → OfStream room known stream Idle known now
+  left_alone ahead room known stream now same spared =
+      more_pull ahead room room known known stream stream stream now Idle Idle refl (omega arith) same refl
+      (idle_pull room known stream spared)
+
   -- a pull of the stream itself
-  pub own_pull : (ahead : List ℕ) (room : ℕ) (known : Readiness) (seen stream now : S) (pull : Pull) (still : Readiness) →
-      seen ≡ stream → IsPull calls room known seen pull still now → ahead ≡ [] →
-      (more : ℕ) × (room ≤ more) × (own : Pull) × IsPull calls more known stream own still now × (is_alike pull own ≡ true)
-  own_pull ahead room known seen stream now pull still e h none =
-      (room, omega (arith), pull, subst (λ (s : S). IsPull calls room known s pull still now) e h, alike_self pull)
+  pub own_pull : (ahead : List ℕ) (room : ℕ) (known : Readiness) (seen stream now : S) (pull : Pull)
+      (still : Readiness) → seen ≡ stream → IsPull calls room known seen pull still now → ahead ≡ [] →
+      OfStream room known stream pull still now
+  own_pull ahead room known seen stream now pull still e made =
+      more_pull ahead room room known still seen stream now now pull pull e (omega arith) refl (alike_self pull) made
+
+  -- ---- a put
+
+  -- where nothing can be taken
+  pub spared_put : (bytes : List ℕ) (known : Readiness) (stream : S) → known.may_write ≡ false →
+      IsPut calls bytes known stream (Took 0) known stream
+  spared_put bytes known stream spared = record {
+    spared = λ e. (refl, refl, refl);
+    made = λ ready. absurd (let e = spared in let r = ready in cc);
+  }
+
+  -- one that was made
+  pub made_put : (bytes front : List ℕ) (known still : Readiness) (old new : S) (put : Put) (outcome : Outcome) →
+      front ≡ bytes → known.may_write ≡ true → Tries (Written front) (calls old) outcome (calls new) →
+      put ≡ put_of outcome → still ≡ after_write known (length front) outcome →
+      IsPut calls bytes known old put still new
+  made_put bytes front known still old new put outcome same ready tries told noted = record {
+    spared = λ e. absurd (let r = ready in let s = e in cc);
+    made = λ r. (
+      outcome,
+      subst (λ (l : List ℕ). Tries (Written l) (calls old) outcome (calls new)) same tries,
+      told,
+      noted ∙ ap (λ (l : List ℕ). after_write known (length l) outcome) same,
+    );
+  }

@@ -1,4 +1,4 @@
-mod Consumed
+mod AgainLemmas
 pub mod BufferLemmas
 pub mod CallLemmas
 pub mod StreamLemmas

@@ -19,7 +19,6 @@ const MOST_AT_ONCE: usize = 16_384;
 
 /// Reads once more where it was interrupted, eight times in all. The last read's outcome is told, and no other gave
 /// anything.
-#[tactic(auto, using(crate::proofs::Consumed::consumes_after, crate::proofs::Consumed::keeps_after))]
 fn read_on<S: Duplex>(stream: &mut S, buffer: &mut [u8]) -> Outcome
     ensures tries { Tries (Read (length buffer.old)) (S.calls stream.old) result (S.calls stream.new) }
     ensures within { IsPullWithin (pull_of result) (length buffer.old) }
@@ -63,7 +62,6 @@ pub fn pull_from<S: Duplex>(stream: &mut S, readiness: &mut Readiness, buffer: &
 
 /// Writes once more where it was interrupted, eight times in all. The last write's outcome is told, and none before it
 /// took anything.
-#[tactic(auto, using(crate::proofs::Consumed::keeps_after))]
 fn write_on<S: Duplex>(stream: &mut S, bytes: &[u8]) -> Outcome
     ensures tries { Tries (Written bytes.now) (S.calls stream.old) result (S.calls stream.new) }
     ensures within { IsPutWithin (put_of result) (length bytes.now) }

@@ -1,7 +1,10 @@
-use Rattle.std.proofs.Common.{rules, ◌≡◌, ◌∙◌, [], ap}
+use Rattle.std.proofs.Common.{rules, ◌≡◌, ◌∙◌, [], ap, sym, length, inl, inr}
 use Rattle.daide_streams.specs.Buffers.{Buffer}
 use Rattle.daide_streams.proofs.BufferLemmas.{out_passes, still_passes}
+use Rattle.daide_streams.proofs.CallLemmas.{no_room, is_some, left_alone}
 use Rattle.daide_streams.proofs.buffered.Buffered.pull.Goals as goal
+use Rattle.daide_streams.proofs.buffered.Buffered.pull.Goals.{then-is_empty-via-then-is_empty}
+use Rattle.daide_streams.proofs.buffered.Buffered.pull.Goals.{then-is_empty-via-else-is_empty+then-not-readiness}
 
 pub returns-in-Some-clause-passes : goal.returns-in-Some-clause-passes
 returns-in-Some-clause-passes g c =
@@ -23,3 +26,16 @@ returns-then-is_empty-clause-passes g c =
       behind = ap (λ (b : Buffer g.row.S.Denot). b.behind) c.take_ahead.ensures.rest;
       takes = ap (λ (b : Buffer g.row.S.Denot). g.S.Duplex.taken b.stream) c.take_ahead.ensures.rest;
     })
+
+pub returns-in-Some-clause-asked : goal.returns-in-Some-clause-asked
+returns-in-Some-clause-asked g c = λ none.
+    absurd (is_some c.in-Some.held c.args.self.now.ahead c.in-Some.ensures.held c.in-Some.ensures.some none)
+
+pub returns-then-is_empty-clause-asked : goal.returns-then-is_empty-clause-asked
+returns-then-is_empty-clause-asked g c =
+    left_alone g.S.Duplex.calls c.args.self.now.ahead (length c.args.buffer.now) c.args.readiness.now
+    c.args.self.now.stream _ (ap (λ (b : Buffer g.row.S.Denot). b.stream) c.take_ahead.ensures.rest)
+    (elim c.then-is_empty.branch [
+      | then-is_empty-via-then-is_empty w ↦ inr (no_room _ (sym w.if-is_empty.true ∙ c.is_empty.ensures))
+      | then-is_empty-via-else-is_empty+then-not-readiness w ↦ inl w.if-not-readiness.true
+    ])

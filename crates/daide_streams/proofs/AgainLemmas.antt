@@ -1,0 +1,170 @@
+-- Calls that are made again while they are interrupted: what the last of them comes to.
+use Rattle.std.proofs.Common.{◌≡◌, ℕ, zero, suc, ◌+◌, ◌<◌, ◌≤◌, List, [], ◌∷◌, ◌++◌, length, take, replicate}
+use Rattle.std.proofs.Common.{arith, sym, ap, ◌∙◌, subst}
+use Rattle.std.proofs.Common.{Option, Some, None, Result, Ok, Err, append_assoc, append-nil}
+use Rattle.std.proofs.lemmas.List.{replicate_more}
+use Rattle.std.specs.Io.{ReadsAtMost, WritesAtMost}
+use Rattle.std.specs.Io.KnownBytes.{Consumes, Appends, Keeps, ReadConsumes, WriteAppends}
+use Rattle.std.specs.IoError.{error_kind}
+use Rattle.std.specs.declared.io.Error.{Error}
+use Rattle.std.specs.declared.io.ErrorKind.{ErrorKind}
+use Rattle.std.specs.declared.io.ErrorKind.TheVariants as Kinds
+use Rattle.daide_machine.specs.Ports.{Tells, IsPullWithin, IsPutWithin, pulled_len}
+use Rattle.daide_streams.specs.Calls.{StreamCall, Tries, outcome_by, outcome_of_kind, pull_of, put_of}
+use Rattle.daide_streams.specs.Taking.{IsTaken}
+use Rattle.daide_streams.specs.declared.outcome.Outcome.{Outcome}
+use Rattle.daide_streams.specs.declared.outcome.Outcome.TheVariants.{Interrupted, NotNow, Failed}
+
+-- ---- what is told
+
+module _ {A : Type 0} where
+  some_same : (x y : List A) → Some x ≡ Some y → x ≡ y
+  some_same x y e = cc
+
+  -- one after another
+  tells_then : (old mid new : Option (List A)) (xs ys : List A) → Tells old xs mid → Tells mid ys new →
+      Tells old (xs ++ ys) new
+  tells_then old mid None xs ys first next = tt
+  tells_then old None (Some after) xs ys first next = absurd (let e = next.1 in cc)
+  tells_then old (Some between) (Some after) xs ys first next = (
+    first.0,
+    first.1,
+    next.2 ∙ ap (λ (l : List A). l ++ ys) (sym (some_same between next.0 next.1) ∙ first.2)
+        ∙ append_assoc first.0 xs ys,
+  )
+
+-- one more that was interrupted
+pub again_told : (call : StreamCall) (old mid new : Option (List StreamCall)) (n : ℕ) (last : StreamCall) →
+    last ≡ call → Tells old (replicate n call) mid → Tells mid (last ∷ []) new → Tells old (replicate (n + 1) call) new
+again_told call old mid new n last e before told =
+    subst (λ (calls : List StreamCall). Tells old calls new) (replicate_more n call)
+    (tells_then old mid new (replicate n call) (call ∷ []) before
+    (subst (λ (c : StreamCall). Tells mid (c ∷ []) new) e told))
+
+-- the last
+pub last_tried : (call : Outcome → StreamCall) (old mid new : Option (List StreamCall)) (n : ℕ) (outcome : Outcome)
+    (last : StreamCall) → last ≡ call outcome → n < 8 → (outcome ≡ Interrupted → suc n ≡ 8) →
+    Tells old (replicate n (call Interrupted)) mid → Tells mid (last ∷ []) new → Tries call old outcome new
+last_tried call old mid new n outcome last e few spent before told = record {
+  before = n;
+  few = few;
+  spent = spent;
+  told = tells_then old mid new (replicate n (call Interrupted)) (call outcome ∷ []) before
+      (subst (λ (c : StreamCall). Tells mid (c ∷ []) new) e told);
+}
+
+-- ---- bytes
+
+-- an outcome by a failure is one of three
+by_kind : (Holds : Outcome → Type 0) (kind : ErrorKind) → Holds Interrupted → Holds NotNow → Holds Failed →
+    Holds (outcome_of_kind kind)
+by_kind Holds Kinds.Interrupted interrupted not_now failed = interrupted
+by_kind Holds Kinds.WouldBlock interrupted not_now failed = not_now
+by_kind Holds kind interrupted not_now failed = failed
+
+keeps_then : (old mid new : Option (List ℕ)) → Keeps old mid → Keeps mid new → Keeps old new
+keeps_then None mid new kept also = tt
+keeps_then (Some before) None new kept also = absurd kept
+keeps_then (Some before) (Some between) None kept also = absurd also
+keeps_then (Some before) (Some between) (Some after) kept also = also ∙ kept
+
+consumes_then : (old mid new : Option (List ℕ)) (bytes : List ℕ) → Keeps old mid → Consumes mid new bytes →
+    Consumes old new bytes
+consumes_then None mid new bytes kept read = tt
+consumes_then (Some before) None new bytes kept read = absurd kept
+consumes_then (Some before) (Some between) None bytes kept read = absurd read
+consumes_then (Some before) (Some between) (Some after) bytes kept read = sym kept ∙ read
+
+appends_then : (old mid new : Option (List ℕ)) (bytes : List ℕ) → Keeps old mid → Appends mid new bytes →
+    Appends old new bytes
+appends_then None mid new bytes kept written = tt
+appends_then (Some before) None new bytes kept written = absurd kept
+appends_then (Some before) (Some between) None bytes kept written = absurd written
+appends_then (Some before) (Some between) (Some after) bytes kept written =
+    written ∙ ap (λ (l : List ℕ). l ++ bytes) kept
+
+keeps_consumes : (old new : Option (List ℕ)) → Keeps old new → Consumes old new []
+keeps_consumes None new kept = tt
+keeps_consumes (Some before) None kept = absurd kept
+keeps_consumes (Some before) (Some after) kept = sym kept
+
+keeps_appends : (old new : Option (List ℕ)) → Keeps old new → Appends old new []
+keeps_appends None new kept = tt
+keeps_appends (Some before) None kept = absurd kept
+keeps_appends (Some before) (Some after) kept = kept ∙ sym (append-nil before)
+
+-- ---- a read
+
+module _ (outcome : Outcome) (answer : Result ℕ Error) (is : outcome ≡ outcome_by answer) where
+  module _ (bytes : List ℕ) where
+    pub read_within : (room : ℕ) → length bytes ≡ room → ReadsAtMost answer bytes → IsPullWithin (pull_of outcome) room
+    read_within room size within =
+        subst (λ (n : ℕ). IsPullWithin (pull_of outcome) n) size
+        (subst (λ (o : Outcome). IsPullWithin (pull_of o) (length bytes)) (sym is) (by answer within))
+      where
+        by : (answer : Result ℕ Error) → ReadsAtMost answer bytes →
+            IsPullWithin (pull_of (outcome_by answer)) (length bytes)
+        by (Ok zero) within = tt
+        by (Ok (suc n)) within = within.0
+        by (Err error) within = by_kind (λ o. IsPullWithin (pull_of o) (length bytes)) (error_kind error) tt tt tt
+
+    -- behind others that gave nothing
+    pub read_given : (old mid new : Option (List ℕ)) → Keeps old mid → ReadConsumes mid new answer bytes →
+        Consumes old new (take (pulled_len (pull_of outcome)) bytes)
+    read_given old mid new kept read =
+        subst (λ (o : Outcome). Consumes old new (take (pulled_len (pull_of o)) bytes)) (sym is) (by answer read)
+      where
+        by : (answer : Result ℕ Error) → ReadConsumes mid new answer bytes →
+            Consumes old new (take (pulled_len (pull_of (outcome_by answer))) bytes)
+        by (Ok zero) read = consumes_then old mid new [] kept read.0
+        by (Ok (suc n)) read = consumes_then old mid new (take (suc n) bytes) kept read.0
+        by (Err error) read =
+            let none : Consumes old new [] = keeps_consumes old new (keeps_then old mid new kept read) in
+            by_kind (λ o. Consumes old new (take (pulled_len (pull_of o)) bytes)) (error_kind error) none none none
+
+    -- one that was interrupted gave nothing
+    pub read_kept : (old mid new : Option (List ℕ)) → outcome ≡ Interrupted → Keeps old mid →
+        ReadConsumes mid new answer bytes → Keeps old new
+    read_kept old mid new e kept read = by answer (sym is ∙ e) read
+      where
+        by : (answer : Result ℕ Error) → outcome_by answer ≡ Interrupted → ReadConsumes mid new answer bytes →
+            Keeps old new
+        by (Ok n) e read = absurd (cc)
+        by (Err error) e read = keeps_then old mid new kept read
+
+    -- ---- a write
+
+    pub write_within : WritesAtMost answer bytes → IsPutWithin (put_of outcome) (length bytes)
+    write_within within = subst (λ (o : Outcome). IsPutWithin (put_of o) (length bytes)) (sym is) (by answer within)
+      where
+        least : 0 ≤ length bytes
+        least = omega arith
+
+        by : (answer : Result ℕ Error) → WritesAtMost answer bytes →
+            IsPutWithin (put_of (outcome_by answer)) (length bytes)
+        by (Ok n) within = within
+        by (Err error) within =
+            by_kind (λ o. IsPutWithin (put_of o) (length bytes)) (error_kind error) least least tt
+
+    -- behind others that took nothing
+    pub write_taken : (old mid new : Option (List ℕ)) → Keeps old mid → WriteAppends mid new answer bytes →
+        IsTaken old bytes (put_of outcome) new
+    write_taken old mid new kept written =
+        subst (λ (o : Outcome). IsTaken old bytes (put_of o) new) (sym is) (by answer written)
+      where
+        by : (answer : Result ℕ Error) → WriteAppends mid new answer bytes →
+            IsTaken old bytes (put_of (outcome_by answer)) new
+        by (Ok n) written = appends_then old mid new (take n bytes) kept written
+        by (Err error) written =
+            let still : Keeps old new = keeps_then old mid new kept written in
+            let none : Appends old new [] = keeps_appends old new still in
+            by_kind (λ o. IsTaken old bytes (put_of o) new) (error_kind error) none none still
+
+    pub write_kept : (old mid new : Option (List ℕ)) → outcome ≡ Interrupted → Keeps old mid →
+        WriteAppends mid new answer bytes → Keeps old new
+    write_kept old mid new e kept written = by answer (sym is ∙ e) written
+      where
+        by : (answer : Result ℕ Error) → outcome_by answer ≡ Interrupted → WriteAppends mid new answer bytes →
+            Keeps old new
+        by (Ok n) e written = absurd (cc)
+        by (Err error) e written = keeps_then old mid new kept written
