@@ -100,53 +100,57 @@ pub(crate) struct Arrival<'w> {
     im_over: Option<Instant>,
 }
 
-/// What became of a bot that came.
+/// What became of a bot that came, whose connect to the server is over.
 #[derive(Drop)]
 pub(crate) enum Outcome<'w, R: Clock> {
     /// Bot and server are joined.
     Joined(SocketPorts<'w, R>),
     /// No address of the server was reached in its time; the session's number and the bot's own socket are left.
     Unreached(u32, Socket<'w>),
-    /// It is still under way.
-    Pending(Arrival<'w>),
+}
+
+/// The socket of a connect that begins, to the first address not tried yet to which that can be done. It is given up at
+/// this moment.
+fn begun<'w, R: Clock, N: Net>(
+    poller: &'w Poller<R>,
+    net: &N,
+    servers: &[SocketAddr],
+    tried: &mut usize,
+    gives_up: Option<Instant>,
+) -> Option<Socket<'w>> {
+    for address in servers.iter().skip(*tried) {
+        *tried = tried.saturating_add(1);
+        let Ok(stream) = TcpStream::connect(net, *address) else {
+            continue;
+        };
+        if let Some(socket) = Socket::new(poller, stream) {
+            socket.place.flags.due.set(gives_up);
+            return Some(socket);
+        }
+    }
+    None
 }
 
 impl<'w> Arrival<'w> {
-    /// A bot that came now, whose connect is still to begin.
-    pub(crate) fn new<R: Clock>(
-        poller: &Poller<R>,
-        (number, bot): (u32, Socket<'w>),
-        im_time: Duration,
-        connect_time: Duration,
-    ) -> Arrival<'w> {
-        Arrival {
-            number,
-            bot,
-            server: None,
-            tried: 0,
-            gives_up: poller.after(connect_time),
-            im_over: poller.after(im_time),
-        }
-    }
-
-    /// Begins to connect to the next address to which that can be done.
-    pub(crate) fn try_next<R: Clock, N: Net>(
-        &mut self,
+    /// A bot that came now, whose connect begins.
+    pub(crate) fn new<R: Clock, N: Net>(
         poller: &'w Poller<R>,
         net: &N,
         servers: &[SocketAddr],
-    ) {
-        self.server = None;
-        for address in servers.iter().skip(self.tried) {
-            self.tried = self.tried.saturating_add(1);
-            let Ok(stream) = TcpStream::connect(net, *address) else {
-                continue;
-            };
-            if let Some(socket) = Socket::new(poller, stream) {
-                socket.place.flags.due.set(self.gives_up);
-                self.server = Some(socket);
-                return;
-            }
+        (number, bot): (u32, Socket<'w>),
+        (im_time, connect_time): (Duration, Duration),
+    ) -> Arrival<'w> {
+        let gives_up = poller.after(connect_time);
+        let im_over = poller.after(im_time);
+        let mut tried = 0;
+        let server = begun(poller, net, servers, &mut tried, gives_up);
+        Arrival {
+            number,
+            bot,
+            server,
+            tried,
+            gives_up,
+            im_over,
         }
     }
 
@@ -171,33 +175,35 @@ impl<'w> Arrival<'w> {
         Progress::Pending
     }
 
-    /// Goes on with the connect, as far as that is without waiting. Once it is there, either side may be silent for so long.
-    pub(crate) fn advance<R: Clock, N: Net>(
-        self,
+    /// Goes on with the connect, as far as that is without waiting, and answers whether it is still under way. Once it
+    /// isn't, the server is there, or else no address is left, or its time is over.
+    pub(crate) fn advances<R: Clock, N: Net>(
+        &mut self,
         poller: &'w Poller<R>,
         net: &N,
         servers: &[SocketAddr],
-        idle_time: Option<Duration>,
-    ) -> Outcome<'w, R> {
-        let mut arrival = self;
-        for _ in 0..=servers.len() {
-            match arrival.progress() {
-                Progress::Connected => return arrival.join(poller, idle_time),
-                Progress::Pending => break,
-                Progress::Failed if arrival.tried < servers.len() => {
-                    arrival.try_next(poller, net, servers);
-                }
-                Progress::Failed => return Outcome::Unreached(arrival.number, arrival.bot),
+    ) -> bool {
+        match self.progress() {
+            Progress::Connected => return false,
+            Progress::Failed => {
+                // The row of the last one is free for the next.
+                drop(self.server.take());
+                self.server = begun(poller, net, servers, &mut self.tried, self.gives_up);
             }
+            Progress::Pending => {}
         }
-        if poller.is_over(arrival.gives_up) {
-            return Outcome::Unreached(arrival.number, arrival.bot);
+        if poller.is_over(self.gives_up) {
+            drop(self.server.take());
         }
-        Outcome::Pending(arrival)
+        self.server.is_some()
     }
 
     /// The ports of a bot whose server is there, either of which may be silent for so long; none for ever.
-    fn join<R: Clock>(self, poller: &'w Poller<R>, idle_time: Option<Duration>) -> Outcome<'w, R> {
+    pub(crate) fn join<R: Clock>(
+        self,
+        poller: &'w Poller<R>,
+        idle_time: Option<Duration>,
+    ) -> Outcome<'w, R> {
         let Arrival {
             number,
             bot,

@@ -354,7 +354,6 @@ impl<R: Clock, S: Duplex + Drop> Ports for SocketPorts<'_, R, S> {
     ghost becomes = { λ old answer new. Moves S.to_give S.taken (old.bot.stream, old.server.stream) answer
         (new.bot.stream, new.server.stream) };
 
-    #[tactic(auto, using(daide_streams::proofs::StreamLemmas::pulled_moves))]
     fn pull(&mut self, side: Side, buffer: &mut [u8]) -> Pull {
         match side {
             Side::Bot => pull_past(&self.patience, &mut self.bot, &mut self.server, buffer),
@@ -362,7 +361,6 @@ impl<R: Clock, S: Duplex + Drop> Ports for SocketPorts<'_, R, S> {
         }
     }
 
-    #[tactic(auto, using(daide_streams::proofs::StreamLemmas::offered_moves))]
     fn put(&mut self, side: Side, bytes: &[u8]) -> Put {
         match side {
             Side::Bot => put_past(&mut self.bot, &mut self.server, bytes),
@@ -370,7 +368,6 @@ impl<R: Clock, S: Duplex + Drop> Ports for SocketPorts<'_, R, S> {
         }
     }
 
-    #[tactic(auto, using(daide_streams::proofs::StreamLemmas::looked_moves))]
     fn clock_popped(&mut self) -> bool {
         self.begin_turn();
         self.flush_late();

@@ -118,6 +118,18 @@ impl<'w, R: Clock + Net, E: Write + Drop> Sockets<'w, R, E> {
         }
     }
 
+    /// What became of a bot whose connect is over; without a server its session is over, and its socket closes.
+    fn joined(&mut self, arrival: Arrival<'w>) -> Connect<SocketPorts<'w, &'w R>> {
+        match arrival.join(self.poller, self.idle_time) {
+            Outcome::Joined(ports) => Connect::Ready(ports),
+            Outcome::Unreached(number, bot) => {
+                self.tell_of_session(SessionNotice::of_no_server(number));
+                self.closings.begin(self.poller, bot);
+                Connect::Failed
+            }
+        }
+    }
+
     /// Goes on with the sockets that close, and reopens the acceptor where its pause is over.
     fn tidy(&mut self) {
         self.acceptor.reopen(self.poller);
@@ -173,30 +185,22 @@ impl<'w, R: Clock + Net, E: Write + Drop> System<SocketPorts<'w, &'w R>> for Soc
             bot: address,
         });
         let came = (self.came, bot);
-        let mut arrival = Arrival::new(self.poller, came, self.im_time, self.connect_time);
-        arrival.try_next(self.poller, self.runtime, self.servers);
+        let times = (self.im_time, self.connect_time);
+        let arrival = Arrival::new(self.poller, self.runtime, self.servers, came, times);
         self.arrivals.push(arrival).is_ok()
     }
 
     fn connected(&mut self) -> Connect<SocketPorts<'w, &'w R>> {
         // One that is pending goes to the end, so after a look at each the order is as before.
         for _ in 0..self.arrivals.len() {
-            if self.arrivals.is_empty() {
+            let Some(arrival) = self.arrivals.first_mut() else {
                 break;
+            };
+            if !arrival.advances(self.poller, self.runtime, self.servers) {
+                let arrival = self.arrivals.remove(0);
+                return self.joined(arrival);
             }
-            let arrival = self.arrivals.remove(0);
-            match arrival.advance(self.poller, self.runtime, self.servers, self.idle_time) {
-                Outcome::Joined(ports) => return Connect::Ready(ports),
-                Outcome::Unreached(number, bot) => {
-                    self.tell_of_session(SessionNotice::of_no_server(number));
-                    self.closings.begin(self.poller, bot);
-                    return Connect::Failed;
-                }
-                Outcome::Pending(arrival) => {
-                    // There is room for as many as came.
-                    let _ = self.arrivals.push(arrival);
-                }
-            }
+            self.arrivals.rotate_left(1);
         }
         Connect::Pending
     }
