@@ -177,7 +177,7 @@ type Written = (
 /// Takes all that is written.
 const ALL: &[usize] = &[9_999, 9_999, 9_999, 9_999];
 
-/// A few bytes are held until their session has nothing more to do, there is no room, or 16 turns began; many are not.
+/// A few bytes are held until their session has nothing more to do, there is no room, or 32 turns began; many are not.
 const WRITTEN: &[Written] = &[
     (ALL, ALL, &[Puts(Side::Server, 3)], (0, 0)),
     (ALL, ALL, &[Puts(Side::Server, 3), Idles(Side::Bot)], (0, 3)),
@@ -208,14 +208,37 @@ const WRITTEN: &[Written] = &[
         (0, 0),
     ),
     (ALL, ALL, &[Puts(Side::Bot, 3), Puts(Side::Bot, 3)], (0, 0)),
-    (ALL, ALL, &[Puts(Side::Server, 3), Turns(15)], (0, 0)),
-    (ALL, ALL, &[Puts(Side::Server, 3), Turns(16)], (0, 3)),
-    (ALL, ALL, &[Puts(Side::Bot, 3), Turns(16)], (3, 0)),
+    (ALL, ALL, &[Puts(Side::Server, 3), Turns(31)], (0, 0)),
+    (ALL, ALL, &[Puts(Side::Server, 3), Turns(32)], (0, 3)),
+    (ALL, ALL, &[Puts(Side::Bot, 3), Turns(32)], (3, 0)),
     (
         ALL,
         ALL,
-        &[Turns(10), Puts(Side::Server, 3), Turns(10)],
+        &[Turns(20), Puts(Side::Server, 3), Turns(20)],
         (0, 0),
+    ),
+    // The turns are counted for each side, and anew once some of what was held for it was written.
+    (
+        ALL,
+        ALL,
+        &[
+            Puts(Side::Server, 3),
+            Turns(20),
+            Puts(Side::Bot, 3),
+            Turns(12),
+        ],
+        (0, 3),
+    ),
+    (
+        ALL,
+        ALL,
+        &[
+            Puts(Side::Server, 4_000),
+            Turns(20),
+            Puts(Side::Server, 200),
+            Turns(31),
+        ],
+        (0, 4_000),
     ),
     (
         ALL,

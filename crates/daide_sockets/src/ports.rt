@@ -25,7 +25,7 @@ use std::rt::Clock;
 use std::time::Duration;
 
 /// For how many turns bytes are held at most that may be written, though more come all the time.
-const MOST_TURNS_HELD: usize = 16;
+const MOST_TURNS_HELD: usize = 32;
 
 /// A connection whose calls never wait, what is held of it, and its row of the table.
 #[derive(Drop)]
@@ -133,6 +133,49 @@ impl<S: Duplex + Drop> Socket<'_, S> {
     }
 }
 
+/// For how many turns something was held for a socket, since the last that was written to it.
+#[derive(Clone, Copy)]
+struct TurnsHeld {
+    turns: usize,
+    /// How many bytes were held when the last of them began.
+    len: usize,
+}
+
+impl TurnsHeld {
+    /// Nothing was held yet.
+    const NONE: TurnsHeld = TurnsHeld { turns: 0, len: 0 };
+
+    /// The same, once a turn more began with so many bytes held: where they are fewer than in the turn before, some were
+    /// written in it.
+    fn with_turn(self, len: usize) -> TurnsHeld {
+        let turns = if len == 0 || len < self.len {
+            0
+        } else {
+            self.turns.saturating_add(1)
+        };
+        TurnsHeld { turns, len }
+    }
+
+    /// Whether what is held is to be written, though more comes.
+    fn is_over(self) -> bool {
+        self.turns >= MOST_TURNS_HELD
+    }
+}
+
+impl<S: Duplex + Drop> Socket<'_, S> {
+    /// Writes what was held for long enough.
+    #[tactic(auto, using(daide_streams::proofs::BufferLemmas::same_passes))]
+    fn flush_late(&mut self, held: TurnsHeld)
+        ensures passes { Passes S.to_give S.taken self.old.stream [] [] self.new.stream }
+        ensures unread { IsUnread S.to_give self.old.stream self.new.stream }
+        ensures silent { self.new.is_silent ≡ self.old.is_silent }
+    {
+        if held.is_over() {
+            self.flush();
+        }
+    }
+}
+
 /// How long the peers of a session may be silent; none for ever.
 #[derive(Drop)]
 struct Patience<'w, R: Clock> {
@@ -222,8 +265,8 @@ pub struct SocketPorts<'w, R: Clock, S: Drop = Connection> {
     /// Its number, from 1, in the order in which the bots of a run came; 0 of ports that no run has.
     number: u32,
     patience: Patience<'w, R>,
-    /// For how many turns something was held that may be written.
-    held: usize,
+    held_for_bot: TurnsHeld,
+    held_for_server: TurnsHeld,
     bot: Socket<'w, S>,
     server: Socket<'w, S>,
 }
@@ -246,7 +289,8 @@ impl<'w, R: Clock, S: Drop> SocketPorts<'w, R, S> {
         SocketPorts {
             number: 0,
             patience,
-            held: 0,
+            held_for_bot: TurnsHeld::NONE,
+            held_for_server: TurnsHeld::NONE,
             bot,
             server,
         }
@@ -265,7 +309,8 @@ impl<'w, R: Clock, S: Drop> SocketPorts<'w, R, S> {
         let SocketPorts {
             number: _,
             patience,
-            held,
+            held_for_bot,
+            held_for_server,
             bot,
             server,
         } = self;
@@ -278,7 +323,8 @@ impl<'w, R: Clock, S: Drop> SocketPorts<'w, R, S> {
         SocketPorts {
             number,
             patience,
-            held,
+            held_for_bot,
+            held_for_server,
             bot,
             server,
         }
@@ -312,7 +358,8 @@ impl<'w, R: Clock, S: Drop> SocketPorts<'w, R, S> {
         let SocketPorts {
             number: _,
             patience: _,
-            held: _,
+            held_for_bot: _,
+            held_for_server: _,
             bot,
             server,
         } = self;
@@ -325,11 +372,10 @@ impl<'w, R: Clock, S: Drop> SocketPorts<'w, R, S> {
         ensures server { self.new.server ≡ self.old.server }
     {
         self.patience.poller.note_turn();
-        self.held = if self.bot.stream.is_behind() || self.server.stream.is_behind() {
-            self.held.saturating_add(1)
-        } else {
-            0
-        };
+        self.held_for_bot = self.held_for_bot.with_turn(self.bot.stream.behind_len());
+        self.held_for_server = self
+            .held_for_server
+            .with_turn(self.server.stream.behind_len());
     }
 }
 
@@ -341,12 +387,8 @@ impl<R: Clock, S: Duplex + Drop> SocketPorts<'_, R, S> {
         ensures bot_unread { IsUnread S.to_give self.old.bot.stream self.new.bot.stream }
         ensures server_unread { IsUnread S.to_give self.old.server.stream self.new.server.stream }
     {
-        if self.held < MOST_TURNS_HELD {
-            return;
-        }
-        self.held = 0;
-        self.bot.flush();
-        self.server.flush();
+        self.bot.flush_late(self.held_for_bot);
+        self.server.flush_late(self.held_for_server);
     }
 }
 

@@ -77,6 +77,16 @@ impl<S: Drop> Buffered<S> {
         self.behind.is_some() && !self.has_failed
     }
 
+    /// How many bytes are held that are not written yet.
+    pub fn behind_len(&self) -> usize
+        ensures { result ≡ length self.now.behind }
+    {
+        match &self.behind {
+            Some(held) => held.as_slice().len(),
+            None => 0,
+        }
+    }
+
     /// Whether all that was handed over was written.
     pub fn is_written(&self) -> bool
         ensures { result ≡ true → self.now.behind ≡ [] }
