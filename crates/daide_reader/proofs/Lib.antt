@@ -8,5 +8,6 @@ pub mod PlainVerdicts
 pub mod SomeVerdict
 pub mod SliceLemmas
 pub mod CellLemmas
+pub mod Counts
 pub mod Sizes
 pub mod StretchLemmas

@@ -1,9 +1,11 @@
-use Rattle.std.proofs.Common.{◌≡◌, ℕ, ◌-◌, ◌∷◌, List, Some, get_or, take, reverse, sym, ap, ◌∙◌, rules, arith}
+use Rattle.std.proofs.Common.{◌≡◌, ◌≤◌, ℕ, ◌+◌, ◌-◌, ◌∷◌, List, Some, get_or, take, reverse}
+use Rattle.std.proofs.Common.{sym, ap, ◌∙◌, subst, rules, arith}
 use Rattle.daide_grammar.specs.declared.symbol.Sym.{Sym}
 use Rattle.daide_grammar.specs.Words.{Words}
 use Rattle.daide_grammar.specs.Table.Rules.{rest_of}
 use Rattle.daide_grammar.specs.Table.Stacks.{stack_after}
 use Rattle.daide_reader.specs.Stack.{steps_at}
+use Rattle.daide_reader.proofs.Counts.{below_within}
 use Rattle.daide_reader.proofs.CellLemmas.{on_top, put_on_top, room_after, asked_all, asked_one, asked_more}
 use Rattle.daide_reader.proofs.CellLemmas.{after_taken, after_stopped, after_skipped}
 use Rattle.daide_reader.proofs.CellLemmas.{steps_taken, steps_stopped, steps_skipped}
@@ -19,15 +21,16 @@ loop-left-preserved g c =
     let a = c.predict-answer.result in
     let is : moves s c.args.class ≡ a =
     ap (λ (w : Words). g.T.Predict.moves w s c.args.class) (sym inv.words) ∙ sym c.predict-answer.ensures.answer in
+    let inside = subst (λ (n : ℕ). c.loop-left.left ≤ n) (sym inv.room) inv.count in
     let top : reverse (take c.loop-left.left cells) ≡ s ∷ below =
-    on_top cells c.loop-left.left c.index-cells-left.result (omega arith) (omega arith) in
+    on_top cells c.loop-left.left c.index-cells-left.result c.loop-left-test.true inside in
     let takes = sym c.is_take.ensures ∙ c.if-is_take.false in
     let stops = sym c.is_stop.ensures ∙ c.if-is_stop.false in
     let after = ap (stack_after moves c.args.class) top ∙ after_skipped moves c.args.class s below a is takes stops in
     let due = ap (steps_at moves c.args.class) top ∙ steps_skipped moves c.args.class s below a is takes stops in
     record {
       words = c.predict-answer.ensures.words_stay ∙ inv.words;
-      count = omega arith;
+      count = below_within _ _ inv.count;
       room = inv.room;
       stack = sym after ∙ inv.stack;
       steps = asked_more _ _ _ _ _ c.predict-answer.ensures.counts_each_answer due inv.steps;
@@ -43,16 +46,23 @@ put_slowly-requires g c =
     let a = c.predict-answer.result in
     let is : moves s c.args.class ≡ a =
     ap (λ (w : Words). g.T.Predict.moves w s c.args.class) (sym inv.words) ∙ sym c.predict-answer.ensures.answer in
+    let inside = subst (λ (n : ℕ). c.loop-left.left ≤ n) (sym inv.room) inv.count in
     let top : reverse (take c.loop-left.left cells) ≡ s ∷ below =
-    on_top cells c.loop-left.left c.index-cells-left.result (omega arith) (omega arith) in
+    on_top cells c.loop-left.left c.index-cells-left.result c.loop-left-test.true inside in
     let after = ap (stack_after moves c.args.class) top
     ∙ after_taken moves c.args.class s below a is (sym c.is_take.ensures ∙ c.if-is_take.true) in
-    let room = room_after _ (rest_of a) cells (c.loop-left.left - 1) g.row.N (omega arith) (sym inv.stack ∙ after)
-    c.requires.room in
-    (search rules, (c.requires.size, (c.len.ensures.few, (let len = c.len.ensures.len in omega (arith, room, len)))))
+    let room = room_after _ (rest_of a) cells (c.loop-left.left - 1) g.row.N (below_within _ _ inside)
+    (sym inv.stack ∙ after) c.requires.room in (
+      search rules,
+      (
+        c.requires.size,
+        (c.len.ensures.few, subst (λ (n : ℕ). c.loop-left.left - 1 + n ≤ g.row.N) (sym c.len.ensures.len) room),
+      ),
+    )
 
-pub returns-then-is_take-clause-taken : goal.returns-then-is_take-clause-taken
-returns-then-is_take-clause-taken g c =
+-- the symbol takes the token
+pub returns-then-is_take : goal.returns-then-is_take
+returns-then-is_take g c =
     let moves = g.T.Predict.moves (g.T.Predict.words c.args.table.now) in
     let inv = c.loop-left.invariant in
     let cells = c.loop-left.cells in
@@ -61,53 +71,28 @@ returns-then-is_take-clause-taken g c =
     let a = c.predict-answer.result in
     let is : moves s c.args.class ≡ a =
     ap (λ (w : Words). g.T.Predict.moves w s c.args.class) (sym inv.words) ∙ sym c.predict-answer.ensures.answer in
+    let inside = subst (λ (n : ℕ). c.loop-left.left ≤ n) (sym inv.room) inv.count in
     let top : reverse (take c.loop-left.left cells) ≡ s ∷ below =
-    on_top cells c.loop-left.left c.index-cells-left.result (omega arith) (omega arith) in
+    on_top cells c.loop-left.left c.index-cells-left.result c.loop-left-test.true inside in
     let after = ap (stack_after moves c.args.class) top
     ∙ after_taken moves c.args.class s below a is (sym c.is_take.ensures ∙ c.if-is_take.true) in
-    let turned = put_on_top c.put_slowly.new.cells cells (rest_of a) c.cells.result (c.loop-left.left - 1) c.len.result
-    c.len-then-is_take.result c.put_slowly.ensures c.len.ensures.len c.len-then-is_take.ensures.len c.cells.ensures in
-    sym inv.stack ∙ (after ∙ ap (λ (x : List Sym). Some x) (sym turned))
-
-pub returns-then-is_take-clause-inside : goal.returns-then-is_take-clause-inside
-returns-then-is_take-clause-inside g c =
-    let moves = g.T.Predict.moves (g.T.Predict.words c.args.table.now) in
-    let inv = c.loop-left.invariant in
-    let cells = c.loop-left.cells in
-    let s = get_or cells (c.loop-left.left - 1) c.index-cells-left.result in
-    let below = reverse (take (c.loop-left.left - 1) cells) in
-    let a = c.predict-answer.result in
-    let is : moves s c.args.class ≡ a =
-    ap (λ (w : Words). g.T.Predict.moves w s c.args.class) (sym inv.words) ∙ sym c.predict-answer.ensures.answer in
-    let top : reverse (take c.loop-left.left cells) ≡ s ∷ below =
-    on_top cells c.loop-left.left c.index-cells-left.result (omega arith) (omega arith) in
-    let after = ap (stack_after moves c.args.class) top
-    ∙ after_taken moves c.args.class s below a is (sym c.is_take.ensures ∙ c.if-is_take.true) in
-    let room = room_after _ (rest_of a) cells (c.loop-left.left - 1) g.row.N (omega arith) (sym inv.stack ∙ after)
-    c.requires.room in
-    (let len = c.len-then-is_take.ensures.len in omega (arith, room, len))
-
-pub returns-then-is_take-clause-words : goal.returns-then-is_take-clause-words
-returns-then-is_take-clause-words g c = c.predict-answer.ensures.words_stay ∙ c.loop-left.invariant.words
-
-pub returns-then-is_take-clause-steps : goal.returns-then-is_take-clause-steps
-returns-then-is_take-clause-steps g c =
-    let moves = g.T.Predict.moves (g.T.Predict.words c.args.table.now) in
-    let inv = c.loop-left.invariant in
-    let cells = c.loop-left.cells in
-    let s = get_or cells (c.loop-left.left - 1) c.index-cells-left.result in
-    let below = reverse (take (c.loop-left.left - 1) cells) in
-    let a = c.predict-answer.result in
-    let is : moves s c.args.class ≡ a =
-    ap (λ (w : Words). g.T.Predict.moves w s c.args.class) (sym inv.words) ∙ sym c.predict-answer.ensures.answer in
-    let top : reverse (take c.loop-left.left cells) ≡ s ∷ below =
-    on_top cells c.loop-left.left c.index-cells-left.result (omega arith) (omega arith) in
+    let room = room_after _ (rest_of a) cells (c.loop-left.left - 1) g.row.N (below_within _ _ inside)
+    (sym inv.stack ∙ after) c.requires.room in
     let due = ap (steps_at moves c.args.class) top
     ∙ steps_taken moves c.args.class s below a is (sym c.is_take.ensures ∙ c.if-is_take.true) in
-    asked_one _ _ _ _ c.predict-answer.ensures.counts_each_answer due inv.steps
+    let turned = put_on_top c.put_slowly.new.cells cells (rest_of a) c.cells.result (c.loop-left.left - 1) c.len.result
+    c.len-then-is_take.result c.put_slowly.ensures c.len.ensures.len c.len-then-is_take.ensures.len c.cells.ensures in
+    record {
+      taken = sym inv.stack ∙ (after ∙ ap (λ (x : List Sym). Some x) (sym turned));
+      inside = subst (λ (n : ℕ). c.loop-left.left - 1 + n ≤ g.row.N) (sym c.len-then-is_take.ensures.len) room;
+      refused = tt;
+      words = c.predict-answer.ensures.words_stay ∙ inv.words;
+      steps = asked_one _ _ _ _ c.predict-answer.ensures.counts_each_answer due inv.steps;
+    }
 
-pub returns-then-is_stop-clause-refused : goal.returns-then-is_stop-clause-refused
-returns-then-is_stop-clause-refused g c =
+-- the symbol stops it
+pub returns-then-is_stop : goal.returns-then-is_stop
+returns-then-is_stop g c =
     let moves = g.T.Predict.moves (g.T.Predict.words c.args.table.now) in
     let inv = c.loop-left.invariant in
     let cells = c.loop-left.cells in
@@ -116,43 +101,32 @@ returns-then-is_stop-clause-refused g c =
     let a = c.predict-answer.result in
     let is : moves s c.args.class ≡ a =
     ap (λ (w : Words). g.T.Predict.moves w s c.args.class) (sym inv.words) ∙ sym c.predict-answer.ensures.answer in
+    let inside = subst (λ (n : ℕ). c.loop-left.left ≤ n) (sym inv.room) inv.count in
     let top : reverse (take c.loop-left.left cells) ≡ s ∷ below =
-    on_top cells c.loop-left.left c.index-cells-left.result (omega arith) (omega arith) in
-    sym inv.stack ∙ (ap (stack_after moves c.args.class) top
-    ∙ after_stopped moves c.args.class s below a is (sym c.is_stop.ensures ∙ c.if-is_stop.true))
+    on_top cells c.loop-left.left c.index-cells-left.result c.loop-left-test.true inside in
+    let stops = sym c.is_stop.ensures ∙ c.if-is_stop.true in
+    let due = ap (steps_at moves c.args.class) top ∙ steps_stopped moves c.args.class s below a is stops in
+    record {
+      taken = tt;
+      inside = tt;
+      refused = sym inv.stack
+          ∙ (ap (stack_after moves c.args.class) top ∙ after_stopped moves c.args.class s below a is stops);
+      words = c.predict-answer.ensures.words_stay ∙ inv.words;
+      steps = asked_one _ _ _ _ c.predict-answer.ensures.counts_each_answer due inv.steps;
+    }
 
-pub returns-then-is_stop-clause-words : goal.returns-then-is_stop-clause-words
-returns-then-is_stop-clause-words g c = c.predict-answer.ensures.words_stay ∙ c.loop-left.invariant.words
-
-pub returns-then-is_stop-clause-steps : goal.returns-then-is_stop-clause-steps
-returns-then-is_stop-clause-steps g c =
-    let moves = g.T.Predict.moves (g.T.Predict.words c.args.table.now) in
-    let inv = c.loop-left.invariant in
-    let cells = c.loop-left.cells in
-    let s = get_or cells (c.loop-left.left - 1) c.index-cells-left.result in
-    let below = reverse (take (c.loop-left.left - 1) cells) in
-    let a = c.predict-answer.result in
-    let is : moves s c.args.class ≡ a =
-    ap (λ (w : Words). g.T.Predict.moves w s c.args.class) (sym inv.words) ∙ sym c.predict-answer.ensures.answer in
-    let top : reverse (take c.loop-left.left cells) ≡ s ∷ below =
-    on_top cells c.loop-left.left c.index-cells-left.result (omega arith) (omega arith) in
-    let due = ap (steps_at moves c.args.class) top
-    ∙ steps_stopped moves c.args.class s below a is (sym c.is_stop.ensures ∙ c.if-is_stop.true) in
-    asked_one _ _ _ _ c.predict-answer.ensures.counts_each_answer due inv.steps
-
-pub returns-clause-refused : goal.returns-clause-refused
-returns-clause-refused g c =
+-- no symbol is left
+pub returns : goal.returns
+returns g c =
     let moves = g.T.Predict.moves (g.T.Predict.words c.args.table.now) in
     let inv = c.loop-left.invariant in
     let none : c.loop-left.left ≡ 0 = omega arith in
-    sym inv.stack ∙ ap (λ (k : ℕ). stack_after moves c.args.class (reverse (take k c.loop-left.cells))) none
-
-pub returns-clause-steps : goal.returns-clause-steps
-returns-clause-steps g c =
-    let moves = g.T.Predict.moves (g.T.Predict.words c.args.table.now) in
-    let inv = c.loop-left.invariant in
-    let none : c.loop-left.left ≡ 0 = omega arith in
-    asked_all _ _ _ (ap (λ (k : ℕ). steps_at moves c.args.class (reverse (take k c.loop-left.cells))) none) inv.steps
-
-pub returns-clause-words : goal.returns-clause-words
-returns-clause-words g c = c.loop-left.invariant.words
+    record {
+      taken = tt;
+      inside = tt;
+      refused = sym inv.stack
+          ∙ ap (λ (k : ℕ). stack_after moves c.args.class (reverse (take k c.loop-left.cells))) none;
+      words = inv.words;
+      steps = asked_all _ _ _ (ap (λ (k : ℕ). steps_at moves c.args.class (reverse (take k c.loop-left.cells))) none)
+          inv.steps;
+    }

@@ -1,11 +1,12 @@
-use Rattle.std.proofs.Common.{◌≡◌, ◌≤◌, ◌+◌, ◌%◌, ◌^◌, ◌∷◌, ℕ, IfSome, IfNone, List, Some, None, Option, length, get_or}
-use Rattle.std.proofs.Common.{take, reverse}
-use Rattle.std.proofs.Common.{sym, ap, ◌∙◌, subst, rules, arith}
+use Rattle.std.proofs.Common.{◌≡◌, ◌≤◌, ◌<◌, ◌+◌, ◌%◌, ◌^◌, ◌∷◌, ℕ, IfSome, IfNone, List, Some, None, Option}
+use Rattle.std.proofs.Common.{length, get_or, take, reverse}
+use Rattle.std.proofs.Common.{refl, sym, ap, ◌∙◌, subst, rules, arith}
 use Rattle.daide_token.specs.declared.class.Class.{Class}
 use Rattle.daide_grammar.specs.declared.symbol.Sym.{Sym}
 use Rattle.daide_grammar.specs.Table.Rules.{rest_of}
 use Rattle.daide_grammar.specs.Table.Stacks.{stack_after}
 use Rattle.daide_reader.specs.Stack.{steps_at}
+use Rattle.daide_reader.proofs.Counts.{less_within, word_asked}
 use Rattle.daide_reader.proofs.CellLemmas.{on_place, put_on_top, room_after}
 use Rattle.daide_reader.proofs.CellLemmas.{after_taken, after_stopped, after_skipped}
 use Rattle.daide_reader.proofs.CellLemmas.{steps_taken, steps_stopped, steps_skipped}
@@ -20,15 +21,22 @@ put_slowly-requires g c =
     let below = reverse (take c.args.top cells) in
     let a = c.predict_word-answer.result in
     let is : moves s class ≡ a = sym c.predict_word-answer.ensures in
+    let inside : c.args.top < length cells = omega arith in
     let top : reverse (take (c.args.top + 1) cells) ≡ s ∷ below =
-    on_place cells c.args.top c.index-cells-top.result (omega arith) in
+    on_place cells c.args.top c.index-cells-top.result inside in
     let after = ap (stack_after moves class) top
     ∙ after_taken moves class s below a is (sym c.is_take.ensures ∙ c.if-is_take.true) in
-    let room = room_after _ (rest_of a) cells c.args.top g.row.N (omega arith) after c.requires.room in
-    (search rules, (c.requires.size, (c.len.ensures.few, (let len = c.len.ensures.len in omega (arith, room, len)))))
+    let room = room_after _ (rest_of a) cells c.args.top g.row.N (less_within _ _ inside) after c.requires.room in (
+      search rules,
+      (
+        c.requires.size,
+        (c.len.ensures.few, subst (λ (n : ℕ). c.args.top + n ≤ g.row.N) (sym c.len.ensures.len) room),
+      ),
+    )
 
-pub returns-then-is_take-clause-taken : goal.returns-then-is_take-clause-taken
-returns-then-is_take-clause-taken g c =
+-- the word's symbol takes the token
+pub returns-then-is_take : goal.returns-then-is_take
+returns-then-is_take g c =
     let moves = g.T.Predict.moves (g.T.Predict.words c.args.table.now) in
     let class = g.T.Predict.class_of (g.T.Predict.words c.args.table.now) c.args.token in
     let cells = c.args.cells.now in
@@ -36,47 +44,27 @@ returns-then-is_take-clause-taken g c =
     let below = reverse (take c.args.top cells) in
     let a = c.predict_word-answer.result in
     let is : moves s class ≡ a = sym c.predict_word-answer.ensures in
+    let inside : c.args.top < length cells = omega arith in
     let top : reverse (take (c.args.top + 1) cells) ≡ s ∷ below =
-    on_place cells c.args.top c.index-cells-top.result (omega arith) in
+    on_place cells c.args.top c.index-cells-top.result inside in
     let after = ap (stack_after moves class) top
     ∙ after_taken moves class s below a is (sym c.is_take.ensures ∙ c.if-is_take.true) in
-    let turned = put_on_top c.put_slowly.new.cells cells (rest_of a) c.cells.result c.args.top c.len.result
-    c.len-then-is_take.result c.put_slowly.ensures c.len.ensures.len c.len-then-is_take.ensures.len c.cells.ensures in
-    after ∙ ap (λ (x : List Sym). Some x) (sym turned)
-
-pub returns-then-is_take-clause-inside : goal.returns-then-is_take-clause-inside
-returns-then-is_take-clause-inside g c =
-    let moves = g.T.Predict.moves (g.T.Predict.words c.args.table.now) in
-    let class = g.T.Predict.class_of (g.T.Predict.words c.args.table.now) c.args.token in
-    let cells = c.args.cells.now in
-    let s = get_or cells c.args.top c.index-cells-top.result in
-    let below = reverse (take c.args.top cells) in
-    let a = c.predict_word-answer.result in
-    let is : moves s class ≡ a = sym c.predict_word-answer.ensures in
-    let top : reverse (take (c.args.top + 1) cells) ≡ s ∷ below =
-    on_place cells c.args.top c.index-cells-top.result (omega arith) in
-    let after = ap (stack_after moves class) top
-    ∙ after_taken moves class s below a is (sym c.is_take.ensures ∙ c.if-is_take.true) in
-    let room = room_after _ (rest_of a) cells c.args.top g.row.N (omega arith) after c.requires.room in
-    (let len = c.len-then-is_take.ensures.len in omega (arith, room, len))
-
-pub returns-then-is_take-clause-steps : goal.returns-then-is_take-clause-steps
-returns-then-is_take-clause-steps g c =
-    let moves = g.T.Predict.moves (g.T.Predict.words c.args.table.now) in
-    let class = g.T.Predict.class_of (g.T.Predict.words c.args.table.now) c.args.token in
-    let cells = c.args.cells.now in
-    let s = get_or cells c.args.top c.index-cells-top.result in
-    let below = reverse (take c.args.top cells) in
-    let a = c.predict_word-answer.result in
-    let is : moves s class ≡ a = sym c.predict_word-answer.ensures in
-    let top : reverse (take (c.args.top + 1) cells) ≡ s ∷ below =
-    on_place cells c.args.top c.index-cells-top.result (omega arith) in
+    let room = room_after _ (rest_of a) cells c.args.top g.row.N (less_within _ _ inside) after c.requires.room in
     let due = ap (steps_at moves class) top
     ∙ steps_taken moves class s below a is (sym c.is_take.ensures ∙ c.if-is_take.true) in
-    ap (λ (k : ℕ). (g.T.Predict.asked c.args.table.now + k) % 2 ^ 64) (sym due)
+    let turned = put_on_top c.put_slowly.new.cells cells (rest_of a) c.cells.result c.args.top c.len.result
+    c.len-then-is_take.result c.put_slowly.ensures c.len.ensures.len c.len-then-is_take.ensures.len c.cells.ensures in
+    record {
+      taken = after ∙ ap (λ (x : List Sym). Some x) (sym turned);
+      inside = subst (λ (n : ℕ). c.args.top + n ≤ g.row.N) (sym c.len-then-is_take.ensures.len) room;
+      refused = tt;
+      words = refl;
+      steps = ap (λ (k : ℕ). (g.T.Predict.asked c.args.table.now + k) % 2 ^ 64) (sym due);
+    }
 
-pub returns-then-is_stop-clause-refused : goal.returns-then-is_stop-clause-refused
-returns-then-is_stop-clause-refused g c =
+-- it stops it
+pub returns-then-is_stop : goal.returns-then-is_stop
+returns-then-is_stop g c =
     let moves = g.T.Predict.moves (g.T.Predict.words c.args.table.now) in
     let class = g.T.Predict.class_of (g.T.Predict.words c.args.table.now) c.args.token in
     let cells = c.args.cells.now in
@@ -84,25 +72,18 @@ returns-then-is_stop-clause-refused g c =
     let below = reverse (take c.args.top cells) in
     let a = c.predict_word-answer.result in
     let is : moves s class ≡ a = sym c.predict_word-answer.ensures in
+    let inside : c.args.top < length cells = omega arith in
     let top : reverse (take (c.args.top + 1) cells) ≡ s ∷ below =
-    on_place cells c.args.top c.index-cells-top.result (omega arith) in
-    ap (stack_after moves class) top ∙ after_stopped moves class s below a is (sym c.is_stop.ensures ∙
-    c.if-is_stop.true)
-
-pub returns-then-is_stop-clause-steps : goal.returns-then-is_stop-clause-steps
-returns-then-is_stop-clause-steps g c =
-    let moves = g.T.Predict.moves (g.T.Predict.words c.args.table.now) in
-    let class = g.T.Predict.class_of (g.T.Predict.words c.args.table.now) c.args.token in
-    let cells = c.args.cells.now in
-    let s = get_or cells c.args.top c.index-cells-top.result in
-    let below = reverse (take c.args.top cells) in
-    let a = c.predict_word-answer.result in
-    let is : moves s class ≡ a = sym c.predict_word-answer.ensures in
-    let top : reverse (take (c.args.top + 1) cells) ≡ s ∷ below =
-    on_place cells c.args.top c.index-cells-top.result (omega arith) in
-    let due = ap (steps_at moves class) top
-    ∙ steps_stopped moves class s below a is (sym c.is_stop.ensures ∙ c.if-is_stop.true) in
-    ap (λ (k : ℕ). (g.T.Predict.asked c.args.table.now + k) % 2 ^ 64) (sym due)
+    on_place cells c.args.top c.index-cells-top.result inside in
+    let stops = sym c.is_stop.ensures ∙ c.if-is_stop.true in
+    let due = ap (steps_at moves class) top ∙ steps_stopped moves class s below a is stops in
+    record {
+      taken = tt;
+      inside = tt;
+      refused = ap (stack_after moves class) top ∙ after_stopped moves class s below a is stops;
+      words = refl;
+      steps = ap (λ (k : ℕ). (g.T.Predict.asked c.args.table.now + k) % 2 ^ 64) (sym due);
+    }
 
 -- the word's symbol is skipped, and those below it follow
 pub follow-requires : goal.follow-requires
@@ -114,8 +95,9 @@ follow-requires g c =
     let below = reverse (take c.args.top cells) in
     let a = c.predict_word-answer.result in
     let is : moves s class ≡ a = sym c.predict_word-answer.ensures in
+    let inside : c.args.top < length cells = omega arith in
     let top : reverse (take (c.args.top + 1) cells) ≡ s ∷ below =
-    on_place cells c.args.top c.index-cells-top.result (omega arith) in
+    on_place cells c.args.top c.index-cells-top.result inside in
     let takes = sym c.is_take.ensures ∙ c.if-is_take.false in
     let stops = sym c.is_stop.ensures ∙ c.if-is_stop.false in
     let after = ap (stack_after moves class) top ∙ after_skipped moves class s below a is takes stops
@@ -140,8 +122,9 @@ returns g c =
     let below = reverse (take c.args.top cells) in
     let a = c.predict_word-answer.result in
     let is : moves s class ≡ a = sym c.predict_word-answer.ensures in
+    let inside : c.args.top < length cells = omega arith in
     let top : reverse (take (c.args.top + 1) cells) ≡ s ∷ below =
-    on_place cells c.args.top c.index-cells-top.result (omega arith) in
+    on_place cells c.args.top c.index-cells-top.result inside in
     let takes = sym c.is_take.ensures ∙ c.if-is_take.false in
     let stops = sym c.is_stop.ensures ∙ c.if-is_stop.false in
     let after = ap (stack_after moves class) top ∙ after_skipped moves class s below a is takes stops
@@ -159,5 +142,5 @@ returns g c =
       refused = subst (λ (o : Option (List Sym)). IfNone c.follow.result (o ≡ None)) (sym after)
           c.follow.ensures.refused;
       words = c.follow.ensures.words;
-      steps = omega (arith, steps, due, here);
+      steps = word_asked _ _ _ _ _ steps due here;
     }

@@ -1,6 +1,8 @@
-use Rattle.std.proofs.Common.{◌≡◌, ◌/◌, ℕ, None, Some}
+use Rattle.std.proofs.Common.{◌≡◌, ◌≤◌, ◌/◌, ℕ, true, false, None, Some, is_some}
 use Rattle.std.proofs.Common.{take, length, reverse, refl, sym, ap, ◌∙◌, subst, rules, arith}
 use Rattle.daide_reader.specs.Slice.{ReadsTo, Standing}
+use Rattle.daide_reader.proofs.Counts.{all_of, count_low, fewer_left, next_within, one_less, place_fits, read_inside}
+use Rattle.daide_reader.proofs.Counts.{token_inside, whole_token}
 use Rattle.daide_reader.proofs.BodyLemmas.{tokens_of-length}
 use Rattle.daide_reader.proofs.ReadingLemmas.{none_from_test, room_more}
 use Rattle.daide_reader.proofs.StretchLemmas.{at_joined, at_next, at_start, reads_all, reads_joined, reads_refused}
@@ -18,22 +20,27 @@ loop-next-init g c =
     }
 
 -- a stretch in which a token is refused
-pub returns-then-is_some-clause-reads : goal.returns-then-is_some-clause-reads
-returns-then-is_some-clause-reads g c =
-    let old : Standing g.row.T.Denot =
-    record { table = c.args.table.now; stack = reverse (take c.args.count c.args.cells.now) } in
-    let now : Standing g.row.T.Denot =
-    record { table = c.loop-next.table; stack = reverse (take c.loop-next.left c.loop-next.cells) } in
-    let inv = c.loop-next.invariant in
-    let i = c.loop-next.next in
-    let opened = c.loop-next.opened in
-    let new : Standing g.row.T.Denot = record {
-      table = c.stretch-reached.new.table;
-      stack = reverse (take c.stretch-reached.result.count c.stretch-reached.new.cells);
-    } in
-    reads_joined g.T.Predict g.met.T.Predict.laws c.args.max_depth c.args.body.now 0 c.args.unclosed old
-    i opened c.stretch-reached.result.tokens c.stretch-reached.result.unclosed c.stretch-reached.result.place now new
-    inv.at c.stretch-reached.ensures.reads
+pub returns-then-is_some : goal.returns-then-is_some
+returns-then-is_some g c = record {
+  inside = c.stretch-reached.ensures.inside;
+  tokens = c.stretch-reached.ensures.tokens;
+  all = λ none. let f : true ≡ false = c.if-is_some.ensures ∙ ap is_some none in absurd cc;
+  reads =
+      let old : Standing g.row.T.Denot =
+      record { table = c.args.table.now; stack = reverse (take c.args.count c.args.cells.now) } in
+      let now : Standing g.row.T.Denot =
+      record { table = c.loop-next.table; stack = reverse (take c.loop-next.left c.loop-next.cells) } in
+      let inv = c.loop-next.invariant in
+      let i = c.loop-next.next in
+      let opened = c.loop-next.opened in
+      let new : Standing g.row.T.Denot = record {
+        table = c.stretch-reached.new.table;
+        stack = reverse (take c.stretch-reached.result.count c.stretch-reached.new.cells);
+      } in
+      reads_joined g.T.Predict g.met.T.Predict.laws c.args.max_depth c.args.body.now 0 c.args.unclosed old
+      i opened c.stretch-reached.result.tokens c.stretch-reached.result.unclosed c.stretch-reached.result.place now new
+      inv.at c.stretch-reached.ensures.reads;
+}
 
 -- a stretch that is taken
 pub loop-next-preserved-then-opened-max_depth : goal.loop-next-preserved-then-opened-max_depth
@@ -67,7 +74,7 @@ step-requires g c = (
     (
       c.loop-next.invariant.inside,
       (
-        (let deep = c.loop-next.invariant.at.deep in omega (arith, deep, c.requires.size, c.requires.deepest)),
+        count_low _ c.args.max_depth g.row.N c.loop-next.invariant.at.deep c.requires.size c.requires.deepest,
         λ fits.
             let Predict = g.T.Predict in
             let w = Predict.words c.loop-next.table in
@@ -79,29 +86,35 @@ step-requires g c = (
   ),
 )
 
-pub returns-in_default-clause-reads : goal.returns-in_default-clause-reads
-returns-in_default-clause-reads g c =
-    let old : Standing g.row.T.Denot =
-    record { table = c.args.table.now; stack = reverse (take c.args.count c.args.cells.now) } in
-    let now : Standing g.row.T.Denot =
-    record { table = c.loop-next.table; stack = reverse (take c.loop-next.left c.loop-next.cells) } in
-    let inv = c.loop-next.invariant in
-    let i = c.loop-next.next in
-    let opened = c.loop-next.opened in
-    let t = c.token_at-token.result in
-    let upto = inv.upto in
-    let new : Standing g.row.T.Denot =
-    record { table = c.step.new.table; stack = reverse (take c.refused.result.count c.step.new.cells) } in
-    let whole = reads_refused g.T.Predict g.met.T.Predict.laws c.args.max_depth c.args.body.now 0 c.args.unclosed old
-    i t opened c.refused.result.unclosed now new inv.at (omega (arith, upto, tokens_of-length c.args.body.now))
-    c.token_at-token.ensures.front (ap (λ (k : ℕ). reverse (take k c.step.new.cells)) c.refused.ensures.count)
-    (record {
-      words = c.step.ensures.words;
-      why = c.in_default.ensures.refused;
-      counted = c.refused.ensures.unclosed ∙ sym c.step.ensures.counted;
-      steps = c.step.ensures.steps;
-    }) in
-    rw (c.refused.ensures.tokens, c.refused.ensures.place) whole
+pub returns-in_default : goal.returns-in_default
+returns-in_default g c = record {
+  inside = subst (λ (k : ℕ). k ≤ g.row.N) (sym c.refused.ensures.count) (omega arith);
+  tokens = read_inside (length c.args.body.now) c.loop-next.next c.loop-next-test.true c.refused.result.tokens
+      c.refused.ensures.tokens;
+  all = λ none. let place = c.refused.ensures.place in absurd cc;
+  reads =
+      let old : Standing g.row.T.Denot =
+      record { table = c.args.table.now; stack = reverse (take c.args.count c.args.cells.now) } in
+      let now : Standing g.row.T.Denot =
+      record { table = c.loop-next.table; stack = reverse (take c.loop-next.left c.loop-next.cells) } in
+      let inv = c.loop-next.invariant in
+      let i = c.loop-next.next in
+      let opened = c.loop-next.opened in
+      let t = c.token_at-token.result in
+      let new : Standing g.row.T.Denot =
+      record { table = c.step.new.table; stack = reverse (take c.refused.result.count c.step.new.cells) } in
+      let whole = reads_refused g.T.Predict g.met.T.Predict.laws c.args.max_depth c.args.body.now 0 c.args.unclosed old
+      i t opened c.refused.result.unclosed now new inv.at
+      (token_inside (length c.args.body.now) i c.loop-next-test.true _ (tokens_of-length c.args.body.now))
+      c.token_at-token.ensures.front (ap (λ (k : ℕ). reverse (take k c.step.new.cells)) c.refused.ensures.count)
+      (record {
+        words = c.step.ensures.words;
+        why = c.in_default.ensures.refused;
+        counted = c.refused.ensures.unclosed ∙ sym c.step.ensures.counted;
+        steps = c.step.ensures.steps;
+      }) in
+      rw (c.refused.ensures.tokens, c.refused.ensures.place) whole;
+}
 
 pub loop-next-preserved : goal.loop-next-preserved
 loop-next-preserved g c =
@@ -116,7 +129,7 @@ loop-next-preserved g c =
     record { table = c.step.new.table; stack = reverse (take c.in-Some.now c.step.new.cells) } in
     record {
       inside = c.in-Some.ensures.inside;
-      upto = omega arith;
+      upto = next_within i _ c.loop-next-test.true;
       at = at_next g.T.Predict g.met.T.Predict.laws c.args.max_depth c.args.body.now 0 c.args.unclosed old
           i c.token_at-token.result opened c.step.new.opened now new inv.at c.token_at-token.ensures.front
           (record {
@@ -128,15 +141,39 @@ loop-next-preserved g c =
           });
     }
 
-pub returns-clause-reads : goal.returns-clause-reads
-returns-clause-reads g c =
-    let old : Standing g.row.T.Denot =
-    record { table = c.args.table.now; stack = reverse (take c.args.count c.args.cells.now) } in
-    let now : Standing g.row.T.Denot =
-    record { table = c.loop-next.table; stack = reverse (take c.loop-next.left c.loop-next.cells) } in
-    let upto = c.loop-next.invariant.upto in
-    let all : c.loop-next.next ≡ length c.args.body.now / 2 = omega (arith, upto) in
-    subst (λ (k : ℕ). ReadsTo g.T.Predict c.args.max_depth c.args.body.now 0 c.args.unclosed old k
-    (Some c.loop-next.opened) None now) all
-    (reads_all g.T.Predict g.met.T.Predict.laws c.args.max_depth c.args.body.now 0 c.args.unclosed old
-    c.loop-next.next c.loop-next.opened now c.loop-next.invariant.at)
+pub returns : goal.returns
+returns g c = record {
+  inside = c.loop-next.invariant.inside;
+  tokens = omega arith;
+  all = λ _. refl;
+  reads =
+      let old : Standing g.row.T.Denot =
+      record { table = c.args.table.now; stack = reverse (take c.args.count c.args.cells.now) } in
+      let now : Standing g.row.T.Denot =
+      record { table = c.loop-next.table; stack = reverse (take c.loop-next.left c.loop-next.cells) } in
+      let all : c.loop-next.next ≡ length c.args.body.now / 2 =
+      all_of _ _ c.loop-next.invariant.upto c.loop-next-test.false in
+      subst (λ (k : ℕ). ReadsTo g.T.Predict c.args.max_depth c.args.body.now 0 c.args.unclosed old k
+      (Some c.loop-next.opened) None now) all
+      (reads_all g.T.Predict g.met.T.Predict.laws c.args.max_depth c.args.body.now 0 c.args.unclosed old
+      c.loop-next.next c.loop-next.opened now c.loop-next.invariant.at);
+}
+
+-- what the calls on the way ask
+pub token_at-token-requires : goal.token_at-token-requires
+token_at-token-requires g c = record {
+  inside = whole_token (length c.args.body.now) c.loop-next.next c.loop-next-test.true;
+  small = c.requires.room;
+}
+
+pub refused-requires : goal.refused-requires
+refused-requires g c = place_fits (length c.args.body.now) c.loop-next.next c.loop-next-test.true c.requires.room
+
+-- with each turn fewer tokens are left
+pub loop-next-smaller-then-opened-max_depth : goal.loop-next-smaller-then-opened-max_depth
+loop-next-smaller-then-opened-max_depth g c =
+    fewer_left (length c.args.body.now / 2) c.loop-next.next c.stretch-reached.result.tokens c.loop-next-test.true
+    c.stretch-reached.ensures.moves
+
+pub loop-next-smaller : goal.loop-next-smaller
+loop-next-smaller g c = one_less (length c.args.body.now / 2) c.loop-next.next c.loop-next-test.true

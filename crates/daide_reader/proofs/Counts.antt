@@ -1,0 +1,120 @@
+-- The numbers that reading goes by, apart from what is read: each is shown here once, where few facts are in sight.
+use Rattle.std.proofs.Common.{◌≡◌, ◌≢◌, ℕ, ◌+◌, ◌-◌, ◌*◌, ◌/◌, ◌%◌, ◌^◌, ◌≤◌, ◌<◌, min, List, length, take, reverse}
+use Rattle.std.proofs.Common.{◌∙◌, arith}
+use Rattle.std.proofs.lemmas.List.{length-reverse, length-take-le}
+use Rattle.daide_grammar.specs.declared.symbol.Sym.{Sym}
+use Rattle.daide_reader.specs.Bounds.{longest_message, most_symbols, most_tokens}
+
+-- a token of a body
+module _ (size next : ℕ) (less : next < size / 2) where
+  pub whole_token : 2 * next + 1 < size
+  whole_token = omega arith
+
+  pub place_fits : size ≤ longest_message → next < most_tokens
+  place_fits room = omega arith
+
+  pub token_inside : (count : ℕ) → count ≡ size / 2 → next ≤ count
+  token_inside count all = omega arith
+
+  pub read_inside : (tokens : ℕ) → tokens ≡ next + 1 → tokens ≤ size / 2
+  read_inside tokens one = omega arith
+
+-- a stretch of a body ends where the body does, or so many tokens on
+module _ (size read most end : ℕ) (is : end ≡ min (size / 2) (read + most)) where
+  pub end_inside : end ≤ size / 2
+  end_inside = omega arith
+
+  pub end_moves : read < size / 2 → 0 < most → read < end
+  end_moves more some = omega arith
+
+  pub before_end : (next : ℕ) → next < end → next < size / 2
+  before_end next less = omega arith
+
+-- of any two numbers
+pub below_within : (n m : ℕ) → n ≤ m → n - 1 ≤ m
+below_within n m inside = omega arith
+
+pub less_within : (m n : ℕ) → m < n → m ≤ n
+less_within m n less = omega arith
+
+pub some_left : (m n : ℕ) → m < n → 0 < n - m
+some_left m n less = omega arith
+
+pub from_next : (read next : ℕ) → read ≤ next → read ≤ next + 1
+from_next read next from = omega arith
+
+pub next_within : (next end : ℕ) → next < end → next + 1 ≤ end
+next_within next end less = omega arith
+
+pub all_of : (next end : ℕ) → next ≤ end → end ≤ next → next ≡ end
+all_of next end upto all = omega arith
+
+-- the brackets that may be open are few
+pub count_low : (opened max_depth size : ℕ) → opened ≤ max_depth → size ≤ most_symbols → 8 * max_depth + 16 ≤ size
+    → opened < 65534
+count_low opened max_depth size deep small deepest = omega arith
+
+-- fewer tokens are left
+pub fewer_left : (all next after : ℕ) → next < all → next < after → all - after < all - next
+fewer_left all next after less more = omega arith
+
+pub one_less : (all next : ℕ) → next < all → all - (next + 1) < all - next
+one_less all next less = omega arith
+
+-- one more is behind those that were read
+pub one_behind : (read next tokens : ℕ) → read ≤ next → tokens ≡ next + 1 → read < tokens
+one_behind read next tokens from one = omega arith
+
+-- with fewer brackets open than may be
+module _ (opened end next max_depth : ℕ) (shallow : opened + (end - next) ≤ max_depth) (less : next < end) where
+  pub less_deep : opened < max_depth
+  less_deep = omega arith
+
+  pub shallow_next : (after : ℕ) → after ≤ opened + 1 → after + (end - (next + 1)) ≤ max_depth
+  shallow_next after more = omega arith
+
+-- what is left gets less: of the tokens, or else of the stack
+pub token_less : (end next after left size : ℕ) → next < end → after ≤ size → size ≤ most_symbols
+    → (end - (next + 1)) * 4097 + after < (end - next) * 4097 + left
+token_less end next after left size less inside small = omega arith
+
+pub stack_less : (rest left : ℕ) → left ≢ 0 → rest + (left - 1) < rest + left
+stack_less rest left some = omega arith
+
+-- the top of a stack that is not empty
+module _ (left size : ℕ) (some : left ≢ 0) (inside : left ≤ size) where
+  pub top_inside : left - 1 < size
+  top_inside = omega arith
+
+  pub top_whole : left - 1 + 1 ≡ left
+  top_whole = omega arith
+
+  pub top_some : 0 < left
+  top_some = omega arith
+
+  pub all_inside : (count : ℕ) → count ≡ size → left ≤ count
+  all_inside count all = omega arith
+
+  pub rest_inside : left - 1 ≤ size
+  rest_inside = omega arith
+
+  -- the stack as a list is as long
+  pub room_on_top : (cells : List Sym) → left ≤ length cells → length (reverse (take left cells)) + 8 ≤ size
+      → left - 1 + 8 ≤ size
+  room_on_top cells long room =
+      let same : length (reverse (take left cells)) ≡ left =
+      length-reverse (take left cells) ∙ length-take-le left cells long in
+      omega (arith, same, room)
+
+-- what the answers come to
+pub none_due : (asked due : ℕ) → due ≡ 0 → asked % 2 ^ 64 ≡ (asked + due) % 2 ^ 64
+none_due asked due none = omega arith
+
+pub one_asked : (old mid new due due_then : ℕ) → due_then ≡ due → mid ≡ (old + 1) % 2 ^ 64
+    → (new + 1) % 2 ^ 64 ≡ (mid + due_then) % 2 ^ 64 → new % 2 ^ 64 ≡ (old + due) % 2 ^ 64
+one_asked old mid new due due_then same once steps = omega arith
+
+-- the word's own answer is counted by the one before it
+pub word_asked : (old new due left here : ℕ) → new % 2 ^ 64 ≡ (old + here) % 2 ^ 64 → due ≡ 1 + left → here ≡ left
+    → (new + 1) % 2 ^ 64 ≡ (old + due) % 2 ^ 64
+word_asked old new due left here sum more same = omega arith
