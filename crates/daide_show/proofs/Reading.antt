@@ -1,8 +1,9 @@
 -- What a reader gave, joined over its reads.
 use Rattle.std.proofs.Common.{◌≡◌, ℕ, zero, suc, ◌+◌, ◌<◌, ◌≤◌, take, List, [], ◌∷◌, ◌++◌, length, Option, Some, None}
 use Rattle.std.proofs.Common.{IfSome, append-nil, append_assoc, length-append, arith, refl, subst, ap, sym, ◌∙◌}
-use Rattle.std.specs.Io.KnownBytes.{Consumes, IsAtEnd}
-use Rattle.daide_show.specs.Input.{IsPartlyRead}
+use Rattle.std.proofs.lemmas.List.{length-take-le, take-append-le}
+use Rattle.std.specs.Io.KnownBytes.{Consumes, Keeps, IsAtEnd}
+use Rattle.daide_show.specs.Input.{limit, IsPartlyRead}
 
 -- a front has no more than was asked for
 pub front_few : (n : ℕ) (l : List ℕ) → length (take n l) ≤ n
@@ -24,6 +25,14 @@ pub none_more : (old now new : Option (List ℕ)) (input : List ℕ) → Consume
     Consumes old new input
 none_more old now new input given more =
     subst (Consumes old new) (append-nil input) (read_more old now new input [] given more)
+
+-- a failed read
+pub kept_more : (old now new : Option (List ℕ)) (input : List ℕ) → Consumes old now input → Keeps now new →
+    Consumes old new input
+kept_more None now new input given kept = tt
+kept_more (Some xs) None new input given kept = absurd given
+kept_more (Some xs) (Some ys) None input given kept = absurd kept
+kept_more (Some xs) (Some ys) (Some zs) input given kept = given ∙ ap (λ (rest : List ℕ). input ++ rest) (sym kept)
 
 -- before the first turn
 pub none_read : (old : Option (List ℕ)) (input : List ℕ) → input ≡ [] → IsPartlyRead old old input 0
@@ -51,3 +60,19 @@ longer_input (Some xs) None new input piece limit given more long = absurd given
 longer_input (Some xs) (Some ys) None input piece limit given more long = absurd more
 longer_input (Some xs) (Some ys) (Some zs) input piece limit given more long =
     omega (arith, ap length given, ap length more, length-append input ys, length-append piece zs)
+
+-- one turn more, whose piece stands in front of what the buffer held
+pub turn_more : (old now new : Option (List ℕ)) (input buf rest longer : List ℕ) (count turns : ℕ) →
+    IsPartlyRead old now input turns → Consumes now new (take count buf) → longer ≡ input ++ take count (buf ++ rest)
+    → count ≤ length buf → 0 < count → length input + count ≤ limit → IsPartlyRead old new longer (turns + 1)
+turn_more old now new input buf rest longer count turns part more whole within some fits =
+    let piece = take count buf in
+    let joined : longer ≡ input ++ piece = whole ∙ ap (λ (l : List ℕ). input ++ l) (take-append-le count buf rest within) in
+    let taken : length piece ≡ count = length-take-le count buf within in
+    let long : length longer ≡ length input + length piece = ap length joined ∙ length-append input piece in
+    let turned : turns ≤ length input = part.each_turn in
+    record {
+      given = subst (Consumes old new) (sym joined) (read_more old now new input piece part.given more);
+      fits = omega arith;
+      each_turn = omega arith;
+    }

@@ -41,9 +41,9 @@ pub(super) fn read_input<A: Allocator, R: Read>(
         if count > LIMIT - input.len() {
             return Err(ShowFault::TooLong);
         }
-        if input.extend_from_slice(&piece[..count]).is_err() {
+        let Ok(()) = input.extend_from_slice(&piece[..count]) else {
             return Err(ShowFault::Memory);
-        }
+        };
     }
     unreachable!()
 }

@@ -48,10 +48,8 @@ fn answer_prn<A: Allocator>(alloc: A, body: &[u8]) -> Result<Vec<u8, A>, AllocEr
     ensures even { IfOk result (λ answer. length answer.items % 2 ≡ 0) }
     ensures body { IfOk result (λ answer. answer.items ≡ answer_body body.now Verdict.Prn) }
 {
-    let mut answer = Vec::from_slice(alloc, &PRN_OPEN)?;
-    answer.extend_from_slice(body)?;
-    answer.extend_from_slice(&CLOSE_WORD)?;
-    Ok(answer)
+    let parts: [&[u8]; 3] = [&PRN_OPEN, body, &CLOSE_WORD];
+    parts.concat(alloc)
 }
 
 /// The answer to a message that is wrong at a place.
@@ -62,12 +60,8 @@ fn answer_huh<A: Allocator>(alloc: A, place: u16, body: &[u8]) -> Result<Vec<u8,
     ensures body { IfOk result (λ answer. answer.items ≡ answer_body body.now (Verdict.Huh place)) }
 {
     let (before, after) = body.split_at(2 * place as usize);
-    let mut answer = Vec::from_slice(alloc, &HUH_OPEN)?;
-    answer.extend_from_slice(before)?;
-    answer.extend_from_slice(&ERR_WORD)?;
-    answer.extend_from_slice(after)?;
-    answer.extend_from_slice(&CLOSE_WORD)?;
-    Ok(answer)
+    let parts: [&[u8]; 5] = [&HUH_OPEN, before, &ERR_WORD, after, &CLOSE_WORD];
+    parts.concat(alloc)
 }
 
 /// Writes a verdict, and the answer that the sender gets.
@@ -84,22 +78,22 @@ fn write_verdict<A: Allocator + Copy>(
         (text.new.items ≡ text.old.items ++ verdict_lines (words_of words.now) verdict body.now)
         × (relayed ≡ is_relay verdict)) }
 {
-    match verdict {
+    let answer = match verdict {
         Verdict::Relay => {
             text.write_all(b"relay\n")?;
-            Ok(true)
+            return Ok(true);
         }
         Verdict::Prn => {
             text.write_all(b"PRN\n")?;
-            write_tokens(words, answer_prn(alloc, body)?.as_slice(), text)?;
-            Ok(false)
+            answer_prn(alloc, body)?
         }
         Verdict::Huh(place) => {
             writeln!(text, "HUH at {place}")?;
-            write_tokens(words, answer_huh(alloc, place, body)?.as_slice(), text)?;
-            Ok(false)
+            answer_huh(alloc, place, body)?
         }
-    }
+    };
+    write_tokens(words, answer.as_slice(), text)?;
+    Ok(false)
 }
 
 /// Writes that a frame is at fault.

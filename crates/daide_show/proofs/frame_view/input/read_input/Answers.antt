@@ -1,6 +1,7 @@
 use Rattle.std.proofs.Common.{rules, take, ◌++◌, length-append, arith}
 use Rattle.std.proofs.lemmas.List.{length-take-le}
-use Rattle.daide_show.proofs.Reading.{front_few, none_more, none_read, read_more, whole_input, longer_input}
+use Rattle.daide_show.proofs.Reading.{front_few, kept_more, none_more, none_read, read_more}
+use Rattle.daide_show.proofs.Reading.{longer_input, turn_more, whole_input}
 use Rattle.daide_show.specs.Input.{limit}
 use Rattle.daide_show.proofs.frame_view.input.read_input.Goals as goal
 
@@ -34,8 +35,8 @@ returns-then-count-len-clause-read g c =
       ),
     )
 
-pub returns-then-is_err-clause-read : goal.returns-then-is_err-clause-read
-returns-then-is_err-clause-read g c =
+pub returns-in_default-clause-read : goal.returns-in_default-clause-read
+returns-in_default-clause-read g c =
     let piece = take c.in-Ok.count c.read.new.buf in (
       c.loop-turn.input.items ++ piece,
       read_more _ (g.R.Read.remaining c.loop-turn.reader)
@@ -67,3 +68,18 @@ unreachable-requires g c =
     let fits = c.loop-turn.invariant.fits in
     let turns = c.loop-turn.invariant.each_turn in
     omega arith
+
+pub returns-in-Err-clause-read : goal.returns-in-Err-clause-read
+returns-in-Err-clause-read g c = (
+  c.loop-turn.input.items,
+  kept_more _ (g.R.Read.remaining c.loop-turn.reader) (g.R.Read.remaining c.read.new.self) c.loop-turn.input.items
+      c.loop-turn.invariant.given c.in-Err.ensures.bytes,
+  omega (arith, c.loop-turn.invariant.fits),
+)
+
+pub loop-turn-preserved : goal.loop-turn-preserved
+loop-turn-preserved g c =
+    turn_more _ (g.R.Read.remaining c.loop-turn.reader) (g.R.Read.remaining c.read.new.self) c.loop-turn.input.items
+    c.read.new.buf _ c.extend_from_slice.new.self.items c.in-Ok.count c.loop-turn._turn c.loop-turn.invariant
+    c.in-Ok.ensures.bytes.0 c.in-Ok-extend_from_slice.ensures.items c.in-Ok.ensures.bound.0 (omega arith)
+    (omega (arith, c.len-in-loop-turn.ensures, c.loop-turn.input.ok.0))

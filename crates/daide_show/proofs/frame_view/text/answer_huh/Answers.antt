@@ -1,15 +1,17 @@
-use Rattle.std.proofs.Common.{refl}
+use Rattle.std.proofs.Common.{◌≡◌, ◌%◌, ℕ, List, length, subst, sym}
+use Rattle.daide_show.proofs.AnswerParts.{huh_of_parts, even_huh}
+use Rattle.daide_show.proofs.Outcomes.{if_ok-more}
 use Rattle.daide_show.proofs.frame_view.text.answer_huh.Goals as goal
 
 pub returns-clause-body : goal.returns-clause-body
 returns-clause-body g c =
-    rw (
-      c.in_ok-extend_from_slice-4.ensures.items,
-      c.in_ok-extend_from_slice-3.ensures.items,
-      c.in_ok-extend_from_slice-2.ensures.items,
-      c.in_ok-extend_from_slice.ensures.items,
-      c.in_ok-answer.ensures.items,
-      c.split_at.ensures.front,
-      c.split_at.ensures.back,
-    )
-    refl
+    if_ok-more c.concat.result _ _ c.concat.ensures.ok (λ answer parts.
+    huh_of_parts c.args.body.now _ _ answer.items c.args.place c.split_at.ensures.front c.split_at.ensures.back parts)
+
+pub returns-clause-even : goal.returns-clause-even
+returns-clause-even g c =
+    if_ok-more c.concat.result _ _ c.concat.ensures.ok (λ answer parts.
+    subst (λ (l : List ℕ). length l % 2 ≡ 0)
+    (sym (huh_of_parts c.args.body.now _ _ answer.items c.args.place c.split_at.ensures.front c.split_at.ensures.back
+    parts))
+    (even_huh c.args.body.now c.args.place c.requires.even c.requires.within))

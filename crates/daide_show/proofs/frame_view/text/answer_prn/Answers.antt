@@ -1,11 +1,14 @@
-use Rattle.std.proofs.Common.{refl}
+use Rattle.std.proofs.Common.{◌≡◌, ◌%◌, ℕ, List, length, subst, sym}
+use Rattle.daide_show.proofs.AnswerParts.{prn_of_parts, even_prn}
+use Rattle.daide_show.proofs.Outcomes.{if_ok-more}
 use Rattle.daide_show.proofs.frame_view.text.answer_prn.Goals as goal
 
 pub returns-clause-body : goal.returns-clause-body
 returns-clause-body g c =
-    rw (
-      c.in_ok-extend_from_slice-2.ensures.items,
-      c.in_ok-extend_from_slice.ensures.items,
-      c.in_ok-answer.ensures.items,
-    )
-    refl
+    if_ok-more c.concat.result _ _ c.concat.ensures.ok (λ answer parts. prn_of_parts c.args.body.now answer.items parts)
+
+pub returns-clause-even : goal.returns-clause-even
+returns-clause-even g c =
+    if_ok-more c.concat.result _ _ c.concat.ensures.ok (λ answer parts.
+    subst (λ (l : List ℕ). length l % 2 ≡ 0) (sym (prn_of_parts c.args.body.now answer.items parts))
+    (even_prn c.args.body.now c.requires))

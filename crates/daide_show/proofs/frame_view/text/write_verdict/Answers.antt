@@ -1,0 +1,39 @@
+use Rattle.std.proofs.Common.{◌≡◌, ◌++◌, ◌%◌, ◌∙◌, false, length, ℕ, List, sym, subst, refl}
+use Rattle.daide_reader.specs.declared.verdict.Verdict.{Verdict}
+use Rattle.daide_reader.specs.declared.verdict.Verdict.TheVariants.{Prn, Huh}
+use Rattle.daide_words.specs.Words.{words_of}
+use Rattle.daide_show.specs.Shown.{is_relay, verdict_lines}
+use Rattle.daide_show.proofs.AnswerParts.{answered}
+use Rattle.daide_show.proofs.frame_view.text.write_verdict.Goals as goal
+use Rattle.daide_show.proofs.frame_view.text.write_verdict.Goals.{in-Prn+in_ok-write_all-in-Prn+in_ok-answer-in-Prn}
+use Rattle.daide_show.proofs.frame_view.text.write_verdict.Goals.{in-Huh+in_ok-writeln-in-Huh+in_ok-answer-in-Huh}
+
+pub returns : goal.returns
+returns g c =
+    let words = words_of c.args.words.now in
+    let body = c.args.body.now in
+    let old = c.args.text.now.items in
+    let text = c.write_tokens.new.text.items in
+    let sent = c.as_slice.result.now in
+    elim c.match-verdict.branch [
+      | in-Prn+in_ok-write_all-in-Prn+in_ok-answer-in-Prn w ↦
+          subst (λ (v : Verdict). (text ≡ old ++ verdict_lines words v body) × (false ≡ is_relay v)) (sym w.in-Prn.is)
+          (answered words Prn body old c.match-verdict.text.items sent text refl
+          (rw w.text-is w.in_ok-write_all-in-Prn.ensures.bytes)
+          (c.as_slice.ensures.value ∙ rw w.answer-is w.in_ok-answer-in-Prn.ensures.body)
+          c.in_ok-write_tokens.ensures)
+      | in-Huh+in_ok-writeln-in-Huh+in_ok-answer-in-Huh w ↦
+          subst (λ (v : Verdict). (text ≡ old ++ verdict_lines words v body) × (false ≡ is_relay v)) (sym w.in-Huh.is)
+          (answered words (Huh w.in-Huh.place) body old c.match-verdict.text.items sent text refl
+          (rw w.text-is w.in_ok-writeln-in-Huh.ensures.bytes)
+          (c.as_slice.ensures.value ∙ rw w.answer-is w.in_ok-answer-in-Huh.ensures.body)
+          c.in_ok-write_tokens.ensures)
+    ]
+
+pub write_tokens-requires : goal.write_tokens-requires
+write_tokens-requires g c =
+    subst (λ (l : List ℕ). length l % 2 ≡ 0) (sym c.as_slice.ensures.value)
+    (elim c.match-verdict.branch [
+      | in-Prn+in_ok-write_all-in-Prn+in_ok-answer-in-Prn w ↦ rw w.answer-is w.in_ok-answer-in-Prn.ensures.even
+      | in-Huh+in_ok-writeln-in-Huh+in_ok-answer-in-Huh w ↦ rw w.answer-is w.in_ok-answer-in-Huh.ensures.even
+    ])
