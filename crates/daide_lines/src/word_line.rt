@@ -3,7 +3,7 @@
 ghost use Rattle.std.specs.Prelude.{◌≡◌};
 ghost use Rattle.daide_words.specs.WordNames.{slot_named, operand_named};
 ghost use Rattle.daide_lines.specs.LogLine.{plain_number};
-ghost use Rattle.daide_lines.specs.WordLine.{name_of, code_of, level_of, word_of_line};
+ghost use Rattle.daide_lines.specs.WordLine.{name_of, code_of, level_of, word_of_parts, word_of_line};
 
 use crate::parts::{parted_at_space, plain_number};
 use daide_grammar::level::Level;
@@ -79,6 +79,20 @@ fn operand_of(name: &[u8]) -> Option<Operand>
     None
 }
 
+/// The word of a line's parts, if each is right.
+fn word_of(name: &[u8], code: &[u8], slot: &[u8], level: &[u8], operand: &[u8]) -> Option<Word>
+    ensures { result ≡ word_of_parts (name_of name.now) (code_of code.now) (slot_named slot.now) (level_of level.now)
+        (operand_named operand.now) }
+{
+    Some(Word {
+        name: name_of(name)?,
+        code: code_of(code)?,
+        slot: slot_of(slot)?,
+        level: level_of(level)?,
+        operand: operand_of(operand)?,
+    })
+}
+
 /// The word that a line has, if it is one of the lines of words.
 #[tactic(auto, unfolding(crate::specs::WordLine::word_of_line))]
 pub fn read_word(line: &[u8]) -> Option<Word>
@@ -89,11 +103,5 @@ pub fn read_word(line: &[u8]) -> Option<Word>
     let (code, rest) = parted_at_space(rest)?;
     let (slot, rest) = parted_at_space(rest)?;
     let (level, operand) = parted_at_space(rest)?;
-    Some(Word {
-        name: name_of(name)?,
-        code: code_of(code)?,
-        slot: slot_of(slot)?,
-        level: level_of(level)?,
-        operand: operand_of(operand)?,
-    })
+    word_of(name, code, slot, level, operand)
 }
