@@ -1,8 +1,12 @@
 //! The second line of a log, which sets the limits of its sessions.
 
 ghost use Rattle.std.specs.Prelude.{◌≡◌, IfSome};
+ghost use Rattle.daide_grammar.specs.Words.{most_words};
+ghost use Rattle.daide_machine.specs.Bounds.{most_sessions};
 ghost use Rattle.daide_lines.specs.LogLine.{plain_number};
-ghost use Rattle.daide_log.specs.ConfigLine.{config_of_numbers, config_of_line, match_config_of_line};
+ghost use Rattle.daide_lines.specs.MatchLine.{within};
+ghost use Rattle.daide_log.specs.ConfigLine.{config_of_numbers, config_of_line};
+ghost use Rattle.daide_log.specs.ConfigLine.{match_config_of_numbers, match_config_of_line};
 ghost use Rattle.daide_log.specs.Heading.{HasSessions};
 
 use daide_lines::match_line::number_within;
@@ -48,6 +52,26 @@ pub fn read_config(line: &[u8]) -> Option<Config>
     limits_of(level, body, depth)
 }
 
+/// What five plain numbers set, if each is in its range.
+fn match_config_of(
+    level: &[u8],
+    body: &[u8],
+    depth: &[u8],
+    sessions: &[u8],
+    words: &[u8],
+) -> Option<MatchConfig>
+    ensures within { IfSome result HasSessions }
+    ensures limits { result ≡ match_config_of_numbers
+        (config_of_numbers (plain_number level.now) (plain_number body.now) (plain_number depth.now))
+        (within 1 most_sessions (plain_number sessions.now)) (within 0 most_words (plain_number words.now)) }
+{
+    Some(MatchConfig {
+        config: limits_of(level, body, depth)?,
+        sessions: number_within(1, MAX_SESSIONS as u16, sessions)?,
+        words: number_within(0, MAX_WORDS as u16, words)?,
+    })
+}
+
 /// What a line sets, if it is a match's second.
 #[tactic(auto, unfolding(crate::specs::ConfigLine::match_config_of_line))]
 pub fn read_match_config(line: &[u8]) -> Option<MatchConfig>
@@ -59,9 +83,5 @@ pub fn read_match_config(line: &[u8]) -> Option<MatchConfig>
     let (body, rest) = parted_at_space(rest)?;
     let (depth, rest) = parted_at_space(rest)?;
     let (sessions, words) = parted_at_space(rest)?;
-    Some(MatchConfig {
-        config: limits_of(level, body, depth)?,
-        sessions: number_within(1, MAX_SESSIONS as u16, sessions)?,
-        words: number_within(0, MAX_WORDS as u16, words)?,
-    })
+    match_config_of(level, body, depth, sessions, words)
 }
