@@ -2,13 +2,14 @@
 //!
 //! The shape of all entries is judged before the range of any, so that a fault of type is told first wherever it is.
 
-ghost use Rattle.std.specs.Prelude.{◌≡◌, Some, Ok, Err, MatchResult, option_copied, option_map};
+ghost use Rattle.std.specs.Prelude.{◌≡◌, Some, Ok, Err, MatchResult, codes, option_and_then, option_copied, option_map};
 ghost use Rattle.std.specs.List.{list_all};
 ghost use Rattle.std.specs.BTreeMap.{keys};
 ghost use Rattle.std.specs.Prelude.{string_bytes};
 ghost use Rattle.toml.specs.Data.{get_member};
 ghost use Rattle.toml.specs.View.{items_view, table_view, view};
 ghost use Rattle.daide_words.specs.Words.{words_of};
+ghost use Rattle.daide_words.specs.WordNames.{operand_named, slot_named};
 ghost use Rattle.daide_settings.specs.WordSettings.{accepted_words, are_entries, code_of, entries_judged, has_fields};
 ghost use Rattle.daide_settings.specs.WordSettings.{has_only, is_entry, is_field, level_of, number_in, text_in};
 ghost use Rattle.daide_settings.specs.WordSettings.{three_of, word_of};
@@ -91,51 +92,60 @@ fn is_entry(value: &Value) -> bool
     }
 }
 
-/// A name of three bytes.
-fn three_of(name: &str) -> Option<[u8; 3]>
-    ensures { result ≡ three_of name.now }
+/// The name of an entry, of three bytes.
+fn name_in(table: &Table) -> Option<[u8; 3]>
+    ensures { result ≡ option_and_then three_of (text_in (codes "name") (table_view table.now)) }
 {
-    match name.as_bytes() {
+    match text_in(table, "name")?.as_bytes() {
         [first, second, third] => Some([*first, *second, *third]),
         _ => None,
     }
 }
 
-/// The token of a number.
-fn code_of(number: i64) -> Option<Token>
-    ensures { result ≡ code_of number }
+/// The token of an entry's number.
+fn code_in(table: &Table) -> Option<Token>
+    ensures { result ≡ option_and_then code_of (number_in (codes "code") (table_view table.now)) }
 {
-    match u16::try_from(number) {
+    match u16::try_from(number_in(table, "code")?) {
         Ok(code) => Some(Token::from_code(code)),
         Err(_) => None,
     }
 }
 
-/// The level of a number.
-fn level_of(number: i64) -> Option<Level>
-    ensures { result ≡ level_of number }
+/// The slot of an entry.
+fn slot_in(table: &Table) -> Option<Slot>
+    ensures { result ≡ option_and_then slot_named (text_in (codes "slot") (table_view table.now)) }
 {
-    match u16::try_from(number) {
+    Slot::by_name(text_in(table, "slot")?)
+}
+
+/// The level of an entry's number.
+fn level_in(table: &Table) -> Option<Level>
+    ensures { result ≡ option_and_then level_of (number_in (codes "level") (table_view table.now)) }
+{
+    match u16::try_from(number_in(table, "level")?) {
         Ok(number) => Level::of(number),
         Err(_) => None,
     }
+}
+
+/// The operand of an entry.
+fn operand_in(table: &Table) -> Option<Operand>
+    ensures { result ≡ option_and_then operand_named (text_in (codes "operand") (table_view table.now)) }
+{
+    Operand::by_name(text_in(table, "operand")?)
 }
 
 /// The word of an entry's members, if each is in its range.
 fn word_of_members(table: &Table) -> Option<Word>
     ensures { result ≡ word_of_members (table_view table.now) }
 {
-    let name = three_of(text_in(table, "name")?)?;
-    let code = code_of(number_in(table, "code")?)?;
-    let slot = Slot::by_name(text_in(table, "slot")?)?;
-    let level = level_of(number_in(table, "level")?)?;
-    let operand = Operand::by_name(text_in(table, "operand")?)?;
     Some(Word {
-        name,
-        code,
-        slot,
-        level,
-        operand,
+        name: name_in(table)?,
+        code: code_in(table)?,
+        slot: slot_in(table)?,
+        level: level_in(table)?,
+        operand: operand_in(table)?,
     })
 }
 
