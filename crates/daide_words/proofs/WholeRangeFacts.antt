@@ -2,7 +2,7 @@
 -- over the whole range of codes, letters and counts. Written from the protocol's press and its table of codes, so that
 -- a rule that is right in one row and wrong in its neighbour does not check.
 use Rattle.std.proofs.Common.{◌≡◌, ℕ, ◌*◌, ◌+◌, List, [], ◌∷◌, ◌++◌, map, replicate, codes, refl}
-use Rattle.std.proofs.Common.{drop}
+use Rattle.std.proofs.Common.{drop, not, if◌then◌else◌, ap, ◌∙◌}
 use Rattle.std.specs.Prelude.{Result, Ok, Err}
 use Rattle.std.specs.List.{range_with_len}
 use Rattle.daide_token.specs.declared.class.Class.TheVariants.{Word}
@@ -23,7 +23,7 @@ use Rattle.daide_words.specs.declared.word.Word as code
 use Rattle.daide_words.specs.declared.word.WordError.{WordError}
 use Rattle.daide_words.specs.declared.word.WordError.TheVariants as faults
 use Rattle.daide_words.specs.Word.{grammar_words}
-use Rattle.daide_words.specs.Accepted.{word_fault}
+use Rattle.daide_words.specs.Accepted.{is_free_code, word_fault}
 use Rattle.daide_words.specs.Table.OverWords.{answer_over}
 
 abbrev made : List ℕ → ℕ → Slot → Level → kinds.Operand → code.Word
@@ -136,6 +136,19 @@ of_name name = word_fault [] (made name 0x4A40 slots.Press L20 operands.Power)
 abbrev of_meaning : Slot → kinds.Operand → Level → Refusal
 of_meaning slot operand level = word_fault [] (made (codes "XYZ") 0x4A40 slot level operand)
 
+-- XYZ is a free name, so that of each code its own test is left
+abbrev by_code : ℕ → Refusal
+by_code token = if not (is_free_code [] token) then Err faults.Code else Ok tt
+
+left_to_code : (token : ℕ) → of_code token ≡ by_code token
+unfolding token_named names
+left_to_code token = refl
+
+of_codes : (tokens : List ℕ) → map of_code tokens ≡ map by_code tokens
+of_codes [] = refl
+of_codes (token ∷ tokens) =
+    ap (λ one. one ∷ map of_code tokens) (left_to_code token) ∙ ap (λ others. by_code token ∷ others) (of_codes tokens)
+
 abbrev free : ℕ → List Refusal
 free n = replicate n (Ok tt)
 
@@ -147,16 +160,25 @@ free_codes : (map of_code (range_with_len 0x4A00 256)
     ≡ taken 4 ++ free 2 ++ taken 1 ++ free 3 ++ taken 1 ++ free 1 ++ taken 5 ++ free 1 ++ taken 7 ++ free 1 ++ taken 3
     ++ free 2 ++ taken 1 ++ free 224)
     × (map of_code (range_with_len 0x4900 256) ≡ taken 256) × (map of_code (range_with_len 0x4B00 256) ≡ taken 256)
-unfolding name_of token_named names
-free_codes = (refl, refl, refl)
+unfolding name_of names
+free_codes = (
+  of_codes (range_with_len 0x4A00 256) ∙ refl,
+  of_codes (range_with_len 0x4900 256) ∙ refl,
+  of_codes (range_with_len 0x4B00 256) ∙ refl,
+)
 
 -- no code of another category is: its first and its last
 other_codes : (map of_code (map (λ c. c * 256) (range_with_len 0x00 0x4A)) ≡ taken 0x4A)
     × (map of_code (map (λ c. c * 256 + 255) (range_with_len 0x00 0x4A)) ≡ taken 0x4A)
     × (map of_code (map (λ c. c * 256) (range_with_len 0x4B 181)) ≡ taken 181)
     × (map of_code (map (λ c. c * 256 + 255) (range_with_len 0x4B 181)) ≡ taken 181)
-unfolding name_of token_named names
-other_codes = (refl, refl, refl, refl)
+unfolding name_of names
+other_codes = (
+  of_codes (map (λ c. c * 256) (range_with_len 0x00 0x4A)) ∙ refl,
+  of_codes (map (λ c. c * 256 + 255) (range_with_len 0x00 0x4A)) ∙ refl,
+  of_codes (map (λ c. c * 256) (range_with_len 0x4B 181)) ∙ refl,
+  of_codes (map (λ c. c * 256 + 255) (range_with_len 0x4B 181)) ∙ refl,
+)
 
 -- of all bytes only the letters from A to Z, at each of a name's three places
 abbrev letters : List Refusal

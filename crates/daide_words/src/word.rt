@@ -21,7 +21,7 @@ pub struct Word {
 }
 
 /// What a word makes, from which level on, and of what.
-#[derive(Clone, Copy, Debug)]
+#[derive(Clone, Copy)]
 pub(crate) struct Meaning {
     pub(crate) slot: Slot,
     pub(crate) level: Level,

@@ -21,7 +21,7 @@ use std::str;
 pub const MAX_WORDS: usize = WORD_COUNT;
 
 /// Words that an operator added, each accepted after the ones before it.
-#[derive(Clone, Copy, Debug)]
+#[derive(Clone, Copy)]
 pub struct Words {
     names: [(Token, [u8; 3]); MAX_WORDS],
     meanings: [Meaning; MAX_WORDS],
