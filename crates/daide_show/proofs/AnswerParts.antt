@@ -32,7 +32,8 @@ even_prn body even = simp length-append (omega arith)
 
 pub even_huh : (body : List ℕ) (place : ℕ) → length body % 2 ≡ 0 → 2 * place ≤ length body →
     length (answer_body body (Huh place)) % 2 ≡ 0
-even_huh body place even within = simp (length-append, length-drop) (omega (arith, length-take-le (2 * place) body within))
+even_huh body place even within =
+    simp (length-append, length-drop) (omega (arith, length-take-le (2 * place) body within))
 
 -- a verdict's name, and the answer behind it
 pub answered : (words : List Word) (verdict : Verdict) (body old named answer text : List ℕ) →

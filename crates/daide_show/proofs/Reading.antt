@@ -67,7 +67,8 @@ pub turn_more : (old now new : Option (List ℕ)) (input buf rest longer : List 
     → count ≤ length buf → 0 < count → length input + count ≤ limit → IsPartlyRead old new longer (turns + 1)
 turn_more old now new input buf rest longer count turns part more whole within some fits =
     let piece = take count buf in
-    let joined : longer ≡ input ++ piece = whole ∙ ap (λ (l : List ℕ). input ++ l) (take-append-le count buf rest within) in
+    let joined : longer ≡ input ++ piece =
+    whole ∙ ap (λ (l : List ℕ). input ++ l) (take-append-le count buf rest within) in
     let taken : length piece ≡ count = length-take-le count buf within in
     let long : length longer ≡ length input + length piece = ap length joined ∙ length-append input piece in
     let turned : turns ≤ length input = part.each_turn in
