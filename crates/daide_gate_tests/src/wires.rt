@@ -177,7 +177,8 @@ type Written = (
 /// Takes all that is written.
 const ALL: &[usize] = &[9_999, 9_999, 9_999, 9_999];
 
-/// A few bytes are held until their session has nothing more to do, there is no room, or 32 turns began; many are not.
+/// A few bytes are held until their session has nothing more to do, there is no room, or 32 turns began; many are written
+/// at once, with what is held before them.
 const WRITTEN: &[Written] = &[
     (ALL, ALL, &[Puts(Side::Server, 3)], (0, 0)),
     (ALL, ALL, &[Puts(Side::Server, 3), Idles(Side::Bot)], (0, 3)),
@@ -247,6 +248,25 @@ const WRITTEN: &[Written] = &[
         (0, 3_000),
     ),
     (ALL, ALL, &[Puts(Side::Server, 5_000)], (0, 5_000)),
+    // Many bytes go out in one write with what is held before them; fewer stay together.
+    (
+        ALL,
+        &[9_999],
+        &[Puts(Side::Server, 3), Puts(Side::Server, 5_000)],
+        (0, 4_096),
+    ),
+    (
+        ALL,
+        &[9_999],
+        &[Puts(Side::Server, 3), Puts(Side::Server, 4_096)],
+        (0, 4_096),
+    ),
+    (
+        ALL,
+        ALL,
+        &[Puts(Side::Server, 3), Puts(Side::Server, 4_095)],
+        (0, 3),
+    ),
     (
         ALL,
         &[2],

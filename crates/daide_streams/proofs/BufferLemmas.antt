@@ -178,3 +178,9 @@ module _ {S : Type 0} (to_give got : S → Option (List ℕ)) where
   pub flush_then : (a b c : Buffer S) (over : List ℕ) → Passes to_give got a [] [] b → Passes to_give got b [] over c →
       Passes to_give got a [] over c
   flush_then a b c over first next = passes_then a b c [] [] [] over first next
+
+  -- a flush behind a call
+  pub then_flush : (a b c : Buffer S) (over : List ℕ) → Passes to_give got a [] over b → Passes to_give got b [] [] c →
+      Passes to_give got a [] over c
+  then_flush a b c over first next =
+      subst (λ (l : List ℕ). Passes to_give got a [] l c) (append-nil over) (passes_then a b c [] over [] [] first next)

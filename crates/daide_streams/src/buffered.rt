@@ -261,8 +261,21 @@ impl<S: Duplex + Drop> Buffered<S> {
         self.flush(pool, readiness);
     }
 
-    /// Takes bytes behind those that are held, and writes first where there is no room for all. A failure that a write
-    /// met is told here, from then on.
+    /// Takes more bytes than are held at most, as many as there is room for behind those that are held, and writes them
+    /// together; where none are held, writes them at once.
+    fn put_many(&mut self, pool: &Pool, readiness: &mut Readiness, bytes: &[u8]) -> Put
+        ensures within { IsPutWithin result (length bytes.now) }
+        ensures passes { Passes S.to_give S.taken self.old [] (front_of result bytes.now) self.new }
+        ensures unread { IsUnread S.to_give self.old self.new }
+        ensures few { length self.new.behind ≤ MOST_HELD }
+    {
+        let put = self.take_behind(pool, readiness, bytes);
+        self.flush(pool, readiness);
+        put
+    }
+
+    /// Takes bytes behind those that are held. Fewer than are held at most stay together: where there is no room for all,
+    /// what is held is written first. A failure that a write met is told here, from then on.
     ///
     /// What is told as `Took` is the front of these bytes, and stands, in order, in the stream or behind what it took.
     pub fn put(&mut self, pool: &Pool, readiness: &mut Readiness, bytes: &[u8]) -> Put
@@ -271,6 +284,12 @@ impl<S: Duplex + Drop> Buffered<S> {
         ensures unread { IsUnread S.to_give self.old self.new }
         ensures few { length self.old.behind ≤ MOST_HELD → length self.new.behind ≤ MOST_HELD }
     {
+        if self.has_failed {
+            return Put::Failed;
+        }
+        if bytes.len() >= MOST_HELD {
+            return self.put_many(pool, readiness, bytes);
+        }
         self.make_room(pool, readiness, bytes.len());
         if self.has_failed {
             return Put::Failed;
