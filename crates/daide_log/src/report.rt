@@ -22,14 +22,17 @@ pub struct Source {
     pub session: Option<u16>,
 }
 
-/// Puts text behind a line.
+/// Puts text behind a line, byte by byte: where it is known which text, its bytes are stored together, and nothing is
+/// asked of where they lie, as a copy does.
 #[inline(always)]
 pub(crate) fn put(text: &[u8], line: &mut Page)
     requires { length line.old.items + length text.now ≤ page_size }
     ensures text { line.new.items ≡ line.old.items ++ text.now }
     ensures length { length line.new.items ≡ length line.old.items + length text.now }
 {
-    line.try_extend_from_slice(text).unwrap();
+    for i in 0..text.len() {
+        line.push(text[i]);
+    }
 }
 
 /// Puts the decimal digits of a number behind a line.
