@@ -17,9 +17,11 @@ use Rattle.daide_traffic.specs.Both.{Both, at, put}
 use Rattle.daide_traffic.specs.Traffic.{Traffic, Arrival}
 use Rattle.daide_traffic.specs.Traffic.{LetsGo as LetsTrafficGo}
 use Rattle.daide_traffic.proofs.BothLemmas.{at_put, put_there}
+use Rattle.daide_traffic.proofs.FrontsKept.{fronts_stay}
 use Rattle.daide_session.specs.Session.{state_of, gateway_of, Dropped}
 use Rattle.daide_session.specs.Work.{HoldsNoMore}
 use Rattle.daide_session.specs.Reaction.{Moves, KeepsSides, stopped}
+use Rattle.daide_session.proofs.GatewayFronts.{other_front}
 use Rattle.daide_session.proofs.MovesLemmas.{waiting_at}
 use Rattle.daide_session.proofs.ReactionLemmas.{holding_at}
 use Rattle.daide_session.proofs.SessionLemmas.{goes_event, stop_note, stopped_over}
@@ -128,8 +130,8 @@ wrote_of t v s side n l wait bytes = record {
 }
 
 pub dropped_of : (t v : Traffic) (s : Stage) (side : Side) → LetsTrafficGo t v → v.waiting ≡ put t.waiting side [] →
-    Dropped (gateway_of t s) side (gateway_of v s)
-dropped_of t v s side l wait = record {
+    at v.parts (other side) ≡ at t.parts (other side) → Dropped (gateway_of t s) side (gateway_of v s)
+dropped_of t v s side l wait parts = record {
   same_state = gone_state t v s l;
   counts = refl;
   dropped = waiting_at v s side
@@ -137,7 +139,10 @@ dropped_of t v s side l wait = record {
   other_wire = waiting_at v s (other side)
       ∙ (ap (λ (w : Both (List Sent)). at w (other side)) wait
       ∙ (put_there t.waiting side [] ∙ sym (waiting_at t s (other side))));
+  other_front = other_front t t v s s side [] (fronts_stay t) wait parts;
   held = lets_go t t v s s (λ one. refl) refl l;
+  asks_nothing = (l.total Bot, l.total Server);
+  looks_at_nothing = (l.looked_at Bot, l.looked_at Server);
 }
 
 pub lost_of : (t u v : Traffic) (s r : Stage) (side : Side) →

@@ -8,12 +8,13 @@ use Rattle.daide_machine.specs.declared.phase.Phase.{Phase}
 use Rattle.daide_machine.specs.declared.phase.Phase.TheVariants.{WaitIm, WaitRm, Open, Over}
 use Rattle.daide_machine.specs.Machine.{SessionState, coming, is_over}
 use Rattle.daide_machine.specs.Events.{other}
-use Rattle.daide_machine.specs.Wires.{SessionView, waiting, LetsGo}
+use Rattle.daide_machine.specs.Wires.{SessionView, waiting, LetsGo, AsksNothing, LooksAtNothing}
 use Rattle.daide_machine.specs.declared.config.Config.{Config}
 use Rattle.daide_session.specs.declared.session.SessionError.{SessionError}
 use Rattle.daide_session.specs.declared.session.SessionError.TheVariants as Errors
 use Rattle.daide_session.specs.declared.stage.Stage.{Stage}
 use Rattle.daide_machine.specs.Config.{config_fault}
+use Rattle.daide_traffic.specs.Fronts.{KeepsFront}
 use Rattle.daide_traffic.specs.Traffic.{Traffic, has_end}
 
 -- ---- the value
@@ -66,13 +67,17 @@ pub record IsStanding (g : SessionView) : Type 0 where
 
 -- ---- what is dropped
 
--- nothing waits for a wire any more, and nothing else changed of the state, the wires and the counts
+-- nothing waits for a wire any more, and nothing else changed of the state, the wires and the counts: the other wire is
+-- handed what it was, no table was asked and no token looked at
 pub record Dropped (old : SessionView) (side : Side) (new : SessionView) : Type 0 where
   pub same_state : new.state ≡ old.state
   pub dropped : waiting new side ≡ []
   pub other_wire : waiting new (other side) ≡ waiting old (other side)
+  pub other_front : KeepsFront old (other side) new
   pub counts : new.summary ≡ old.summary
   pub held : LetsGo old new
+  pub asks_nothing : AsksNothing old new
+  pub looks_at_nothing : LooksAtNothing old new
 
 -- ---- refusals
 

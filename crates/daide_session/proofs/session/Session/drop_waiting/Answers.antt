@@ -10,7 +10,7 @@ done : (g : Over) (c : goal.After-lose g) →
     Dropped (gateway_of c.self.inside.traffic c.self.inside.stage) c.args.to
     (gateway_of c.lose.new.self c.self.inside.stage)
 done g c = dropped_of c.self.inside.traffic c.lose.new.self c.self.inside.stage c.args.to c.lose.ensures.lets_go
-    c.lose.ensures.waiting
+    c.lose.ensures.waiting c.lose.ensures.other_front
 
 pub invariant_of-self : goal.invariant_of-self
 invariant_of-self g c = standing_dropped _ _ c.args.to (done g c) c.self.invariant
