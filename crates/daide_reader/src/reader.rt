@@ -154,6 +154,7 @@ impl<T: Predict, const N: usize> Reader<T, N> {
         ensures base { self.new.asked_before ≡ self.old.asked_before }
         ensures raised { IsRaised (4 * (length body.now / 2 - tokens_read self.old)) (T.asked self.old.table)
             (T.asked self.new.table) }
+        ensures unasked { IsSettled self.old → self.new.table ≡ self.old.table }
         ensures unfinished { self.new.finished ≡ false }
     {
         let read = self.outline.tokens as usize;

@@ -31,6 +31,7 @@ returns-then-read-body g c = record {
   depth = refl;
   base = refl;
   raised = raised_none _ _ refl;
+  unasked = λ _. refl;
   unfinished = c.requires.unfinished;
 }
 
@@ -127,5 +128,6 @@ returns g c = record {
       let size : length (take (length b - 2 * k) (drop (2 * k) b)) ≡ length b - 2 * k =
       ap length (slice_on (2 * k) b) ∙ length-drop (2 * k) b in
       raised_within _ _ _ _ _ (omega (arith, size, same)) refl c.go_on.ensures.raised;
+  unasked = c.go_on.ensures.unasked;
   unfinished = c.go_on.ensures.unfinished;
 }
