@@ -29,5 +29,8 @@ ITS_HUH = bytes.fromhex("02 00 001c 4806 4000 4817 4000 4102 4001 4000 4902 4a40
 # `NME ( 'a..' ) ( 'a' )`, with a name of 480 letters: 976 bytes.
 LONG_NAME = b"\x02\x00\x03\xcc\x48\x0c\x40\x00" + b"Ka" * 480 + b"\x40\x01\x40\x00Ka\x40\x01"
 
+# The same with a name of 10,000 letters: 20,016 bytes.
+LONGER_NAME = b"\x02\x00\x4e\x2c\x48\x0c\x40\x00" + b"Ka" * 10_000 + b"\x40\x01\x40\x00Ka\x40\x01"
+
 # Bytes of a type that there is none of, which nobody reads behind the first four.
 UNKNOWN = b"\x05" * 1024

@@ -1,6 +1,6 @@
 """Scenes of a server that accepts late. A bot's connect has 5 seconds, the program's own, as docs/OPERATING.md says."""
 
-from acts import Bot, Comes, Empties, FinishesConnect, Hears, HearsEnd, Passes, Says, Server
+from acts import Bot, Comes, Empties, FinishesConnect, Hears, HearsEnd, MeetsNobody, Passes, Says, Server
 from frames import EM_01, FM, IM
 from gateway import UNREACHED
 from stage import Scene, full_listener
@@ -33,7 +33,28 @@ FIRST_IS_GIVEN_UP = [
     Hears(Server(0), FM),
 ]
 
+# While the first of two bots is on its way to the server, whose queue was full when it came, the second is joined at
+# once. The first is met when the system tries it once more, a second later or two.
+SECOND_IS_MET_FIRST = [
+    Comes(),
+    Passes(1_100),
+    Empties(),
+    Comes(),
+    FinishesConnect(),
+    Says(Bot(1), IM),
+    Hears(Server(0), IM),
+    MeetsNobody(),
+    FinishesConnect(),
+    Says(Bot(0), IM),
+    Hears(Server(1), IM),
+    Says(Bot(0), FM),
+    Hears(Server(1), FM),
+    Says(Bot(1), FM),
+    Hears(Server(0), FM),
+]
+
 SCENES = [
     Scene("late_server_leaves_the_im_no_more_time", IS_MET_LATE, "im_seconds = 1", server=full_listener),
     Scene("each_connect_has_its_own_time", FIRST_IS_GIVEN_UP, "sessions = 2", UNREACHED, server=full_listener),
+    Scene("slow_connect_holds_up_no_other", SECOND_IS_MET_FIRST, "sessions = 2", server=full_listener),
 ]

@@ -4,12 +4,15 @@ from acts import (
     Bot, Comes, Ends, FindsClosed, Flooded, Floods, Hears, HearsEnd, HearsEndAlone, Leave, Passes, Pours, Rests, Says,
     Server,
 )
-from frames import EM_08, FM, IM, LONG_NAME, OBS, UNKNOWN
+from frames import EM_08, FM, IM, LONG_NAME, LONGER_NAME, OBS, UNKNOWN
 from gateway import UNREACHED, asks, joins, opens
 from stage import Scene, silent_door
 
 # The frames of a megabyte and more.
 MEGABYTE = 1_100
+
+# How many frames of 20,016 bytes there are.
+MANY_LONGER = 400
 
 # What a peer doesn't read yet waits for it, and nothing of it is lost.
 READS_LATE = [
@@ -18,6 +21,19 @@ READS_LATE = [
     Pours(Bot(0), LONG_NAME, MEGABYTE),
     Passes(300),
     Hears(Server(0), LONG_NAME * MEGABYTE),
+    Says(Bot(0), FM),
+    Hears(Server(0), FM),
+    HearsEnd(Server(0)),
+]
+
+# Nor of frames that are longer than what is held of a socket: each is handed over in many parts, the first behind its
+# header.
+LONGER_READ_LATE = [
+    *joins(),
+    *opens(0),
+    Pours(Bot(0), LONGER_NAME, MANY_LONGER),
+    Passes(300),
+    Hears(Server(0), LONGER_NAME * MANY_LONGER),
     Says(Bot(0), FM),
     Hears(Server(0), FM),
     HearsEnd(Server(0)),
@@ -124,6 +140,7 @@ ONE_AFTER_ANOTHER = [
 
 SCENES = [
     Scene("late_reader_gets_every_byte", READS_LATE),
+    Scene("late_reader_gets_every_long_frame", LONGER_READ_LATE),
     Scene("open_session_outlasts_the_time_for_its_im", STAYS_QUIET, "im_seconds = 1", waits=True),
     Scene("unread_bytes_leave_the_em_whole", IS_FLOODED),
     Scene("few_rounds_while_a_socket_closes", CLOSES_SLOWLY, "sessions = 2", waits=True),

@@ -1,9 +1,19 @@
-"""A scene of peers of which nothing comes for as long as the settings allow."""
+"""Scenes of peers of which nothing comes for as long as the settings allow."""
 
 from acts import Bot, Hears, HearsEnd, Passes, Says, Server
 from frames import FM, OBS, YES
-from gateway import joins, opens
+from gateway import asks, joins, opens
 from stage import Scene
+
+# Silence begins with the session: a server that never says a word is taken as ended.
+SAYS_NOTHING = [
+    *joins(),
+    Passes(100),
+    *asks(0),
+    Hears(Bot(0), FM),
+    HearsEnd(Bot(0)),
+    HearsEnd(Server(0)),
+]
 
 # In the first session the server falls silent, and in the second the bot; in the third both speak now and then. A side
 # of which nothing comes for a second is taken as ended, and the other side hears an FM; one that speaks now and then
@@ -41,4 +51,7 @@ FALL_SILENT = [
     HearsEnd(Server(2)),
 ]
 
-SCENES = [Scene("silent_side_is_taken_as_ended", FALL_SILENT, "idle_seconds = 1\nsessions = 3", waits=True)]
+SCENES = [
+    Scene("silent_side_is_taken_as_ended", FALL_SILENT, "idle_seconds = 1\nsessions = 3", waits=True),
+    Scene("server_that_says_nothing_is_taken_as_ended", SAYS_NOTHING, "idle_seconds = 1", waits=True),
+]

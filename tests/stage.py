@@ -32,16 +32,17 @@ HOST = "127.0.0.1"
 
 
 class Run:
-    """A run of the program at a port that was free, towards this address, with these lines of settings behind both."""
+    """A run of the program at a port that was free, towards this address, with these lines of settings behind both;
+    where it is recorded, the records lie beside them."""
 
-    def __init__(self, program, room, settings, server):
-        self.port = free_port()
+    def __init__(self, program, room, settings, server, is_recorded):
+        self.port, self.room = free_port(), pathlib.Path(room)
         self.printed, self.status, self.seconds = b"", None, 0.0
-        file = pathlib.Path(room) / "settings.toml"
+        file = self.room / "settings.toml"
         file.write_text(f"listen = '{HOST}:{self.port}'\nserver = '{HOST}:{server}'\n{settings}\n", encoding="utf-8")
         self.errors = tempfile.TemporaryFile()
         self.process = subprocess.Popen(
-            [str(program), "run", str(file)],
+            [str(program), "run", *(["--record", room] if is_recorded else []), str(file)],
             stdin=subprocess.DEVNULL, stdout=subprocess.PIPE, stderr=self.errors, bufsize=0,
         )
         os.set_blocking(self.process.stdout.fileno(), False)
@@ -63,6 +64,10 @@ class Run:
                 self.seconds = usage.ru_utime + usage.ru_stime
                 self.listen()
         return self.status is not None
+
+    def records(self):
+        """The names of the files with its records."""
+        return sorted(path.name for path in self.room.glob("*.log"))
 
     def told(self):
         """What it told on standard error."""
@@ -233,11 +238,11 @@ def silent_door():
 
 
 @contextlib.contextmanager
-def begun(program, settings, server):
+def begun(program, settings, server, is_recorded=False):
     """A stage beside a run that listens, towards this server; both are let go of behind it."""
     listener = server()
     with tempfile.TemporaryDirectory() as room:
-        run = Run(program, room, settings, listener.getsockname()[1])
+        run = Run(program, room, settings, listener.getsockname()[1], is_recorded)
         stage = Stage(run, listener)
         try:
             stage.play_beside(Listens(), "before all acts")
@@ -259,10 +264,12 @@ class Scene:
     server: object = field(default=open_listener)
     # Whether the run takes nearly nothing of a processor, since it waits.
     waits: bool = False
+    # How many sessions are recorded; none where the run isn't.
+    recorded: int | None = None
 
     def play(self, program):
         """Plays it."""
-        with begun(program, self.settings, self.server) as stage:
+        with begun(program, self.settings, self.server, self.recorded is not None) as stage:
             stage.play(self.acts)
             self.end(stage)
 
@@ -274,5 +281,7 @@ class Scene:
         same(run.status, 0, f"status, told {run.told()!r}")
         same(run.printed, b"listening\n", "printed")
         same(run.told(), self.told, "told")
+        wanted = [f"session-{number:06}.log" for number in range(1, (self.recorded or 0) + 1)]
+        same(run.records(), wanted, "records")
         if self.waits and run.seconds >= WAITING:
             raise Wrong(f"saw {run.seconds:.2f} s of a processor, wanted less than {WAITING} s")

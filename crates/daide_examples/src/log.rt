@@ -103,3 +103,27 @@ fn check_rows(alloc: Global, rows: &str) -> Result<(), Fail> {
 fn logs_and_their_reports(rt: HostRuntime) -> Result<(), Fail> {
     check_rows(rt.alloc(), ROWS)
 }
+
+/// The faults of a log, and the text of each.
+const FAULTS: &[(LogFault, &str)] = &[
+    (LogFault::BadLine(1), "line 1 is not a log line"),
+    (LogFault::LineTooLong(1_000_000), "line 1000000 is too long"),
+    (LogFault::TooManyLines, "too many lines"),
+    (LogFault::Read, "input could not be read"),
+    (LogFault::Write, "output could not be written"),
+    (LogFault::Memory, "out of memory"),
+];
+
+/// The fault has this text.
+fn check_text(alloc: Global, fault: &LogFault, text: &str) -> Result<(), Fail> {
+    let told = fault.to_string(alloc)?;
+    same(&told.as_str(), &text, &text)
+}
+
+#[test]
+fn faults_of_a_log_have_their_texts(rt: HostRuntime) -> Result<(), Fail> {
+    for (fault, text) in FAULTS {
+        check_text(rt.alloc(), fault, text)?;
+    }
+    Ok(())
+}

@@ -16,21 +16,37 @@ use std::net::{SocketAddr, TcpListener, TcpStream};
 use std::test::Fail;
 use std::time::Duration;
 
-/// After an accept that fails none is made for a while, and then the bot that came is taken.
-fn check_acceptor(poller: &Poller<&HostRuntime>, acceptor: &Acceptor<'_>) -> Result<(), Fail> {
+/// After an accept that fails none is made for a while; then the bot that came is taken, and no moment is waited for.
+fn check_acceptor(
+    poller: &Poller<&HostRuntime>,
+    acceptor: &Acceptor<'_>,
+    flags: &Flags,
+) -> Result<(), Fail> {
     poller.wait();
     acceptor.refused(poller, ErrorKind::Other);
     holds(acceptor.accept(poller).is_none(), "none is made")?;
     poller.wait();
-    holds(acceptor.accept(poller).is_some(), "the bot that came")
+    holds(acceptor.accept(poller).is_some(), "the bot that came")?;
+    holds(flags.due.get().is_none(), "the pause is over")
+}
+
+/// The first row of a table, which stays free.
+fn first_row<'w>(
+    poller: &'w Poller<&'w HostRuntime>,
+    acceptor: &mut daide_sockets::TcpListener,
+) -> Option<&'w Flags> {
+    let place = poller.follow(acceptor, Interest::READABLE)?;
+    Some(place.flags)
 }
 
 /// The same of a listener, in the one row of a table.
 fn check_listener(rt: &HostRuntime, listener: daide_sockets::TcpListener) -> Result<(), Fail> {
     let poller = Poller::new(rt.alloc(), rt, rt, 1)?;
-    match Acceptor::new(&poller, listener) {
-        Some(acceptor) => check_acceptor(&poller, &acceptor),
-        None => Err(Fail::new("no row")),
+    let mut other = daide_sockets::TcpListener::bind(rt, any_port())?;
+    let row = first_row(&poller, &mut other);
+    match (Acceptor::new(&poller, listener), row) {
+        (Some(acceptor), Some(flags)) => check_acceptor(&poller, &acceptor, flags),
+        _ => Err(Fail::new("no row")),
     }
 }
 
@@ -149,22 +165,6 @@ fn sends_at_once<'w>(
     }
 }
 
-/// The same in a table of its own.
-fn sends_at_once_towards(rt: &HostRuntime, servers: &[SocketAddr]) -> Result<bool, Fail> {
-    let settings = plain_settings(rt.alloc())?;
-    let (listener, _bot) = door_with_bot(rt)?;
-    let poller = Poller::new(rt.alloc(), rt, rt, 8)?;
-    Ok(sends_at_once(rt, &poller, (listener, servers), &settings))
-}
-
-/// A short frame is not kept back by the system until the one before it was acknowledged.
-#[test]
-fn small_writes_are_not_delayed(rt: HostRuntime) -> Result<(), Fail> {
-    let server = TcpListener::bind(&rt, any_port())?;
-    let at_once = sends_at_once_towards(&rt, &[server.local_addr()?])?;
-    holds(at_once, "the bot's and the server's")
-}
-
 /// What is known of the socket in the third row of a table, if there are three, in which no row is taken.
 fn third_free<'w>(
     poller: &'w Poller<&'w HostRuntime>,
@@ -185,6 +185,42 @@ fn third_row<'w>(
     let mut acceptors = two_doors(rt)?;
     let mut acceptor = daide_sockets::TcpListener::bind(rt, any_port())?;
     Ok(third_free(poller, &mut acceptors, &mut acceptor))
+}
+
+/// Whether both sockets of the first bot's session send small writes at once, in this table, of which no row is taken; and
+/// whether no moment is waited for then in the third.
+fn sends_at_once_at<'w>(
+    rt: &'w HostRuntime,
+    poller: &'w Poller<&'w HostRuntime>,
+    servers: &'w [SocketAddr],
+    settings: &Settings,
+) -> Result<(bool, bool), Fail> {
+    let Some(flags) = third_row(rt, poller)? else {
+        return Err(Fail::new("no row"));
+    };
+    let (listener, _bot) = door_with_bot(rt)?;
+    let at_once = sends_at_once(rt, poller, (listener, servers), settings);
+    Ok((at_once, flags.due.get().is_none()))
+}
+
+/// The same in a table of its own.
+fn sends_at_once_towards(rt: &HostRuntime, servers: &[SocketAddr]) -> Result<(bool, bool), Fail> {
+    let settings = plain_settings(rt.alloc())?;
+    let poller = Poller::new(rt.alloc(), rt, rt, 3)?;
+    sends_at_once_at(rt, &poller, servers, &settings)
+}
+
+/// A short frame is not kept back by the system until the one before it was acknowledged. The server is at the second of
+/// two addresses, and its connect has the row of the one to the first; once it is done, its time is not waited for.
+#[test]
+fn small_writes_are_not_delayed(rt: HostRuntime) -> Result<(), Fail> {
+    let nobody = TcpListener::bind(&rt, any_port())?.local_addr()?;
+    let server = TcpListener::bind(&rt, any_port())?;
+    let told = sends_at_once_towards(&rt, &[nobody, server.local_addr()?])?;
+    holds(
+        told == (true, true),
+        "the bot's and the server's, and no moment",
+    )
 }
 
 /// Whether a connect is under way though its socket, in the row behind the acceptor's and the bot's, is told to take bytes.

@@ -252,8 +252,12 @@ fn put_that_asks_nothing(rt: HostRuntime) -> Result<(), Fail> {
 /// A drop: how much may be dropped; what the stream answers; which piece is the last, counted from 0.
 type Drops = (usize, &'static [Answer], usize);
 
-/// A stream that waits is not at its end, nor is one that was interrupted.
+/// More than one piece.
+const MANY: &[u8] = &[7; 5_000];
+
+/// A stream that waits is not at its end, nor is one that was interrupted. A piece has 4,096 bytes at most.
 const DROPS: &[Drops] = &[
+    (4_097, &[Gives(MANY), Gives(b"a")], 1),
     (9, &[Gives(b"abc"), Gives(b"")], 1),
     (3, &[Gives(b"abc"), Gives(b"d")], 0),
     (4, &[Gives(b"abc"), Gives(b"de"), Gives(b"f")], 1),

@@ -151,7 +151,11 @@ fn table(rt: &HostRuntime) -> Result<Poller<Steps>, Fail> {
 }
 
 /// A socket over this stream, in this row.
-fn socket_over<'w>(poller: &'w Poller<Steps>, wire: Wire, flags: &'w Flags) -> Socket<'w, Wire> {
+fn socket_over<'w, R: Clock>(
+    poller: &'w Poller<R>,
+    wire: Wire,
+    flags: &'w Flags,
+) -> Socket<'w, Wire> {
     Socket::over(poller, wire, Registration { flags })
 }
 
@@ -215,8 +219,20 @@ const WRITTEN: &[Written] = &[
     (
         ALL,
         ALL,
-        &[Turns(20), Puts(Side::Server, 3), Turns(20)],
+        &[Turns(20), Puts(Side::Server, 3), Turns(31)],
         (0, 0),
+    ),
+    (
+        ALL,
+        ALL,
+        &[Puts(Side::Server, 3), Puts(Side::Bot, 3), Turns(32)],
+        (3, 3),
+    ),
+    (
+        ALL,
+        &[0, 9_999],
+        &[Puts(Side::Server, 3), Turns(32), Turns(1)],
+        (0, 3),
     ),
     // The turns are counted for each side, and anew once some of what was held for it was written.
     (
@@ -247,6 +263,23 @@ const WRITTEN: &[Written] = &[
         &[Puts(Side::Server, 3_000), Puts(Side::Server, 3_000)],
         (0, 3_000),
     ),
+    (
+        ALL,
+        ALL,
+        &[Puts(Side::Server, 3), Puts(Side::Server, 4_093)],
+        (0, 0),
+    ),
+    // There is room behind the last byte alone, and none where bytes are gone from the front.
+    (
+        ALL,
+        &[1_000, 9_999],
+        &[
+            Puts(Side::Server, 4_000),
+            Idles(Side::Bot),
+            Puts(Side::Server, 200),
+        ],
+        (0, 4_000),
+    ),
     (ALL, ALL, &[Puts(Side::Server, 5_000)], (0, 5_000)),
     // Many bytes go out in one write with what is held before them; fewer stay together.
     (
@@ -272,6 +305,17 @@ const WRITTEN: &[Written] = &[
         &[2],
         &[Puts(Side::Server, 3), Idles(Side::Bot)],
         (0, 2),
+    ),
+    // What a stream left of these fills all room to its end: once it takes the rest, more goes out in the same put.
+    (
+        ALL,
+        &[1_000, 9_999, 9_999],
+        &[
+            Puts(Side::Server, 3),
+            Puts(Side::Server, 5_000),
+            Puts(Side::Server, 5_000),
+        ],
+        (0, 9_096),
     ),
 ];
 
@@ -342,45 +386,63 @@ enum Call {
     Pull,
 }
 
-/// What writes of a stream take, and what it gives; what is done; whether a read, and a write, may do something then.
-type Flagged = (&'static [usize], usize, &'static [Call], (bool, bool));
+/// What writes of a stream take, and what it gives; what is done; whether a read, and a write, may do something then, and
+/// how many bytes were pulled.
+type Flagged = (
+    &'static [usize],
+    usize,
+    &'static [Call],
+    (bool, bool, usize),
+);
 
-/// A call that found nothing, or less than it had room for, is the last of its kind until the system tells more.
+/// A call that found nothing, or less than it had room for, is the last of its kind until the system tells more; what was
+/// read ahead is handed out without one.
 const FLAGGED: &[Flagged] = &[
-    (&[], 0, &[Call::Pull], (false, true)),
-    (&[], 8, &[Call::Pull], (false, true)),
-    (&[], 5_000, &[Call::Pull], (true, true)),
-    (&[], 0, &[Call::Put(5_000)], (true, false)),
-    (&[99], 0, &[Call::Put(5_000)], (true, false)),
-    (&[5_000], 0, &[Call::Put(5_000)], (true, true)),
-    (&[], 0, &[Call::Put(3), Call::Flush], (true, false)),
-    (&[3], 0, &[Call::Put(3), Call::Flush], (true, true)),
+    (&[], 0, &[Call::Pull], (false, true, 0)),
+    (&[], 8, &[Call::Pull], (false, true, 4)),
+    (&[], 8, &[Call::Pull, Call::Pull], (false, true, 8)),
+    (&[], 5_000, &[Call::Pull], (true, true, 4)),
+    (&[], 0, &[Call::Put(5_000)], (true, false, 0)),
+    (&[99], 0, &[Call::Put(5_000)], (true, false, 0)),
+    (&[5_000], 0, &[Call::Put(5_000)], (true, true, 0)),
+    (&[], 0, &[Call::Put(3), Call::Flush], (true, false, 0)),
+    (&[3], 0, &[Call::Put(3), Call::Flush], (true, true, 0)),
 ];
 
-/// Makes a call of a socket.
-fn calls(socket: &mut Socket<'_, Wire>, call: Call) {
+/// Makes a call of a socket; how many bytes it pulled.
+fn calls(socket: &mut Socket<'_, Wire>, call: Call) -> usize {
     match call {
         Call::Put(count) => {
             socket.put(&BYTES[..count.min(BYTES.len())]);
+            0
         }
-        Call::Flush => socket.flush(),
-        Call::Pull => {
-            socket.pull(&mut [0; 4]);
+        Call::Flush => {
+            socket.flush();
+            0
         }
+        Call::Pull => match socket.pull(&mut [0; 4]) {
+            Pull::Got(count) => count,
+            Pull::Idle | Pull::Ended => 0,
+        },
     }
 }
 
-/// What is known behind the calls of a row.
-fn known_of<'w>(poller: &'w Poller<Steps>, flags: &'w Flags, flagged: &Flagged) -> (bool, bool) {
+/// What is known behind the calls of a row, and what was pulled.
+fn known_of<'w>(
+    poller: &'w Poller<Steps>,
+    flags: &'w Flags,
+    flagged: &Flagged,
+) -> (bool, bool, usize) {
     let (takes, gives, done, _) = *flagged;
     let mut socket = socket_over(poller, Wire::new(takes, gives), flags);
     flags.readiness.set(Readiness::UNKNOWN);
     flags.note(true, true);
+    let mut pulled: usize = 0;
     for call in done.iter() {
-        calls(&mut socket, *call);
+        pulled = pulled.saturating_add(calls(&mut socket, *call));
     }
     let readiness = flags.readiness.get();
-    (readiness.may_read, readiness.may_write)
+    (readiness.may_read, readiness.may_write, pulled)
 }
 
 /// Each row holds, in the rows of this table.
@@ -431,6 +493,22 @@ fn failed_flush_is_told_by_the_next_put(rt: HostRuntime) -> Result<(), Fail> {
     let told = failing_puts(&rt, &poller)?;
     let wanted = ((Put::Took(3), true), (Put::Failed, false));
     holds(told == wanted, "held and may be written, then the failure")
+}
+
+/// What a put of many bytes, which are written at once, and one of a few behind it tell of a stream whose writes fail.
+fn failing_many(rt: &HostRuntime, poller: &Poller<Steps>) -> Result<(Put, Put), Fail> {
+    let (flags, _) = two_rows(rt, poller)?;
+    flags.note(true, true);
+    let mut socket = socket_over(poller, broken(), flags);
+    Ok((socket.put(BYTES), socket.put(b"d")))
+}
+
+/// A failure is told from then on.
+#[test]
+fn failure_is_told_again(rt: HostRuntime) -> Result<(), Fail> {
+    let poller = table(&rt)?;
+    let told = failing_many(&rt, &poller)?;
+    holds(told == (Put::Failed, Put::Failed), "the failure, twice")
 }
 
 /// Whether a row that is taken anew knows nothing of the socket before.
@@ -639,7 +717,10 @@ fn knowing_turns(
 }
 
 /// The ports of a session in two rows, that has nothing to do.
-fn idle_ports<'w>(poller: &'w Poller<Steps>, flags: (&'w Flags, &'w Flags)) -> WirePorts<'w> {
+fn idle_ports<'w, R: Clock>(
+    poller: &'w Poller<R>,
+    flags: (&'w Flags, &'w Flags),
+) -> SocketPorts<'w, R, Wire> {
     let bot = socket_over(poller, Wire::new(&[], 0), flags.0);
     let server = socket_over(poller, Wire::new(&[], 0), flags.1);
     SocketPorts::new(poller, bot, server)
@@ -682,4 +763,79 @@ fn system_is_asked_after_32_turns(rt: HostRuntime) -> Result<(), Fail> {
     let at = acceptor.local_addr()?;
     let poller = table(&rt)?;
     are_known_at(&rt, &poller, (&mut acceptor, at))
+}
+
+/// The moment of an initial message is told once.
+#[test]
+fn moment_is_told_once(rt: HostRuntime) -> Result<(), Fail> {
+    let poller = table(&rt)?;
+    let flags = two_rows(&rt, &poller)?;
+    let mut ports = idle_ports(&poller, flags);
+    flags.0.due.set(poller.after(Duration::ZERO));
+    let told = (ports.clock_popped(), ports.clock_popped());
+    same(&told, &(true, false), &"told, and told no more")
+}
+
+/// Waits in a table where the first row waits for a moment to come; whether it is over then.
+fn waits_for<R: Clock>(poller: &Poller<R>, waits: &Flags) -> bool {
+    waits.due.set(poller.after(Duration::from_millis(STEP)));
+    poller.wait();
+    poller.is_over(waits.due.get())
+}
+
+/// The same, where a row that no socket has any more waited for one that is over.
+fn waits_beside_free<R: Clock>(
+    rt: &HostRuntime,
+    poller: &Poller<R>,
+    acceptor: &mut TcpListener,
+) -> Result<bool, Fail> {
+    let place = row_for(poller, acceptor)?;
+    let (_, free) = two_rows(rt, poller)?;
+    free.due.set(poller.after(Duration::ZERO));
+    Ok(waits_for(poller, place.flags))
+}
+
+/// A moment is waited for by a socket that is there, and by no row that is free.
+#[test]
+fn free_row_is_not_waited_for(rt: HostRuntime) -> Result<(), Fail> {
+    let mut acceptor = TcpListener::bind(&rt, any_port())?;
+    let poller = Poller::new(rt.alloc(), &rt, &rt, 3)?;
+    holds(
+        waits_beside_free(&rt, &poller, &mut acceptor)?,
+        "the moment is over",
+    )
+}
+
+/// Begins so many turns that the system is asked.
+fn asks_by_turns<R: Clock>(ports: &mut SocketPorts<'_, R, Wire>, poller: &Poller<R>) {
+    for _ in 0..32 {
+        ports.clock_popped();
+    }
+    poller.look_by_turns();
+}
+
+/// Whether the wait behind a look that was told something is none, and the one behind that waits.
+fn waits_once_more<'w, R: Clock>(
+    rt: &HostRuntime,
+    poller: &'w Poller<R>,
+    (acceptor, at): (&mut TcpListener, SocketAddr),
+) -> Result<(bool, bool), Fail> {
+    let place = row_for(poller, acceptor)?;
+    let flags = two_rows(rt, poller)?;
+    let _caller = TcpStream::connect(rt, at)?;
+    asks_by_turns(&mut idle_ports(poller, flags), poller);
+    Ok((
+        waits_for(poller, place.flags),
+        waits_for(poller, place.flags),
+    ))
+}
+
+/// What a look was told may have come behind the calls that ask for it: the next wait is none, and the one behind it waits.
+#[test]
+fn one_wait_is_none_behind_a_look(rt: HostRuntime) -> Result<(), Fail> {
+    let mut acceptor = TcpListener::bind(&rt, any_port())?;
+    let at = acceptor.local_addr()?;
+    let poller = Poller::new(rt.alloc(), &rt, &rt, 3)?;
+    let waited = waits_once_more(&rt, &poller, (&mut acceptor, at))?;
+    same(&waited, &(false, true), &"the first, and the second")
 }

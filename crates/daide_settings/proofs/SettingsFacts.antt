@@ -1,6 +1,5 @@
--- Rows of the table of settings in docs/FORMATS.md, computed from the definitions: each range at both ends, each
--- default,
--- and the order of the faults.
+-- Rows of the table of settings in docs/FORMATS.md, computed from the definitions: the list of keys, each range at both
+-- ends, each default, and the order of the faults.
 use Rattle.std.proofs.Common.{◌≡◌, codes, true, false, List, ℕ, [], ◌∷◌, Some, None, Ok, Err, refl}
 use Rattle.std.specs.Prelude.{pos, negsuc}
 use Rattle.toml.specs.Data.{Data, string, integer, boolean, array, table, Items, no_items, item, Members, no_members}
@@ -10,6 +9,7 @@ use Rattle.toml.proofs.OnLiterals.{toml_on_literals}
 use Rattle.daide_settings.specs.declared.settings.key.Key.TheVariants.{Listen, Server, TopLevel, MaxBody, MaxDepth}
 use Rattle.daide_settings.specs.declared.settings.key.Key.TheVariants.{ImSeconds, MaxSessions, Sessions, Turns, IdleSeconds}
 use Rattle.daide_settings.specs.declared.settings.key.Key.TheVariants.{Words}
+use Rattle.daide_settings.specs.declared.settings.key.TheConstants.Key.{ALL}
 use Rattle.daide_settings.specs.declared.settings.SettingsError.TheVariants.{NotToml, Unknown, Missing}
 use Rattle.daide_settings.specs.declared.settings.SettingsError.TheVariants.{WrongType, Range}
 use Rattle.daide_settings.specs.Settings.{is_in_range, address_of, number_of, judged_members}
@@ -22,6 +22,13 @@ use Rattle.daide_words.specs.declared.word.Word.{Word}
 use Rattle.daide_words.specs.declared.slot.Slot.TheVariants.{Press}
 use Rattle.daide_words.specs.declared.operand.Operand.TheVariants.{Power}
 use Rattle.daide_settings.specs.declared.settings.SettingsError.{SettingsError}
+
+-- ---- the keys
+
+-- each key once, in the order in which they are judged
+all_keys : ALL ≡ Listen ∷ Server ∷ TopLevel ∷ MaxBody ∷ MaxDepth ∷ ImSeconds ∷ MaxSessions ∷ Sessions ∷ Turns
+    ∷ IdleSeconds ∷ Words ∷ []
+all_keys = refl
 
 -- ---- ranges, at both ends
 

@@ -262,13 +262,18 @@ impl<S: Duplex + Drop> Buffered<S> {
     }
 
     /// Takes more bytes than are held at most, as many as there is room for behind those that are held, and writes them
-    /// together; where none are held, writes them at once.
+    /// together; where none are held, writes them at once. Where there is no room for one, what is held is written first,
+    /// so that it takes none only where the stream takes no more.
     fn put_many(&mut self, pool: &Pool, readiness: &mut Readiness, bytes: &[u8]) -> Put
         ensures within { IsPutWithin result (length bytes.now) }
         ensures passes { Passes S.to_give S.taken self.old [] (front_of result bytes.now) self.new }
         ensures unread { IsUnread S.to_give self.old self.new }
-        ensures few { length self.new.behind ≤ MOST_HELD }
+        ensures few { length self.old.behind ≤ MOST_HELD → length self.new.behind ≤ MOST_HELD }
     {
+        self.make_room(pool, readiness, 1);
+        if self.has_failed {
+            return Put::Failed;
+        }
         let put = self.take_behind(pool, readiness, bytes);
         self.flush(pool, readiness);
         put
