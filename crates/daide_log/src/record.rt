@@ -78,6 +78,22 @@ fn make_room<W: Write>(held: &mut Page, lines: u32, writer: &mut W) -> RecordEnd
     }
 }
 
+/// Hands over what is held of a record that did not fail, and answers how the record ended. A writer that failed is
+/// asked for nothing more.
+fn hand_over_rest<W: Write>(ending: RecordEnd, held: &mut Page, writer: &mut W) -> RecordEnd
+    ensures failed { ending ≡ RecordEnd.Failed → (result ≡ RecordEnd.Failed) × (writer.new ≡ writer.old) }
+    ensures whole { result ≢ RecordEnd.Failed → (result ≡ ending)
+        × Keeps (append_known (W.contents writer.old) held.old.items) (W.contents writer.new) }
+{
+    if ending == RecordEnd::Failed {
+        return ending;
+    }
+    match hand_over(held, writer) {
+        Ok(()) => ending,
+        Err(_) => RecordEnd::Failed,
+    }
+}
+
 impl<W: Write + Drop> Record<W> {
     /// A record of a session with these limits and words, over a writer. Its head is held, and nothing is written yet.
     pub fn new(writer: W, config: Config, words: Words) -> Record<W>
@@ -158,12 +174,7 @@ impl<W: Write + Drop> Record<W> {
             lines: _,
             ending,
         } = self;
-        if ending == RecordEnd::Failed {
-            return (writer, ending);
-        }
-        match hand_over(&mut held, &mut writer) {
-            Ok(()) => (writer, ending),
-            Err(_) => (writer, RecordEnd::Failed),
-        }
+        let ended = hand_over_rest(ending, &mut held, &mut writer);
+        (writer, ended)
     }
 }

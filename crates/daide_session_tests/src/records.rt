@@ -5,11 +5,12 @@ use daide_frame::side::Side;
 use daide_gate::{
     Config, Ports, Pull, Record, RecordEnd, Recording, RelayEnd, Session, Words, check_log, relay,
 };
-use daide_tests::fakes::FailsAtWrite;
 use daide_tests::memory_ports::{Acceptance, Arrival, MemoryPorts, Script};
 use daide_tests::rows::{holds, same};
 use daide_tests::words::two_words;
 use std::alloc::Global;
+use std::io;
+use std::io::{ErrorKind, Write};
 use std::test::Fail;
 
 /// The limits of each session here.
@@ -120,13 +121,35 @@ const LONG: Script<'static> = Script {
     puts: &[],
 };
 
+/// A writer that fails at its first write, and counts what it takes behind it.
+#[derive(Drop)]
+struct FailsFirst {
+    failed: bool,
+    taken: usize,
+}
+
+impl Write for FailsFirst {
+    fn write(&mut self, bytes: &[u8]) -> io::Result<usize> {
+        if !self.failed {
+            self.failed = true;
+            return Err(io::Error::from(ErrorKind::Other));
+        }
+        self.taken = self.taken.wrapping_add(bytes.len());
+        Ok(bytes.len())
+    }
+
+    fn flush(&mut self) -> io::Result<()> {
+        Ok(())
+    }
+}
+
 #[test]
 fn writer_that_fails_changes_no_answer(rt: HostRuntime) -> Result<(), Fail> {
     let alloc = rt.alloc();
     let ports = MemoryPorts::new(alloc, LONG, QUIET, NEVER);
-    let broken = FailsAtWrite {
-        taken: Vec::new(alloc),
-        writes: 0,
+    let broken = FailsFirst {
+        failed: false,
+        taken: 0,
     };
     let record = Record::new(broken, LIMITS, Words::new());
     let mut ports = Recording::new(ports, record);
@@ -143,5 +166,6 @@ fn writer_that_fails_changes_no_answer(rt: HostRuntime) -> Result<(), Fail> {
         same(&ports.record().ending(), &ending, &"the record")?;
     }
     let (_, record) = ports.into_parts();
-    same(&record.finish().1, &RecordEnd::Failed, &"the end")
+    let (broken, end) = record.finish();
+    same(&(broken.taken, end), &(0, RecordEnd::Failed), &"the end")
 }
