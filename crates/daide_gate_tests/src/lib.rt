@@ -8,6 +8,8 @@ mod addresses;
 #[cfg(test)]
 mod admission;
 #[cfg(test)]
+mod closings;
+#[cfg(test)]
 mod doors;
 #[cfg(test)]
 mod frames;
@@ -23,5 +25,7 @@ mod session_lines;
 mod settings;
 #[cfg(test)]
 mod streams;
+#[cfg(test)]
+mod waits;
 #[cfg(test)]
 mod wires;

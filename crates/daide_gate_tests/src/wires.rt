@@ -1,8 +1,7 @@
-//! Sockets over streams in memory that take what a row lets them: what is written when, when one that closes is closed,
-//! and after how many turns the system is asked.
+//! Sockets over streams in memory that take what a row lets them: what is written when, and what is known behind each
+//! call.
 //!
-//! All have rows of one small table that reads a clock of its own, and a stream is owned by its socket: what is seen of a
-//! socket that closes are the flags of its row.
+//! All have rows of one small table that reads a clock of its own. `closings` and `waits` take both from here.
 
 ghost use Rattle.std.specs.Prelude.{◌≡◌, IfOk};
 
@@ -10,7 +9,6 @@ use crate::doors::{any_port, two_doors};
 use crate::wires::Step::{Idles, Puts, Turns};
 use daide_frame::side::Side;
 use daide_machine::ports::{Ports, Pull, Put};
-use daide_sockets::closing::Closings;
 use daide_sockets::poller::{Flags, Poller, Registration};
 use daide_sockets::ports::{Socket, SocketPorts};
 use daide_sockets::{Interest, TcpListener};
@@ -20,17 +18,16 @@ use daide_tests::rows::{holds, same};
 use std::cell::Cell;
 use std::io;
 use std::io::ErrorKind;
-use std::net::{SocketAddr, TcpStream};
 use std::rt::Clock;
 use std::test::Fail;
 use std::time::Duration;
 
 /// A clock by which so many milliseconds pass between two looks at it.
-const STEP: u64 = 400;
+pub const STEP: u64 = 400;
 
 /// A clock that counts how often it was read.
 #[derive(Drop)]
-struct Steps(Cell<u64>);
+pub struct Steps(Cell<u64>);
 
 impl Clock for Steps {
     fn monotonic(&self) -> io::Result<Duration> {
@@ -46,7 +43,7 @@ impl Clock for Steps {
 
 /// A stream in memory.
 #[derive(Drop)]
-struct Wire {
+pub struct Wire {
     /// How many bytes each write takes at most, one after another; at none, and behind the last, it would wait.
     takes: &'static [usize],
     /// How many bytes it still gives; at none a read would wait.
@@ -59,7 +56,7 @@ struct Wire {
 
 impl Wire {
     /// A stream whose writes take so much, and that gives so many bytes.
-    fn new(takes: &'static [usize], gives: usize) -> Wire {
+    pub fn new(takes: &'static [usize], gives: usize) -> Wire {
         Wire {
             takes,
             gives,
@@ -71,7 +68,7 @@ impl Wire {
 }
 
 /// So many bytes; none at all would wait.
-fn some(count: usize) -> io::Result<usize>
+pub fn some(count: usize) -> io::Result<usize>
     ensures same { IfOk result (λ moved. moved ≡ count) }
 {
     if count == 0 {
@@ -110,10 +107,10 @@ impl Duplex for Wire {
 }
 
 /// The ports of a session over two of them.
-type WirePorts<'w> = SocketPorts<'w, Steps, Wire>;
+pub type WirePorts<'w> = SocketPorts<'w, Steps, Wire>;
 
 /// A row of the table for a stream in memory: a listener's, since the system must know what it follows.
-fn row_for<'w, R: Clock>(
+pub fn row_for<'w, R: Clock>(
     poller: &'w Poller<R>,
     acceptor: &mut TcpListener,
 ) -> Result<Registration<'w>, Fail> {
@@ -124,7 +121,7 @@ fn row_for<'w, R: Clock>(
 }
 
 /// The next two rows of a table, if there are two, which stay free.
-fn free_rows<'w, R: Clock>(
+pub fn free_rows<'w, R: Clock>(
     poller: &'w Poller<R>,
     acceptors: &mut (TcpListener, TcpListener),
 ) -> Option<(&'w Flags, &'w Flags)> {
@@ -146,17 +143,34 @@ pub fn two_rows<'w, R: Clock>(
 }
 
 /// A table of three sockets.
-fn table(rt: &HostRuntime) -> Result<Poller<Steps>, Fail> {
+pub fn table(rt: &HostRuntime) -> Result<Poller<Steps>, Fail> {
     Ok(Poller::new(rt.alloc(), Steps(Cell::new(0)), rt, 3)?)
 }
 
 /// A socket over this stream, in this row.
-fn socket_over<'w, R: Clock>(
+pub fn socket_over<'w, R: Clock>(
     poller: &'w Poller<R>,
     wire: Wire,
     flags: &'w Flags,
 ) -> Socket<'w, Wire> {
     Socket::over(poller, wire, Registration { flags })
+}
+
+/// A stream whose writes fail.
+pub fn broken() -> Wire {
+    let mut wire = Wire::new(ALL, 0);
+    wire.fails = true;
+    wire
+}
+
+/// Takes a row whose moment is over, so that each wait is a look.
+pub fn hurries<'w>(
+    poller: &'w Poller<Steps>,
+    acceptor: &mut TcpListener,
+) -> Result<Registration<'w>, Fail> {
+    let place = row_for(poller, acceptor)?;
+    place.flags.due.set(poller.after(Duration::ZERO));
+    Ok(place)
 }
 
 /// What is done with a session's ports.
@@ -460,13 +474,6 @@ fn flags_by_rows(rt: HostRuntime) -> Result<(), Fail> {
     are_flagged(&rt, &poller)
 }
 
-/// A stream whose writes fail.
-fn broken() -> Wire {
-    let mut wire = Wire::new(ALL, 0);
-    wire.fails = true;
-    wire
-}
-
 /// What a put, a flush and a put behind it tell of a socket: of each put its answer, and whether something may be written
 /// then.
 fn puts_of(socket: &mut Socket<'_, Wire>) -> ((Put, bool), (Put, bool)) {
@@ -533,309 +540,4 @@ fn row_of_the_table_is_taken_anew(rt: HostRuntime) -> Result<(), Fail> {
         is_taken_anew(&poller, &mut acceptors),
         "no flag and no moment is left",
     )
-}
-
-/// A step of a socket that closes: whether its end is waited for, whether it may go on at once, and whether it is closed.
-type Closes = (bool, bool, bool);
-
-/// What its writes take, the first of them at once, the next a step each.
-const TAKES: &[usize] = &[0, 0, 0, 0, 0, 2, 1];
-
-/// Three bytes are held: they are waited for, and then a second for the peer's end.
-const CLOSES: &[Closes] = &[
-    (false, false, false),
-    (false, false, false),
-    (false, false, false),
-    (false, false, false),
-    (false, false, false),
-    (true, true, false),
-    (true, false, false),
-    (true, false, false),
-    (true, false, true),
-];
-
-/// Goes on with what closes, where a call of the socket in this row may do something.
-fn goes_on(poller: &Poller<Steps>, closings: &mut Closings<'_, Wire>, flags: &Flags) -> Closes {
-    poller.wait();
-    flags.note(true, true);
-    closings.advance(poller);
-    (
-        flags.due.get().is_some(),
-        closings.is_ready(),
-        closings.is_empty(),
-    )
-}
-
-/// The first step that comes to something else, if there is one.
-fn wrong_step(
-    poller: &Poller<Steps>,
-    closings: &mut Closings<'_, Wire>,
-    flags: &Flags,
-) -> Option<usize> {
-    for (row, closes) in CLOSES.iter().enumerate() {
-        if goes_on(poller, closings, flags) != *closes {
-            return Some(row);
-        }
-    }
-    None
-}
-
-/// A socket that holds three bytes, and that waited for a moment that is long over.
-fn holding<'w>(poller: &'w Poller<Steps>, wire: Wire, flags: &'w Flags) -> Socket<'w, Wire> {
-    flags.due.set(poller.after(Duration::ZERO));
-    flags.note(true, true);
-    let mut socket = socket_over(poller, wire, flags);
-    socket.put(b"abc");
-    socket
-}
-
-/// Takes a row whose moment is over, so that each wait is a look.
-fn hurries<'w>(
-    poller: &'w Poller<Steps>,
-    acceptor: &mut TcpListener,
-) -> Result<Registration<'w>, Fail> {
-    let place = row_for(poller, acceptor)?;
-    place.flags.due.set(poller.after(Duration::ZERO));
-    Ok(place)
-}
-
-/// One socket closes, step by step.
-fn closes_one(rt: &HostRuntime, poller: &Poller<Steps>) -> Result<(), Fail> {
-    let (flags, _) = two_rows(rt, poller)?;
-    let mut closings = Closings::new(rt.alloc())?;
-    closings.begin(poller, holding(poller, Wire::new(TAKES, 0), flags));
-    same(&wrong_step(poller, &mut closings, flags), &None, &"a step")
-}
-
-/// The same in a table that never waits.
-fn closes_one_beside(
-    rt: &HostRuntime,
-    poller: &Poller<Steps>,
-    acceptor: &mut TcpListener,
-) -> Result<(), Fail> {
-    let _place = hurries(poller, acceptor)?;
-    closes_one(rt, poller)
-}
-
-/// What a socket holds is waited for, and its end for a second; until it is written, no moment is.
-#[test]
-fn closing_socket_writes_what_it_holds(rt: HostRuntime) -> Result<(), Fail> {
-    let mut acceptor = TcpListener::bind(&rt, any_port())?;
-    let poller = table(&rt)?;
-    closes_one_beside(&rt, &poller, &mut acceptor)
-}
-
-/// What writes of the first of two take: all that is held, once the second is closed.
-const LATE: &[usize] = &[0, 0, 0, 0, 0, 3];
-
-/// Whether of two the second alone is closed after so many steps, and whether the first's end is waited for a step later.
-fn closes_second(
-    poller: &Poller<Steps>,
-    closings: &mut Closings<'_, Wire>,
-    (first, second): (&Flags, &Flags),
-) -> (bool, bool) {
-    for _ in 0..4 {
-        first.note(true, true);
-        goes_on(poller, closings, second);
-    }
-    let is_alone = !closings.is_ready() && !closings.is_empty() && first.due.get().is_none();
-    (is_alone, goes_on(poller, closings, first).0)
-}
-
-/// Two sockets close, of which the second's writing fails.
-fn closes_two(rt: &HostRuntime, poller: &Poller<Steps>) -> Result<(), Fail> {
-    let flags = two_rows(rt, poller)?;
-    let mut closings = Closings::new(rt.alloc())?;
-    closings.begin(poller, holding(poller, Wire::new(LATE, 0), flags.0));
-    closings.begin(poller, holding(poller, broken(), flags.1));
-    let told = closes_second(poller, &mut closings, flags);
-    holds(told == (true, true), "the second, then the first")
-}
-
-/// The same in a table that never waits.
-fn closes_two_beside(
-    rt: &HostRuntime,
-    poller: &Poller<Steps>,
-    acceptor: &mut TcpListener,
-) -> Result<(), Fail> {
-    let _place = hurries(poller, acceptor)?;
-    closes_two(rt, poller)
-}
-
-/// Two sockets close; the second's writing fails, and it is closed at its end. The first goes on.
-#[test]
-fn one_closes_before_another(rt: HostRuntime) -> Result<(), Fail> {
-    let mut acceptor = TcpListener::bind(&rt, any_port())?;
-    let poller = table(&rt)?;
-    closes_two_beside(&rt, &poller, &mut acceptor)
-}
-
-/// So many sessions take turns; at which of these turns, counted from 1, it is known that somebody is at the acceptor, and at
-/// which that somebody else is.
-type Asked = (usize, usize, usize);
-
-const ASKED: &[Asked] = &[(1, 33, 65), (2, 33, 65), (3, 34, 67), (40, 41, 81)];
-
-/// At which turn it is known that somebody is at the acceptor, behind so many. A round begins where all of so many had a turn.
-fn turn_that_knows(
-    ports: &mut WirePorts<'_>,
-    poller: &Poller<Steps>,
-    acceptor: &Flags,
-    (count, behind): (usize, usize),
-) -> usize {
-    let count = count.max(1);
-    for turn in behind..199 {
-        if turn % count == 0 {
-            poller.look_by_turns();
-        }
-        ports.clock_popped();
-        if acceptor.readiness.get().may_read {
-            return turn.saturating_add(1);
-        }
-    }
-    199
-}
-
-/// At which turn it is known that one came to the acceptor, and at which that another came once that was known.
-fn knowing_turns(
-    rt: &HostRuntime,
-    ports: &mut WirePorts<'_>,
-    poller: &Poller<Steps>,
-    (acceptor, at): (&Flags, SocketAddr),
-    count: usize,
-) -> Result<(usize, usize), Fail> {
-    poller.wait();
-    acceptor.readiness.set(Readiness::UNKNOWN);
-    let _caller = TcpStream::connect(rt, at)?;
-    let first = turn_that_knows(ports, poller, acceptor, (count, 0));
-    acceptor.readiness.set(Readiness::UNKNOWN);
-    let _other = TcpStream::connect(rt, at)?;
-    Ok((
-        first,
-        turn_that_knows(ports, poller, acceptor, (count, first)),
-    ))
-}
-
-/// The ports of a session in two rows, that has nothing to do.
-fn idle_ports<'w, R: Clock>(
-    poller: &'w Poller<R>,
-    flags: (&'w Flags, &'w Flags),
-) -> SocketPorts<'w, R, Wire> {
-    let bot = socket_over(poller, Wire::new(&[], 0), flags.0);
-    let server = socket_over(poller, Wire::new(&[], 0), flags.1);
-    SocketPorts::new(poller, bot, server)
-}
-
-/// Each row holds at this acceptor.
-fn are_known(
-    rt: &HostRuntime,
-    ports: &mut WirePorts<'_>,
-    poller: &Poller<Steps>,
-    acceptor: (&Flags, SocketAddr),
-) -> Result<(), Fail> {
-    for (count, first, second) in ASKED.iter() {
-        let known = knowing_turns(rt, ports, poller, acceptor, *count)?;
-        same(&known, &(*first, *second), count)?;
-    }
-    Ok(())
-}
-
-/// The same of a acceptor in the first row of a table.
-fn are_known_at(
-    rt: &HostRuntime,
-    poller: &Poller<Steps>,
-    (acceptor, at): (&mut TcpListener, SocketAddr),
-) -> Result<(), Fail> {
-    let place = hurries(poller, acceptor)?;
-    let flags = two_rows(rt, poller)?;
-    are_known(
-        rt,
-        &mut idle_ports(poller, flags),
-        poller,
-        (place.flags, at),
-    )
-}
-
-/// The system is asked after 32 turns, though all of them move something, and at the next round where that is later.
-#[test]
-fn system_is_asked_after_32_turns(rt: HostRuntime) -> Result<(), Fail> {
-    let mut acceptor = TcpListener::bind(&rt, any_port())?;
-    let at = acceptor.local_addr()?;
-    let poller = table(&rt)?;
-    are_known_at(&rt, &poller, (&mut acceptor, at))
-}
-
-/// The moment of an initial message is told once.
-#[test]
-fn moment_is_told_once(rt: HostRuntime) -> Result<(), Fail> {
-    let poller = table(&rt)?;
-    let flags = two_rows(&rt, &poller)?;
-    let mut ports = idle_ports(&poller, flags);
-    flags.0.due.set(poller.after(Duration::ZERO));
-    let told = (ports.clock_popped(), ports.clock_popped());
-    same(&told, &(true, false), &"told, and told no more")
-}
-
-/// Waits in a table where the first row waits for a moment to come; whether it is over then.
-fn waits_for<R: Clock>(poller: &Poller<R>, waits: &Flags) -> bool {
-    waits.due.set(poller.after(Duration::from_millis(STEP)));
-    poller.wait();
-    poller.is_over(waits.due.get())
-}
-
-/// The same, where a row that no socket has any more waited for one that is over.
-fn waits_beside_free<R: Clock>(
-    rt: &HostRuntime,
-    poller: &Poller<R>,
-    acceptor: &mut TcpListener,
-) -> Result<bool, Fail> {
-    let place = row_for(poller, acceptor)?;
-    let (_, free) = two_rows(rt, poller)?;
-    free.due.set(poller.after(Duration::ZERO));
-    Ok(waits_for(poller, place.flags))
-}
-
-/// A moment is waited for by a socket that is there, and by no row that is free.
-#[test]
-fn free_row_is_not_waited_for(rt: HostRuntime) -> Result<(), Fail> {
-    let mut acceptor = TcpListener::bind(&rt, any_port())?;
-    let poller = Poller::new(rt.alloc(), &rt, &rt, 3)?;
-    holds(
-        waits_beside_free(&rt, &poller, &mut acceptor)?,
-        "the moment is over",
-    )
-}
-
-/// Begins so many turns that the system is asked.
-fn asks_by_turns<R: Clock>(ports: &mut SocketPorts<'_, R, Wire>, poller: &Poller<R>) {
-    for _ in 0..32 {
-        ports.clock_popped();
-    }
-    poller.look_by_turns();
-}
-
-/// Whether the wait behind a look that was told something is none, and the one behind that waits.
-fn waits_once_more<'w, R: Clock>(
-    rt: &HostRuntime,
-    poller: &'w Poller<R>,
-    (acceptor, at): (&mut TcpListener, SocketAddr),
-) -> Result<(bool, bool), Fail> {
-    let place = row_for(poller, acceptor)?;
-    let flags = two_rows(rt, poller)?;
-    let _caller = TcpStream::connect(rt, at)?;
-    asks_by_turns(&mut idle_ports(poller, flags), poller);
-    Ok((
-        waits_for(poller, place.flags),
-        waits_for(poller, place.flags),
-    ))
-}
-
-/// What a look was told may have come behind the calls that ask for it: the next wait is none, and the one behind it waits.
-#[test]
-fn one_wait_is_none_behind_a_look(rt: HostRuntime) -> Result<(), Fail> {
-    let mut acceptor = TcpListener::bind(&rt, any_port())?;
-    let at = acceptor.local_addr()?;
-    let poller = Poller::new(rt.alloc(), &rt, &rt, 3)?;
-    let waited = waits_once_more(&rt, &poller, (&mut acceptor, at))?;
-    same(&waited, &(false, true), &"the first, and the second")
 }
