@@ -1,6 +1,8 @@
 -- What the definitions of brackets say of single lists. Which is which was worked out by hand from the protocol.
-use Rattle.std.proofs.Common.{◌≡◌, None, [], ◌∷◌, refl}
+use Rattle.std.proofs.Common.{◌≡◌, ℕ, true, false, None, List, [], ◌∷◌, ◌++◌, get_or, inl, inr, refl, sym, ap}
+use Rattle.std.proofs.Common.{◌∙◌, arith}
 use Rattle.daide_token.specs.Token.{bra, ket, prn, huh}
+use Rattle.daide_grammar.specs.Paired.{IsPaired, IsPrnReport, begins_with_prn}
 use Rattle.daide_grammar.specs.Depth.{open_brackets, depth_of}
 use Rattle.daide_grammar.specs.Table.Brackets.{counted}
 
@@ -40,3 +42,51 @@ prn-deep = refl
 
 prn-inside : open_brackets (huh ∷ bra ∷ prn ∷ bra ∷ []) ≡ 2
 prn-inside = refl
+
+-- ---- reports PRN
+
+-- a report has a BRA second and a KET last, whatever stands between, also nothing or what doesn't balance
+shortest-report : IsPaired (prn ∷ bra ∷ ket ∷ [])
+shortest-report = inl ([], refl)
+
+unbalanced-report : IsPaired (prn ∷ bra ∷ ket ∷ bra ∷ bra ∷ ket ∷ [])
+unbalanced-report = inl (ket ∷ bra ∷ bra ∷ [], refl)
+
+-- what begins with PRN and is no report is not paired, even where its brackets balance
+unpaired : (m : List ℕ) → begins_with_prn m ≡ true → (IsPrnReport m → ⊥) → IsPaired m → ⊥
+unpaired m begins none (inl report) = none report
+unpaired m begins none (inr other) = let never : true ≡ false = sym begins ∙ other.0 in cc
+
+-- a list with a last item is not empty
+not-empty : (x : List ℕ) (t : ℕ) → [] ≡ x ++ t ∷ [] → ⊥
+not-empty [] t e = cc
+not-empty (u ∷ x) t e = cc
+
+prn-alone : IsPaired (prn ∷ []) → ⊥
+prn-alone = unpaired (prn ∷ []) refl (λ report. by_middle report.0 report.1)
+  where
+    by_middle : (x : List ℕ) → prn ∷ [] ≡ prn ∷ bra ∷ x ++ ket ∷ [] → ⊥
+    by_middle x e = cc
+
+-- PRN and two tokens are needed
+prn-and-bra : IsPaired (prn ∷ bra ∷ []) → ⊥
+prn-and-bra = unpaired (prn ∷ bra ∷ []) refl (λ report. by_middle report.0 report.1)
+  where
+    by_middle : (x : List ℕ) → prn ∷ bra ∷ [] ≡ prn ∷ bra ∷ x ++ ket ∷ [] → ⊥
+    by_middle x e = let rest : [] ≡ x ++ ket ∷ [] = cc in not-empty x ket rest
+
+-- the last of them is KET: PRN ( ) HUH is none
+prn-and-more : IsPaired (prn ∷ bra ∷ ket ∷ huh ∷ []) → ⊥
+prn-and-more = unpaired (prn ∷ bra ∷ ket ∷ huh ∷ []) refl (λ report. by_middle report.0 report.1)
+  where
+    by_middle : (x : List ℕ) → prn ∷ bra ∷ ket ∷ huh ∷ [] ≡ prn ∷ bra ∷ x ++ ket ∷ [] → ⊥
+    by_middle [] e = cc
+    by_middle (t ∷ []) e = let last : huh ≡ ket = ap (λ m. get_or m 3 0) e in absurd (omega arith)
+    by_middle (t ∷ u ∷ x) e = let rest : [] ≡ x ++ ket ∷ [] = cc in not-empty x ket rest
+
+-- and the second is BRA: PRN HUH ( ) is none
+prn-and-other : IsPaired (prn ∷ huh ∷ bra ∷ ket ∷ []) → ⊥
+prn-and-other = unpaired (prn ∷ huh ∷ bra ∷ ket ∷ []) refl (λ report. by_middle report.0 report.1)
+  where
+    by_middle : (x : List ℕ) → prn ∷ huh ∷ bra ∷ ket ∷ [] ≡ prn ∷ bra ∷ x ++ ket ∷ [] → ⊥
+    by_middle x e = let second : huh ≡ bra = ap (λ m. get_or m 1 0) e in absurd (omega arith)

@@ -13,6 +13,9 @@ pub mod StandardFacts
 pub mod WordLemmas
 pub mod WordFacts
 pub mod TableFacts
+pub mod SecondListing
+pub mod LevelFacts
+pub mod NumberFacts
 pub mod Alike
 pub mod NumberLemmas
 pub mod WordColumns

@@ -1,0 +1,58 @@
+-- What the numbers that the code gives out by name stand for. Some are read by other crates alone, so that nothing here
+-- would miss a wrong one: the rules by which a word's operand is left, and the class of tokens without a meaning.
+use Rattle.std.proofs.Common.{◌≡◌, ℕ, ◌+◌, List, [], ◌∷◌, map, length, refl}
+use Rattle.daide_token.specs.declared.class.Class.TheVariants.{Ket, Other}
+use Rattle.daide_grammar.specs.declared.level.Level.{Level}
+use Rattle.daide_grammar.specs.declared.level.Level.TheVariants.{L0, L10, L20, L30, L40, L50, L60}
+use Rattle.daide_grammar.specs.declared.numbers.TheConstants.{LEAVES_ARRANGEMENT_GROUP, LEAVES_OPERAND_GROUP}
+use Rattle.daide_grammar.specs.declared.numbers.TheConstants.{LEAVES_ORDER_GROUP, LEAVES_POWER_GROUP}
+use Rattle.daide_grammar.specs.declared.numbers.TheConstants.{LEAVES_POWERS_GROUP, LEAVES_PRESS_GROUP}
+use Rattle.daide_grammar.specs.declared.numbers.TheConstants.{LEAVES_PROVINCES_GROUP, CLASS_COUNT, KET, OTHER}
+use Rattle.daide_grammar.specs.declared.numbers.TheConstants.{OWN_CLASSES, RULE_COUNT, SKIP, STOP, SYMBOL_COUNT}
+use Rattle.daide_grammar.specs.declared.numbers.TheConstants.{TOKEN_COUNT, WORD_COUNT}
+use Rattle.daide_grammar.specs.declared.symbol.Sym.{Sym}
+use Rattle.daide_grammar.specs.declared.symbol.Sym.TheVariants.{PowerGroup, PowersGroup, ProvincesGroup, OrderGroup}
+use Rattle.daide_grammar.specs.declared.symbol.Sym.TheVariants.{ArrangementGroup, OperandGroup, PressGroup}
+use Rattle.daide_grammar.specs.Classes.{class_number}
+use Rattle.daide_grammar.specs.Table.Answers.{Answer, Take, Skip, Stop}
+use Rattle.daide_grammar.specs.Table.Numbers.{class_at, classes, symbols}
+use Rattle.daide_grammar.specs.Table.Rules.{deed, rest_at}
+
+-- ---- rules
+
+-- 0 stops and 1 skips
+without_a_rest : (deed STOP ≡ Stop) × (deed SKIP ≡ Skip)
+unfolding deed rest_at
+without_a_rest = (refl, refl)
+
+-- a power, powers, provinces or an order in brackets
+without_a_level : (deed LEAVES_POWER_GROUP ≡ Take (PowerGroup ∷ []))
+    × (deed LEAVES_POWERS_GROUP ≡ Take (PowersGroup ∷ []))
+    × (deed LEAVES_PROVINCES_GROUP ≡ Take (ProvincesGroup ∷ []))
+    × (deed LEAVES_ORDER_GROUP ≡ Take (OrderGroup ∷ []))
+unfolding deed rest_at
+without_a_level = (refl, refl, refl, refl)
+
+-- seven rules from one on, which leave a symbol of level 0, of level 10, and so on to level 60
+abbrev seven_from : ℕ → List Answer
+seven_from rule = map (λ n. deed (rule + n)) (0 ∷ 1 ∷ 2 ∷ 3 ∷ 4 ∷ 5 ∷ 6 ∷ [])
+
+abbrev leaving : (Level → Sym) → List Answer
+leaving symbol = map (λ l. Take (symbol l ∷ [])) (L0 ∷ L10 ∷ L20 ∷ L30 ∷ L40 ∷ L50 ∷ L60 ∷ [])
+
+-- an arrangement, an operand of AND and ORR, or a press in brackets
+with_a_level : (seven_from LEAVES_ARRANGEMENT_GROUP ≡ leaving ArrangementGroup)
+    × (seven_from LEAVES_OPERAND_GROUP ≡ leaving OperandGroup)
+    × (seven_from LEAVES_PRESS_GROUP ≡ leaving PressGroup)
+unfolding deed rest_at
+with_a_level = (refl, refl, refl)
+
+-- ---- classes, and how many there are
+
+brackets_and_others : (class_at KET ≡ Ket) × (class_at OTHER ≡ Other) × (class_number Ket ≡ KET)
+    × (class_number Other ≡ OTHER)
+brackets_and_others = (refl, refl, refl, refl)
+
+counts : (length classes ≡ CLASS_COUNT) × (OWN_CLASSES + WORD_COUNT ≡ CLASS_COUNT) × (length symbols ≡ SYMBOL_COUNT)
+    × (OWN_CLASSES ≡ 79) × (WORD_COUNT ≡ 16) × (RULE_COUNT ≡ 256) × (TOKEN_COUNT ≡ 65536)
+counts = (refl, refl, refl, refl, refl, refl, refl)
