@@ -1,7 +1,7 @@
 -- The lines of a log behind its head.
 use Rattle.std.proofs.Common.{◌≡◌, ℕ, ◌+◌, ◌-◌, ◌*◌, ◌<◌, ◌≤◌, List, [], ◌++◌, length, get_or, set, Option, Some, None}
 use Rattle.std.proofs.Common.{Result, Ok, Err, refl, sym, ap, ◌∙◌, subst, arith, ◌⊎◌, inl, inr, IfOk, OnOk, ◌≢◌, ◌∷◌, true, false}
-use Rattle.std.specs.Prelude.{All, MatchResult, option_map, replicate}
+use Rattle.std.specs.Prelude.{All, IsErrAnd, MatchResult, option_map, replicate}
 use Rattle.std.proofs.Common.{IfErr, length-set}
 use Rattle.std.proofs.lemmas.Bool.{cases_eq}
 use Rattle.std.proofs.lemmas.List.{get_or-set_same, get_or-set_other}
@@ -31,6 +31,7 @@ use Rattle.daide_log.specs.Progress.{Begins, IsFaultOf, IsFaultAfter, Reported, 
 use Rattle.daide_lines.proofs.PageLemmas.{appends_and_keeps, keeps_appends}
 use Rattle.daide_log.proofs.PlayLemmas.{appends_more, appends_none, lines_of-append, counted_all-append}
 use Rattle.daide_log.proofs.LogLemmas.{line_read, last_read, end_read, bad_line, bad_last, fault_found, fault_after, finished}
+use Rattle.daide_log.proofs.LogLemmas.{found_given, write_failed}
 
 -- ---- one line
 
@@ -240,6 +241,20 @@ finished_at_last start now new held rest line n version sessions next count s t 
     (more_counts q.told j.0 s t q.counts j.2)
     (more_text q.told j.0 before b c (appends_and_keeps before all b (lines_of q.told) q.written k) j.3) r
 
+-- the counts could not be written
+pub unfinished : (start : Reader → Option (List ℕ) → Type 0) (now new : Reader) (held rest line : List ℕ) (n : ℕ)
+    (version : Version) (sessions : List SessionView) (count : ℕ) (s : Summary) (all c : Option (List ℕ)) (found : Found)
+    (result : Result Summary LogFault) → Plays start now held n version sessions count s all →
+    IsFound all now held n (Ok found) line new rest → IfErr result (λ fault. fault ≡ Faults.Write) →
+    (origin : Reader) (before : Option (List ℕ)) → start origin before →
+    IfErr result (IsFaultAfter origin new before c)
+unfinished start now new held rest line n version sessions count s all c found result p f e origin before h =
+    let q = p.playing origin before h in
+    write_failed origin new before c result
+    (found_given before all origin now new held rest line n q.told (Playing version (states_of sessions)) found q.has_read
+    q.written f)
+    e
+
 -- ---- faults
 
 pub fault_in_play : (start : Reader → Option (List ℕ) → Type 0) (now new : Reader) (held rest line : List ℕ) (n : ℕ)
@@ -254,6 +269,16 @@ fault_in_play start now new held rest line n version sessions count s all c faul
     q.written f)
     (λ other. appends_and_keeps before all c (lines_of q.told) q.written (k other))
 
+-- and so at a fault that `?` hands on
+pub fault_handed_on : (start : Reader → Option (List ℕ) → Type 0) (new : Reader) (c : Option (List ℕ)) (fault : LogFault)
+    (result : Result Summary LogFault) → IsErrAnd result (λ told. told ≡ fault) →
+    ((origin : Reader) (before : Option (List ℕ)) → start origin before → IsFaultAfter origin new before c fault) →
+    (origin : Reader) (before : Option (List ℕ)) → start origin before →
+    IfErr result (IsFaultAfter origin new before c)
+fault_handed_on start new c fault (Ok summary) e h origin before begins = tt
+fault_handed_on start new c fault (Err told) e h origin before begins =
+    subst (IsFaultAfter origin new before c) (sym e) (h origin before begins)
+
 -- a line of another form, or a failed write
 pub bad_in_play : (start : Reader → Option (List ℕ) → Type 0) (now new : Reader) (held rest line : List ℕ) (n : ℕ)
     (version : Version) (sessions : List SessionView) (count : ℕ) (s : Summary) (all b c : Option (List ℕ)) (found : Found)
@@ -263,7 +288,10 @@ pub bad_in_play : (start : Reader → Option (List ℕ) → Type 0) (now new : R
     × (c ≡ b)) → (origin : Reader) (before : Option (List ℕ)) → start origin before →
     IsFaultAfter origin new before c fault
 bad_in_play start now new held rest line n version sessions count s all b c found fault p f other k (inl e) origin before h =
-    subst (IsFaultAfter origin new before c) (sym e) tt
+    let q = p.playing origin before h in
+    subst (IsFaultAfter origin new before c) (sym e)
+    (found_given before all origin now new held rest line n q.told (Playing version (states_of sessions)) found q.has_read
+    q.written f)
 bad_in_play start now new held rest line n version sessions count s all b c found fault p f other k (inr r) origin before h =
     subst (IsFaultAfter origin new before c) (sym r.0) (
       q.told,

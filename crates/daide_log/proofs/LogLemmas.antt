@@ -1,11 +1,12 @@
 -- From line to line of a log.
 use Rattle.std.proofs.Common.{◌≡◌, ℕ, ◌+◌, ◌<◌, ◌≤◌, List, [], ◌∷◌, ◌++◌, length, Option, Some, None, Result, Ok, Err}
-use Rattle.std.proofs.Common.{refl, sym, ap, ◌∙◌, subst, arith, append-nil, append_assoc, length-append, ◌≢◌, IfSome, IfOk, IfErr, inl, inr}
+use Rattle.std.proofs.Common.{Bool, true, false, refl, sym, ap, ◌∙◌, subst, arith, append-nil, append_assoc, length-append, ◌≢◌, IfSome, IfOk, IfErr, inl, inr}
 use Rattle.std.specs.Io.KnownBytes.{Consumes, Keeps, Appends, IsAtEnd, append_known}
 use Rattle.daide_machine.specs.Machine.{SessionState}
 use Rattle.daide_log.specs.declared.heading.Version.{Version}
 use Rattle.daide_machine.specs.declared.summary.Summary.{Summary}
-use Rattle.daide_lines.specs.declared.lines.Found.TheVariants.{Line, Last, End}
+use Rattle.daide_lines.specs.declared.lines.Found.{Found}
+use Rattle.daide_lines.specs.declared.lines.Found.TheVariants.{Held, Line, Last, End}
 use Rattle.daide_lines.specs.declared.fault.LogFault.{LogFault}
 use Rattle.daide_lines.specs.declared.fault.LogFault.TheVariants as Faults
 use Rattle.daide_log.specs.Heading.{Unnamed}
@@ -16,7 +17,8 @@ use Rattle.daide_log.specs.Log.{LogState, Opening, Playing, GoesOn, IsBad, IsOpe
 use Rattle.daide_lines.specs.Reader.{Reader}
 use Rattle.daide_lines.specs.Lines.{LooksAt, IsFound, IsInLine, block_size}
 use Rattle.daide_log.specs.Progress.{HasRead, HasReadAll, StopsBehind, IsFaultOf, IsFaultAfter, Reported}
-use Rattle.daide_log.specs.Progress.{IsInTime, GivesInTime}
+use Rattle.daide_log.specs.Progress.{IsInTime, GivesInTime, StopsAtLine, IsOpenedBy}
+use Rattle.daide_log.specs.Held.{head_of}
 use Rattle.daide_lines.proofs.LineLemmas.{gives_none, gives_on}
 use Rattle.daide_lines.proofs.PageLemmas.{keeps_more, keeps_appends, appends_and_keeps, none_held}
 use Rattle.daide_log.proofs.PlayLemmas.{appends_more}
@@ -82,6 +84,20 @@ nothing_read before old = record {
   whole = refl;
   reports = Reports.none;
 }
+
+-- what was given, and by reads in time, up to behind what was found
+pub found_given : (before all : Option (List ℕ)) (old now new : Reader) (held rest line : List ℕ) (n : ℕ)
+    (told : List Entry) (stage : LogState) (found : Found) → HasRead before old now held n told stage →
+    Appends before all (lines_of told) → IsFound all now held n (Ok found) line new rest →
+    (given : List ℕ) × GivesInTime before old new given
+found_given before all old now new held rest line n told stage (Held k) h w f =
+    (h.given ++ f.1.0, all_given before all old now new held (f.0 ++ 10 ∷ []) rest n told stage h w f.1)
+found_given before all old now new held rest line n told stage Line h w f =
+    (h.given ++ f.1.0, all_given before all old now new held (f.0 ++ 10 ∷ []) rest n told stage h w f.1)
+found_given before all old now new held rest line n told stage Last h w f =
+    (h.given ++ f.0.0, all_given before all old now new held line rest n told stage h w f.0)
+found_given before all old now new held rest line n told stage End h w f =
+    (h.given ++ f.0.0, all_given before all old now new held [] rest n told stage h w f.0)
 
 pub line_read : (before all : Option (List ℕ)) (old now new : Reader) (held rest line : List ℕ) (n : ℕ) (told more : List Entry)
     (stage after : LogState) → HasRead before old now held n told stage → Appends before all (lines_of told) →
@@ -259,7 +275,11 @@ fault_found before all old now new held rest line n told stage Faults.Read h w f
   reports = h.reports;
   begun = f.3;
 }
-fault_found before all old now new held rest line n told stage Faults.Write h w f = tt
+fault_found before all old now new held rest line n told stage Faults.Write h w f = (
+  h.given ++ f.0,
+  gives_on (IsInTime before) (IsInLine all held n) old now new h.given f.0 h.gives f.1
+      (λ came written q. in_time before all old now held n told stage h w came written q),
+)
 fault_found before all old now new held rest line n told stage Faults.Memory h w f = absurd f
 
 -- ---- the whole log
@@ -298,7 +318,7 @@ fault_after old new told a b (Faults.BadLine n) h w = (told, h, w (λ e. absurd 
 fault_after old new told a b (Faults.LineTooLong n) h w = (told, h, w (λ e. absurd (cc)))
 fault_after old new told a b Faults.TooManyLines h w = (told, h, w (λ e. absurd (cc)))
 fault_after old new told a b Faults.Read h w = (told, h, w (λ e. absurd (cc)))
-fault_after old new told a b Faults.Write h w = tt
+fault_after old new told a b Faults.Write h w = h
 fault_after old new told a b Faults.Memory h w = absurd h
 
 -- ---- what is held back
@@ -309,7 +329,7 @@ fault_kept old new a b c (Faults.BadLine n) h k = (h.0, h.1, appends_and_keeps a
 fault_kept old new a b c (Faults.LineTooLong n) h k = (h.0, h.1, appends_and_keeps a b c (lines_of h.0) h.2 k)
 fault_kept old new a b c Faults.TooManyLines h k = (h.0, h.1, appends_and_keeps a b c (lines_of h.0) h.2 k)
 fault_kept old new a b c Faults.Read h k = (h.0, h.1, appends_and_keeps a b c (lines_of h.0) h.2 k)
-fault_kept old new a b c Faults.Write h k = tt
+fault_kept old new a b c Faults.Write h k = h
 fault_kept old new a b c Faults.Memory h k = (h.0, h.1, h.2, keeps_more a b c h.3 k)
 
 pub refused_kept : (old new : Reader) (a b c : Option (List ℕ)) (answer : Result Summary LogFault) →
@@ -331,7 +351,7 @@ reported_kept old new a b c (Ok summary) h k = (h.0, h.1, go old.remaining h.2)
     go (Some log) t = (t.0, t.1, appends_and_keeps a b c t.0 t.2 k)
 
 -- nothing was held back at first, and nothing is
-pub refused_at_last : (old new : Reader) (a b c : Option (List ℕ)) (first last : List ℕ) (answer : Result Summary LogFault) →
+refused_at_last : (old new : Reader) (a b c : Option (List ℕ)) (first last : List ℕ) (answer : Result Summary LogFault) →
     IfErr answer (λ fault. IsFaultAfter old new (append_known a first) b fault) → Keeps b (append_known c last) →
     first ≡ [] → last ≡ [] → IfErr answer (λ fault. IsFaultAfter old new a c fault)
 refused_at_last old new a b c first last answer h k e f =
@@ -341,7 +361,7 @@ refused_at_last old new a b c first last answer h k e f =
     (ap (append_known c) f ∙ none_held c)
     (refused_kept old new (append_known a first) b (append_known c last) answer h k))
 
-pub reported_at_last : (old new : Reader) (a b c : Option (List ℕ)) (first last : List ℕ) (answer : Result Summary LogFault) →
+reported_at_last : (old new : Reader) (a b c : Option (List ℕ)) (first last : List ℕ) (answer : Result Summary LogFault) →
     IfOk answer (λ summary. Reported old new (append_known a first) b summary) → Keeps b (append_known c last) →
     first ≡ [] → last ≡ [] → IfOk answer (λ summary. Reported old new a c summary)
 reported_at_last old new a b c first last answer h k e f =
@@ -351,16 +371,81 @@ reported_at_last old new a b c first last answer h k e f =
     (ap (append_known c) f ∙ none_held c)
     (reported_kept old new (append_known a first) b (append_known c last) answer h k))
 
+-- whatever was answered, what was given was given by reads in time
+fault_given : (old new : Reader) (a b : Option (List ℕ)) (fault : LogFault) → IsFaultAfter old new a b fault →
+    (given : List ℕ) × GivesInTime a old new given
+fault_given old new a b (Faults.BadLine n) h = go h.1.1
+  where
+    go : StopsAtLine a old new h.0 n → (given : List ℕ) × GivesInTime a old new given
+    go (inl s) = (s.given, s.gives)
+    go (inr (inl s)) = (s.given, s.gives)
+    go (inr (inr s)) = (s.3.given, s.3.gives)
+fault_given old new a b (Faults.LineTooLong n) h = (h.1.3.given, h.1.3.gives)
+fault_given old new a b Faults.TooManyLines h = (h.1.1.given, h.1.1.gives)
+fault_given old new a b Faults.Read h = (h.1.given, h.1.gives)
+fault_given old new a b Faults.Write h = h
+fault_given old new a b Faults.Memory h = go h.0.is_ended h.2.0
+  where
+    go : (b : Bool) → IsOpenedBy b (head_of h.0.head) h.0.lines a old new h.1 →
+        (given : List ℕ) × GivesInTime a old new given
+    go true k = (k.given, k.gives)
+    go false k = (k.given, k.gives)
+
+answer_given : (old new : Reader) (a b : Option (List ℕ)) (answer : Result Summary LogFault) →
+    IfOk answer (λ summary. Reported old new a b summary) → IfErr answer (λ fault. IsFaultAfter old new a b fault) →
+    (given : List ℕ) × GivesInTime a old new given
+answer_given old new a b (Ok summary) h k = (h.0, h.1)
+answer_given old new a b (Err fault) h k = fault_given old new a b fault k
+
+-- what was answered, with what was held back handed over, unless the writer failed
+of_other_than_write : (old new : Reader) (a b : Option (List ℕ)) (result : Result Summary LogFault) →
+    (given : List ℕ) × GivesInTime a old new given →
+    (result ≢ Err Faults.Write → IfErr result (λ fault. IsFaultAfter old new a b fault)) →
+    IfErr result (λ fault. IsFaultAfter old new a b fault)
+of_other_than_write old new a b (Ok summary) g h = tt
+of_other_than_write old new a b (Err (Faults.BadLine n)) g h = h (λ e. absurd (cc))
+of_other_than_write old new a b (Err (Faults.LineTooLong n)) g h = h (λ e. absurd (cc))
+of_other_than_write old new a b (Err Faults.TooManyLines) g h = h (λ e. absurd (cc))
+of_other_than_write old new a b (Err Faults.Read) g h = h (λ e. absurd (cc))
+of_other_than_write old new a b (Err Faults.Write) g h = g
+of_other_than_write old new a b (Err Faults.Memory) g h = h (λ e. absurd (cc))
+
+pub refused_rest : (old new : Reader) (a b c : Option (List ℕ)) (first last : List ℕ)
+    (answer result : Result Summary LogFault) →
+    IfOk answer (λ summary. Reported old new (append_known a first) b summary) →
+    IfErr answer (λ fault. IsFaultAfter old new (append_known a first) b fault) →
+    (result ≢ Err Faults.Write → (result ≡ answer) × (last ≡ []) × Keeps b (append_known c last)) → first ≡ [] →
+    IfErr result (λ fault. IsFaultAfter old new a c fault)
+refused_rest old new a b c first last answer result r h k e =
+    of_other_than_write old new a c result
+    (subst (λ (x : Option (List ℕ)). (given : List ℕ) × GivesInTime x old new given)
+    (ap (append_known a) e ∙ none_held a) (answer_given old new (append_known a first) b answer r h))
+    (λ other.
+    subst (λ (x : Result Summary LogFault). IfErr x (λ fault. IsFaultAfter old new a c fault)) (sym (k other).0)
+    (refused_at_last old new a b c first last answer h (k other).2 e (k other).1))
+
+pub reported_rest : (old new : Reader) (a b c : Option (List ℕ)) (first last : List ℕ)
+    (answer result : Result Summary LogFault) →
+    IfOk answer (λ summary. Reported old new (append_known a first) b summary) →
+    (result ≢ Err Faults.Write → (result ≡ answer) × (last ≡ []) × Keeps b (append_known c last)) → first ≡ [] →
+    IfOk result (λ summary. Reported old new a c summary)
+reported_rest old new a b c first last answer (Err fault) h k e = tt
+reported_rest old new a b c first last answer (Ok summary) h k e =
+    let whole = k (λ e. absurd (cc)) in
+    subst (λ (x : Result Summary LogFault). IfOk x (λ summary. Reported old new a c summary)) (sym whole.0)
+    (reported_at_last old new a b c first last answer h whole.2 e whole.1)
+
 -- a fault of the head, before which nothing was written
 pub fault_at_once : (old new : Reader) (a b : Option (List ℕ)) (fault : LogFault) → IsFaultOf a old new [] fault →
     (fault ≢ Faults.Write → Keeps a b) → IsFaultAfter old new a b fault
 fault_at_once old new a b fault h k = fault_after old new [] a b fault h (λ other. keeps_appends a b (k other))
 
--- of a failed write nothing is said
+-- of a failed write no more is said
 pub write_failed : (old new : Reader) (a b : Option (List ℕ)) (answer : Result Summary LogFault) →
-    IfErr answer (λ fault. fault ≡ Faults.Write) → IfErr answer (λ fault. IsFaultAfter old new a b fault)
-write_failed old new a b (Ok summary) e = tt
-write_failed old new a b (Err fault) e = subst (IsFaultAfter old new a b) (sym e) tt
+    (given : List ℕ) × GivesInTime a old new given → IfErr answer (λ fault. fault ≡ Faults.Write) →
+    IfErr answer (λ fault. IsFaultAfter old new a b fault)
+write_failed old new a b (Ok summary) g e = tt
+write_failed old new a b (Err fault) g e = subst (IsFaultAfter old new a b) (sym e) g
 
 -- of the same bytes the same is said
 pub refused_alike : (old new : Reader) (a b : Option (List ℕ)) (old2 new2 : Reader) (a2 b2 : Option (List ℕ))

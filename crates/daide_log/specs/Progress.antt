@@ -1,5 +1,5 @@
 -- How far a log was read and reported, and what a fault leaves. (own)
-use Rattle.std.specs.Prelude.{◌≡◌, ⊤, ℕ, ◌+◌, ◌<◌, ◌≤◌, ◌⊎◌, Bool, true, false, List, [], ◌∷◌, ◌++◌, length, map}
+use Rattle.std.specs.Prelude.{◌≡◌, ℕ, ◌+◌, ◌<◌, ◌≤◌, ◌⊎◌, Bool, true, false, List, [], ◌∷◌, ◌++◌, length, map}
 use Rattle.std.specs.Prelude.{Option, IfSome, Result, Ok, Err}
 use Rattle.std.specs.Io.KnownBytes.{Keeps, Appends, IsAtEnd}
 use Rattle.daide_lines.specs.Reader.{Reader, Gives}
@@ -140,7 +140,7 @@ IsFaultOf before old new told TooManyLines =
     IfSome old.remaining (λ log. IsReport log (lines_of told) (Err TooManyLines))
     × StopsBehind before old new told most_lines 1
 IsFaultOf before old new told Read = IsReadTo before old new told
-IsFaultOf before old new told Write = ⊤
+IsFaultOf before old new told Write = (given : List ℕ) × GivesInTime before old new given
 IsFaultOf before old new told Memory = ⊥
 
 -- ---- the head
@@ -173,14 +173,14 @@ abbrev pub IsFaultBehind : Reader → Reader → Option (List ℕ) → Option (L
 IsFaultBehind old new before after fault =
     (told : List Entry) × IsFaultOf before old new told fault × Appends before after (lines_of told)
 
--- What is known at each fault: the log has it, and the report before it was written; of a failed write nothing is said,
--- and memory is wanted only behind the head, with nothing written.
+-- What is known at each fault: the log has it, and the report before it was written; of a failed write nothing is said but
+-- that each read was made in time, and memory is wanted only behind the head, with nothing written.
 abbrev pub IsFaultAfter : Reader → Reader → Option (List ℕ) → Option (List ℕ) → LogFault → Type 0
 IsFaultAfter old new before after (BadLine n) = IsFaultBehind old new before after (BadLine n)
 IsFaultAfter old new before after (LineTooLong n) = IsFaultBehind old new before after (LineTooLong n)
 IsFaultAfter old new before after TooManyLines = IsFaultBehind old new before after TooManyLines
 IsFaultAfter old new before after Read = IsFaultBehind old new before after Read
-IsFaultAfter old new before after Write = ⊤
+IsFaultAfter old new before after Write = (given : List ℕ) × GivesInTime before old new given
 IsFaultAfter old new before after Memory =
     (opened : Opened) × (held : List ℕ) × IsOpened opened before old new held × Keeps before after
 

@@ -4,8 +4,8 @@
 //! and at the end: a writer gets blocks, and has the report of all lines that were read whole whenever a read may wait.
 //! No memory is taken but the sessions', once the head has said how much.
 
-ghost use Rattle.std.specs.Prelude.{◌≡◌, ◌≤◌, [], All, length, List, ℕ, Option, IfOk, IfErr};
-ghost use Rattle.std.specs.Io.KnownBytes.{Appends};
+ghost use Rattle.std.specs.Prelude.{◌≡◌, ◌≢◌, ◌≤◌, [], All, length, List, ℕ, Option, Err, IfOk, IfErr};
+ghost use Rattle.std.specs.Io.KnownBytes.{Appends, Keeps};
 ghost use Rattle.daide_lines.specs.Input.{IsSameReader};
 ghost use Rattle.daide_lines.specs.LogLine.{most_lines};
 ghost use Rattle.daide_lines.specs.Lines.{is_end, is_last};
@@ -82,26 +82,19 @@ fn play<A: Allocator, R: LogReader, W: Write>(
     requires idle { All IsIdle sessions.old.items }
     requires lines { lines ≤ most_lines }
     requires nothing { account.old.summary ≡ nothing_counted }
-    ensures report { (origin : Reader) → (before : Option (List ℕ)) →
-        Begins (R.told input.old.reader.now) input.old.block lines version (states_of sessions.old.items)
-        (all_of W.contents account.old.output) origin before →
-        IfOk result (λ summary. Reported origin (R.told input.new.reader.now) before
-        (all_of W.contents account.new.output) summary) }
-    ensures refused { (origin : Reader) → (before : Option (List ℕ)) →
-        Begins (R.told input.old.reader.now) input.old.block lines version (states_of sessions.old.items)
-        (all_of W.contents account.old.output) origin before →
-        IfErr result (λ fault. IsFaultAfter origin (R.told input.new.reader.now) before
-        (all_of W.contents account.new.output) fault) }
+    ensures report { (first : Reader) (before : Option (List ℕ)) → Begins (R.told input.old.reader.now) input.old.block
+        lines version (states_of sessions.old.items) (all_of W.contents account.old.output) first before →
+        IfOk result (Reported first (R.told input.new.reader.now) before (all_of W.contents account.new.output)) }
+    ensures refused { (first : Reader) (before : Option (List ℕ)) → Begins (R.told input.old.reader.now) input.old.block
+        lines version (states_of sessions.old.items) (all_of W.contents account.old.output) first before →
+        IfErr result (IsFaultAfter first (R.told input.new.reader.now) before (all_of W.contents account.new.output)) }
     ensures same_reader { IsSameReader input.old input.new }
     ensures same_writer { IsSameWriter account.old.output account.new.output }
 {
     let mut bytes = [0; MOST];
     let mut count = lines;
     'lines: loop {
-        let found = match find_line(input, count, &mut account.output) {
-            Ok(found) => found,
-            Err(fault) => return Err(fault),
-        };
+        let found = find_line(input, count, &mut account.output)?;
         if is_end(found) {
             return finish(account.summary, &mut account.output);
         }
@@ -110,9 +103,7 @@ fn play<A: Allocator, R: LogReader, W: Write>(
             version,
             line: count,
         };
-        if let Err(fault) = judge_line(sessions, input.line(found), origin, &mut bytes, account) {
-            return Err(fault);
-        }
+        judge_line(sessions, input.line(found), origin, &mut bytes, account)?;
         if is_last(found) {
             return finish(account.summary, &mut account.output);
         }
@@ -151,6 +142,26 @@ fn report<A: Allocator + Copy, R: LogReader, W: Write>(
     play(head.version, &mut sessions, opened.lines, input, account)
 }
 
+/// Hands over what is held back of a report that was answered so, and tells where that fails. A writer that failed is
+/// asked for nothing more.
+fn hand_over_rest<W: Write>(
+    answer: Result<Summary, LogFault>,
+    output: &mut Output<'_, W>,
+) -> Result<Summary, LogFault>
+    ensures failed { answer ≡ Err LogFault.Write → (result ≡ answer) × (output.new ≡ output.old) }
+    ensures whole { result ≢ Err LogFault.Write → (result ≡ answer) × (output.new.page.items ≡ [])
+        × Keeps (all_of W.contents output.old) (all_of W.contents output.new) }
+    ensures same_writer { IsSameWriter output.old output.new }
+{
+    if answer == Err(LogFault::Write) {
+        return answer;
+    }
+    match output.hand_over() {
+        Ok(()) => answer,
+        Err(_) => Err(LogFault::Write),
+    }
+}
+
 /// Reports a log, and hands over all that was held back, whether it has a fault or not.
 fn report_whole<A: Allocator + Copy, R: LogReader, W: Write>(
     alloc: A,
@@ -169,13 +180,7 @@ fn report_whole<A: Allocator + Copy, R: LogReader, W: Write>(
     ensures same_writer { IsSameWriter account.old.output account.new.output }
 {
     let answer = report(alloc, input, account);
-    if answer == Err(LogFault::Write) {
-        return answer;
-    }
-    match account.output.hand_over() {
-        Ok(()) => answer,
-        Err(_) => Err(LogFault::Write),
-    }
+    hand_over_rest(answer, &mut account.output)
 }
 
 /// Reads a log, and writes its report, as `check_log` does. Each read is made in time: the lines that came whole before it

@@ -2,7 +2,7 @@
 //!
 //! Lines are held back, and handed to the writer in blocks of whole lines.
 
-ghost use Rattle.std.specs.Prelude.{◌≡◌, ◌≢◌, ◌<◌, ◌≤◌, Some, length};
+ghost use Rattle.std.specs.Prelude.{◌≡◌, ◌≢◌, ◌<◌, ◌≤◌, Some, OnOk, OnErr, length};
 ghost use Rattle.std.specs.Io.KnownBytes.{Keeps, append_known};
 ghost use Rattle.daide_words.specs.Words.{words_of};
 ghost use Rattle.daide_lines.specs.LogLine.{most_lines, longest_piece, EndOf, TimeOver};
@@ -16,6 +16,7 @@ use daide_lines::page::{PAGE, Page, hand_over};
 use daide_lines::text::LONGEST_LINE;
 use daide_machine::Config;
 use daide_words::Words;
+use std::io;
 use std::io::Write;
 use std::marker::Model;
 
@@ -55,6 +56,20 @@ impl<W: Write + Drop> Model for Record<W> {
     } };
 }
 
+/// How a record of so many lines stands once what it held was handed over, or could not be: only a writer that failed
+/// makes it a failed one.
+fn ending_after(handed_over: io::Result<()>, lines: u32) -> RecordEnd
+    ensures whole { OnOk handed_over (lines < most_lines → result ≡ RecordEnd.Whole) }
+    ensures full { OnOk handed_over (most_lines ≤ lines → result ≡ RecordEnd.Full) }
+    ensures failed { OnErr handed_over (result ≡ RecordEnd.Failed) }
+{
+    match handed_over {
+        Ok(()) if lines < MOST_LINES => RecordEnd::Whole,
+        Ok(()) => RecordEnd::Full,
+        Err(_) => RecordEnd::Failed,
+    }
+}
+
 /// Makes room for a line behind what is held, of so many lines with those that were handed over; what can take none is
 /// handed over.
 fn make_room<W: Write>(held: &mut Page, lines: u32, writer: &mut W) -> RecordEnd
@@ -66,16 +81,7 @@ fn make_room<W: Write>(held: &mut Page, lines: u32, writer: &mut W) -> RecordEnd
     if lines < MOST_LINES && held.len() <= FRONT {
         return RecordEnd::Whole;
     }
-    match hand_over(held, writer) {
-        Ok(()) => {
-            if lines < MOST_LINES {
-                RecordEnd::Whole
-            } else {
-                RecordEnd::Full
-            }
-        }
-        Err(_) => RecordEnd::Failed,
-    }
+    ending_after(hand_over(held, writer), lines)
 }
 
 /// Hands over what is held of a record that did not fail, and answers how the record ended. A writer that failed is

@@ -8,8 +8,7 @@ use Rattle.daide_lines.specs.Output.{all_of}
 use Rattle.daide_log.specs.Log.{event_in}
 use Rattle.daide_log.specs.Progress.{Judges, states_of}
 use Rattle.daide_log.proofs.EventLemmas.{plays_first, plays_more, finished_at_end, finished_at_last, fault_in_play}
-use Rattle.daide_log.proofs.EventLemmas.{bad_in_play, at_end, at_last_line, as_line}
-use Rattle.daide_log.proofs.LogLemmas.{write_failed}
+use Rattle.daide_log.proofs.EventLemmas.{unfinished, fault_handed_on, bad_in_play, at_end, at_last_line, as_line}
 use Rattle.daide_log.proofs.check.play.Goals as goal
 
 pub lines-init : goal.lines-init
@@ -21,13 +20,17 @@ lines-init g c = (
   refl,
 )
 
-pub returns-in-Err-clause-refused : goal.returns-in-Err-clause-refused
-returns-in-Err-clause-refused g c =
-    fault_in_play _ (g.R.LogReader.told c.lines.input.reader.now) (g.R.LogReader.told c.find_line.new.input.reader.now)
-    c.lines.input.block c.find_line.new.input.block c.find_line.new.input.text.items c.lines.count c.args.version
-    c.lines.sessions.items (length c.args.sessions.now.items) c.lines.account.summary
-    (all_of g.W.Write.contents c.lines.account.output) (all_of g.W.Write.contents c.find_line.new.output) c.in-Err.fault
-    c.lines.invariant.0 c.in-Err.ensures.found c.in-Err.ensures.kept_at_fault
+pub returns-in_err-found-clause-refused : goal.returns-in_err-found-clause-refused
+returns-in_err-found-clause-refused g c =
+    fault_handed_on _ (g.R.LogReader.told c.find_line.new.input.reader.now)
+    (all_of g.W.Write.contents c.find_line.new.output) c.in_err-found.field-0.0 c.from_residual.result
+    c.from_residual.ensures.1
+    (fault_in_play _ (g.R.LogReader.told c.lines.input.reader.now)
+    (g.R.LogReader.told c.find_line.new.input.reader.now) c.lines.input.block c.find_line.new.input.block
+    c.find_line.new.input.text.items c.lines.count c.args.version c.lines.sessions.items
+    (length c.args.sessions.now.items) c.lines.account.summary (all_of g.W.Write.contents c.lines.account.output)
+    (all_of g.W.Write.contents c.find_line.new.output) c.in_err-found.field-0.0 c.lines.invariant.0
+    c.in_err-found.ensures.found c.in_err-found.ensures.kept_at_fault)
 
 pub returns-then-is_end-clause-report : goal.returns-then-is_end-clause-report
 returns-then-is_end-clause-report g c =
@@ -39,27 +42,36 @@ returns-then-is_end-clause-report g c =
     (subst (λ (f : Found). IsFound (all_of g.W.Write.contents c.lines.account.output) (g.R.LogReader.told c.lines.input.reader.now) c.lines.input.block c.lines.count (Ok f)
     (line_at f c.find_line.new.input.block c.find_line.new.input.text.items)
     (g.R.LogReader.told c.find_line.new.input.reader.now) (rest_at f c.find_line.new.input.block))
-    (at_end c.in-Ok.found (sym c.is_end.ensures ∙ c.if-is_end.true)) c.in-Ok.ensures.found)
-    c.in-Ok.ensures.kept c.finish.ensures.written
+    (at_end c.in_ok-found.found (sym c.is_end.ensures ∙ c.if-is_end.true)) c.in_ok-found.ensures.found)
+    c.in_ok-found.ensures.kept c.finish.ensures.written
 
 pub returns-then-is_end-clause-refused : goal.returns-then-is_end-clause-refused
-returns-then-is_end-clause-refused g c origin before _ =
-    write_failed origin (g.R.LogReader.told c.find_line.new.input.reader.now)
-    before (all_of g.W.Write.contents c.finish.new.output) c.finish.result c.finish.ensures.refused
+returns-then-is_end-clause-refused g c =
+    unfinished _ (g.R.LogReader.told c.lines.input.reader.now) (g.R.LogReader.told c.find_line.new.input.reader.now)
+    c.lines.input.block (rest_at c.in_ok-found.found c.find_line.new.input.block)
+    (line_at c.in_ok-found.found c.find_line.new.input.block c.find_line.new.input.text.items) c.lines.count
+    c.args.version c.lines.sessions.items (length c.args.sessions.now.items) c.lines.account.summary
+    (all_of g.W.Write.contents c.lines.account.output) (all_of g.W.Write.contents c.finish.new.output)
+    c.in_ok-found.found c.finish.result c.lines.invariant.0 c.in_ok-found.ensures.found c.finish.ensures.refused
 
-pub returns-in-Err-judge_line-clause-refused : goal.returns-in-Err-judge_line-clause-refused
-returns-in-Err-judge_line-clause-refused g c =
-    bad_in_play _ (g.R.LogReader.told c.lines.input.reader.now) (g.R.LogReader.told c.find_line.new.input.reader.now)
-    c.lines.input.block (rest_at c.in-Ok.found c.find_line.new.input.block)
-    (line_at c.in-Ok.found c.find_line.new.input.block c.find_line.new.input.text.items) c.lines.count c.args.version
+pub returns-in_err-judge_line-clause-refused : goal.returns-in_err-judge_line-clause-refused
+returns-in_err-judge_line-clause-refused g c =
+    fault_handed_on _ (g.R.LogReader.told c.find_line.new.input.reader.now)
+    (all_of g.W.Write.contents c.judge_line.new.account.output) c.in_err-judge_line.field-0.0
+    c.from_residual-in_err-judge_line.result c.from_residual-in_err-judge_line.ensures.1
+    (bad_in_play _ (g.R.LogReader.told c.lines.input.reader.now) (g.R.LogReader.told c.find_line.new.input.reader.now)
+    c.lines.input.block (rest_at c.in_ok-found.found c.find_line.new.input.block)
+    (line_at c.in_ok-found.found c.find_line.new.input.block c.find_line.new.input.text.items) c.lines.count c.args.version
     c.lines.sessions.items (length c.args.sessions.now.items) c.lines.account.summary
-    (all_of g.W.Write.contents c.lines.account.output) (all_of g.W.Write.contents c.find_line.new.output) (all_of g.W.Write.contents c.judge_line.new.account.output)
-    c.in-Ok.found c.in-Err-judge_line.fault c.lines.invariant.0 c.in-Ok.ensures.found
-    (sym c.is_end.ensures ∙ c.if-is_end.false) c.in-Ok.ensures.kept
-    (subst (λ (l : List ℕ). (c.in-Err-judge_line.fault ≡ Write) ⊎ ((c.in-Err-judge_line.fault ≡ BadLine (c.lines.count + 1))
+    (all_of g.W.Write.contents c.lines.account.output) (all_of g.W.Write.contents c.find_line.new.output)
+    (all_of g.W.Write.contents c.judge_line.new.account.output) c.in_ok-found.found c.in_err-judge_line.field-0.0
+    c.lines.invariant.0 c.in_ok-found.ensures.found (sym c.is_end.ensures ∙ c.if-is_end.false)
+    c.in_ok-found.ensures.kept
+    (subst (λ (l : List ℕ). (c.in_err-judge_line.field-0.0 ≡ Write)
+    ⊎ ((c.in_err-judge_line.field-0.0 ≡ BadLine (c.lines.count + 1))
     × (event_in c.args.version (length c.lines.sessions.items) l ≡ None)
     × (all_of g.W.Write.contents c.judge_line.new.account.output ≡ all_of g.W.Write.contents c.find_line.new.output)))
-    c.line.ensures c.in-Err-judge_line.ensures.refused)
+    c.line.ensures c.in_err-judge_line.ensures.refused))
 
 pub returns-then-is_last-clause-report : goal.returns-then-is_last-clause-report
 returns-then-is_last-clause-report g c =
@@ -72,43 +84,46 @@ returns-then-is_last-clause-report g c =
     (subst (λ (f : Found). IsFound (all_of g.W.Write.contents c.lines.account.output) (g.R.LogReader.told c.lines.input.reader.now) c.lines.input.block c.lines.count (Ok f)
     (line_at f c.find_line.new.input.block c.find_line.new.input.text.items)
     (g.R.LogReader.told c.find_line.new.input.reader.now) (rest_at f c.find_line.new.input.block))
-    (at_last_line c.in-Ok.found (sym c.is_last.ensures ∙ c.if-is_last.true)) c.in-Ok.ensures.found)
-    c.in-Ok.ensures.kept
+    (at_last_line c.in_ok-found.found (sym c.is_last.ensures ∙ c.if-is_last.true)) c.in_ok-found.ensures.found)
+    c.in_ok-found.ensures.kept
     (subst (λ (l : List ℕ). Judges c.args.version (c.lines.count + 1) (states_of c.lines.sessions.items) l
     (states_of c.judge_line.new.sessions.items) c.lines.account.summary c.judge_line.new.account.summary
     (all_of g.W.Write.contents c.find_line.new.output) (all_of g.W.Write.contents c.judge_line.new.account.output))
     (c.line.ensures
     ∙ ap (λ (f : Found). line_at f c.find_line.new.input.block c.find_line.new.input.text.items)
-    (at_last_line c.in-Ok.found (sym c.is_last.ensures ∙ c.if-is_last.true)))
-    c.in_default.ensures.judged)
+    (at_last_line c.in_ok-found.found (sym c.is_last.ensures ∙ c.if-is_last.true)))
+    c.in_ok-judge_line.ensures.judged)
     c.finish-then-is_last.ensures.written
 
 pub returns-then-is_last-clause-refused : goal.returns-then-is_last-clause-refused
-returns-then-is_last-clause-refused g c origin before _ =
-    write_failed origin (g.R.LogReader.told c.find_line.new.input.reader.now)
-    before (all_of g.W.Write.contents c.finish-then-is_last.new.output)
-    c.finish-then-is_last.result c.finish-then-is_last.ensures.refused
+returns-then-is_last-clause-refused g c =
+    unfinished _ (g.R.LogReader.told c.lines.input.reader.now) (g.R.LogReader.told c.find_line.new.input.reader.now)
+    c.lines.input.block (rest_at c.in_ok-found.found c.find_line.new.input.block)
+    (line_at c.in_ok-found.found c.find_line.new.input.block c.find_line.new.input.text.items) c.lines.count
+    c.args.version c.lines.sessions.items (length c.args.sessions.now.items) c.lines.account.summary
+    (all_of g.W.Write.contents c.lines.account.output) (all_of g.W.Write.contents c.finish-then-is_last.new.output)
+    c.in_ok-found.found c.finish-then-is_last.result c.lines.invariant.0 c.in_ok-found.ensures.found c.finish-then-is_last.ensures.refused
 
 pub lines-preserved : goal.lines-preserved
 lines-preserved g c =
     let now = g.R.LogReader.told c.lines.input.reader.now in
     let new = g.R.LogReader.told c.find_line.new.input.reader.now in
-    let line = line_at c.in-Ok.found c.find_line.new.input.block c.find_line.new.input.text.items in (
+    let line = line_at c.in_ok-found.found c.find_line.new.input.block c.find_line.new.input.text.items in (
       plays_more _ now new c.lines.input.block c.pass_line.new.block line c.lines.count c.args.version
           c.lines.sessions.items c.judge_line.new.sessions.items (length c.args.sessions.now.items)
           c.lines.account.summary c.judge_line.new.account.summary (all_of g.W.Write.contents c.lines.account.output)
           (all_of g.W.Write.contents c.find_line.new.output) (all_of g.W.Write.contents c.judge_line.new.account.output) c.lines.invariant.0
           (subst (λ (rest : List ℕ). IsFound (all_of g.W.Write.contents c.lines.account.output) now c.lines.input.block c.lines.count (Ok Line) line new rest)
           (sym c.pass_line.ensures)
-          (as_line (all_of g.W.Write.contents c.lines.account.output) now new c.lines.input.block (rest_at c.in-Ok.found c.find_line.new.input.block) line c.lines.count
-          c.in-Ok.found (sym c.is_end.ensures ∙ c.if-is_end.false) (sym c.is_last.ensures ∙ c.if-is_last.false)
-          c.in-Ok.ensures.found))
-          c.in-Ok.ensures.kept
+          (as_line (all_of g.W.Write.contents c.lines.account.output) now new c.lines.input.block (rest_at c.in_ok-found.found c.find_line.new.input.block) line c.lines.count
+          c.in_ok-found.found (sym c.is_end.ensures ∙ c.if-is_end.false) (sym c.is_last.ensures ∙ c.if-is_last.false)
+          c.in_ok-found.ensures.found))
+          c.in_ok-found.ensures.kept
           (subst (λ (l : List ℕ). Judges c.args.version (c.lines.count + 1) (states_of c.lines.sessions.items) l
           (states_of c.judge_line.new.sessions.items) c.lines.account.summary c.judge_line.new.account.summary
           (all_of g.W.Write.contents c.find_line.new.output)
           (all_of g.W.Write.contents c.judge_line.new.account.output))
-          c.line.ensures c.in_default.ensures.judged)
+          c.line.ensures c.in_ok-judge_line.ensures.judged)
           c.judge_line.ensures.few c.judge_line.ensures.idle c.judge_line.ensures.same,
       c.find_line.ensures.same_reader ∙ c.lines.invariant.1,
       c.judge_line.ensures.same_writer ∙ c.find_line.ensures.same_writer ∙ c.lines.invariant.2,

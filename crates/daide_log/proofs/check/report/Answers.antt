@@ -4,8 +4,9 @@ use Rattle.daide_machine.specs.Machine.{SessionState, opening}
 use Rattle.daide_machine.specs.Config.{limits_with}
 use Rattle.daide_words.specs.Words.{words_of}
 use Rattle.std.specs.Prelude.{replicate}
-use Rattle.daide_log.specs.Log.{Playing}
-use Rattle.daide_log.specs.Progress.{HasRead}
+use Rattle.daide_log.specs.Held.{head_of}
+use Rattle.daide_log.specs.Log.{Playing, begun}
+use Rattle.daide_log.specs.Progress.{HasRead, HasReadAll}
 use Rattle.daide_lines.proofs.PageLemmas.{keeps_appends}
 use Rattle.daide_log.proofs.LogLemmas.{fault_at_once, finished, write_failed}
 use Rattle.daide_log.proofs.PreambleLemmas.{as_many, opened_last, opened_more, memory_wanted}
@@ -40,10 +41,15 @@ returns-then-not-opened-clause-report g c =
 
 pub returns-then-not-opened-clause-refused : goal.returns-then-not-opened-clause-refused
 returns-then-not-opened-clause-refused g c =
-    write_failed (g.R.LogReader.told c.args.input.now.reader.now) (g.R.LogReader.told c.read_preamble.new.input.reader.now)
-    (all_of g.W.Write.contents c.args.account.now.output)
-    (all_of g.W.Write.contents c.finish.new.output) c.finish.result
-    c.finish.ensures.refused
+    let old = g.R.LogReader.told c.args.input.now.reader.now in
+    let new = g.R.LogReader.told c.read_preamble.new.input.reader.now in
+    let first = all_of g.W.Write.contents c.args.account.now.output in
+    let head = c.in-Ok.opened.head in
+    let read : HasReadAll first old new c.in-Ok.opened.lines [] (begun (head_of head)) =
+    opened_last c.in-Ok.opened first old new c.read_preamble.new.input.block c.if-not-opened.true
+    c.in-Ok.ensures.opened in
+    write_failed old new first (all_of g.W.Write.contents c.finish.new.output) c.finish.result
+    (read.given, read.gives) c.finish.ensures.refused
 
 pub play-requires-clause-some : goal.play-requires-clause-some
 play-requires-clause-some g c =
