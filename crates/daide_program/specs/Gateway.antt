@@ -4,8 +4,15 @@ use Rattle.daide_machine.specs.Ports.{PortAnswer}
 use Rattle.daide_machine.specs.System.{SystemAnswer}
 use Rattle.daide_settings.specs.declared.settings.Settings.{Settings}
 use Rattle.daide_service.specs.Serving.{IsServeCause, GivesUp}
+use Rattle.daide_sockets.specs.declared.ground.GroundError.{GroundError}
+use Rattle.daide_sockets.specs.declared.ground.GroundError.TheVariants as GroundErrors
 use Rattle.daide_program.specs.declared.gateway.GatewayFault.{GatewayFault}
 use Rattle.daide_program.specs.declared.gateway.GatewayFault.TheVariants.{Listen, Memory, Serve}
+
+-- the fault of a gateway that has no ground to run on
+abbrev pub fault_by : GroundError → GatewayFault
+fault_by GroundErrors.Listen = Listen
+fault_by GroundErrors.Memory = Memory
 
 -- a fault that comes before the gateway serves
 abbrev pub IsBeforeServing : GatewayFault → Type 0

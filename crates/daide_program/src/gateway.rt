@@ -6,7 +6,7 @@ ghost use Rattle.daide_machine.specs.System.{SystemAnswer};
 ghost use Rattle.daide_service.specs.Served.{IsWholeRun};
 ghost use Rattle.daide_service.specs.Serving.{IsServeCause, IsOfSettings, GivesUp};
 ghost use Rattle.daide_settings.specs.declared.settings.Settings.{Settings};
-ghost use Rattle.daide_program.specs.Gateway.{IsBeforeServing, IsGatewayCause, HasGivenUp};
+ghost use Rattle.daide_program.specs.Gateway.{IsBeforeServing, IsGatewayCause, HasGivenUp, fault_by};
 
 use daide_machine::{Ports, System};
 use daide_service::{ServeFault, serve};
@@ -35,7 +35,8 @@ pub enum GatewayFault {
 
 /// The fault of a gateway that has no ground to run on.
 pub(crate) fn fault_of(fault: GroundError) -> GatewayFault
-    ensures { IsBeforeServing result × ((settings : Settings) → IsGatewayCause settings result) }
+    ensures before { IsBeforeServing result × ((settings : Settings) → IsGatewayCause settings result) }
+    ensures cause { result ≡ fault_by fault }
 {
     match fault {
         GroundError::Listen => GatewayFault::Listen,

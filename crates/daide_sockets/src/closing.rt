@@ -4,8 +4,10 @@
 //! never arrive. So what is held is written, and writing is shut down; what still comes is read and dropped, within bounds;
 //! then the socket is closed. Where the peer doesn't read, what is held is written once it does.
 
-ghost use Rattle.std.specs.Prelude.{◌≡◌, ◌+◌, List, [], ℕ, length};
+ghost use Rattle.std.specs.Prelude.{◌≡◌, ◌+◌, ◌<◌, List, [], ◌∷◌, ℕ, length, true, false};
+ghost use Rattle.daide_machine.specs.Ports.{Tells};
 ghost use Rattle.daide_streams.specs.Buffers.{Passes, IsUnread, IsUnwritten};
+ghost use Rattle.daide_streams.specs.Calls.{WritingEnded};
 
 use crate::connection::Connection;
 use crate::poller::Poller;
@@ -43,6 +45,7 @@ impl<'w, S: Duplex + Drop> Closing<'w, S> {
     fn new(socket: Socket<'w, S>) -> Closing<'w, S>
         ensures rest { result.rest ≡ MOST_DROPPED }
         ensures stream { result.socket.stream ≡ socket.entry.stream }
+        ensures writes { result.is_ended ≡ false }
     {
         // Until all that it holds is written, no moment is waited for.
         socket.place.flags.due.set(None);
@@ -60,6 +63,10 @@ impl<'w, S: Duplex + Drop> Closing<'w, S> {
         ensures passes { Passes S.to_give S.taken self.old.socket.stream [] [] self.new.socket.stream }
         ensures unread { IsUnread S.to_give self.old.socket.stream self.new.socket.stream }
         ensures unwritten { IsUnwritten S.taken self.old.socket.stream self.new.socket.stream }
+        ensures failed { self.new.socket.stream.has_failed ≡ self.old.socket.stream.has_failed }
+        ensures stays { self.new.is_ended ≡ self.old.is_ended }
+        ensures told { self.old.socket.stream.behind ≡ [] → Tells (S.calls self.old.socket.stream.stream)
+            (WritingEnded ∷ []) (S.calls self.new.socket.stream.stream) }
     {
         if !self.socket.stream.is_written() {
             return;
@@ -72,6 +79,9 @@ impl<'w, S: Duplex + Drop> Closing<'w, S> {
         ensures rest { self.new.rest ≡ self.old.rest }
         ensures passes { Passes S.to_give S.taken self.old.socket.stream [] [] self.new.socket.stream }
         ensures unread { IsUnread S.to_give self.old.socket.stream self.new.socket.stream }
+        ensures waits { self.new.is_ended ≡ false → 0 < length self.new.socket.stream.behind }
+        ensures ended { self.old.is_ended ≡ false → self.new.is_ended ≡ true →
+            self.new.socket.stream.has_failed ≡ false → self.new.socket.stream.behind ≡ [] }
     {
         self.socket.flush();
         if self.socket.stream.is_behind() {
@@ -104,8 +114,10 @@ impl<'w, S: Duplex + Drop> Closing<'w, S> {
         is_last || due.is_none() || poller.is_over(due)
     }
 
-    /// Goes on, and answers whether the socket is to be closed now.
-    fn advances<R: Clock>(&mut self, poller: &Poller<R>) -> bool {
+    /// Goes on, and answers whether the socket is to be closed now: not before its writing is over.
+    fn advances<R: Clock>(&mut self, poller: &Poller<R>) -> bool
+        ensures { self.old.is_ended ≡ false → result ≡ false }
+    {
         if self.is_ended {
             return self.drops_last(poller);
         }

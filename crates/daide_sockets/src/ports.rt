@@ -5,9 +5,10 @@
 //! their answers what these gave and took. Of the system's own connections nothing is known, so there it is what the
 //! system's read and write answered.
 
-ghost use Rattle.std.specs.Prelude.{◌≡◌, ◌≢◌, IsNone, [], length, take, true, false};
+ghost use Rattle.std.specs.Prelude.{◌≡◌, ◌≢◌, ◌<◌, IsNone, [], min, length, take, true, false};
 ghost use Rattle.daide_machine.specs.Ports.{IsPullWithin, IsPutWithin, pulled_len};
-ghost use Rattle.daide_streams.specs.Buffers.{Passes, IsUnread};
+ghost use Rattle.daide_streams.specs.Buffers.{Passes, IsUnread, IsBufferedPull};
+ghost use Rattle.daide_streams.specs.declared.readiness.Readiness.{Readiness};
 ghost use Rattle.daide_streams.specs.Streams.{Moves};
 ghost use Rattle.daide_streams.specs.Taking.{front_of};
 ghost use Rattle.daide_sockets.specs.Lines.{silent_of};
@@ -61,7 +62,7 @@ impl<'w, S: Drop> Socket<'w, S> {
         stream: S,
         place: Registration<'w>,
     ) -> Socket<'w, S>
-        ensures stream { result.stream ≡ record { stream = stream; ahead = []; behind = [] } }
+        ensures stream { result.stream ≡ record { stream = stream; ahead = []; behind = []; has_failed = false } }
         ensures silent { result.is_silent ≡ false }
     {
         Socket {
@@ -89,6 +90,10 @@ impl<S: Duplex + Drop> Socket<'_, S> {
         ensures len { length buffer.new ≡ length buffer.old }
         ensures passes { Passes S.to_give S.taken self.old.stream (take (pulled_len result) buffer.new) []
             self.new.stream }
+        ensures asked { (known still : Readiness)
+            × IsBufferedPull S.calls (length buffer.old) known self.old.stream result still self.new.stream }
+        ensures handed { 0 < length self.old.stream.ahead →
+            result ≡ Pull.Got (min (length self.old.stream.ahead) (length buffer.old)) }
         ensures silent { self.new.is_silent ≡ self.old.is_silent }
     {
         let flags = self.place.flags;
@@ -107,6 +112,9 @@ impl<S: Duplex + Drop> Socket<'_, S> {
     pub fn put(&mut self, bytes: &[u8]) -> Put
         ensures within { IsPutWithin result (length bytes.now) }
         ensures passes { Passes S.to_give S.taken self.old.stream [] (front_of result bytes.now) self.new.stream }
+        ensures fails { result ≡ Put.Failed → self.new.stream.has_failed ≡ true }
+        ensures failed { self.old.stream.has_failed ≡ true →
+            (result ≡ Put.Failed) × (self.new.stream ≡ self.old.stream) }
         ensures silent { self.new.is_silent ≡ self.old.is_silent }
     {
         let flags = self.place.flags;
@@ -213,8 +221,13 @@ fn pull_past<R: Clock, S: Duplex + Drop>(
     ensures within { IsPullWithin result (length buffer.old) }
     ensures len { length buffer.new ≡ length buffer.old }
     ensures own { Passes S.to_give S.taken own.old.stream (take (pulled_len result) buffer.new) [] own.new.stream }
+    ensures handed { 0 < length own.old.stream.ahead →
+        result ≡ Pull.Got (min (length own.old.stream.ahead) (length buffer.old)) }
     ensures other { Passes S.to_give S.taken other.old.stream [] [] other.new.stream }
     ensures unread { IsUnread S.to_give other.old.stream other.new.stream }
+    // a side that isn't taken as silent is told as its stream is read
+    ensures asked { own.new.is_silent ≡ false → (known still : Readiness)
+        × IsBufferedPull S.calls (length buffer.old) known own.old.stream result still own.new.stream }
     // a side is taken as silent by an end alone, and of what may be silent for ever none is
     ensures silent { result ≢ Pull.Ended → own.new.is_silent ≡ own.old.is_silent }
     ensures patient { IsNone patience.now.time → own.new.is_silent ≡ own.old.is_silent }
@@ -247,6 +260,7 @@ fn put_past<S: Duplex + Drop>(
 ) -> Put
     ensures within { IsPutWithin result (length bytes.now) }
     ensures own { Passes S.to_give S.taken own.old.stream [] (front_of result bytes.now) own.new.stream }
+    ensures failed { own.old.stream.has_failed ≡ true → result ≡ Put.Failed }
     ensures other { Passes S.to_give S.taken other.old.stream [] [] other.new.stream }
     ensures unread { IsUnread S.to_give other.old.stream other.new.stream }
     ensures silent { (own.new.is_silent ≡ own.old.is_silent) × (other.new.is_silent ≡ other.old.is_silent) }

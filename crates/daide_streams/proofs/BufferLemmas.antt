@@ -100,6 +100,13 @@ module _ {S : Type 0} (to_give got : S → Option (List ℕ)) where
     behind = behind;
   }
 
+  -- bytes are held behind those that are
+  pub held_passes : (old new : Buffer S) (over : List ℕ) → new.stream ≡ old.stream → new.ahead ≡ old.ahead →
+      new.behind ≡ old.behind ++ over → Passes to_give got old [] over new
+  held_passes old new over stream ahead behind =
+      write_passes old new [] over (same_takes old.stream new.stream (ap got stream)) (sym behind)
+      (record { ahead = ahead; gives = ap to_give stream })
+
   -- what was held was written, as much as the stream took
   pub drain_passes : (old new : Buffer S) (put : Put) (held rest : List ℕ) → old.behind ≡ held → new.behind ≡ rest →
       IsTaken (got old.stream) held put (got new.stream) → rest ≡ drop (taken_len put) held →

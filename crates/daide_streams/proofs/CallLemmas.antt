@@ -1,5 +1,7 @@
 -- A pull and a put by the call that was made of the stream, and pulls of a stream with buffers by those of the stream.
-use Rattle.std.proofs.Common.{◌≡◌, ℕ, zero, suc, ◌-◌, ◌<◌, ◌≤◌, ◌==◌, true, false, List, [], length, take}
+use Rattle.std.proofs.Common.{◌≡◌, ℕ, zero, suc, ◌-◌, ◌<◌, ◌≤◌, ◌==◌, Bool, true, false, List, [], length, take}
+use Rattle.std.specs.Prelude.{nat_lt, if◌then◌else◌}
+use Rattle.std.proofs.lemmas.List.{take_all, length-take}
 use Rattle.std.proofs.Common.{Option, Some, None, ◌⊎◌, inl, inr, arith, refl, sym, ap, ◌∙◌, subst}
 use Rattle.std.proofs.lemmas.Bool.Decides.{nat_tests}
 use Rattle.daide_machine.specs.declared.ports.Pull.{Pull}
@@ -9,10 +11,10 @@ use Rattle.daide_machine.specs.declared.ports.Put.TheVariants.{Took}
 use Rattle.daide_machine.specs.Ports.{pulled_len}
 use Rattle.daide_streams.specs.declared.readiness.Readiness.{Readiness}
 use Rattle.daide_streams.specs.declared.outcome.Outcome.{Outcome}
-use Rattle.daide_streams.specs.declared.outcome.Outcome.TheVariants.{Moved, Interrupted, NotNow}
+use Rattle.daide_streams.specs.declared.outcome.Outcome.TheVariants.{Moved, Interrupted, NotNow, Failed}
 use Rattle.daide_streams.specs.Buffers.{is_alike}
-use Rattle.daide_streams.specs.Calls.{StreamCall, Tries, Read, Written, IsPull, IsPut, pull_of, put_of}
-use Rattle.daide_streams.specs.Calls.{after_read, after_write}
+use Rattle.daide_streams.specs.Calls.{StreamCall, Tries, Read, Written, IsPull, IsPut, IsStopped, pull_of, put_of}
+use Rattle.daide_streams.specs.Calls.{after_read, after_write, without_writes}
 
 alike_self : (pull : Pull) → is_alike pull pull ≡ true
 alike_self (Got n) = refl
@@ -42,6 +44,10 @@ filled items buffer count same =
     let whole : count - 0 ≡ count = omega arith in
     ap (λ (n : ℕ). take n items) whole ∙ ap (take count) same
 
+-- of some bytes a front that is not empty has some
+pub some_front : (most : ℕ) (bytes : List ℕ) → 0 < most → 0 < length bytes → 0 < length (take most bytes)
+some_front most bytes few some = grind (arith, length-take most bytes)
+
 pub nothing_pulled : (pull : Pull) → ((n : ℕ) → pull ≡ Got n → ⊥) → pulled_len pull ≡ 0
 nothing_pulled (Got n) other = absurd (other n refl)
 nothing_pulled Idle other = refl
@@ -58,6 +64,9 @@ idle_is outcome (inr e) = ap pull_of (sym e)
 pub none_is : (outcome : Outcome) → (outcome ≡ Interrupted) ⊎ (outcome ≡ NotNow) → Took 0 ≡ put_of outcome
 none_is outcome (inl e) = ap put_of (sym e)
 none_is outcome (inr e) = ap put_of (sym e)
+
+took_same : (n m : ℕ) → Took n ≡ Took m → n ≡ m
+took_same n m e = cc
 
 module _ {S : Type 0} (calls : S → Option (List StreamCall)) where
   -- ---- a pull
@@ -143,3 +152,31 @@ module _ {S : Type 0} (calls : S → Option (List StreamCall)) where
       noted ∙ ap (λ (l : List ℕ). after_write known (length l) outcome) same,
     );
   }
+
+  -- one of bytes that a write may hand over whole
+  pub whole_put : (bytes : List ℕ) (most : ℕ) (known still : Readiness) (old new : S) (put : Put) →
+      length bytes ≤ most → IsPut calls (take most bytes) known old put still new →
+      IsPut calls bytes known old put still new
+  whole_put bytes most known still old new put few made =
+      subst (λ (l : List ℕ). IsPut calls l known old put still new) (take_all most bytes few) made
+
+  -- one that took less than it was handed stops those to come
+  pub stopped : (bytes : List ℕ) (known still : Readiness) (old new : S) (put : Put) (n : ℕ) →
+      IsPut calls bytes known old put still new → put ≡ Took n → n < length bytes → IsStopped calls still new
+  stopped bytes known still old new put n made took less = by known.may_write refl
+    where
+      of_outcome : (outcome : Outcome) → Tries (Written bytes) (calls old) outcome (calls new) → put ≡ put_of outcome →
+          still ≡ after_write known (length bytes) outcome → IsStopped calls still new
+      of_outcome (Moved count) tries told noted =
+          let same : Took n ≡ Took count = sym took ∙ told in
+          let fewer : count < length bytes = subst (λ (m : ℕ). m < length bytes) (took_same n count same) less in
+          let test : nat_lt count (length bytes) ≡ true = grind (arith, nat_tests, fewer) in
+          inl (ap (λ (k : Readiness). k.may_write) (noted
+          ∙ ap (λ (b : Bool). if b then without_writes known else known) test))
+      of_outcome Interrupted tries told noted = inr (calls old, bytes, tries)
+      of_outcome NotNow tries told noted = inl (ap (λ (k : Readiness). k.may_write) noted)
+      of_outcome Failed tries told noted = absurd (let e = sym took ∙ told in cc)
+
+      by : (may : Bool) → known.may_write ≡ may → IsStopped calls still new
+      by false e = inl (ap (λ (k : Readiness). k.may_write) (made.spared e).2 ∙ e)
+      by true e = let call = made.made e in of_outcome call.0 call.1 call.2 call.3

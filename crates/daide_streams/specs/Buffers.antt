@@ -1,17 +1,21 @@
 -- A stream with the bytes that are held of it: what was read ahead of what was asked for, and what was handed over and is
 -- still to be written. (own)
-use Rattle.std.specs.Prelude.{◌≡◌, ◌≤◌, ℕ, Bool, true, false, List, [], ◌++◌, Option, Some, None}
+use Rattle.std.specs.Prelude.{◌≡◌, ◌≤◌, ℕ, Bool, true, false, List, [], ◌++◌, drop, Option, Some, None}
 use Rattle.std.specs.Io.KnownBytes.{Consumes, Appends}
 use Rattle.daide_machine.specs.declared.ports.Pull.{Pull}
 use Rattle.daide_machine.specs.declared.ports.Pull.TheVariants.{Got, Idle, Ended}
 use Rattle.daide_streams.specs.declared.readiness.Readiness.{Readiness}
-use Rattle.daide_streams.specs.Calls.{StreamCall, IsPull}
+use Rattle.daide_machine.specs.declared.ports.Put.{Put}
+use Rattle.daide_streams.specs.Calls.{StreamCall, IsPull, IsPut}
+use Rattle.daide_streams.specs.Taking.{taken_len, has_put_failed}
 
--- a stream, the bytes that were read of it and not handed out, and those that were handed over for it and not written
+-- a stream, the bytes that were read of it and not handed out, those that were handed over for it and not written, and
+-- whether a write failed
 pub record Buffer (S : Type 0) : Type 0 where
   pub stream : S
   pub ahead : List ℕ
   pub behind : List ℕ
+  pub has_failed : Bool
 
 -- A stream with buffers handed out bytes and was handed bytes. What is handed out is, in order, what was held ahead and
 -- what came of the stream, but for what is held ahead now; what went to the stream is, in order, what was held behind and
@@ -39,6 +43,13 @@ abbrev pub IsBufferedPull : {S : Type 0} → (S → Option (List StreamCall)) �
 IsBufferedPull calls room known old pull still new = old.ahead ≡ [] → (more : ℕ) × (room ≤ more) × (own : Pull)
     × IsPull calls more known old.stream own still new.stream × (is_alike pull own ≡ true)
 
+-- What was held behind was handed to the stream, as far as one write takes it: what the stream did not take is held
+-- further, and a failure is kept.
+abbrev pub IsFlushed : {S : Type 0} → (S → Option (List StreamCall)) → Readiness → Buffer S → Readiness → Buffer S →
+    Type 0
+IsFlushed calls known old still new = (put : Put) × IsPut calls old.behind known old.stream put still new.stream
+    × (new.behind ≡ drop (taken_len put) old.behind) × (new.has_failed ≡ has_put_failed put)
+
 -- nothing was read of the stream, and nothing handed out
 pub record IsUnread {S : Type 0} (to_give : S → Option (List ℕ)) (old new : Buffer S) : Type 0 where
   pub ahead : new.ahead ≡ old.ahead
@@ -49,7 +60,16 @@ pub record IsUnwritten {S : Type 0} (got : S → Option (List ℕ)) (old new : B
   pub behind : new.behind ≡ old.behind
   pub takes : got new.stream ≡ got old.stream
 
+-- bytes that are held in room, and how many more have room behind them
+pub record Roomful : Type 0 where
+  pub bytes : List ℕ
+  pub room : ℕ
+
+-- room in which nothing is held
+abbrev pub all_room : Roomful
+all_room = record { bytes = []; room = 4096 }
+
 -- the bytes that are held, if there are some
-abbrev pub held_in : Option (List ℕ) → List ℕ
+abbrev pub held_in : Option Roomful → List ℕ
 held_in None = []
-held_in (Some bytes) = bytes
+held_in (Some held) = held.bytes

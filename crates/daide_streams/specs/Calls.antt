@@ -104,3 +104,9 @@ pub record IsPut {S : Type 0} (calls : S → Option (List StreamCall)) (bytes : 
   pub spared : known.may_write ≡ false → (put ≡ Puts.Took 0) × (new ≡ old) × (still ≡ known)
   pub made : known.may_write ≡ true → (outcome : Outcome) × Tries (Written bytes) (calls old) outcome (calls new)
       × (put ≡ put_of outcome) × (still ≡ after_write known (length bytes) outcome)
+
+-- Nothing more can be written now: the system is to tell when it can be, or the last write was interrupted each time
+-- that it was made.
+abbrev pub IsStopped : {S : Type 0} → (S → Option (List StreamCall)) → Readiness → S → Type 0
+IsStopped calls still new = (still.may_write ≡ false)
+    ⊎ ((before : Option (List StreamCall)) × (bytes : List ℕ) × Tries (Written bytes) before Interrupted (calls new))

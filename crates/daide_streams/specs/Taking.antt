@@ -1,5 +1,5 @@
 -- What a stream took of the bytes that it was handed. (own)
-use Rattle.std.specs.Prelude.{ℕ, List, take, Option}
+use Rattle.std.specs.Prelude.{ℕ, Bool, true, false, List, take, Option}
 use Rattle.std.specs.Io.KnownBytes.{Appends, Keeps}
 use Rattle.daide_machine.specs.declared.ports.Put.{Put}
 use Rattle.daide_machine.specs.declared.ports.Put.TheVariants.{Took, Failed}
@@ -8,6 +8,11 @@ use Rattle.daide_machine.specs.declared.ports.Put.TheVariants.{Took, Failed}
 abbrev pub IsTaken : Option (List ℕ) → List ℕ → Put → Option (List ℕ) → Type 0
 IsTaken old bytes (Took n) new = Appends old new (take n bytes)
 IsTaken old bytes Failed new = Keeps old new
+
+-- whether a put failed
+abbrev pub has_put_failed : Put → Bool
+has_put_failed (Took n) = false
+has_put_failed Failed = true
 
 -- how many bytes a put took
 abbrev pub taken_len : Put → ℕ

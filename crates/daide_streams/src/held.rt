@@ -3,7 +3,8 @@
 ghost use Rattle.std.specs.Prelude.{◌≡◌, ◌≤◌, ◌++◌, [], min, length, take, drop, IfOk};
 ghost use Rattle.std.specs.Io.KnownBytes.{Consumes};
 ghost use Rattle.daide_machine.specs.Ports.{pulled_len};
-ghost use Rattle.daide_streams.specs.Calls.{IsPull};
+ghost use Rattle.daide_streams.specs.Buffers.{all_room};
+ghost use Rattle.daide_streams.specs.Calls.{IsPull, IsPut};
 ghost use Rattle.daide_streams.specs.Taking.{IsTaken, taken_len};
 
 use crate::calls::{pull_from, put_to};
@@ -16,7 +17,8 @@ use std::marker::Model;
 /// How many bytes are held at most.
 pub const MOST_HELD: usize = 4096;
 
-/// Bytes in their order, `MOST_HELD` at most, in room that is taken at once. Contracts see their list.
+/// Bytes in their order, `MOST_HELD` at most, in room that is taken at once. Contracts see their list, and how many
+/// more have room behind them.
 #[derive(Drop)]
 pub struct Held {
     bytes: Vec<u8>,
@@ -25,11 +27,12 @@ pub struct Held {
 }
 
 impl Model for Held {
-    ghost use Rattle.std.specs.Prelude.{ℕ, List, ◌≡◌, ◌≤◌, ◌-◌, take, drop, vec_len};
+    ghost use Rattle.std.specs.Prelude.{◌≡◌, ◌≤◌, ◌-◌, take, drop, vec_len};
+    ghost use Rattle.daide_streams.specs.Buffers.{Roomful};
 
-    ghost Value = { List ℕ };
+    ghost Value = { Roomful };
 
-    ghost view = { λ h. take (h.to - h.from) (drop h.from h.bytes.items) };
+    ghost view = { λ h. record { bytes = take (h.to - h.from) (drop h.from h.bytes.items); room = 4096 - h.to } };
 
     ghost invariant = { λ h. (h.from ≤ h.to) × (h.to ≤ vec_len h.bytes) × (vec_len h.bytes ≡ 4096) };
 }
@@ -37,7 +40,7 @@ impl Model for Held {
 impl Held {
     /// Room, with no bytes yet.
     pub fn new(alloc: Global) -> Result<Held, AllocError>
-        ensures { IfOk result (λ held. held ≡ []) }
+        ensures { IfOk result (λ held. held ≡ all_room) }
     {
         let mut bytes = Vec::with_capacity(alloc, MOST_HELD)?;
         bytes.resize(MOST_HELD, 0)?;
@@ -50,7 +53,7 @@ impl Held {
 
     /// The bytes.
     pub fn as_slice(&self) -> &[u8]
-        ensures value { result.now ≡ self.now }
+        ensures value { result.now ≡ self.now.bytes }
         ensures few { length result.now ≤ MOST_HELD }
     {
         &self.bytes[self.from..self.to]
@@ -58,14 +61,15 @@ impl Held {
 
     /// How many more it takes.
     pub fn room(&self) -> usize
-        ensures { result ≤ MOST_HELD }
+        ensures value { result ≡ self.now.room }
+        ensures few { result ≤ MOST_HELD }
     {
         MOST_HELD - self.to
     }
 
     /// Lets all bytes go.
     pub fn clear(&mut self)
-        ensures { self.new ≡ [] }
+        ensures { self.new ≡ all_room }
     {
         self.from = 0;
         self.to = 0;
@@ -73,18 +77,18 @@ impl Held {
 
     /// Lets the first bytes go.
     pub fn skip(&mut self, count: usize)
-        requires { count ≤ length self.old }
-        ensures { self.new ≡ drop count self.old }
+        requires { count ≤ length self.old.bytes }
+        ensures { self.new ≡ record self.old { bytes = drop count self.old.bytes } }
     {
         self.from += count;
     }
 
     /// Hands out the first bytes, as many as the buffer takes.
     pub fn give(&mut self, buffer: &mut [u8]) -> usize
-        ensures count { result ≡ min (length self.old) (length buffer.old) }
+        ensures count { result ≡ min (length self.old.bytes) (length buffer.old) }
         ensures len { length buffer.new ≡ length buffer.old }
-        ensures bytes { self.old ≡ take result buffer.new ++ self.new }
-        ensures few { length self.new ≤ MOST_HELD }
+        ensures bytes { self.old.bytes ≡ take result buffer.new ++ self.new.bytes }
+        ensures few { length self.new.bytes ≤ MOST_HELD }
     {
         let held = self.as_slice();
         let count = held.len().min(buffer.len());
@@ -95,9 +99,10 @@ impl Held {
 
     /// Takes bytes behind those that are held, as many as there is room for.
     pub fn gather(&mut self, bytes: &[u8]) -> usize
+        ensures count { result ≡ min self.old.room (length bytes.now) }
         ensures within { result ≤ length bytes.now }
-        ensures held { self.new ≡ self.old ++ take result bytes.now }
-        ensures few { length self.new ≤ MOST_HELD }
+        ensures held { self.new.bytes ≡ self.old.bytes ++ take result bytes.now }
+        ensures few { length self.new.bytes ≤ MOST_HELD }
     {
         let start = self.to;
         let count = (MOST_HELD - start).min(bytes.len());
@@ -108,9 +113,9 @@ impl Held {
 
     /// Reads what is there of a stream, in place of what is held.
     pub fn refill<S: Duplex>(&mut self, stream: &mut S, readiness: &mut Readiness) -> Pull
-        ensures given { Consumes (S.to_give stream.old) (S.to_give stream.new) self.new }
+        ensures given { Consumes (S.to_give stream.old) (S.to_give stream.new) self.new.bytes }
         ensures asked { IsPull S.calls MOST_HELD readiness.old stream.old result readiness.new stream.new }
-        ensures count { length self.new ≡ pulled_len result }
+        ensures count { length self.new.bytes ≡ pulled_len result }
         ensures apart { S.taken stream.new ≡ S.taken stream.old }
     {
         self.from = 0;
@@ -124,10 +129,11 @@ impl Held {
 
     /// Writes what the stream takes of the bytes, and lets it go.
     pub fn drain<S: Duplex>(&mut self, stream: &mut S, readiness: &mut Readiness) -> Put
-        ensures taken { IsTaken (S.taken stream.old) self.old result (S.taken stream.new) }
-        ensures rest { self.new ≡ drop (taken_len result) self.old }
+        ensures asked { IsPut S.calls self.old.bytes readiness.old stream.old result readiness.new stream.new }
+        ensures taken { IsTaken (S.taken stream.old) self.old.bytes result (S.taken stream.new) }
+        ensures rest { self.new.bytes ≡ drop (taken_len result) self.old.bytes }
         ensures apart { S.to_give stream.new ≡ S.to_give stream.old }
-        ensures few { length self.new ≤ MOST_HELD }
+        ensures few { length self.new.bytes ≤ MOST_HELD }
     {
         match put_to(stream, readiness, self.as_slice()) {
             Put::Took(taken) => {

@@ -1,6 +1,7 @@
 //! Room for bytes that are held, of which as much is there as is needed at once.
 
-ghost use Rattle.std.specs.Prelude.{◌≡◌, [], IfSome};
+ghost use Rattle.std.specs.Prelude.{◌≡◌, IfSome};
+ghost use Rattle.daide_streams.specs.Buffers.{all_room};
 
 use crate::held::Held;
 use std::alloc::Global;
@@ -76,7 +77,7 @@ impl Pool {
 
     /// Room with no bytes; none where memory is refused.
     pub fn take(&self) -> Option<Held>
-        ensures { IfSome result (λ held. held ≡ []) }
+        ensures { IfSome result (λ held. held ≡ all_room) }
     {
         match self.take_back() {
             Some(held) => {

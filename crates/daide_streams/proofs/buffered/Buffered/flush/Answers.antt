@@ -16,8 +16,8 @@ returns-in_default-clause-passes g c =
 
 pub returns-clause-passes : goal.returns-clause-passes
 returns-clause-passes g c =
-    let same : held_in c.self.inside.behind ≡ c.in-Some.held = search rules in
+    let same : held_in c.self.inside.behind ≡ c.in-Some.held.bytes = search rules in
     of_view g.S.Duplex.to_give g.S.Duplex.taken _ _ _ _ _ c.self.view_is
-    (drain_passes g.S.Duplex.to_give g.S.Duplex.taken _ _ c.drain.result c.in-Some.held c.drain.new.self same
-    c.kept.ensures c.drain.ensures.taken c.drain.ensures.rest
+    (drain_passes g.S.Duplex.to_give g.S.Duplex.taken _ _ c.drain.result c.in-Some.held.bytes c.drain.new.self.bytes
+    same c.kept.ensures.held c.drain.ensures.taken c.drain.ensures.rest
     (record { ahead = refl; gives = c.drain.ensures.apart }))

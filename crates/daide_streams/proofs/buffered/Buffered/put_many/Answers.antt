@@ -1,7 +1,6 @@
-use Rattle.daide_streams.proofs.BufferLemmas.{flush_then, then_flush}
+use Rattle.daide_streams.proofs.BufferLemmas.{then_flush}
 use Rattle.daide_streams.proofs.buffered.Buffered.put_many.Goals as goal
 
 pub returns-clause-passes : goal.returns-clause-passes
 returns-clause-passes g c =
-    flush_then g.S.Duplex.to_give g.S.Duplex.taken _ _ _ _ c.make_room.ensures.passes
-    (then_flush g.S.Duplex.to_give g.S.Duplex.taken _ _ _ _ c.take_behind-put.ensures.passes c.flush.ensures.passes)
+    then_flush g.S.Duplex.to_give g.S.Duplex.taken _ _ _ _ c.take_behind-put.ensures.passes c.flush.ensures.passes

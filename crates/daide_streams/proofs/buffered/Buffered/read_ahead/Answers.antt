@@ -19,7 +19,7 @@ pub returns-in-Got-clause-passes : goal.returns-in-Got-clause-passes
 returns-in-Got-clause-passes g c =
     let none : held_in c.self.inside.ahead ≡ [] = search rules in
     of_view g.S.Duplex.to_give g.S.Duplex.taken _ _ _ _ _ c.self.view_is
-    (ahead_passes g.S.Duplex.to_give g.S.Duplex.taken _ _ c.refill.new.stream c.refill.new.self _
+    (ahead_passes g.S.Duplex.to_give g.S.Duplex.taken _ _ c.refill.new.stream c.refill.new.self.bytes _
     c.refill.ensures.given c.refill.ensures.apart c.hand_out.ensures.rest.0 none c.hand_out.ensures.bytes
     c.hand_out.ensures.rest.1)
 
@@ -64,11 +64,11 @@ returns-in-Ended-clause-asked g c =
 pub returns-in-Idle-clause-passes : goal.returns-in-Idle-clause-passes
 returns-in-Idle-clause-passes g c =
     of_view g.S.Duplex.to_give g.S.Duplex.taken _ _ _ _ _ c.self.view_is
-    (none_passes g.S.Duplex.to_give g.S.Duplex.taken _ _ c.refill.new.self c.in-Idle.ensures.count
+    (none_passes g.S.Duplex.to_give g.S.Duplex.taken _ _ c.refill.new.self.bytes c.in-Idle.ensures.count
     c.in-Idle.ensures.given refl (record { behind = refl; takes = c.in-Idle.ensures.apart }))
 
 pub returns-in-Ended-clause-passes : goal.returns-in-Ended-clause-passes
 returns-in-Ended-clause-passes g c =
     of_view g.S.Duplex.to_give g.S.Duplex.taken _ _ _ _ _ c.self.view_is
-    (none_passes g.S.Duplex.to_give g.S.Duplex.taken _ _ c.refill.new.self c.in-Ended.ensures.count
+    (none_passes g.S.Duplex.to_give g.S.Duplex.taken _ _ c.refill.new.self.bytes c.in-Ended.ensures.count
     c.in-Ended.ensures.given refl (record { behind = refl; takes = c.in-Ended.ensures.apart }))

@@ -1,5 +1,6 @@
 use Rattle.std.proofs.Common.{rules, ap, ◌∙◌, ◌≡◌, ◌≤◌, ◌++◌, ◌+◌, ◌-◌, ℕ, List, length, take, drop}
 use Rattle.std.proofs.lemmas.List.{places, with_items_is}
+use Rattle.daide_streams.specs.Buffers.{Roomful}
 use Rattle.daide_streams.proofs.BufferLemmas.{gathered}
 use Rattle.daide_streams.proofs.held.Held.gather.Goals as goal
 use borrow.Rule.Slice.PartMut.{put_mid, post_of}
@@ -20,5 +21,5 @@ returns-clause-held c =
     ap (λ (l : List ℕ). take ((to + count) - from) (drop from l)) (with_items_is c.self.inside.bytes after whole)
     ∙ gathered before piece (post_of to ((to + count) - to) before) from to count below within size
     ∙ ap (λ (l : List ℕ). take (to - from) (drop from l) ++ piece) c.deref_mut.ensures.value
-    ∙ ap (λ (l : List ℕ). l ++ piece) c.self.view_is
-    ∙ ap (λ (l : List ℕ). c.args.self.now ++ l) same
+    ∙ ap (λ (h : Roomful). h.bytes ++ piece) c.self.view_is
+    ∙ ap (λ (l : List ℕ). c.args.self.now.bytes ++ l) same

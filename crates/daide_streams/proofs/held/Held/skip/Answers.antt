@@ -1,9 +1,13 @@
-use Rattle.std.proofs.Common.{ap, ◌∙◌, ◌≤◌, ℕ, List, length, drop, subst, sym}
+use Rattle.std.proofs.Common.{ap, ◌∙◌, ◌≤◌, ◌-◌, ℕ, List, length, drop, subst, sym}
+use Rattle.daide_streams.specs.Buffers.{Roomful}
 use Rattle.daide_streams.proofs.BufferLemmas.{skipped}
 use Rattle.daide_streams.proofs.held.Held.skip.Goals as goal
 
 pub returns : goal.returns
 returns c =
-    skipped c.self.inside.bytes.items c.self.inside.from c.self.inside.to c.args.count
-    (subst (λ (l : List ℕ). c.args.count ≤ length l) (sym c.self.view_is) c.requires)
-    ∙ ap (drop c.args.count) c.self.view_is
+    let bytes = ap (λ (h : Roomful). h.bytes) c.self.view_is in
+    let with_bytes : List ℕ → Roomful = λ l. record { bytes = l; room = 4096 - c.self.inside.to } in
+    ap with_bytes
+    (skipped c.self.inside.bytes.items c.self.inside.from c.self.inside.to c.args.count
+    (subst (λ (l : List ℕ). c.args.count ≤ length l) (sym bytes) c.requires))
+    ∙ ap (λ (h : Roomful). record h { bytes = drop c.args.count h.bytes }) c.self.view_is
