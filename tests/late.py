@@ -1,8 +1,8 @@
 """Scenes of a server that accepts late. A bot's connect has 5 seconds, the program's own, as docs/OPERATING.md says."""
 
 from acts import Bot, Comes, Empties, FinishesConnect, Hears, HearsEnd, MeetsNobody, Passes, Says, Server
-from frames import EM_01, FM, IM
-from gateway import UNREACHED
+from frames import EM_01, FM, IM, OBS
+from gateway import UNREACHED, joins, opens
 from stage import Scene, full_listener
 
 # The server is there only when the second that a bot has for its IM is over since it came: that time runs from the
@@ -53,8 +53,20 @@ SECOND_IS_MET_FIRST = [
     Hears(Server(0), FM),
 ]
 
+# The time of a connect is over once it is done: a session that is idle for longer goes on, and the run waits.
+OUTLASTS_ITS_CONNECT = [
+    *joins(),
+    *opens(0),
+    Passes(5_900),
+    Says(Bot(0), OBS),
+    Hears(Server(0), OBS),
+    Says(Bot(0), FM),
+    Hears(Server(0), FM),
+]
+
 SCENES = [
     Scene("late_server_leaves_the_im_no_more_time", IS_MET_LATE, "im_seconds = 1", server=full_listener),
     Scene("each_connect_has_its_own_time", FIRST_IS_GIVEN_UP, "sessions = 2", UNREACHED, server=full_listener),
     Scene("slow_connect_holds_up_no_other", SECOND_IS_MET_FIRST, "sessions = 2", server=full_listener),
+    Scene("idle_session_waits_once_its_connect_is_done", OUTLASTS_ITS_CONNECT, waits=True),
 ]

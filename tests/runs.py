@@ -47,10 +47,12 @@ class Folder:
     def __exit__(self, *fault):
         self.room.cleanup()
 
-    def run(self, words, given=b""):
-        """What a run with these words and this input prints and tells, as bytes, and its status."""
+    def run(self, words, given=b"", limit=None):
+        """What a run with these words and this input prints and tells, as bytes, and its status; with a limit, as `ulimit`
+        takes it."""
+        limited = ["sh", "-c", f'ulimit {limit} && exec "$@"', "sh"] if limit else []
         done = subprocess.run(
-            [str(self.program), *words], input=given, capture_output=True, timeout=SECONDS, check=False,
+            [*limited, str(self.program), *words], input=given, capture_output=True, timeout=SECONDS, check=False,
             cwd=self.room.name,
         )
         return done.stdout, done.stderr, done.returncode
@@ -151,11 +153,12 @@ def one_bracket_too_deep_gets_huh(program):
                 raise Wrong(f"{depth} brackets: saw {printed.decode()!r}, wanted {verdict!r} in it")
 
 
-def cannot_listen(program, address):
+def cannot_listen(program, address, limit=None):
     """Nothing can be listened on there, and nothing is printed."""
     settings = f"listen = '{address}'\nserver = '127.0.0.1:1'\n"
     with Folder(program, {"settings": settings}) as folder:
-        check_ran(folder.run(["run", "settings"]), ("", "cannot listen", "1"), f"listen = '{address}'")
+        ran = folder.run(["run", "settings"], limit=limit)
+        check_ran(ran, ("", "cannot listen", "1"), f"listen = '{address}'")
 
 
 def address_that_is_taken_cannot_be_listened_on(program):
@@ -169,6 +172,11 @@ def address_with_no_port_cannot_be_listened_on(program):
     cannot_listen(program, "127.0.0.1")
 
 
+def without_a_descriptor_for_its_table_it_cannot_listen(program):
+    """One descriptor beside the three streams is enough to listen, and not for the table of the sockets."""
+    cannot_listen(program, "127.0.0.1:0", limit="-n 4")
+
+
 TESTS = [
     shown_frames,
     checked_logs,
@@ -180,4 +188,5 @@ TESTS = [
     run_that_cannot_begin_has_status_1,
     address_that_is_taken_cannot_be_listened_on,
     address_with_no_port_cannot_be_listened_on,
+    without_a_descriptor_for_its_table_it_cannot_listen,
 ]

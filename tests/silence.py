@@ -15,6 +15,10 @@ SAYS_NOTHING = [
     HearsEnd(Server(0)),
 ]
 
+# So is a bot that never says a word, long before the thirty seconds for its IM are over; the server, which heard no IM,
+# hears no FM either.
+COMES_AND_SAYS_NOTHING = [*joins(), HearsEnd(Server(0)), HearsEnd(Bot(0))]
+
 # In the first session the server falls silent, and in the second the bot; in the third both speak now and then. A side
 # of which nothing comes for a second is taken as ended, and the other side hears an FM; one that speaks now and then
 # stays. The run waits between.
@@ -54,4 +58,5 @@ FALL_SILENT = [
 SCENES = [
     Scene("silent_side_is_taken_as_ended", FALL_SILENT, "idle_seconds = 1\nsessions = 3", waits=True),
     Scene("server_that_says_nothing_is_taken_as_ended", SAYS_NOTHING, "idle_seconds = 1", waits=True),
+    Scene("bot_that_says_nothing_is_taken_as_ended", COMES_AND_SAYS_NOTHING, "idle_seconds = 1", waits=True),
 ]

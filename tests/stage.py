@@ -32,17 +32,17 @@ HOST = "127.0.0.1"
 
 
 class Run:
-    """A run of the program at a port that was free, towards this address, with these lines of settings behind both;
-    where it is recorded, the records lie beside them."""
+    """A run of the program in this folder at a port that was free, towards this address, with these lines of settings
+    behind both, and with these words before the settings."""
 
-    def __init__(self, program, room, settings, server, is_recorded):
+    def __init__(self, program, room, settings, server, words):
         self.port, self.room = free_port(), pathlib.Path(room)
         self.printed, self.status, self.seconds = b"", None, 0.0
         file = self.room / "settings.toml"
         file.write_text(f"listen = '{HOST}:{self.port}'\nserver = '{HOST}:{server}'\n{settings}\n", encoding="utf-8")
         self.errors = tempfile.TemporaryFile()
         self.process = subprocess.Popen(
-            [str(program), "run", *(["--record", room] if is_recorded else []), str(file)],
+            [str(program), "run", *words, str(file)], cwd=room,
             stdin=subprocess.DEVNULL, stdout=subprocess.PIPE, stderr=self.errors, bufsize=0,
         )
         os.set_blocking(self.process.stdout.fileno(), False)
@@ -69,6 +69,10 @@ class Run:
         """The names of the files with its records."""
         return sorted(path.name for path in self.room.glob("*.log"))
 
+    def size(self, name):
+        """How many bytes there are in this file."""
+        return (self.room / name).stat().st_size
+
     def told(self):
         """What it told on standard error."""
         self.errors.seek(0)
@@ -93,7 +97,7 @@ class Stage:
     def __init__(self, run, listener):
         listener.setblocking(False)
         self.run, self.listener = run, listener
-        self.bots, self.servers, self.flows = [], [], []
+        self.bots, self.servers, self.flows, self.ports = [], [], [], []
         self.hoard, self.flood_began = None, 0.0
         self.over = time.monotonic() + SECONDS
         self.awaited, self.moment, self.act_began = {}, None, 0.0
@@ -108,6 +112,7 @@ class Stage:
         stream = socket.socket()
         self.bots.append(Peer(stream))
         stream.connect_ex((HOST, self.run.port))
+        self.ports.append(stream.getsockname()[1])
 
     def meets(self):
         """Whether the server accepted a connection."""
@@ -213,6 +218,11 @@ def free_port():
         return taken.getsockname()[1]
 
 
+def record_names(count):
+    """The names of so many records, from the first session on."""
+    return [f"session-{number:06}.log" for number in range(1, count + 1)]
+
+
 def open_listener():
     """The listener of a server."""
     return socket.create_server((HOST, 0), backlog=QUEUE)
@@ -238,11 +248,14 @@ def silent_door():
 
 
 @contextlib.contextmanager
-def begun(program, settings, server, is_recorded=False):
-    """A stage beside a run that listens, towards this server; both are let go of behind it."""
+def begun(program, settings, server, words=(), files=()):
+    """A stage beside a run that listens, towards this server, in a folder with these empty files; all are let go of
+    behind it."""
     listener = server()
     with tempfile.TemporaryDirectory() as room:
-        run = Run(program, room, settings, listener.getsockname()[1], is_recorded)
+        for name in files:
+            (pathlib.Path(room) / name).touch()
+        run = Run(program, room, settings, listener.getsockname()[1], words)
         stage = Stage(run, listener)
         try:
             stage.play_beside(Listens(), "before all acts")
@@ -259,17 +272,25 @@ class Scene:
     name: str
     acts: list
     settings: str = ""
+    # What is told, `{0}` standing for the port of the first bot.
     told: str = ""
     # What stands at the server's address.
     server: object = field(default=open_listener)
     # Whether the run takes nearly nothing of a processor, since it waits.
     waits: bool = False
-    # How many sessions are recorded; none where the run isn't.
+    # Whether the run tells where sessions begin and end.
+    verbose: bool = False
+    # How many sessions are recorded; none where the run isn't. How many records are there before the run, empty.
     recorded: int | None = None
+    there: int = 0
+
+    def words(self):
+        """The words before the settings."""
+        return (["--verbose"] if self.verbose else []) + (["--record", "."] if self.recorded is not None else [])
 
     def play(self, program):
         """Plays it."""
-        with begun(program, self.settings, self.server, self.recorded is not None) as stage:
+        with begun(program, self.settings, self.server, self.words(), record_names(self.there)) as stage:
             stage.play(self.acts)
             self.end(stage)
 
@@ -280,8 +301,8 @@ class Scene:
         run = stage.run
         same(run.status, 0, f"status, told {run.told()!r}")
         same(run.printed, b"listening\n", "printed")
-        same(run.told(), self.told, "told")
-        wanted = [f"session-{number:06}.log" for number in range(1, (self.recorded or 0) + 1)]
-        same(run.records(), wanted, "records")
+        same(run.told(), self.told.format(*stage.ports), "told")
+        same(run.records(), record_names(self.recorded or 0), "records")
+        same([run.size(name) for name in record_names(self.there)], [0] * self.there, "records that were there")
         if self.waits and run.seconds >= WAITING:
             raise Wrong(f"saw {run.seconds:.2f} s of a processor, wanted less than {WAITING} s")
