@@ -32,5 +32,8 @@ LONG_NAME = b"\x02\x00\x03\xcc\x48\x0c\x40\x00" + b"Ka" * 480 + b"\x40\x01\x40\x
 # The same with a name of 10,000 letters: 20,016 bytes.
 LONGER_NAME = b"\x02\x00\x4e\x2c\x48\x0c\x40\x00" + b"Ka" * 10_000 + b"\x40\x01\x40\x00Ka\x40\x01"
 
+# That with `GOF` behind it, which no message has there: 20,018 bytes.
+MISNAMED = b"\x02\x00\x4e\x2e" + LONGER_NAME[4:] + b"\x48\x03"
+
 # Bytes of a type that there is none of, which nobody reads behind the first four.
 UNKNOWN = b"\x05" * 1024

@@ -1,5 +1,7 @@
 """What a test is held by: what was seen is what was wanted."""
 
+import re
+
 
 class Wrong(Exception):
     """Something else was seen than was wanted."""
@@ -21,3 +23,9 @@ def same(seen, wanted, where):
     """What was seen there is what was wanted."""
     if seen != wanted:
         raise Wrong(f"{where}: saw {brief(seen)}, wanted {brief(wanted)}")
+
+
+def same_but_counts(seen, wanted, where):
+    """The same of a text, in which `*` is any number."""
+    if not re.fullmatch(re.escape(wanted).replace(r"\*", r"\d+"), seen):
+        same(seen, wanted, where)

@@ -5,13 +5,18 @@ from docs/FORMATS.md and docs/PROTOCOL.md, never from output of the program.
 """
 
 import pathlib
+import shlex
 import socket
 import subprocess
 import tempfile
 
 from held import Wrong, same
 
-ROWS = pathlib.Path(__file__).resolve().parent / "rows"
+TOP = pathlib.Path(__file__).resolve().parent.parent
+ROWS = TOP / "tests" / "rows"
+
+# The judge of the script at the top, which refuses words before anything is compiled.
+JUDGE = ["awk", "-f", str(TOP / "scripts" / "usage"), "--"]
 
 # How long one run may take, in seconds.
 SECONDS = 30
@@ -23,8 +28,31 @@ server = "127.0.0.1:16714"
 words = [ { name = "XYZ", code = 0x4A40, slot = "press", level = 20, operand = "power" } ]
 """
 
+# A log of one session whose bot gets PRN, one that is clean, and one that ends within a frame.
+PRN_LOG = """\
+daide-log 1
+config 60 1024 16
+bot 000000040001DA10
+server 01000000
+bot 0200000448034000
+server 03000000
+"""
+CLEAN_LOG = PRN_LOG.replace("bot 0200000448034000\n", "bot 020000024803\n")
+UNFINISHED_LOG = """\
+daide-log 1
+config 60 1024 16
+bot 000000040001DA10
+server 01000000
+bot 0200000448
+"""
+
 # The files that rows name, which lie in the folder where they run.
 FILES = {
+    "prn.log": PRN_LOG,
+    "clean.log": CLEAN_LOG,
+    "unfinished.log": UNFINISHED_LOG,
+    "bad.log": "daide-log 3\n",
+
     "settings-with-words": WITH_WORDS,
     "settings-without-server": 'listen = "a"',
     "settings-without-port": "listen = '127.0.0.1'\nserver = '127.0.0.1:1'\n",
@@ -64,20 +92,29 @@ def rows_of(name):
     return [line.replace("\\t", "\t").replace("\\r", "\r") for line in lines if not line.startswith("#")]
 
 
+def error_text(field):
+    """The lines on standard error, each after the program's name, but for a tip."""
+    lines = field.split("/") if field else []
+    return "".join(f"  {line}\n" if line.startswith("tip: ") else f"daide-gate: {line}\n" for line in lines)
+
+
 def check_ran(ran, wanted, row):
-    """What was printed, with `/` for the end of a line, what was told, and the status are those of the row."""
+    """The output, with `/` for the end of a line, the lines on standard error and the status are those of the row."""
     printed, told, status = ran
     output, fault, number = (field.strip() for field in wanted)
     same(printed.replace(b"\n", b"/").decode(), output, f"printed by '{row}'")
-    same(told.decode(), f"daide-gate: {fault}\n" if fault else "", f"told by '{row}'")
+    same(told.decode(), error_text(fault), f"told by '{row}'")
     same(str(status), number, f"status of '{row}'")
 
 
-def check_rows(program, name):
-    """Each row of this file holds."""
+def check_rows(program, name, has_lines=False):
+    """Each row of this file holds; with lines, `/` is the end of a line in the input too."""
     with Folder(program, FILES) as folder:
+        (pathlib.Path(folder.room.name) / "a-folder").mkdir()
         for row in rows_of(name):
             words, given, *wanted = row.split("|")
+            if has_lines:
+                given = given.strip(" ").replace("/", "\n")
             check_ran(folder.run(words.split(), given.encode()), wanted, row)
 
 
@@ -97,11 +134,39 @@ def run_that_cannot_begin_has_status_1(program):
 
 
 def checked_logs(program):
-    """Reports of logs."""
+    """Reports of logs, from standard input and from files."""
+    check_rows(program, "checked", has_lines=True)
+
+
+def framed_messages(program):
+    """The frames of messages, from standard input and from words."""
+    check_rows(program, "framed", has_lines=True)
+
+
+def typed_input_is_not_waited_for(program):
+    """With the input in words or in a file nothing is read of standard input, which stays open and silent."""
+    runs = (("show 02000002480F", 0), ("show GOF", 1), ("frame GOF", 0), ("frame zzz", 1), ("check clean.log", 0),
+            ("check no-such-file", 1), ("run no-such-file", 1), ("show --help", 0), ("chek", 2))
+    with Folder(program, FILES) as folder:
+        for words, status in runs:
+            with subprocess.Popen([str(program), *words.split()], stdin=subprocess.PIPE, stdout=subprocess.DEVNULL,
+                                  stderr=subprocess.DEVNULL, cwd=folder.room.name) as child:
+                same(child.wait(SECONDS), status, f"status of '{words}'")
+
+
+def words_of_a_frame_are_joined(program):
+    """The words of a frame are its text with a space between each two, also empty ones and ones with blanks."""
     with Folder(program) as folder:
-        for row in rows_of("checked"):
-            log, *wanted = row.split("|")
-            check_ran(folder.run(["check"], log.strip().replace("/", "\n").encode()), wanted, row)
+        runs = ((["show", "0200", "0002", "480F"], "DM 2/OBS/relay/", "", 0),
+                (["show", "02 00\t00\n02", "", "480F"], "DM 2/OBS/relay/", "", 0),
+                (["show", ""], "", "input is not one frame", 1),
+                (["show", "--", "02000002480F"], "DM 2/OBS/relay/", "", 0),
+                (["frame", "NME ('a')", "('b')"], "02 00 00 0E 48 0C 40 00 4B 61 40 01 40 00 4B 62 40 01/", "", 0),
+                (["frame", "NME ('a", "b') ('')"], "02 00 00 10 48 0C 40 00 4B 61 4B 20 4B 62 40 01 40 00 40 01/", "", 0),
+                (["frame", "GOF", "NME ('a", "OBS"], "", "line 1: not a message: 10", 1),
+                (["frame", ""], "02 00 00 00/", "", 0))
+        for words, printed, told, status in runs:
+            check_ran(folder.run(words), (printed, told, str(status)), str(words))
 
 
 def each_usage_is_a_row(program):
@@ -115,6 +180,35 @@ def each_usage_is_a_row(program):
             same(other, b"", f"in the other stream by '{row}'")
             if part.strip() not in used.decode():
                 raise Wrong(f"'{row}': saw {used.decode()!r}, wanted that part in it")
+
+
+def check_judged(folder, words):
+    """The judge refuses these words with the program's text and status, or leaves them to it."""
+    printed, told, status = folder.run(words)
+    judged = subprocess.run([*JUDGE, *words], capture_output=True, timeout=SECONDS, check=False)
+    wanted = (told, 2) if status == 2 else (b"", 0)
+    same((judged.stdout, judged.returncode), wanted, f"the judge of {words}, and its status")
+
+
+def usages_are_judged_alike(program):
+    """Each row with words that are not understood gets from `scripts/usage` what it gets from the program."""
+    with Folder(program, FILES) as folder:
+        for name in ("usages", "shown", "framed", "checked"):
+            for row in rows_of(name):
+                words, *_ = row.split("|")
+                check_judged(folder, words.split())
+
+
+def examples_of_the_help_work(program):
+    """Each help of a command has two examples, which do what they should, as they are, at the top of a clone."""
+    for command, statuses in (("show", [3, 0]), ("check", [3, 3]), ("frame", [0, 0])):
+        text = subprocess.run([str(program), command, "--help"], capture_output=True, check=True).stdout.decode()
+        lines = [line.strip() for line in text.partition("Examples:\n")[2].splitlines()]
+        same(len(lines), 2, f"examples of {command}")
+        for line, status in zip(lines, statuses):
+            typed = line.replace("daide-gate ", f"{shlex.quote(str(program))} ")
+            done = subprocess.run(typed, shell=True, capture_output=True, timeout=SECONDS, check=False, cwd=TOP)
+            same((done.returncode, done.stderr), (status, b""), f"the status of '{line}', and standard error")
 
 
 # A frame of the longest body, `GOF` again and again.
@@ -180,7 +274,12 @@ def without_a_descriptor_for_its_table_it_cannot_listen(program):
 TESTS = [
     shown_frames,
     checked_logs,
+    framed_messages,
+    typed_input_is_not_waited_for,
+    words_of_a_frame_are_joined,
     each_usage_is_a_row,
+    usages_are_judged_alike,
+    examples_of_the_help_work,
     longest_frame_is_shown,
     longest_input_is_read,
     one_bracket_too_deep_gets_huh,

@@ -16,7 +16,7 @@ import time
 from dataclasses import dataclass, field
 
 from acts import Bot, HearsEnd, Listens, Peer, Rests, Server
-from held import Wrong, same
+from held import Wrong, same, same_but_counts
 
 # The most seconds that a scene lasts.
 SECONDS = 30
@@ -301,7 +301,7 @@ class Scene:
         run = stage.run
         same(run.status, 0, f"status, told {run.told()!r}")
         same(run.printed, b"listening\n", "printed")
-        same(run.told(), self.told.format(*stage.ports), "told")
+        same_but_counts(run.told(), self.told.format(*stage.ports), "told")
         same(run.records(), record_names(self.recorded or 0), "records")
         same([run.size(name) for name in record_names(self.there)], [0] * self.there, "records that were there")
         if self.waits and run.seconds >= WAITING:

@@ -10,6 +10,8 @@
 #[cfg(test)]
 mod added;
 #[cfg(test)]
+mod explained;
+#[cfg(test)]
 mod frame;
 #[cfg(test)]
 mod grammar;
@@ -29,6 +31,8 @@ mod rules;
 mod settings;
 #[cfg(test)]
 mod token;
+#[cfg(test)]
+mod typed;
 #[cfg(test)]
 mod verdicts;
 #[cfg(test)]

@@ -7,6 +7,7 @@ use daide_tests::rows::same;
 use std::alloc::Global;
 use std::test::Fail;
 
+mod explained;
 mod match_lines;
 mod matches;
 mod streams;

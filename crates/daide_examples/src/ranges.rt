@@ -34,6 +34,61 @@ fn log_of_each_number_of_sessions(rt: HostRuntime) -> Result<(), Fail> {
     Ok(())
 }
 
+/// A log of these limits has nothing to report.
+fn assert_log_limits(alloc: Global, body: u16, depth: u16) -> Result<(), Fail> {
+    let log = format!(in alloc; "daide-log 1\nconfig 60 {body} {depth}\n")?;
+    let summary = check_log(alloc, &mut log.as_bytes(), &mut Vec::new(alloc));
+    holds(
+        matches!(summary, Ok(seen) if seen.faults == 0),
+        log.as_str(),
+    )
+}
+
+/// Settings of these limits are read.
+fn assert_limits(alloc: Global, body: u16, depth: u16, sessions: u16) -> Result<(), Fail> {
+    let text = format!(in alloc;
+        "listen = \"a\"\nserver = \"b\"\nmax_body = {body}\nmax_depth = {depth}\n\
+        max_sessions = {sessions}\n"
+    )?;
+    let settings = read_settings(alloc, text.as_str())?;
+    let read = (settings.config.max_body, settings.config.max_depth);
+    same(&read, &(body, depth), &"limits")?;
+    same(
+        &settings.max_sessions,
+        &usize::from(sessions),
+        &"max_sessions",
+    )
+}
+
+/// Logs of each depth and of each even body.
+#[test]
+fn log_of_each_limit(rt: HostRuntime) -> Result<(), Fail> {
+    for depth in 4..=254u16 {
+        assert_log_limits(rt.alloc(), 512, depth)?;
+    }
+    for half in 256..=32_763u16 {
+        assert_log_limits(rt.alloc(), half.saturating_mul(2), 62)?;
+    }
+    Ok(())
+}
+
+/// Settings of each depth, of each number of sessions at once, and of bodies throughout their range.
+#[test]
+fn settings_of_each_limit(rt: HostRuntime) -> Result<(), Fail> {
+    for depth in 4..=254u16 {
+        assert_limits(rt.alloc(), depth.saturating_mul(256), depth, 16)?;
+    }
+    for sessions in 1..=256u16 {
+        assert_limits(
+            rt.alloc(),
+            sessions.saturating_mul(2).saturating_add(60_000),
+            62,
+            sessions,
+        )?;
+    }
+    Ok(())
+}
+
 /// A hexadecimal digit more.
 fn push_digit(text: &mut String, digit: u8) -> Result<(), Fail> {
     let digit = char::from_digit(u32::from(digit), 16);

@@ -85,6 +85,11 @@ const LINES: &[Row] = &[
     ("idle_seconds = 86401", "idle_seconds out of range"),
     ("idle_seconds = -1", "idle_seconds out of range"),
     ("idle_seconds = 0.5", "wrong type for idle_seconds"),
+    ("stall_seconds = 0", ""),
+    ("stall_seconds = 86400", ""),
+    ("stall_seconds = 86401", "stall_seconds out of range"),
+    ("stall_seconds = -1", "stall_seconds out of range"),
+    ("stall_seconds = \"60\"", "wrong type for stall_seconds"),
     ("top_level = 0x3C", ""),
     ("max_depth = 6_2", ""),
     ("turns = -1", "turns out of range"),
@@ -130,7 +135,7 @@ const WORDS: &[Row] = &[
     ("[ { name = \"XYZ\", code = 0x4A40, slot = \"press\", level = 20, operand = \"power\" }, { name = \"XYZ\", code = 0x4A41, slot = \"press\", level = 20, operand = \"power\" } ]", "words out of range"),
 ];
 
-/// Whole lines with words, and their fault: words come last of all keys.
+/// Whole lines with words, and their fault: words come after all other keys but `stall_seconds`.
 const BESIDE_WORDS: &[Row] = &[
     ("turns = 0\nwords = 1", "turns out of range"),
     (
@@ -141,6 +146,7 @@ const BESIDE_WORDS: &[Row] = &[
         "words = [ { name = \"XYZ\" } ]\nturns = 0",
         "turns out of range",
     ),
+    ("stall_seconds = 86401\nwords = 1", "wrong type for words"),
 ];
 
 /// Seventeen words, each of which would be accepted after the ones before it.
@@ -230,7 +236,7 @@ fn assert_settings(
     settings: &Settings,
     addresses: (&str, &str),
     limits: (Config, u32),
-    run: (usize, u32, u64, u32),
+    run: (usize, u32, u64, u32, u32),
     words: usize,
 ) -> Result<(), Fail> {
     let are_there = (settings.listen.as_str(), settings.server.as_str());
@@ -239,6 +245,7 @@ fn assert_settings(
         settings.sessions,
         settings.turns,
         settings.idle_seconds,
+        settings.stall_seconds,
     );
     let of_session = (settings.config, settings.im_seconds);
     let told = (are_there, of_session, of_run);
@@ -257,13 +264,13 @@ const DEFAULTS: Config = Config {
 fn two_addresses_give_the_defaults(rt: HostRuntime) -> Result<(), Fail> {
     let settings = read_settings(rt.alloc(), ADDRESSES)?;
     let addresses = ("127.0.0.1:16713", "127.0.0.1:16714");
-    let run = (16, 1, 1_000_000_000, 0);
+    let run = (16, 1, 1_000_000_000, 0, 60);
     assert_settings(&settings, addresses, (DEFAULTS, 30), run, 0)
 }
 
 /// Each key with a value of its own, the last one first.
 const EACH_KEY: &str =
-    "words = [ { name = \"XYZ\", code = 0x4A40, slot = \"press\", level = 20, operand = \"power\" } ]\n\
+    "stall_seconds = 9\nwords = [ { name = \"XYZ\", code = 0x4A40, slot = \"press\", level = 20, operand = \"power\" } ]\n\
     idle_seconds = 8\nturns = 7\nsessions = 6\nmax_sessions = 5\nim_seconds = 4\nmax_depth = 13\nmax_body = 1024\n\
     top_level = 20\nserver = \"s\"\nlisten = \"l\"\n";
 
@@ -277,7 +284,7 @@ const OWN_LIMITS: Config = Config {
 #[test]
 fn each_key_sets_its_own_field(rt: HostRuntime) -> Result<(), Fail> {
     let settings = read_settings(rt.alloc(), EACH_KEY)?;
-    assert_settings(&settings, ("l", "s"), (OWN_LIMITS, 4), (5, 6, 7, 8), 1)?;
+    assert_settings(&settings, ("l", "s"), (OWN_LIMITS, 4), (5, 6, 7, 8, 9), 1)?;
     let word = Word {
         name: *b"XYZ",
         code: Token::from_code(0x4A40),

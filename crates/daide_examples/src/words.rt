@@ -7,7 +7,7 @@ ghost use Rattle.std.specs.Prelude.{◌≤◌, IfOk, length};
 use crate::judging::{LONGEST, body_of, judged};
 use crate::messages::tokens_of_text;
 use daide_frame::side::Side;
-use daide_gate::frame_view::{ShowFault, show, show_with};
+use daide_gate::frame_view::{Request, ShowFault, show, show_with};
 use daide_grammar::level::Level;
 use daide_grammar::level::Level::{L10, L20, L30, L50, L60};
 use daide_grammar::side::Side2;
@@ -156,7 +156,13 @@ fn show_words<A: Allocator + Copy>(
     output: &mut Vec<u8>,
 ) -> Result<bool, ShowFault> {
     let mut input = SENT;
-    show_with(alloc, Side::Bot, level, &two_words(), &mut input, output)
+    let request = Request {
+        side: Side::Bot,
+        level,
+        words: &two_words(),
+        is_explained: false,
+    };
+    show_with(alloc, &request, &mut input, output)
 }
 
 /// Shows the frame at a level with the words or without; whether it is relayed.

@@ -30,3 +30,20 @@ digit_of n = slice_index (codes "0123456789ABCDEF") n
 -- the number as people read it, in two digits
 abbrev pub code_digits : Code → List ℕ
 code_digits code = digit_of (code_number code / 16) ∷ digit_of (code_number code % 16) ∷ []
+
+-- what the code says, in a few words (own)
+abbrev pub code_name : Code → List ℕ
+code_name ImTimeout = codes "no IM in time"
+code_name ImNotFirst = codes "first frame is no IM"
+code_name WrongEndian = codes "wrong byte order"
+code_name WrongMagic = codes "wrong magic number"
+code_name WrongVersion = codes "wrong version"
+code_name SecondIm = codes "second IM"
+code_name ImFromServer = codes "IM from server"
+code_name UnknownMessage = codes "unknown message"
+code_name WrongLength = codes "wrong length"
+code_name DmBeforeRm = codes "DM before RM"
+code_name RmNotFirst = codes "first frame is no RM"
+code_name SecondRm = codes "second RM"
+code_name RmFromClient = codes "RM from client"
+code_name InvalidToken = codes "invalid token"

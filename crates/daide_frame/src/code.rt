@@ -4,7 +4,7 @@
 //! stand in the order of their numbers.
 
 ghost use Rattle.std.specs.Prelude.{◌≡◌, length};
-ghost use Rattle.daide_frame.specs.Code.{code_digits, code_number};
+ghost use Rattle.daide_frame.specs.Code.{code_digits, code_name, code_number};
 
 /// What was wrong of a frame, or of a missing one.
 #[derive(Clone, Copy, Debug, PartialEq, Eq)]
@@ -82,6 +82,28 @@ impl Code {
             Code::SecondRm => "0C",
             Code::RmFromClient => "0D",
             Code::InvalidToken => "0E",
+        }
+    }
+
+    /// Returns what the code says, in a few words.
+    pub fn name(self) -> &'static str
+        ensures { result.now ≡ code_name self }
+    {
+        match self {
+            Code::ImTimeout => "no IM in time",
+            Code::ImNotFirst => "first frame is no IM",
+            Code::WrongEndian => "wrong byte order",
+            Code::WrongMagic => "wrong magic number",
+            Code::WrongVersion => "wrong version",
+            Code::SecondIm => "second IM",
+            Code::ImFromServer => "IM from server",
+            Code::UnknownMessage => "unknown message",
+            Code::WrongLength => "wrong length",
+            Code::DmBeforeRm => "DM before RM",
+            Code::RmNotFirst => "first frame is no RM",
+            Code::SecondRm => "second RM",
+            Code::RmFromClient => "RM from client",
+            Code::InvalidToken => "invalid token",
         }
     }
 }

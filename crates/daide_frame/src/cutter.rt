@@ -185,6 +185,14 @@ impl<A: Allocator> Cutter<A> {
         self.body.as_slice()
     }
 
+    /// Returns the header's bytes so far, good or not: four at most.
+    pub fn header(&self) -> &[u8]
+        ensures { result.now ≡ take 4 self.now.bytes }
+    {
+        let (front, _rest) = self.header.split_at(self.have);
+        front
+    }
+
     /// Begins a frame, whatever came before.
     pub fn reset(&mut self)
         ensures cap { self.new.cap ≡ self.old.cap }

@@ -13,6 +13,8 @@ pub use Rattle.daide_log.specs.RecordText
 pub use Rattle.daide_log.specs.Recording
 pub use Rattle.daide_show.specs.Input
 pub use Rattle.daide_show.specs.Shown
+pub use Rattle.daide_show.specs.Note
+pub use Rattle.daide_show.specs.Groups
 pub use Rattle.daide_settings.specs.WordSettings
 pub use Rattle.daide_settings.specs.Settings
 pub use Rattle.daide_settings.specs.Given

@@ -35,4 +35,7 @@ pub use daide_log::{
 };
 pub use daide_service::{ServeFault, Service, metered, serve, serving};
 pub use daide_settings::{Address, Key, Settings, SettingsError, read_settings, settings};
-pub use daide_show::{ShowFault, frame_view, show, show_with};
+pub use daide_show::{
+    InputNote, OddGroup, Request, ShowFault, frame_view, groups, input_note, notes, odd_group,
+    read_input, show, show_input, show_with,
+};

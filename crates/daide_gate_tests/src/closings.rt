@@ -48,8 +48,9 @@ fn wrong_step(
     poller: &Poller<Steps>,
     closings: &mut Closings<'_, Wire>,
     flags: &Flags,
+    steps: &[Closes],
 ) -> Option<usize> {
-    for (row, closes) in CLOSES.iter().enumerate() {
+    for (row, closes) in steps.iter().enumerate() {
         if goes_on(poller, closings, flags) != *closes {
             return Some(row);
         }
@@ -71,7 +72,8 @@ fn closes_one(rt: &HostRuntime, poller: &Poller<Steps>) -> Result<(), Fail> {
     let (flags, _) = two_rows(rt, poller)?;
     let mut closings = Closings::new(rt.alloc())?;
     closings.begin(poller, holding(poller, Wire::new(TAKES, 0), flags));
-    same(&wrong_step(poller, &mut closings, flags), &None, &"a step")
+    let wrong = wrong_step(poller, &mut closings, flags, CLOSES);
+    same(&wrong, &None, &"a step")
 }
 
 /// The same in a table that never waits.
@@ -135,4 +137,45 @@ fn one_closes_before_another(rt: HostRuntime) -> Result<(), Fail> {
     let mut acceptor = TcpListener::bind(&rt, any_port())?;
     let poller = table(&rt)?;
     closes_two_beside(&rt, &poller, &mut acceptor)
+}
+
+/// Three bytes are held for a peer that takes none for a second: the third step gives up, and then a second is waited.
+const STALLS: &[Closes] = &[
+    (false, false, false),
+    (false, false, false),
+    (true, true, false),
+    (true, false, false),
+    (true, false, false),
+    (true, false, true),
+];
+
+/// One socket closes whose peer takes nothing.
+fn closes_stalled(rt: &HostRuntime, poller: &Poller<Steps>) -> Result<(), Fail> {
+    let (flags, _) = two_rows(rt, poller)?;
+    let mut closings = Closings::new(rt.alloc())?;
+    let mut socket = socket_over(poller, Wire::new(&[], 0), flags);
+    socket.set_stall_time(Some(Duration::from_secs(1)));
+    flags.note(true, true);
+    socket.put(b"abc");
+    closings.begin(poller, socket);
+    let wrong = wrong_step(poller, &mut closings, flags, STALLS);
+    same(&wrong, &None, &"a step")
+}
+
+/// The same in a table that never waits.
+fn closes_stalled_beside(
+    rt: &HostRuntime,
+    poller: &Poller<Steps>,
+    acceptor: &mut TcpListener,
+) -> Result<(), Fail> {
+    let _place = hurries(poller, acceptor)?;
+    closes_stalled(rt, poller)
+}
+
+/// A socket whose peer takes nothing is given up after its time, and closed.
+#[test]
+fn stalled_socket_is_closed(rt: HostRuntime) -> Result<(), Fail> {
+    let mut acceptor = TcpListener::bind(&rt, any_port())?;
+    let poller = table(&rt)?;
+    closes_stalled_beside(&rt, &poller, &mut acceptor)
 }

@@ -1,6 +1,7 @@
 //! The ports that ship, driven over streams in memory: what each of a session's sides takes is known to the byte.
 //!
-//! The streams give and take little at once, are interrupted, and often have nothing. So a frame comes and goes in pieces.
+//! Slow streams give and take little at once, are interrupted, and often have nothing. So a frame comes and goes in pieces.
+//! The others take at once all that is written, and their writes are counted.
 
 use crate::frames::{FM, IM, ITS_PRN, OBS, RM, UNCLOSED};
 use crate::wires::two_rows;
@@ -35,6 +36,11 @@ const CONFIG: Config = Config {
 /// A second initial message came.
 const EM_SECOND_IM: &[u8] = b"\x04\x00\x00\x02\x00\x06";
 
+/// `OBS GOF`, and `HUH ( OBS ERR GOF )`.
+const OBS_GOF: &[u8] = b"\x02\x00\x00\x04\x48\x0f\x48\x03";
+
+const ITS_HUH: &[u8] = b"\x02\x00\x00\x0c\x48\x06\x40\x00\x48\x0f\x49\x02\x48\x03\x40\x01";
+
 /// What one end says: when it took so many bytes, these; no bytes are its end.
 type Part = (usize, &'static [u8]);
 
@@ -43,6 +49,8 @@ type Part = (usize, &'static [u8]);
 struct Line {
     /// What it says, in order.
     says: &'static [Part],
+    /// Whether it gives and takes little at once, and often has nothing.
+    is_slow: bool,
     /// Which of these is next, and how many bytes of it were given.
     part: usize,
     given: usize,
@@ -62,9 +70,10 @@ fn hold_up(call: usize) -> io::Result<()> {
 
 impl Line {
     /// A stream that says these parts, and took nothing yet.
-    fn new(alloc: Global, says: &'static [Part]) -> Line {
+    fn new(alloc: Global, says: &'static [Part], is_slow: bool) -> Line {
         Line {
             says,
+            is_slow,
             part: 0,
             given: 0,
             took: Vec::new(alloc),
@@ -95,7 +104,9 @@ impl Duplex for Line {
     fn read(&mut self, buffer: &mut [u8]) -> io::Result<usize> {
         let call = self.reads;
         self.reads = call.wrapping_add(1);
-        hold_up(call)?;
+        if self.is_slow {
+            hold_up(call)?;
+        }
         let Some((after, bytes)) = self.says.get(self.part) else {
             return Err(ErrorKind::WouldBlock.into());
         };
@@ -112,8 +123,11 @@ impl Duplex for Line {
     fn write(&mut self, bytes: &[u8]) -> io::Result<usize> {
         let call = self.writes;
         self.writes = call.wrapping_add(1);
-        hold_up(call)?;
-        let count = bytes.len().min(MOST_TAKEN);
+        let mut count = bytes.len();
+        if self.is_slow {
+            hold_up(call)?;
+            count = count.min(MOST_TAKEN);
+        }
         if self.took.extend_from_slice(&bytes[..count]).is_err() {
             return Err(ErrorKind::OutOfMemory.into());
         }
@@ -125,6 +139,7 @@ impl Duplex for Line {
 
 /// What the bot and the server say, and what each of them gets.
 struct Talk {
+    is_slow: bool,
     bot: &'static [Part],
     server: &'static [Part],
     to_bot: &'static [&'static [u8]],
@@ -156,7 +171,7 @@ fn write_out(socket: &mut Socket<'_, Line>) {
     }
 }
 
-/// Whether these bytes, and no others, were taken.
+/// Whether these frames, and no other bytes, were taken: by a stream that isn't slow, each in one write.
 fn has_taken(line: &Line, wanted: &[&[u8]]) -> bool {
     let mut left = line.took.as_slice();
     for bytes in wanted {
@@ -165,7 +180,7 @@ fn has_taken(line: &Line, wanted: &[&[u8]]) -> bool {
         };
         left = rest;
     }
-    left.is_empty()
+    left.is_empty() && (line.is_slow || line.writes == wanted.len())
 }
 
 /// The ports of a session between the two ends of a talk, in these rows.
@@ -175,8 +190,8 @@ fn ports_of<'w>(
     flags: (&'w Flags, &'w Flags),
     talk: &Talk,
 ) -> SocketPorts<'w, &'w HostRuntime, Line> {
-    let bot = Line::new(alloc, talk.bot);
-    let server = Line::new(alloc, talk.server);
+    let bot = Line::new(alloc, talk.bot, talk.is_slow);
+    let server = Line::new(alloc, talk.server, talk.is_slow);
     SocketPorts::new(
         poller,
         Socket::over(poller, bot, Registration { flags: flags.0 }),
@@ -236,6 +251,7 @@ fn talks(rt: &HostRuntime, talk: &Talk) -> Result<(), Fail> {
 
 /// A message whose bracket never closes goes back to the bot in a `PRN`, and the server sees nothing of it.
 const UNCLOSED_BRACKET: Talk = Talk {
+    is_slow: true,
     bot: &[(0, IM), (4, UNCLOSED), (4, OBS), (4, FM)],
     server: &[(8, RM)],
     to_bot: &[RM, ITS_PRN],
@@ -244,6 +260,7 @@ const UNCLOSED_BRACKET: Talk = Talk {
 
 /// A second initial message is an error, told to the bot; the server hears the end.
 const SECOND_IM: Talk = Talk {
+    is_slow: true,
     bot: &[(0, IM), (4, IM)],
     server: &[(8, RM)],
     to_bot: &[RM, EM_SECOND_IM],
@@ -252,11 +269,26 @@ const SECOND_IM: Talk = Talk {
 
 /// A server that goes without a word: the bot hears the end, and what it said before has come.
 const SERVER_GOES: Talk = Talk {
+    is_slow: true,
     bot: &[(0, IM), (4, OBS)],
     server: &[(8, RM), (14, b"")],
     to_bot: &[RM, FM],
     to_server: &[IM, OBS],
 };
+
+/// Each answer of the gateway's own goes out in one write, as a frame that is passed on does.
+const ANSWERED: Talk = Talk {
+    is_slow: false,
+    bot: &[(0, IM), (4, UNCLOSED), (18, OBS_GOF), (34, FM)],
+    server: &[(8, RM)],
+    to_bot: &[RM, ITS_PRN, ITS_HUH],
+    to_server: &[IM, FM],
+};
+
+#[test]
+fn answers_go_out_in_one_write(rt: HostRuntime) -> Result<(), Fail> {
+    talks(&rt, &ANSWERED)
+}
 
 #[test]
 fn unclosed_bracket_over_streams_in_memory(rt: HostRuntime) -> Result<(), Fail> {

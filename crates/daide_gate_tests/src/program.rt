@@ -48,6 +48,9 @@ const FAULTY: &[&[&str]] = &[
     &["daide-gate", "run", "no-such-file"],
     &["daide-gate"],
     &["daide-gate", "check"],
+    &["daide-gate", "check", "no-such-file"],
+    &["daide-gate", "frame", "zzz"],
+    &["daide-gate", "show", "zz"],
     &["daide-gate", "show", "--side", "both"],
     &["daide-gate", "tell"],
 ];

@@ -145,8 +145,8 @@ fn input_without_end_is_left(rt: HostRuntime) -> Result<(), Fail> {
     )
 }
 
-#[test]
-fn failed_read_is_told(rt: HostRuntime) -> Result<(), Fail> {
+/// The read of this run fails, and is reported.
+fn check_failed_read(rt: &HostRuntime, words: &[&str]) -> Result<(), Fail> {
     let mut reader = FailsAtRead {
         bytes: b"",
         reads: 0,
@@ -154,10 +154,19 @@ fn failed_read_is_told(rt: HostRuntime) -> Result<(), Fail> {
     };
     let mut output = Vec::new(rt.alloc());
     let mut errors = Vec::new(rt.alloc());
-    let status = answer(&rt, &["daide-gate"], &mut reader, &mut output, &mut errors)?;
+    let status = answer(rt, words, &mut reader, &mut output, &mut errors)?;
     holds(output.is_empty() && status == 1, "the status")?;
     let told = b"daide-gate: input could not be read\n".as_slice();
-    same(&errors.as_slice(), &told, &"told")
+    same(&errors.as_slice(), &told, &words)
+}
+
+#[test]
+fn failed_read_is_told(rt: HostRuntime) -> Result<(), Fail> {
+    check_failed_read(&rt, &["daide-gate"])?;
+    check_failed_read(&rt, &["daide-gate", "show", "--explain"])?;
+    check_failed_read(&rt, &["daide-gate", "check"])?;
+    check_failed_read(&rt, &["daide-gate", "check", "--explain", "-"])?;
+    check_failed_read(&rt, &["daide-gate", "frame"])
 }
 
 /// A write of this run fails, and is told.
@@ -179,5 +188,7 @@ fn check_failed_write(rt: &HostRuntime, words: &[&str]) -> Result<(), Fail> {
 #[test]
 fn failed_write_is_told(rt: HostRuntime) -> Result<(), Fail> {
     check_failed_write(&rt, &["daide-gate"])?;
-    check_failed_write(&rt, &["daide-gate", "--help"])
+    check_failed_write(&rt, &["daide-gate", "--help"])?;
+    check_failed_write(&rt, &["daide-gate", "show", "0", "2000002480F"])?;
+    check_failed_write(&rt, &["daide-gate", "frame", "OBS"])
 }

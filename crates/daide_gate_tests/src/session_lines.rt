@@ -6,6 +6,7 @@ use daide_gate::{Cause, SessionEnd, Summary};
 use daide_machine::ending::Ending;
 use daide_program::RecordNotice;
 use daide_sockets::session_notice::{SessionNotice, Why, why_of};
+use daide_sockets::timed::Timed;
 use daide_tests::rows::{holds, same};
 use std::alloc::Global;
 use std::test::Fail;
@@ -27,6 +28,8 @@ const CAUSES: &[(Why, &str)] = &[
     (Why::Ended(Cause::TurnsSpent), "turns spent"),
     (Why::Silent(Side::Bot), "bot silent"),
     (Why::Silent(Side::Server), "server silent"),
+    (Why::Stalled(Side::Bot, 60), "bot took nothing for 60 s"),
+    (Why::Stalled(Side::Server, 1), "server took nothing for 1 s"),
     (Why::NoServer, "no server"),
 ];
 
@@ -44,21 +47,44 @@ fn causes_have_their_texts(rt: HostRuntime) -> Result<(), Fail> {
     Ok(())
 }
 
-/// What a session is told to have ended by, the side that is silent, and what its line says.
-const SILENCES: &[(Ending, Option<Side>, bool)] = &[
-    (Ending::Ended(Side::Bot), Some(Side::Bot), true),
-    (Ending::Ended(Side::Bot), Some(Side::Server), false),
-    (Ending::Ended(Side::Bot), None, false),
-    (Ending::Lost(Side::Bot), Some(Side::Bot), false),
-    (Ending::Final(Side::Server), Some(Side::Server), false),
+/// A side of which nothing came for too long.
+const SILENT: Timed = Timed {
+    is_silent: true,
+    ..Timed::NONE
+};
+
+/// A side that took nothing for too long.
+const STALLED: Timed = Timed {
+    is_stalled: true,
+    ..Timed::NONE
+};
+
+/// A side that took nothing for too long, and was taken as ended for that.
+const STALLED_END: Timed = Timed {
+    ends_stalled: true,
+    ..STALLED
+};
+
+/// What ended a session, what the times of its bot and of its server came to, and why it is over.
+#[rattlefmt::skip]
+const TIMES: &[(Ending, Timed, Timed, Why)] = &[
+    (Ending::Ended(Side::Bot), SILENT, Timed::NONE, Why::Silent(Side::Bot)),
+    (Ending::Ended(Side::Bot), Timed::NONE, SILENT, Why::Ended(Cause::Session(Ending::Ended(Side::Bot)))),
+    (Ending::Ended(Side::Bot), Timed::NONE, Timed::NONE, Why::Ended(Cause::Session(Ending::Ended(Side::Bot)))),
+    (Ending::Lost(Side::Bot), SILENT, Timed::NONE, Why::Ended(Cause::Session(Ending::Lost(Side::Bot)))),
+    (Ending::Final(Side::Server), SILENT, SILENT, Why::Ended(Cause::Session(Ending::Final(Side::Server)))),
+    (Ending::Lost(Side::Server), Timed::NONE, STALLED, Why::Stalled(Side::Server, 60)),
+    (Ending::Lost(Side::Server), STALLED, Timed::NONE, Why::Ended(Cause::Session(Ending::Lost(Side::Server)))),
+    (Ending::Ended(Side::Bot), STALLED, Timed::NONE, Why::Ended(Cause::Session(Ending::Ended(Side::Bot)))),
+    (Ending::Ended(Side::Bot), STALLED_END, Timed::NONE, Why::Stalled(Side::Bot, 60)),
 ];
 
-/// A side's silence is told where the session ended by that side's end.
+/// A side's silence is named instead of its end, and that it took nothing instead of its loss.
 #[test]
-fn silence_is_told_in_place_of_the_end(_rt: HostRuntime) -> Result<(), Fail> {
-    for (ending, silent, is_silence) in SILENCES {
-        let why = why_of(Cause::Session(*ending), *silent);
-        same(&matches!(why, Why::Silent(_)), is_silence, ending)?;
+fn times_are_named_in_place_of_the_event(_rt: HostRuntime) -> Result<(), Fail> {
+    for (ending, bot, server, want) in TIMES {
+        let why = why_of(Cause::Session(*ending), (*bot, *server), 60);
+        same(&why, want, ending)?;
     }
     Ok(())
 }
@@ -77,7 +103,9 @@ fn lines_of_a_session(rt: HostRuntime) -> Result<(), Fail> {
     };
     let bot = "127.0.0.1:50000".parse()?;
     let began = SessionNotice::Began { number: 7, bot }.to_string(rt.alloc())?;
-    let ended = SessionNotice::of_end(7, end, None).to_string(rt.alloc())?;
+    let ended = SessionNotice::of_end(7, end, (Timed::NONE, Timed::NONE), 60).to_string(
+        rt.alloc(),
+    )?;
     let alone = SessionNotice::of_no_server(8).to_string(rt.alloc())?;
     let lines = (began.as_str(), ended.as_str(), alone.as_str());
     let want = (

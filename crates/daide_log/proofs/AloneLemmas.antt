@@ -26,7 +26,7 @@ use Rattle.daide_log.specs.ConfigLine.{match_config_of_line}
 use Rattle.daide_log.specs.Heading.{Preamble, Heading, Unnamed, Named, Headed, alone, heading_after}
 use Rattle.daide_machine.specs.Summary.{nothing_counted}
 use Rattle.daide_log.specs.Report.{Entry, events_of, side_of, entries_of, lines_of, counted_all, summary_line}
-use Rattle.daide_log.specs.Log.{LogState, Opening, Playing, begun, stage_at, source_in, IsPlayed, GoesOn, Reports, ReportsAll, IsReport}
+use Rattle.daide_log.specs.Log.{ReportsBy, IsReportBy, LogState, Opening, Playing, begun, stage_at, source_in, IsPlayed, GoesOn, Reports, ReportsAll, IsReport}
 use Rattle.daide_log.specs.Laws.{is_number, own_of, own_line, unnumbered, own_told, SessionsAreAlone}
 use Rattle.daide_log.proofs.StepLemmas.{Steps, all_read, all_written}
 
@@ -392,7 +392,7 @@ record IsWhole (log text : List ℕ) (summary : Summary) : Type 0 where
 
 is_whole_report : (log text : List ℕ) (answer : Result Summary LogFault) (summary : Summary) → IsReport log text answer →
     answer ≡ Ok summary → IsWhole log text summary
-is_whole_report _ _ _ summary (IsReport.whole log number told version sessions reports) e =
+is_whole_report _ _ _ summary (IsReportBy.whole log number told version sessions reports) e =
     let counts : counted_all told nothing_counted ≡ summary = cc in
     record {
       number = number;
@@ -403,11 +403,11 @@ is_whole_report _ _ _ summary (IsReport.whole log number told version sessions r
       counts = sym counts;
       written = ap (λ (s : Summary). lines_of told ++ summary_line s) counts;
     }
-is_whole_report _ _ _ summary (IsReport.cut_short log number told stage reports is_opening) e = absurd (cc)
-is_whole_report _ _ _ summary (IsReport.bad bytes number told stage reports line after few unbroken short wrong) e = absurd (cc)
-is_whole_report _ _ _ summary (IsReport.bad_last bytes number told stage reports line few some unbroken short wrong) e = absurd (cc)
-is_whole_report _ _ _ summary (IsReport.too_long bytes number told stage reports line after few unbroken long) e = absurd (cc)
-is_whole_report _ _ _ summary (IsReport.too_many bytes told stage reports after some) e = absurd (cc)
+is_whole_report _ _ _ summary (IsReportBy.cut_short log number told stage reports is_opening) e = absurd (cc)
+is_whole_report _ _ _ summary (IsReportBy.bad bytes number told stage reports line after few unbroken short wrong) e = absurd (cc)
+is_whole_report _ _ _ summary (IsReportBy.bad_last bytes number told stage reports line few some unbroken short wrong) e = absurd (cc)
+is_whole_report _ _ _ summary (IsReportBy.too_long bytes number told stage reports line after few unbroken long) e = absurd (cc)
+is_whole_report _ _ _ summary (IsReportBy.too_many bytes told stage reports after some) e = absurd (cc)
 
 pub sessions_alone : SessionsAreAlone
 unfolding opening_of
@@ -422,9 +422,9 @@ sessions_alone log own second own_second lines limits session text summary h sec
     let own_steps = own_opened own_second (map (own_line session) lines) limits.config (own_told session w.told)
     (Playing Single (alone_steps.next ∷ [])) own_is alone_steps.own in
     let all = all_written (codes "daide-log 1" ∷ own_second ∷ map (own_line session) lines) own [] 0 []
-    (own_told session w.told) (Opening Unnamed) (Playing Single (alone_steps.next ∷ [])) k Reports.none own_steps
+    (own_told session w.told) (Opening Unnamed) (Playing Single (alone_steps.next ∷ [])) k ReportsBy.none own_steps
     (omega (arith, read.1, length-map lines (own_line session))) in (
       w.told,
       w.written,
-      IsReport.whole own all.0 (own_told session w.told) Single (alone_steps.next ∷ []) all.1,
+      IsReportBy.whole own all.0 (own_told session w.told) Single (alone_steps.next ∷ []) all.1,
     )

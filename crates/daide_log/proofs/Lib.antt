@@ -3,7 +3,14 @@ pub mod ReportLemmas
 pub mod Played
 pub mod StandardFacts
 pub mod MatchFacts
+pub mod AnswerParts
+pub mod PageTexts
+pub mod TextLemmas
+pub mod PartLemmas
 pub mod PlayLemmas
+pub mod LimitBounds
+pub mod MadeLemmas
+pub mod FramedLemmas
 pub mod LogLemmas
 pub mod PreambleLemmas
 pub mod EventLemmas

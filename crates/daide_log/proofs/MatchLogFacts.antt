@@ -28,7 +28,7 @@ use Rattle.daide_log.specs.ConfigLine.{match_config_of_line}
 use Rattle.daide_lines.specs.WordLine.{word_of_line}
 use Rattle.daide_log.specs.Heading.{Preamble, Unnamed, Named, Headed}
 use Rattle.daide_log.specs.Report.{Entry, source_text, told_text, move_line, summary_line, events_of}
-use Rattle.daide_log.specs.Log.{Opening, Playing, source_in, Reports, ReportsAll, IsReport}
+use Rattle.daide_log.specs.Log.{ReportsBy, ReportsAllBy, IsReportBy, Opening, Playing, source_in, Reports, ReportsAll, IsReport}
 use Rattle.daide_lines.proofs.LineFacts.{xyz}
 use Rattle.daide_log.proofs.MatchFacts.{limits}
 use Rattle.daide_log.proofs.Played.{Played, state_at, played, verdict_on, entries_by}
@@ -60,13 +60,13 @@ session_ended ending = over ending (session_in WaitIm)
 named : Reports (codes "daide-log 2" ++ 10 ∷ []) 1 [] (Opening (Named Match))
 unfolding has_no_feed
 named =
-    Reports.line [] 0 [] (Opening Unnamed) Reports.none (codes "daide-log 2") [] (Opening (Named Match)) (omega arith)
+    ReportsBy.line [] 0 [] (Opening Unnamed) ReportsBy.none (codes "daide-log 2") [] (Opening (Named Match)) (omega arith)
     (unbroken (codes "daide-log 2") refl) (omega arith) (Named Match, refl, refl, refl)
 
 headed : Reports first_lines 2 [] (Opening (Headed (head_with [])))
 unfolding first_lines head_with limits match_config_of_line parted_at_space plain_number has_no_feed
 headed =
-    Reports.line (codes "daide-log 2" ++ 10 ∷ []) 1 [] (Opening (Named Match)) named (codes "config 60 1024 16 2 1") []
+    ReportsBy.line (codes "daide-log 2" ++ 10 ∷ []) 1 [] (Opening (Named Match)) named (codes "config 60 1024 16 2 1") []
     (Opening (Headed (head_with []))) (omega arith) (unbroken (codes "config 60 1024 16 2 1") refl) (omega arith)
     (Headed (head_with []), refl, refl, refl)
 
@@ -74,7 +74,7 @@ opened : Reports head_lines 3 [] (Playing Match (session_in WaitIm ∷ session_i
 unfolding first_lines head_lines head_with limits xyz word_of_line parted_at_space plain_number decode_pairs
     name_of token_named names has_no_feed
 opened =
-    Reports.line first_lines 2 [] (Opening (Headed (head_with []))) headed (codes "word XYZ 4A40 press 20 power") []
+    ReportsBy.line first_lines 2 [] (Opening (Headed (head_with []))) headed (codes "word XYZ 4A40 press 20 power") []
     (Playing Match (session_in WaitIm ∷ session_in WaitIm ∷ [])) (omega arith)
     (unbroken (codes "word XYZ 4A40 press 20 power") refl) (omega arith)
     (Headed (head_with (xyz ∷ [])), refl, refl, refl)
@@ -116,8 +116,8 @@ two_sessions =
     let late : Played = record { state = session_ended (Endings.Fault Bot ImTimeout); told = Fault ImTimeout ∷ [] } in
     let states : List SessionState = session_in WaitRm ∷ session_ended (Endings.Fault Bot ImTimeout) ∷ [] in
     let told : List Entry = im_told ++ entries_by (source_in Match 5 2) Bot late.told in
-    IsReport.whole (after_im ++ codes "2 timer" ++ 10 ∷ []) 5 told Match states
-    (ReportsAll.ended (after_im ++ codes "2 timer" ++ 10 ∷ []) 5 told (Playing Match states)
+    IsReportBy.whole (after_im ++ codes "2 timer" ++ 10 ∷ []) 5 told Match states
+    (ReportsAllBy.ended (after_im ++ codes "2 timer" ++ 10 ∷ []) 5 told (Playing Match states)
     (line_played after_im 4 im_told Match (session_in WaitRm ∷ session_in WaitIm ∷ []) im_relayed (codes "2 timer") 2
     TimeOver (session_in WaitIm) late refl (omega arith) (omega arith) refl refl refl))
 
@@ -126,18 +126,18 @@ third_session : IsReport (after_im ++ codes "3 timer" ++ 10 ∷ []) (codes "4 1 
 unfolding im_told im_passes match_event_of_line parted_at_space plain_number move_line source_text told_text digits
     entries_by has_no_feed
 third_session =
-    IsReport.bad after_im 4 im_told (Playing Match (session_in WaitRm ∷ session_in WaitIm ∷ [])) im_relayed
+    IsReportBy.bad after_im 4 im_told (Playing Match (session_in WaitRm ∷ session_in WaitIm ∷ [])) im_relayed
     (codes "3 timer") [] (omega arith) (unbroken (codes "3 timer") refl) (omega arith) refl
 
 -- the word is missing
 word_missing : IsReport first_lines [] (Err (BadLine 3))
 word_missing =
-    IsReport.cut_short first_lines 2 [] (Opening (Headed (head_with [])))
-    (ReportsAll.ended first_lines 2 [] (Opening (Headed (head_with []))) headed) tt
+    IsReportBy.cut_short first_lines 2 [] (Opening (Headed (head_with [])))
+    (ReportsAllBy.ended first_lines 2 [] (Opening (Headed (head_with []))) headed) tt
 
 -- a word of a name of the protocol's
 word_of_the_protocol : IsReport (first_lines ++ codes "word GOF 4A40 press 20 power" ++ 10 ∷ []) [] (Err (BadLine 3))
 unfolding head_with word_of_line parted_at_space plain_number decode_pairs name_of token_named names has_no_feed
 word_of_the_protocol =
-    IsReport.bad first_lines 2 [] (Opening (Headed (head_with []))) headed (codes "word GOF 4A40 press 20 power") []
+    IsReportBy.bad first_lines 2 [] (Opening (Headed (head_with []))) headed (codes "word GOF 4A40 press 20 power") []
     (omega arith) (unbroken (codes "word GOF 4A40 press 20 power") refl) (omega arith) refl

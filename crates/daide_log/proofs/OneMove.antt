@@ -32,14 +32,14 @@ use Rattle.daide_log.specs.Told.{IsOneMove}
 
 -- ---- the items that end with a byte
 
-data Ending (limit : ℕ) (b : List ℕ) : List Item → Type 0 where
+pub data Ending (limit : ℕ) (b : List ℕ) : List Item → Type 0 where
   quiet : Ending limit b []
   refused : (code : Code) → Ending limit b (Wrong code ∷ [])
   headed : (head : Head) → missing limit b ≡ 1 → Ending limit b (Begun head ∷ [])
   empty : (head : Head) → missing limit b ≡ 1 → Ending limit b (Begun head ∷ Whole head [] ∷ [])
   full : (head : Head) (body : List ℕ) → missing limit b ≡ 1 → Ending limit b (Whole head body ∷ [])
 
-abbrev EndingAt : ℕ → List ℕ → ℕ → Type 0
+abbrev pub EndingAt : ℕ → List ℕ → ℕ → Type 0
 EndingAt limit b x = Ending limit b (last_items limit (b ++ x ∷ []))
 
 short : (limit : ℕ) (b : List ℕ) (x : ℕ) → length b < 3 → EndingAt limit b x
@@ -91,7 +91,7 @@ body_byte limit p q r s w x (Ok head) e h =
     by_end true o q = rw q (rw (eqb_same (length v)) (refused InvalidToken))
     by_end false o q = rw q (by_length (eqb_tells head.len (length v)))
 
-ending_at : (limit : ℕ) (b : List ℕ) (x : ℕ) → 0 < missing limit b → EndingAt limit b x
+pub ending_at : (limit : ℕ) (b : List ℕ) (x : ℕ) → 0 < missing limit b → EndingAt limit b x
 ending_at limit [] x h = short limit [] x (omega arith)
 ending_at limit (p ∷ []) x h = short limit (p ∷ []) x (omega arith)
 ending_at limit (p ∷ q ∷ []) x h = short limit (p ∷ q ∷ []) x (omega arith)
@@ -101,7 +101,7 @@ ending_at limit (p ∷ q ∷ r ∷ s ∷ w) x h =
     (subst (λ (n : ℕ). 0 < n) (missing-of4 limit p q r s w) h)
 
 -- a byte that ends nothing leaves one byte less to come
-less_missing : (limit : ℕ) (b : List ℕ) (x : ℕ) → 0 < missing limit b → last_items limit (b ++ x ∷ []) ≡ [] →
+pub less_missing : (limit : ℕ) (b : List ℕ) (x : ℕ) → 0 < missing limit b → last_items limit (b ++ x ∷ []) ≡ [] →
     missing limit (b ++ x ∷ []) + 1 ≡ missing limit b
 less_missing limit b x h e = go (byte_tells limit b x h)
   where
@@ -162,21 +162,21 @@ items_single limit b _ (full head body one) s side v live =
 
 -- ---- the moves of bytes
 
-over_moves : (s : SessionState) (events : List Event) (moves : List Effect) (new : SessionState) → is_over s.phase ≡ true →
+pub over_moves : (s : SessionState) (events : List Event) (moves : List Effect) (new : SessionState) → is_over s.phase ≡ true →
     Runs s events moves new → moves ≡ []
 over_moves s events moves new o run = (one_run events s moves [] new s run (over_stays s events o)).0
 
-pending_phase : (s : SessionState) (side : Side) (bytes : List ℕ) → (with_pending s side bytes).phase ≡ s.phase
+pub pending_phase : (s : SessionState) (side : Side) (bytes : List ℕ) → (with_pending s side bytes).phase ≡ s.phase
 pending_phase s Bot bytes = refl
 pending_phase s Server bytes = refl
 
-pending_missing : (s : SessionState) (side : Side) (bytes : List ℕ) →
+pub pending_missing : (s : SessionState) (side : Side) (bytes : List ℕ) →
     missing (with_pending s side bytes).limits.cap (coming (with_pending s side bytes) side).pending
     ≡ missing s.limits.cap bytes
 pending_missing s Bot bytes = refl
 pending_missing s Server bytes = refl
 
-no_more : (s : SessionState) (side : Side) (piece : List ℕ) (moves : List Effect) (new : SessionState) → length piece ≡ 0 →
+pub no_more : (s : SessionState) (side : Side) (piece : List ℕ) (moves : List Effect) (new : SessionState) → length piece ≡ 0 →
     Runs s (bytes_come side piece) moves new → moves ≡ []
 no_more s side [] moves new e run = run.0
 no_more s side (x ∷ piece) moves new e run = absurd (omega arith)

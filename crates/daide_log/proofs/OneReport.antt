@@ -14,7 +14,7 @@ use Rattle.daide_machine.specs.declared.summary.Summary.{Summary}
 use Rattle.daide_log.specs.Heading.{Heading, Unnamed}
 use Rattle.daide_machine.specs.Summary.{nothing_counted}
 use Rattle.daide_log.specs.Report.{Entry, events_of, side_of, entries_of, lines_of, counted_all, summary_line}
-use Rattle.daide_log.specs.Log.{LogState, Opening, Playing, stage_at, source_in, IsPlayed, GoesOn, IsBad, IsOpening}
+use Rattle.daide_log.specs.Log.{ReportsBy, ReportsAllBy, IsReportBy, LogState, Opening, Playing, stage_at, source_in, IsPlayed, GoesOn, IsBad, IsOpening}
 use Rattle.daide_log.specs.Log.{Reports, ReportsAll, IsReport}
 use Rattle.daide_log.proofs.StepLemmas.{no_feed, one_end}
 
@@ -106,8 +106,8 @@ pub record FromFront (bytes : List ℕ) (number : ℕ) (told : List Entry) (stag
 
 pub from_front : (bytes : List ℕ) (number : ℕ) (told : List Entry) (stage : LogState) → Reports bytes number told stage →
     FromFront bytes number told stage
-from_front _ _ _ _ Reports.none = record { lines = []; whole = refl; count = refl; goes = (refl, refl) }
-from_front _ _ _ _ (Reports.line bytes number told old reports line more new few unbroken short on) =
+from_front _ _ _ _ ReportsBy.none = record { lines = []; whole = refl; count = refl; goes = (refl, refl) }
+from_front _ _ _ _ (ReportsBy.line bytes number told old reports line more new few unbroken short on) =
     let before = from_front bytes number told old reports in
     record {
       lines = before.lines ++ line ∷ [];
@@ -323,11 +323,11 @@ stopped bytes number told stage rest fault reports how =
 
 all_walked : (log : List ℕ) (number : ℕ) (told : List Entry) (stage : LogState) (fault : Option LogFault) →
     ReportsAll log number told stage → Closes number stage fault → Walk log (text_by told fault) (answer_by told fault)
-all_walked _ _ _ _ fault (ReportsAll.ended bytes number told stage reports) closes =
+all_walked _ _ _ _ fault (ReportsAllBy.ended bytes number told stage reports) closes =
     subst (λ (l : List ℕ). Walk l (text_by told fault) (answer_by told fault)) (append-nil bytes)
     (stopped bytes number told stage [] fault reports (at_end refl refl closes))
 all_walked _ _ _ _ fault
-    (ReportsAll.unended bytes number told old reports line more new few some unbroken short on) closes =
+    (ReportsAllBy.unended bytes number told old reports line more new few some unbroken short on) closes =
     let r = from_front bytes number told old reports in
     record {
       lines = r.lines;
@@ -349,23 +349,23 @@ opening_closes number (Opening heading) h = refl
 opening_closes number (Playing version sessions) h = absurd h
 
 walk : (log text : List ℕ) (answer : Result Summary LogFault) → IsReport log text answer → Walk log text answer
-walk _ _ _ (IsReport.whole log number told version sessions all) =
+walk _ _ _ (IsReportBy.whole log number told version sessions all) =
     all_walked log number told (Playing version sessions) None all refl
-walk _ _ _ (IsReport.cut_short log number told stage all is_opening) =
+walk _ _ _ (IsReportBy.cut_short log number told stage all is_opening) =
     all_walked log number told stage (Some (BadLine (number + 1))) all (opening_closes number stage is_opening)
-walk _ _ _ (IsReport.bad bytes number told stage reports line after few unbroken short bad) =
+walk _ _ _ (IsReportBy.bad bytes number told stage reports line after few unbroken short bad) =
     subst (λ (l : List ℕ). Walk l (lines_of told) (Err (BadLine (number + 1))))
     (sym (append_assoc bytes line (10 ∷ after)))
     (stopped bytes number told stage (line ++ 10 ∷ after) (Some (BadLine (number + 1))) reports
     (at_bad line after refl few unbroken short bad refl refl))
-walk _ _ _ (IsReport.bad_last bytes number told stage reports line few some unbroken short bad) =
+walk _ _ _ (IsReportBy.bad_last bytes number told stage reports line few some unbroken short bad) =
     stopped bytes number told stage line (Some (BadLine (number + 1))) reports
     (at_last few some unbroken short (inr (bad, refl, refl)))
-walk _ _ _ (IsReport.too_long bytes number told stage reports line after few unbroken longer) =
+walk _ _ _ (IsReportBy.too_long bytes number told stage reports line after few unbroken longer) =
     subst (λ (l : List ℕ). Walk l (lines_of told) (Err (LineTooLong (number + 1)))) (sym (append_assoc bytes line after))
     (stopped bytes number told stage (line ++ after) (Some (LineTooLong (number + 1))) reports
     (at_long line after refl few unbroken longer refl refl))
-walk _ _ _ (IsReport.too_many bytes told stage reports after some) =
+walk _ _ _ (IsReportBy.too_many bytes told stage reports after some) =
     stopped bytes most_lines told stage after (Some TooManyLines) reports (at_many refl some refl refl)
 
 pub one_report : (log text other : List ℕ) (answer another : Result Summary LogFault) → IsReport log text answer →

@@ -23,7 +23,7 @@ use Rattle.daide_lines.specs.MatchLine.{Of}
 use Rattle.daide_log.specs.declared.heading.Version.{Version}
 use Rattle.daide_log.specs.declared.report.Source.{Source}
 use Rattle.daide_log.specs.Report.{Entry, entries_of, events_of, side_of}
-use Rattle.daide_log.specs.Log.{Playing, Reports, event_in, source_in}
+use Rattle.daide_log.specs.Log.{ReportsBy, Playing, Reports, event_in, source_in}
 
 -- a session between two messages, of which no level but 0 was told
 abbrev pub state_at : Limits → Phase → SessionState
@@ -168,7 +168,7 @@ pub line_played : (bytes : List ℕ) (number : ℕ) (told : List Entry) (version
 line_played bytes number told version states reports line session event state p whole short few is_event place is =
     let run = played_runs (events_of event) state p is in
     let source : Source = source_in version (number + 1) session in
-    Reports.line bytes number told (Playing version states) reports line
+    ReportsBy.line bytes number told (Playing version states) reports line
     (entries_by source (side_of event) p.told) (Playing version (slice_set states (session - 1) p.state)) few
     (unbroken line whole) short (
       Of session event,

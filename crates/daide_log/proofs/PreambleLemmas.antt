@@ -1,4 +1,5 @@
 -- The head of a log, line by line.
+use Rattle.std.specs.Bool.{MatchBool}
 use Rattle.std.proofs.Common.{◌≡◌, ℕ, zero, suc, ◌+◌, ◌≤◌, Bool, true, false, cond, List, []}
 use Rattle.std.proofs.Common.{◌∷◌, length, Option, Some, None, Result, Ok, Err}
 use Rattle.std.proofs.Common.{refl, sym, ap, subst, arith, ◌≢◌, OnOk, IfErr, IfSome}
@@ -24,7 +25,11 @@ use Rattle.daide_log.specs.Log.{Opening, stage_at, begun}
 use Rattle.daide_lines.specs.Reader.{Reader}
 use Rattle.daide_lines.specs.Lines.{IsFound}
 use Rattle.daide_lines.proofs.PageLemmas.{keeps_appends}
-use Rattle.daide_log.specs.Progress.{HasRead, HasReadAll, IsPreambleProgress, IsOpened, IsOpenedBy, IsFaultAfter, states_of}
+use Rattle.std.specs.Prelude.{⊤}
+use Rattle.daide_words.specs.declared.word.Word.{Word}
+use Rattle.daide_words.specs.Words.{words_of}
+use Rattle.daide_log.specs.Form.{Form, IsLawful, HasWords}
+use Rattle.daide_log.specs.Progress.{HasRead, HasReadAll, GivesInTime, IsPreambleProgress, IsOpened, IsOpenedBy, IsFaultAfter, states_of}
 use Rattle.daide_log.proofs.LogLemmas.{line_read, last_read, end_read, bad_line, bad_last, ends_early, fault_found}
 
 -- where a head is not whole a line of it is to come
@@ -51,13 +56,25 @@ whole_begun (Variants.Headed held) head e = go (is_whole (head_of held)) e
     go true e = ap (λ (h : heads.Preamble). begun (head_of h)) (same_Some held head e)
     go false e = absurd (cc)
 
--- so many lines of the head were read, and nothing was written
-pub record IsReading (old now : Reader) (held : List ℕ) (number : ℕ) (heading : headings.Heading)
-    (before after : Option (List ℕ)) : Type 0 where
-  pub has_read : HasRead before old now held number [] (Opening (heading_of heading))
-  pub held_well : IsHeld heading
-  pub fits : number ≤ most_lines
-  pub kept : Keeps before after
+-- where a head is not whole it has any words, and else its own
+any_words : (words : List Word) (heading : headings.Heading) → whole heading ≡ None → HasWords words (heading_of heading)
+any_words words Variants.Unnamed e = tt
+any_words words (Variants.Named version) e = tt
+any_words words (Variants.Headed head) e = go (is_whole (head_of head)) e
+  where
+    go : (b : Bool) → cond b (Some head) None ≡ None → MatchBool b (words_of head.words ≡ words) ⊤
+    go true e = absurd (cc)
+    go false e = tt
+
+own_words : (heading : headings.Heading) (head : heads.Preamble) → whole heading ≡ Some head →
+    HasWords (words_of head.words) (heading_of heading)
+own_words Variants.Unnamed head e = absurd (cc)
+own_words (Variants.Named version) head e = absurd (cc)
+own_words (Variants.Headed held) head e = go (is_whole (head_of held)) e
+  where
+    go : (b : Bool) → cond b (Some held) None ≡ Some head → MatchBool b (words_of held.words ≡ words_of head.words) ⊤
+    go true e = ap (λ (h : heads.Preamble). words_of h.words) (same_Some held head e)
+    go false e = absurd (cc)
 
 -- ---- what was kept, and what is held
 
@@ -96,30 +113,6 @@ pub next_held : (next : Option headings.Heading) (heading : headings.Heading) �
     IfSome next IsHeld → IsHeld heading
 next_held next heading e h = subst (λ (o : Option headings.Heading). IfSome o IsHeld) e h
 
--- where the head ends
-
-pub opened_more : (opened : Opened) (before : Option (List ℕ)) (old new : Reader) (held : List ℕ) → not opened.is_ended ≡ false →
-    IsOpened opened before old new held → HasRead before old new held opened.lines [] (begun (head_of opened.head))
-opened_more opened before old new held e h = go opened.is_ended e h.0
-  where
-    go : (b : Bool) → not b ≡ false → IsOpenedBy b (head_of opened.head) opened.lines before old new held →
-        HasRead before old new held opened.lines [] (begun (head_of opened.head))
-    go true e k = k
-    go false e k = absurd (cc)
-
-pub opened_last : (opened : Opened) (before : Option (List ℕ)) (old new : Reader) (held : List ℕ) → not opened.is_ended ≡ true →
-    IsOpened opened before old new held → HasReadAll before old new opened.lines [] (begun (head_of opened.head))
-opened_last opened before old new held e h = go opened.is_ended e h.0
-  where
-    go : (b : Bool) → not b ≡ true → IsOpenedBy b (head_of opened.head) opened.lines before old new held →
-        HasReadAll before old new opened.lines [] (begun (head_of opened.head))
-    go true e k = absurd (cc)
-    go false e k = k
-
-pub memory_wanted : (opened : Opened) (old new : Reader) (held : List ℕ) (a b : Option (List ℕ))
-    (fault : LogFault) → fault ≡ Faults.Memory → IsOpened opened a old new held → Keeps a b → IsFaultAfter old new a b fault
-memory_wanted opened old new held a b fault e h k = subst (IsFaultAfter old new a b) (sym e) (opened, held, h, k)
-
 -- as many sessions were made as the head says
 pub as_many : (sessions : List SessionView) (n : ℕ) (state : SessionState) → states_of sessions ≡ replicate n state →
     length sessions ≡ n
@@ -130,50 +123,123 @@ as_many (session ∷ sessions) (suc n) state e =
     let others : states_of sessions ≡ replicate n state = cc in
     ap suc (as_many sessions n state others)
 
--- ---- a line
+module _ {Answer : Type 0} (form : Form Answer) where
+  -- where the head ends
 
--- a line with its line feed
-line_judged : (before all : Option (List ℕ)) (old now new : Reader) (held line rest : List ℕ) (n : ℕ) (heading : headings.Heading)
-    (next : Option headings.Heading) → HasRead before old now held n [] (Opening (heading_of heading)) → Keeps before all →
-    IsFound all now held n (Ok Line) line new rest → option_map heading_of next ≡ heading_after (heading_of heading) line →
-    IsPreambleProgress before old new rest n (after_line (Ok Line) next n)
-line_judged before all old now new held line rest n heading None h k f e =
-    bad_line before all old now new held rest line n [] (Opening (heading_of heading)) h (keeps_appends before all k) f (sym e)
-line_judged before all old now new held line rest n heading (Some next) h k f e = go (whole next) refl
-  where
-    read : HasRead before old new rest (n + 1) [] (stage_at (heading_of next))
-    read = line_read before all old now new held rest line n [] [] (Opening (heading_of heading)) (stage_at (heading_of next)) h (keeps_appends before all k) f
-        (heading_of next, sym e, refl, refl)
+  pub opened_more : (opened : Opened) (before : Option (List ℕ)) (old new : Reader) (held : List ℕ) → not opened.is_ended ≡ false →
+      IsOpened form opened before old new held → HasRead form before old new held opened.lines [] (begun (head_of opened.head))
+  opened_more opened before old new held e h = go opened.is_ended e h.0
+    where
+      go : (b : Bool) → not b ≡ false → IsOpenedBy form b (head_of opened.head) opened.lines before old new held →
+          HasRead form before old new held opened.lines [] (begun (head_of opened.head))
+      go true e k = k
+      go false e k = absurd (cc)
 
-    go : (o : Option heads.Preamble) → whole next ≡ o → IsPreambleProgress before old new rest n (Ok (further next (n + 1) o))
-    go None w = (subst (HasRead before old new rest (n + 1) []) (more_to_come next w) read, f.4)
-    go (Some head) w = (subst (HasRead before old new rest (n + 1) []) (whole_begun next head w) read, omega (arith, f.4))
+  pub opened_last : (opened : Opened) (before : Option (List ℕ)) (old new : Reader) (held : List ℕ) → not opened.is_ended ≡ true →
+      IsOpened form opened before old new held → HasReadAll form before old new opened.lines [] (begun (head_of opened.head))
+  opened_last opened before old new held e h = go opened.is_ended e h.0
+    where
+      go : (b : Bool) → not b ≡ true → IsOpenedBy form b (head_of opened.head) opened.lines before old new held →
+          HasReadAll form before old new opened.lines [] (begun (head_of opened.head))
+      go true e k = absurd (cc)
+      go false e k = k
 
--- one line of the head more
-pub head_judged : (before all : Option (List ℕ)) (old now new : Reader) (held line rest : List ℕ) (n : ℕ) (found : Result Found LogFault)
-    (heading : headings.Heading) (next : Option headings.Heading) →
-    HasRead before old now held n [] (Opening (heading_of heading)) → Keeps before all → IsFound all now held n found line new rest →
-    option_map heading_of next ≡ heading_after (heading_of heading) line → IsPreambleProgress before old new rest n (after_line found next n)
-head_judged before all old now new held line rest n (Err fault) heading next h k f e =
-    fault_found before all old now new held rest line n [] (Opening (heading_of heading)) fault h (keeps_appends before all k) f
-head_judged before all old now new held line rest n (Ok (Held j)) heading None h k f e =
-    line_judged before all old now new held line rest n heading None h k f e
-head_judged before all old now new held line rest n (Ok (Held j)) heading (Some next) h k f e =
-    line_judged before all old now new held line rest n heading (Some next) h k f e
-head_judged before all old now new held line rest n (Ok Line) heading next h k f e =
-    line_judged before all old now new held line rest n heading next h k f e
-head_judged before all old now new held line rest n (Ok Last) heading None h k f e =
-    bad_last before all old now new held rest line n [] (Opening (heading_of heading)) h (keeps_appends before all k) f (sym e)
-head_judged before all old now new held line rest n (Ok Last) heading (Some next) h k f e = go (whole next) refl
-  where
-    read : HasReadAll before old new (n + 1) [] (stage_at (heading_of next))
-    read = last_read before all old now new held rest line n [] [] (Opening (heading_of heading)) (stage_at (heading_of next)) h (keeps_appends before all k) f
-        (heading_of next, sym e, refl, refl)
+  pub memory_wanted : (opened : Opened) (old new : Reader) (held : List ℕ) (a b : Option (List ℕ))
+      (fault : LogFault) → fault ≡ Faults.Memory → IsOpened form opened a old new held → Keeps a b →
+      IsFaultAfter form old new a b fault
+  memory_wanted opened old new held a b fault e h k =
+      subst (IsFaultAfter form old new a b) (sym e) (by_late form.late)
+    where
+      given : (b : Bool) → IsOpenedBy form b (head_of opened.head) opened.lines a old new held →
+          (given : List ℕ) × GivesInTime form a old new given
+      given true k = (k.given, k.gives)
+      given false k = (k.given, k.gives)
 
-    go : (o : Option heads.Preamble) → whole next ≡ o → IsPreambleProgress before old new rest n (at_last (n + 1) o)
-    go None w = ends_early before old new (n + 1) [] (Opening (heading_of next))
-        (subst (HasReadAll before old new (n + 1) []) (more_to_come next w) read) tt
-    go (Some head) w = (subst (HasReadAll before old new (n + 1) []) (whole_begun next head w) read, omega (arith, f.6))
-head_judged before all old now new held line rest n (Ok End) heading next h k f e =
-    ends_early before old new n [] (Opening (heading_of heading))
-    (end_read before all old now new held rest line n [] (Opening (heading_of heading)) h (keeps_appends before all k) f) tt
+      by_late : (late : Bool) →
+          MatchBool late ((given : List ℕ) × GivesInTime form a old new given)
+          ((opened : Opened) × (held : List ℕ) × IsOpened form opened a old new held × Keeps a b)
+      by_late true = given opened.is_ended h.0
+      by_late false = (opened, held, h, k)
+
+module _ {Answer : Type 0} (form : List Word → Form Answer) where
+  -- so many lines of the head were read, and nothing was written
+  pub record IsReading (old now : Reader) (held : List ℕ) (number : ℕ) (heading : headings.Heading)
+      (before after : Option (List ℕ)) : Type 0 where
+    pub has_read : (words : List Word) → HasRead (form words) before old now held number [] (Opening (heading_of heading))
+    pub held_well : IsHeld heading
+    pub fits : number ≤ most_lines
+    pub kept : Keeps before after
+
+  -- ---- a line
+
+  -- a line with its line feed
+  line_judged : ((words : List Word) → IsLawful words (form words)) → (before all : Option (List ℕ)) (old now new : Reader)
+      (held line rest : List ℕ) (n : ℕ) (heading : headings.Heading) (next : Option headings.Heading) →
+      ((words : List Word) → HasRead (form words) before old now held n [] (Opening (heading_of heading))) → Keeps before all →
+      IsFound all now held n (Ok Line) line new rest → option_map heading_of next ≡ heading_after (heading_of heading) line →
+      IsPreambleProgress form before old new rest n (after_line (Ok Line) next n)
+  line_judged lawful before all old now new held line rest n heading None h k f e = λ words.
+      bad_line (form words) before all old now new held rest line n [] (Opening (heading_of heading)) (h words)
+      (keeps_appends before all k) f (sym e)
+  line_judged lawful before all old now new held line rest n heading (Some next) h k f e = go (whole next) refl
+    where
+      read : (words : List Word) → HasWords words (heading_of next) →
+          HasRead (form words) before old new rest (n + 1) [] (stage_at (heading_of next))
+      read words has = line_read (form words) before all old now new held rest line n [] [] (Opening (heading_of heading))
+          (stage_at (heading_of next)) (h words) (keeps_appends before all k) f
+          (heading_of next, sym e, (lawful words).of_head (heading_of next) has, refl)
+
+      go : (o : Option heads.Preamble) → whole next ≡ o →
+          IsPreambleProgress form before old new rest n (Ok (further next (n + 1) o))
+      go None w = (
+        λ words. subst (HasRead (form words) before old new rest (n + 1) []) (more_to_come next w)
+            (read words (any_words words next w)),
+        f.4,
+      )
+      go (Some head) w = (
+        subst (HasRead (form (words_of head.words)) before old new rest (n + 1) []) (whole_begun next head w)
+            (read (words_of head.words) (own_words next head w)),
+        omega (arith, f.4),
+      )
+
+  -- one line of the head more
+  pub head_judged : ((words : List Word) → IsLawful words (form words)) → (before all : Option (List ℕ))
+      (old now new : Reader) (held line rest : List ℕ) (n : ℕ) (found : Result Found LogFault)
+      (heading : headings.Heading) (next : Option headings.Heading) →
+      ((words : List Word) → HasRead (form words) before old now held n [] (Opening (heading_of heading))) → Keeps before all →
+      IsFound all now held n found line new rest → option_map heading_of next ≡ heading_after (heading_of heading) line →
+      IsPreambleProgress form before old new rest n (after_line found next n)
+  head_judged lawful before all old now new held line rest n (Err fault) heading next h k f e = λ words.
+      fault_found (form words) before all old now new held rest line n [] (Opening (heading_of heading)) fault (h words)
+      (keeps_appends before all k) f
+  head_judged lawful before all old now new held line rest n (Ok (Held j)) heading None h k f e =
+      line_judged lawful before all old now new held line rest n heading None h k f e
+  head_judged lawful before all old now new held line rest n (Ok (Held j)) heading (Some next) h k f e =
+      line_judged lawful before all old now new held line rest n heading (Some next) h k f e
+  head_judged lawful before all old now new held line rest n (Ok Line) heading next h k f e =
+      line_judged lawful before all old now new held line rest n heading next h k f e
+  head_judged lawful before all old now new held line rest n (Ok Last) heading None h k f e = λ words.
+      bad_last (form words) before all old now new held rest line n [] (Opening (heading_of heading)) (h words)
+      (keeps_appends before all k) f (sym e)
+  head_judged lawful before all old now new held line rest n (Ok Last) heading (Some next) h k f e = go (whole next) refl
+    where
+      read : (words : List Word) → HasWords words (heading_of next) →
+          HasReadAll (form words) before old new (n + 1) [] (stage_at (heading_of next))
+      read words has = last_read (form words) before all old now new held rest line n [] [] (Opening (heading_of heading))
+          (stage_at (heading_of next)) (h words) (keeps_appends before all k) f
+          (heading_of next, sym e, (lawful words).of_head (heading_of next) has, refl)
+
+      go : (o : Option heads.Preamble) → whole next ≡ o →
+          IsPreambleProgress form before old new rest n (at_last (n + 1) o)
+      go None w = λ words. ends_early (form words) before old new (n + 1) [] (Opening (heading_of next))
+          (subst (HasReadAll (form words) before old new (n + 1) []) (more_to_come next w)
+          (read words (any_words words next w))) tt
+      go (Some head) w = (
+        subst (HasReadAll (form (words_of head.words)) before old new (n + 1) []) (whole_begun next head w)
+            (read (words_of head.words) (own_words next head w)),
+        omega (arith, f.6),
+      )
+  head_judged lawful before all old now new held line rest n (Ok End) heading next h k f e = λ words.
+      ends_early (form words) before old new n [] (Opening (heading_of heading))
+      (end_read (form words) before all old now new held rest line n [] (Opening (heading_of heading)) (h words)
+      (keeps_appends before all k) f) tt

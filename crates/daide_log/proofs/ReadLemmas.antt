@@ -9,7 +9,7 @@ use Rattle.daide_lines.specs.LogLine.{IsUnbroken, longest_line, most_lines}
 use Rattle.daide_lines.proofs.LineLemmas.{unbroken_append}
 use Rattle.daide_log.specs.Heading.{Unnamed}
 use Rattle.daide_log.specs.Report.{Entry, lines_of}
-use Rattle.daide_log.specs.Log.{LogState, Opening, Reports, IsReport}
+use Rattle.daide_log.specs.Log.{plain, ReportsBy, IsReportBy, LogState, Opening, Reports, IsReport}
 use Rattle.daide_log.specs.Progress.{IsInTime, HasFault}
 use Rattle.daide_log.proofs.StepLemmas.{one_end}
 use Rattle.daide_log.proofs.OneReport.{Goes, feeds, from_front, one_report}
@@ -37,35 +37,35 @@ one_left bytes front n told before stage old rest left p q e =
     (sym (ap (λ (l : List ℕ). l ++ rest) a.whole) ∙ (e ∙ ap (λ (l : List ℕ). l ++ left) b.whole))
 
 few_lines : (bytes : List ℕ) (n : ℕ) (told : List Entry) (stage : LogState) → Reports bytes n told stage → n ≤ most_lines
-few_lines _ _ _ _ Reports.none = omega arith
-few_lines _ _ _ _ (Reports.line bytes n told old reports line more new fewer unbroken short on) = omega (arith, fewer)
+few_lines _ _ _ _ ReportsBy.none = omega arith
+few_lines _ _ _ _ (ReportsBy.line bytes n told old reports line more new fewer unbroken short on) = omega (arith, fewer)
 
 -- ---- faults that a log has not
 
 not_too_long : (log text : List ℕ) (answer : Result Summary LogFault) (bytes line : List ℕ) (n : ℕ) (told : List Entry)
     (stage : LogState) → IsReport log text answer → answer ≡ Err (LineTooLong (n + 1)) → Reports bytes n told stage →
     log ≡ bytes ++ line → length line ≤ longest_line → ⊥
-not_too_long _ _ _ bytes line n told stage (IsReport.whole _ _ _ _ _ _) e p is short = absurd (cc)
-not_too_long _ _ _ bytes line n told stage (IsReport.cut_short _ _ _ _ _ _) e p is short = absurd (cc)
-not_too_long _ _ _ bytes line n told stage (IsReport.bad _ _ _ _ _ _ _ _ _ _ _) e p is short = absurd (cc)
-not_too_long _ _ _ bytes line n told stage (IsReport.bad_last _ _ _ _ _ _ _ _ _ _ _) e p is short = absurd (cc)
-not_too_long _ _ _ bytes line n told stage (IsReport.too_long front k before old q long after fewer unbroken longer) e p is
+not_too_long _ _ _ bytes line n told stage (IsReportBy.whole _ _ _ _ _ _) e p is short = absurd (cc)
+not_too_long _ _ _ bytes line n told stage (IsReportBy.cut_short _ _ _ _ _ _) e p is short = absurd (cc)
+not_too_long _ _ _ bytes line n told stage (IsReportBy.bad _ _ _ _ _ _ _ _ _ _ _) e p is short = absurd (cc)
+not_too_long _ _ _ bytes line n told stage (IsReportBy.bad_last _ _ _ _ _ _ _ _ _ _ _) e p is short = absurd (cc)
+not_too_long _ _ _ bytes line n told stage (IsReportBy.too_long front k before old q long after fewer unbroken longer) e p is
     short =
     let next : k + 1 ≡ n + 1 = cc in
     let same : k ≡ n = omega (arith, next) in
     let left : line ≡ long ++ after = one_left bytes front n told before stage old line (long ++ after) p
     (subst (λ (m : ℕ). Reports front m before old) same q) (sym is ∙ append_assoc front long after) in
     absurd (omega (arith, longer, short, ap length left, length-append long after))
-not_too_long _ _ _ bytes line n told stage (IsReport.too_many _ _ _ _ _ _) e p is short = absurd (cc)
+not_too_long _ _ _ bytes line n told stage (IsReportBy.too_many _ _ _ _ _ _) e p is short = absurd (cc)
 
 not_too_many : (log text : List ℕ) (answer : Result Summary LogFault) (told : List Entry) (stage : LogState) →
     IsReport log text answer → answer ≡ Err TooManyLines → Reports log most_lines told stage → ⊥
-not_too_many _ _ _ told stage (IsReport.whole _ _ _ _ _ _) e p = absurd (cc)
-not_too_many _ _ _ told stage (IsReport.cut_short _ _ _ _ _ _) e p = absurd (cc)
-not_too_many _ _ _ told stage (IsReport.bad _ _ _ _ _ _ _ _ _ _ _) e p = absurd (cc)
-not_too_many _ _ _ told stage (IsReport.bad_last _ _ _ _ _ _ _ _ _ _ _) e p = absurd (cc)
-not_too_many _ _ _ told stage (IsReport.too_long _ _ _ _ _ _ _ _ _ _) e p = absurd (cc)
-not_too_many _ _ _ told stage (IsReport.too_many front before old q after some) e p =
+not_too_many _ _ _ told stage (IsReportBy.whole _ _ _ _ _ _) e p = absurd (cc)
+not_too_many _ _ _ told stage (IsReportBy.cut_short _ _ _ _ _ _) e p = absurd (cc)
+not_too_many _ _ _ told stage (IsReportBy.bad _ _ _ _ _ _ _ _ _ _ _) e p = absurd (cc)
+not_too_many _ _ _ told stage (IsReportBy.bad_last _ _ _ _ _ _ _ _ _ _ _) e p = absurd (cc)
+not_too_many _ _ _ told stage (IsReportBy.too_long _ _ _ _ _ _ _ _ _ _) e p = absurd (cc)
+not_too_many _ _ _ told stage (IsReportBy.too_many front before old q after some) e p =
     let left : [] ≡ after = one_left (front ++ after) front most_lines told before stage old [] after p q
     (append-nil (front ++ after)) in
     absurd (omega (arith, some, ap length left))
@@ -81,7 +81,7 @@ no_byte [] none = refl
 no_byte (x ∷ line) none = absurd (none (omega arith))
 
 pub no_fault_before_a_read : (before written : Option (List ℕ)) (came : List ℕ) (fault : LogFault) → HasFault came fault →
-    IsInTime before came written → ⊥
+    IsInTime plain before came written → ⊥
 no_fault_before_a_read before written came fault has t = go (cases_lt t.number most_lines)
   where
     now : (text : List ℕ) × IsReport came text (Err fault)
@@ -97,7 +97,7 @@ no_fault_before_a_read before written came fault has t = go (cases_lt t.number m
         subst (λ (l : List ℕ). IsReport l (lines_of t.told) (Err (LineTooLong (t.number + 1))))
         (append-nil (t.bytes ++ (t.line ++ more)) ∙ (sym (append_assoc t.bytes t.line more)
         ∙ ap (λ (l : List ℕ). l ++ more) (sym t.whole)))
-        (IsReport.too_long t.bytes t.number t.told t.stage t.reports (t.line ++ more) [] fewer
+        (IsReportBy.too_long t.bytes t.number t.told t.stage t.reports (t.line ++ more) [] fewer
         (unbroken_append t.line more t.begun.0 (replicate_unbroken 2101))
         (omega (arith, size, length-append t.line more))) in
         not_too_long came now.0 (Err fault) t.bytes t.line t.number t.told t.stage now.1
@@ -116,7 +116,7 @@ no_fault_before_a_read before written came fault has t = go (cases_lt t.number m
         (subst (λ (m : ℕ). Reports t.bytes m t.told t.stage) full t.reports) in
         let other = has (65 ∷ []) in
         let many : IsReport (came ++ 65 ∷ []) (lines_of t.told) (Err TooManyLines) =
-        IsReport.too_many came t.told t.stage reports (65 ∷ []) (omega arith) in
+        IsReportBy.too_many came t.told t.stage reports (65 ∷ []) (omega arith) in
         not_too_many came now.0 (Err fault) t.told t.stage now.1
         (one_report (came ++ 65 ∷ []) other.0 (lines_of t.told) (Err fault) (Err TooManyLines) other.1 many).1 reports
 

@@ -33,7 +33,7 @@ use Rattle.daide_log.specs.declared.heading.Version.TheVariants.{Match}
 use Rattle.daide_log.specs.Heading.{Preamble, Unnamed, Named, Headed, with_word, heading_after}
 use Rattle.daide_log.specs.Report.{Entry, entries_of, side_of}
 use Rattle.daide_log.specs.Report.{events_of as events_in}
-use Rattle.daide_log.specs.Log.{LogState, Opening, Playing, GoesOn, Reports, ReportsAll, IsReport, begun, stage_at, source_in}
+use Rattle.daide_log.specs.Log.{ReportsBy, ReportsAllBy, IsReportBy, LogState, Opening, Playing, GoesOn, Reports, ReportsAll, IsReport, begun, stage_at, source_in}
 use Rattle.daide_log.specs.RecordText.{told_by}
 use Rattle.daide_log.specs.RecordText.{event_text, event_line, line_of_answer, count_of_answer, lines_of_answers}
 use Rattle.daide_log.specs.RecordText.{count_of_answers, lines_of_words, word_text, config_text, head_text, head_count}
@@ -220,7 +220,7 @@ event_reported event bytes number told old new moves good fits h r =
     (Of 1 event, line_back event good, new ∷ [], (old, new, moves, refl, r, refl, refl), refl) in
     subst (λ (x : List ℕ). Reports x (number + 1) (told ++ more) (Playing Match (new ∷ [])))
     (append_assoc bytes line (10 ∷ []))
-    (Reports.line bytes number told (Playing Match (old ∷ [])) h line more (Playing Match (new ∷ [])) (omega arith)
+    (ReportsBy.line bytes number told (Playing Match (old ∷ [])) h line more (Playing Match (new ∷ [])) (omega arith)
     (plain_unbroken line plain) (line_short event good)
     (subst (λ (x : List ℕ). GoesOn (number + 1) (Playing Match (old ∷ [])) x more (Playing Match (new ∷ [])))
     (sym (plain_without_cr line plain)) goes))
@@ -371,7 +371,7 @@ words_reported (word ∷ words) before config total bytes number h size good nam
     let goes : GoesOn (number + 1) (Opening (Headed (head_with config total before))) line [] after =
     (Headed (head_with config total (before ++ word ∷ [])), heading_more config total before word is_word both.0, refl, refl) in
     let first : Reports ((bytes ++ line) ++ 10 ∷ []) (number + 1) [] after =
-    Reports.line bytes number [] (Opening (Headed (head_with config total before))) opened line [] after (omega arith)
+    ReportsBy.line bytes number [] (Opening (Headed (head_with config total before))) opened line [] after (omega arith)
     (plain_unbroken line plain) (word_short word is_word)
     (subst (λ (x : List ℕ). GoesOn (number + 1) (Opening (Headed (head_with config total before))) x [] after)
     (sym (plain_without_cr line plain)) goes) in
@@ -392,7 +392,7 @@ words_reported (word ∷ words) before config total bytes number h size good nam
 
 name_reported : Reports (codes "daide-log 2\n") 1 [] (Opening (Named Match))
 name_reported =
-    Reports.line [] 0 [] (Opening Unnamed) Reports.none (codes "daide-log 2") [] (Opening (Named Match)) (omega arith)
+    ReportsBy.line [] 0 [] (Opening Unnamed) ReportsBy.none (codes "daide-log 2") [] (Opening (Named Match)) (omega arith)
     (plain_unbroken (codes "daide-log 2") refl) (omega arith) (Named Match, refl, refl, refl)
 
 head_reported : (config : Config) (words : List Word) → config_fault config ≡ Ok tt → are_accepted words ≡ true →
@@ -413,7 +413,7 @@ head_reported config words good well names fits =
       refl,
     ) in
     let second : Reports ((codes "daide-log 2\n" ++ line) ++ 10 ∷ []) 2 [] after =
-    Reports.line (codes "daide-log 2\n") 1 [] (Opening (Named Match)) name_reported line [] after (omega arith)
+    ReportsBy.line (codes "daide-log 2\n") 1 [] (Opening (Named Match)) name_reported line [] after (omega arith)
     (plain_unbroken line plain) (config_short config total good (omega arith))
     (subst (λ (x : List ℕ). GoesOn 2 (Opening (Named Match)) x [] after) (sym (plain_without_cr line plain)) goes) in
     same_report (((codes "daide-log 2\n" ++ line) ++ 10 ∷ []) ++ lines_of_words words)
@@ -439,7 +439,7 @@ record_reported config words answers moves state good well names pieces fits run
       by_lines = told.1;
       notes = told.2;
       counts = session_counts told.0 moves told.2;
-      report = IsReport.whole (record_text config words answers) (record_count words answers) told.0 Match (all.0 ∷ [])
-          (ReportsAll.ended (record_text config words answers) (record_count words answers) told.0
+      report = IsReportBy.whole (record_text config words answers) (record_count words answers) told.0 Match (all.0 ∷ [])
+          (ReportsAllBy.ended (record_text config words answers) (record_count words answers) told.0
           (Playing Match (all.0 ∷ [])) all.1);
     }

@@ -18,7 +18,7 @@ use Rattle.daide_machine.specs.declared.phase.Phase.TheVariants.{WaitIm, WaitRm,
 use Rattle.daide_lines.specs.LogLine.{LogEvent, Traffic, event_of_line}
 use Rattle.daide_log.specs.declared.heading.Version.TheVariants.{Single}
 use Rattle.daide_log.specs.Report.{Entry, source_text, told_text, move_line, summary_line, events_of}
-use Rattle.daide_log.specs.Log.{Playing, source_in, Reports, ReportsAll, IsReport}
+use Rattle.daide_log.specs.Log.{ReportsAllBy, IsReportBy, Playing, source_in, Reports, ReportsAll, IsReport}
 use Rattle.daide_log.proofs.Played.{Played, played, verdict_on, entries_by, has_no_feed}
 use Rattle.daide_log.proofs.StandardFacts.{limits, session_in, session_ended, opening_lines, opened, next_line, im}
 use Rattle.daide_log.proofs.StandardFacts.{im_passes}
@@ -125,7 +125,7 @@ seven_lines : IsReport (to_unclosed ++ codes "server 03000000" ++ 10 ∷ [])
     (Ok (record { relayed = 4; prn = 1; huh = 0; faults = 0 }))
 unfolding log_told move_at move_line source_text told_text summary_line digits
 seven_lines =
-    IsReport.whole (to_unclosed ++ codes "server 03000000" ++ 10 ∷ []) 7 log_told Single
+    IsReportBy.whole (to_unclosed ++ codes "server 03000000" ++ 10 ∷ []) 7 log_told Single
     (session_ended (Endings.Final Server) ∷ [])
-    (ReportsAll.ended (to_unclosed ++ codes "server 03000000" ++ 10 ∷ []) 7 log_told
+    (ReportsAllBy.ended (to_unclosed ++ codes "server 03000000" ++ 10 ∷ []) 7 log_told
     (Playing Single (session_ended (Endings.Final Server) ∷ [])) log_read)

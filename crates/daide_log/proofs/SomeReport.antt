@@ -32,7 +32,7 @@ use Rattle.daide_log.specs.ConfigLine.{match_config_of_counts, match_config_of_n
 use Rattle.daide_log.specs.Heading.{Preamble, Heading, Unnamed, Named, Headed, alone, version_of, limits_in, with_word}
 use Rattle.daide_log.specs.Heading.{heading_after, is_whole}
 use Rattle.daide_log.specs.Report.{Entry, events_of, side_of, entries_of}
-use Rattle.daide_log.specs.Log.{LogState, Opening, Playing, begun, stage_at, event_in, source_in, GoesOn, IsBad}
+use Rattle.daide_log.specs.Log.{ReportsBy, ReportsAllBy, IsReportBy, LogState, Opening, Playing, begun, stage_at, event_in, source_in, GoesOn, IsBad}
 use Rattle.daide_log.specs.Log.{Reports, ReportsAll, IsReport}
 
 -- ---- numbers that are told
@@ -311,8 +311,8 @@ HasReport log = (text : List ℕ) × ((answer : Result Summary LogFault) × IsRe
 
 ended_at : (log : List ℕ) (number : ℕ) (told : List Entry) (stage : LogState) → ReportsAll log number told stage →
     HasReport log
-ended_at log number told (Opening heading) all = (_, (_, IsReport.cut_short log number told (Opening heading) all tt))
-ended_at log number told (Playing version sessions) all = (_, (_, IsReport.whole log number told version sessions all))
+ended_at log number told (Opening heading) all = (_, (_, IsReportBy.cut_short log number told (Opening heading) all tt))
+ended_at log number told (Playing version sessions) all = (_, (_, IsReportBy.whole log number told version sessions all))
 
 regroup : (a b c : List ℕ) → (a ++ b ++ 10 ∷ []) ++ c ≡ a ++ (b ++ 10 ∷ c)
 regroup a b c = simp append_assoc
@@ -334,16 +334,16 @@ read_some fuel again bytes x rest number told stage less reports few good = by_n
             Next (number + 1) stage (x ∷ rest) ⊎ IsBad stage (x ∷ rest) → HasReport (bytes ++ x ∷ rest)
         by_line short (inl next) =
             ended_at (bytes ++ x ∷ rest) (number + 1) (told ++ next.told) next.new
-            (ReportsAll.unended bytes number told stage reports (x ∷ rest) next.told next.new more (omega arith) whole
+            (ReportsAllBy.unended bytes number told stage reports (x ∷ rest) next.told next.new more (omega arith) whole
             short next.on)
         by_line short (inr bad) =
-            (_, (_, IsReport.bad_last bytes number told stage reports (x ∷ rest) more (omega arith) whole short bad))
+            (_, (_, IsReportBy.bad_last bytes number told stage reports (x ∷ rest) more (omega arith) whole short bad))
 
         by_length : (longest_line < length (x ∷ rest)) ⊎ (length (x ∷ rest) ≤ longest_line) →
             HasReport (bytes ++ x ∷ rest)
         by_length (inl longer) =
             subst HasReport (append-nil (bytes ++ x ∷ rest))
-            (_, (_, IsReport.too_long bytes number told stage reports (x ∷ rest) [] more whole longer))
+            (_, (_, IsReportBy.too_long bytes number told stage reports (x ∷ rest) [] more whole longer))
         by_length (inr short) = by_line short (next_line (number + 1) stage (x ∷ rest) good)
 
     fed_on : number < most_lines → (line after : List ℕ) → x ∷ rest ≡ line ++ 10 ∷ after → IsUnbroken line →
@@ -357,17 +357,17 @@ read_some fuel again bytes x rest number told stage less reports few good = by_n
             subst HasReport (regroup bytes line after)
             (again (bytes ++ line ++ 10 ∷ []) after (number + 1) (told ++ next.told) next.new
             (omega (arith, less, ap length e, length-append line (10 ∷ after)))
-            (Reports.line bytes number told stage reports line next.told next.new more whole short next.on)
+            (ReportsBy.line bytes number told stage reports line next.told next.new more whole short next.on)
             (omega (arith, more)) next.good)
         by_line short (inr bad) =
             subst HasReport (append_assoc bytes line (10 ∷ after))
-            (_, (_, IsReport.bad bytes number told stage reports line after more whole short bad))
+            (_, (_, IsReportBy.bad bytes number told stage reports line after more whole short bad))
 
         by_length : (longest_line < length line) ⊎ (length line ≤ longest_line) →
             HasReport (bytes ++ (line ++ 10 ∷ after))
         by_length (inl longer) =
             subst HasReport (append_assoc bytes line (10 ∷ after))
-            (_, (_, IsReport.too_long bytes number told stage reports line (10 ∷ after) more whole longer))
+            (_, (_, IsReportBy.too_long bytes number told stage reports line (10 ∷ after) more whole longer))
         by_length (inr short) = by_line short (next_line (number + 1) stage (without_cr line) good)
 
     by_cut : number < most_lines → Cut (x ∷ rest) → HasReport (bytes ++ x ∷ rest)
@@ -382,7 +382,7 @@ read_some fuel again bytes x rest number told stage less reports few good = by_n
           _,
           (
             _,
-            IsReport.too_many bytes told stage (subst (λ (n : ℕ). Reports bytes n told stage) full reports) (x ∷ rest)
+            IsReportBy.too_many bytes told stage (subst (λ (n : ℕ). Reports bytes n told stage) full reports) (x ∷ rest)
                 (omega arith),
           ),
         )
@@ -391,11 +391,11 @@ read_on : (fuel : ℕ) → ReadsOn fuel
 read_on zero bytes rest number told stage less reports few good = absurd (omega (arith, less))
 read_on (suc fuel) bytes [] number told stage less reports few good =
     subst HasReport (sym (append-nil bytes))
-    (ended_at bytes number told stage (ReportsAll.ended bytes number told stage reports))
+    (ended_at bytes number told stage (ReportsAllBy.ended bytes number told stage reports))
 read_on (suc fuel) bytes (x ∷ rest) number told stage less reports few good =
     read_some fuel (read_on fuel) bytes x rest number told stage less reports few good
 
 pub some_report : (log : List ℕ) → (text : List ℕ) × (answer : Result Summary LogFault) × IsReport log text answer
 some_report log =
-    let has = read_on (suc (length log)) [] log 0 [] (Opening Unnamed) (omega arith) Reports.none (omega arith) tt in
+    let has = read_on (suc (length log)) [] log 0 [] (Opening Unnamed) (omega arith) ReportsBy.none (omega arith) tt in
     (has.0, has.1.0, has.1.1)

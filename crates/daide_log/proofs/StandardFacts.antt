@@ -31,7 +31,7 @@ use Rattle.daide_log.specs.Heading.{Unnamed, Named, Headed, alone}
 use Rattle.daide_log.specs.Report.{Entry, source_text, told_text, move_line, summary_line, lines_of, events_of, side_of}
 use Rattle.daide_machine.specs.Summary.{nothing_counted}
 use Rattle.daide_log.specs.Report.{counted_all}
-use Rattle.daide_log.specs.Log.{Opening, Playing, source_in, Reports, ReportsAll, IsReport}
+use Rattle.daide_log.specs.Log.{ReportsBy, ReportsAllBy, IsReportBy, Opening, Playing, source_in, Reports, ReportsAll, IsReport}
 use Rattle.daide_log.proofs.Played.{Played, state_at, played, verdict_on, entries_by}
 use Rattle.daide_log.proofs.Played.{has_no_feed, unbroken, line_played}
 
@@ -83,13 +83,13 @@ session_ended ending = over ending (session_in WaitIm)
 named : Reports (codes "daide-log 1" ++ 10 ∷ []) 1 [] (Opening (Named Single))
 unfolding has_no_feed
 named =
-    Reports.line [] 0 [] (Opening Unnamed) Reports.none (codes "daide-log 1") [] (Opening (Named Single)) (omega arith)
+    ReportsBy.line [] 0 [] (Opening Unnamed) ReportsBy.none (codes "daide-log 1") [] (Opening (Named Single)) (omega arith)
     (unbroken (codes "daide-log 1") refl) (omega arith) (Named Single, refl, refl, refl)
 
 pub opened : Reports opening_lines 2 [] (Playing Single (session_in WaitIm ∷ []))
 unfolding opening_lines limits config_of_line parted_at_space plain_number has_no_feed
 opened =
-    Reports.line (codes "daide-log 1" ++ 10 ∷ []) 1 [] (Opening (Named Single)) named (codes "config 60 1024 16") []
+    ReportsBy.line (codes "daide-log 1" ++ 10 ∷ []) 1 [] (Opening (Named Single)) named (codes "config 60 1024 16") []
     (Playing Single (session_in WaitIm ∷ [])) (omega arith) (unbroken (codes "config 60 1024 16") refl) (omega arith)
     (Headed (record { version = Single; limits = alone limits; words = [] }), refl, refl, refl)
 
@@ -109,7 +109,7 @@ ends_here : (bytes : List ℕ) (number : ℕ) (told : List Entry) (states : List
     Reports bytes number told (Playing Single states) →
     IsReport bytes (lines_of told ++ summary_line (counted_all told nothing_counted)) (Ok (counted_all told nothing_counted))
 ends_here bytes number told states reports =
-    IsReport.whole bytes number told Single states (ReportsAll.ended bytes number told (Playing Single states) reports)
+    IsReportBy.whole bytes number told Single states (ReportsAllBy.ended bytes number told (Playing Single states) reports)
 
 -- a log of one line behind the opening
 one_line : (line : List ℕ) (event : LogEvent) (p : Played) → has_no_feed line ≡ true → length line ≤ 2100 →
@@ -190,20 +190,20 @@ two_lines_alone =
 
 empty_input : IsReport [] [] (Err (BadLine 1))
 empty_input =
-    IsReport.cut_short [] 0 [] (Opening Unnamed) (ReportsAll.ended [] 0 [] (Opening Unnamed) Reports.none) tt
+    IsReportBy.cut_short [] 0 [] (Opening Unnamed) (ReportsAllBy.ended [] 0 [] (Opening Unnamed) ReportsBy.none) tt
 
 -- a bad line behind the opening, of which nothing is told
 bad_third_line : IsReport (opening_lines ++ codes "bot 02000" ++ 10 ∷ []) [] (Err (BadLine 3))
 unfolding event_of_line decode_pairs has_no_feed
 bad_third_line =
-    IsReport.bad opening_lines 2 [] (Playing Single (session_in WaitIm ∷ [])) opened (codes "bot 02000") []
+    IsReportBy.bad opening_lines 2 [] (Playing Single (session_in WaitIm ∷ [])) opened (codes "bot 02000") []
     (omega arith) (unbroken (codes "bot 02000") refl) (omega arith) refl
 
 -- a leading zero in the second line
 leading_zero : IsReport ((codes "daide-log 1" ++ 10 ∷ []) ++ codes "config 060 1024 16" ++ 10 ∷ []) [] (Err (BadLine 2))
 unfolding config_of_line parted_at_space plain_number has_no_feed
 leading_zero =
-    IsReport.bad (codes "daide-log 1" ++ 10 ∷ []) 1 [] (Opening (Named Single)) named (codes "config 060 1024 16") []
+    IsReportBy.bad (codes "daide-log 1" ++ 10 ∷ []) 1 [] (Opening (Named Single)) named (codes "config 060 1024 16") []
     (omega arith) (unbroken (codes "config 060 1024 16") refl) (omega arith) refl
 
 -- the bot's FM before its IM ends the session, so the timer tells nothing

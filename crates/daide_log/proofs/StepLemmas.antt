@@ -5,7 +5,7 @@ use Rattle.daide_lines.specs.LogLine.{without_cr}
 use Rattle.daide_log.specs.Heading.{Unnamed}
 use Rattle.daide_log.specs.Report.{Entry}
 use Rattle.daide_lines.specs.LogLine.{IsUnbroken, most_lines}
-use Rattle.daide_log.specs.Log.{LogState, Opening, GoesOn, Reports, ReportsAll}
+use Rattle.daide_log.specs.Log.{ReportsBy, ReportsAllBy, LogState, Opening, GoesOn, Reports, ReportsAll}
 use Rattle.daide_log.specs.Laws.{IsLines}
 
 -- by these lines, behind so many, a log goes on, with these moves told
@@ -89,7 +89,7 @@ next_read line rest (l ∷ after) h (inr k) =
 
 pub lines_read : (bytes : List ℕ) (number : ℕ) (told : List Entry) (stage : LogState) → Reports bytes number told stage →
     (rest : List ℕ) (lines : List (List ℕ)) → IsLines (bytes ++ rest) lines → AreRead rest lines number told stage
-lines_read _ _ _ _ Reports.none rest lines h = record {
+lines_read _ _ _ _ ReportsBy.none rest lines h = record {
   before = [];
   after = lines;
   whole = refl;
@@ -97,7 +97,7 @@ lines_read _ _ _ _ Reports.none rest lines h = record {
   steps = (refl, refl);
   left = h;
 }
-lines_read _ _ _ _ (Reports.line bytes number told old reports line more new few unbroken short on) rest lines h =
+lines_read _ _ _ _ (ReportsBy.line bytes number told old reports line more new few unbroken short on) rest lines h =
     let before = lines_read bytes number told old reports (line ++ 10 ∷ rest) lines
     (subst (λ (l : List ℕ). IsLines l lines) (regroup bytes line rest) h) in
     let next = next_read line rest before.after unbroken before.left in
@@ -114,8 +114,8 @@ lines_read _ _ _ _ (Reports.line bytes number told old reports line more new few
 
 few_lines : (bytes : List ℕ) (number : ℕ) (told : List Entry) (stage : LogState) → Reports bytes number told stage →
     number ≤ most_lines
-few_lines _ _ _ _ Reports.none = omega arith
-few_lines _ _ _ _ (Reports.line bytes number told old reports line more new few unbroken short on) = omega arith
+few_lines _ _ _ _ ReportsBy.none = omega arith
+few_lines _ _ _ _ (ReportsBy.line bytes number told old reports line more new few unbroken short on) = omega arith
 
 none_left : (lines : List (List ℕ)) → IsLines [] lines → lines ≡ []
 none_left [] h = refl
@@ -135,7 +135,7 @@ one_left line (l ∷ lines) some h (inr k) = absurd (no_feed line k.0 k.1 h k.2)
 pub all_read : (log : List ℕ) (number : ℕ) (told : List Entry) (stage : LogState) → ReportsAll log number told stage →
     (lines : List (List ℕ)) → IsLines log lines →
     Steps 0 (Opening Unnamed) lines told stage × (length lines ≤ most_lines)
-all_read _ _ _ _ (ReportsAll.ended bytes number told stage reports) lines h =
+all_read _ _ _ _ (ReportsAllBy.ended bytes number told stage reports) lines h =
     let read = lines_read bytes number told stage reports []
     lines (subst (λ (l : List ℕ). IsLines l lines) (sym (append-nil bytes)) h) in
     let all : read.before ≡ lines =
@@ -143,7 +143,7 @@ all_read _ _ _ _ (ReportsAll.ended bytes number told stage reports) lines h =
       subst (λ (l : List (List ℕ)). Steps 0 (Opening Unnamed) l told stage) all read.steps,
       omega (arith, few_lines bytes number told stage reports, ap length all, read.count),
     )
-all_read _ _ _ _ (ReportsAll.unended bytes number told old reports line more new few some unbroken short on) lines h =
+all_read _ _ _ _ (ReportsAllBy.unended bytes number told old reports line more new few some unbroken short on) lines h =
     let read = lines_read bytes number told old reports line lines h in
     let all : read.before ++ line ∷ [] ≡ lines =
     sym (read.whole ∙ ap (λ (l : List (List ℕ)). read.before ++ l) (one_left line read.after some unbroken read.left)) in (
@@ -162,7 +162,7 @@ all_written [] log bytes number told more old new h reports steps few = (
   subst (λ (l : List ℕ). ReportsAll l number (told ++ more) new) (sym (ap (λ (l : List ℕ). bytes ++ l) h ∙ append-nil bytes))
       (subst (λ (t : List Entry). ReportsAll bytes number t new)
       (sym (ap (λ (t : List Entry). told ++ t) steps.0 ∙ append-nil told))
-      (subst (ReportsAll bytes number told) (sym steps.1) (ReportsAll.ended bytes number told old reports))),
+      (subst (ReportsAll bytes number told) (sym steps.1) (ReportsAllBy.ended bytes number told old reports))),
 )
 all_written (line ∷ []) log bytes number told more old new (inl h) reports steps few = (
   number + 1,
@@ -170,14 +170,14 @@ all_written (line ∷ []) log bytes number told more old new (inl h) reports ste
       (subst (λ (t : List Entry). ReportsAll (bytes ++ line) (number + 1) (told ++ t) new)
       (sym (steps.5 ∙ ap (λ (t : List Entry). steps.1 ++ t) steps.4.0 ∙ append-nil steps.1))
       (subst (ReportsAll (bytes ++ line) (number + 1) (told ++ steps.1)) (sym steps.4.1)
-      (ReportsAll.unended bytes number told old reports line steps.1 steps.0 (omega arith) h.2 h.3 h.4 steps.3))),
+      (ReportsAllBy.unended bytes number told old reports line steps.1 steps.0 (omega arith) h.2 h.3 h.4 steps.3))),
 )
 all_written (line ∷ l ∷ lines) log bytes number told more old new (inl h) reports steps few = absurd (some h.0)
   where
     some : ◌≡◌ {A = List (List ℕ)} (l ∷ lines) [] → ⊥
     some e = absurd (cc)
 all_written (line ∷ lines) log bytes number told more old new (inr h) reports steps few =
-    let next = Reports.line bytes number told old reports h.0 steps.1 steps.0 (omega arith) h.3 h.4
+    let next = ReportsBy.line bytes number told old reports h.0 steps.1 steps.0 (omega arith) h.3 h.4
     (subst (λ (l : List ℕ). GoesOn (number + 1) old l steps.1 steps.0) h.5 steps.3) in
     let rest = all_written lines h.1 (bytes ++ h.0 ++ 10 ∷ []) (number + 1) (told ++ steps.1) steps.2 steps.0 new h.6 next
     steps.4 (omega (arith, few)) in (

@@ -2,9 +2,13 @@ pub mod ConfigLine
 pub mod Heading
 pub mod Held
 pub mod Report
+pub mod Form
 pub mod Told
 pub mod Log
 pub mod Progress
+pub mod Explained
+pub mod Explaining
+pub mod Lawful
 pub mod Laws
 pub mod RecordText
 pub mod Recording

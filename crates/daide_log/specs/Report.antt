@@ -86,17 +86,36 @@ entries_of source side [] = []
 entries_of source side (effect ∷ effects) =
     record { source = source; side = side; told = effect.told } ∷ entries_of source side effects
 
+-- the text of entries in a row
+abbrev pub texts_of : {E : Type 0} → (E → List ℕ) → List E → List ℕ
+texts_of text [] = []
+texts_of text (entry ∷ entries) = text entry ++ texts_of text entries
+
 -- the lines of these
 abbrev pub lines_of : List Entry → List ℕ
-lines_of [] = []
-lines_of (entry ∷ entries) = move_line entry.source entry.side entry.told ++ lines_of entries
+lines_of entries = texts_of (λ entry. move_line entry.source entry.side entry.told) entries
+
+-- ---- a frame that is not whole
+
+-- how many bytes of it came, and of how many
+abbrev pub size_text : ℕ → Option ℕ → List ℕ
+size_text came None = decimal came ++ codes " of 4 bytes of a header"
+size_text came (Some size) = decimal came ++ codes " of " ++ decimal size ++ codes " bytes of a frame"
+
+-- the line of a side's frame, which begins with four spaces
+unfoldable pub part_line : Option ℕ → Side → ℕ → Option ℕ → List ℕ
+part_line session side came size =
+    codes "    " ++ session_text session ++ name_of_side side ++ codes ": " ++ size_text came size ++ 10 ∷ []
 
 -- ---- the last line
 
 -- the counts with all of these
+abbrev pub counted_by : {E : Type 0} → (E → Summary → Summary) → List E → Summary → Summary
+counted_by count [] s = s
+counted_by count (entry ∷ entries) s = counted_by count entries (count entry s)
+
 abbrev pub counted_all : List Entry → Summary → Summary
-counted_all [] s = s
-counted_all (entry ∷ entries) s = counted_all entries (counted entry.told s)
+counted_all entries s = counted_by (λ entry before. counted entry.told before) entries s
 
 unfoldable pub summary_line : Summary → List ℕ
 summary_line s =

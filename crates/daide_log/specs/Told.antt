@@ -1,15 +1,25 @@
 -- What is told of a session's moves, and counted. (own)
-use Rattle.std.specs.Prelude.{◌≡◌, ◌≢◌, ℕ, List, [], ◌∷◌, Option}
+use Rattle.std.specs.Prelude.{◌≡◌, ◌≢◌, ◌⊎◌, ⊤, true, Ok, ℕ, ◌≤◌, List, [], ◌∷◌, ◌++◌, length, Option}
 use Rattle.std.specs.Io.KnownBytes.{Appends}
 use Rattle.daide_frame.specs.declared.side.Side.{Side}
 use Rattle.daide_machine.specs.declared.note.Note.{Note}
 use Rattle.daide_machine.specs.declared.note.Note.TheVariants as Notes
-use Rattle.daide_machine.specs.Events.{Event}
-use Rattle.daide_machine.specs.Machine.{SessionState, Effect, Runs}
-use Rattle.daide_machine.specs.Wires.{SessionView}
+use Rattle.daide_frame.specs.declared.side.Side.TheVariants.{Bot}
+use Rattle.daide_machine.specs.Events.{Event, Ends, TimerExpires, bytes_come}
+use Rattle.daide_machine.specs.Machine.{SessionState, Effect, Runs, coming}
+use Rattle.daide_machine.specs.Wires.{SessionView, Takes, holding, room_of}
+use Rattle.daide_machine.specs.Summary.{counted}
 use Rattle.daide_log.specs.declared.report.Source.{Source}
 use Rattle.daide_machine.specs.declared.summary.Summary.{Summary}
-use Rattle.daide_log.specs.Report.{move_line, entries_of, lines_of, counted_all}
+use Rattle.daide_words.specs.declared.word.Word.{Word}
+use Rattle.daide_machine.specs.declared.config.Config.{Config}
+use Rattle.daide_machine.specs.Config.{config_fault, limits_with}
+use Rattle.daide_lines.specs.declared.fault.LogFault.{LogFault}
+use Rattle.daide_lines.specs.declared.fault.LogFault.TheVariants as Faults
+use Rattle.daide_log.specs.declared.page.Unreported.{Unreported}
+use Rattle.daide_log.specs.declared.page.Unreported.TheVariants.{Write, Memory}
+use Rattle.daide_log.specs.Form.{Form}
+use Rattle.daide_log.specs.Report.{move_line, texts_of, counted_by}
 
 -- ---- moves of a session
 
@@ -34,9 +44,69 @@ told_lines source side Notes.Nothing = []
 told_lines source side (Notes.Frame head deed) = move_line source side (Notes.Frame head deed)
 told_lines source side (Notes.Fault code) = move_line source side (Notes.Fault code)
 
--- By these events the session goes on; its moves are counted, and their lines written.
-abbrev pub Tells : Source → Side → SessionState → List Event → SessionState → Summary → Summary → Option (List ℕ) →
-    Option (List ℕ) → Type 0
-Tells source side old events new before after written_before written_after =
-    (moves : List Effect) × Runs old events moves new × (after ≡ counted_all (entries_of source side moves) before)
-    × Appends written_before written_after (lines_of (entries_of source side moves))
+-- By these events the session goes on; its moves are counted, and their entries written.
+abbrev pub Tells : {Answer : Type 0} → Form Answer → Source → Side → SessionState → List Event → SessionState → Summary →
+    Summary → Option (List ℕ) → Option (List ℕ) → Type 0
+Tells form source side old events new before after written_before written_after =
+    (moves : List Effect) × (told : List form.Entry) × Runs old events moves new
+    × form.tells source side old events moves new told × (after ≡ counted_by form.counted told before)
+    × Appends written_before written_after (texts_of form.text told)
+
+-- ---- one move
+
+-- What a session's call was told: bytes of a side, that side's end, or the timer, which is the bot's.
+pub data IsCaused (old : SessionView) (events : List Event) (side : Side) (told : Note) (new : SessionView) : Type 0 where
+  by_bytes : (piece : List ℕ) → events ≡ bytes_come side piece → length piece ≤ room_of old side →
+      (holding old side).held ≡ (coming old.state side).pending → Takes old side piece told new →
+      IsCaused old events side told new
+  by_end : events ≡ Ends side ∷ [] → IsCaused old events side told new
+  by_timer : events ≡ TimerExpires ∷ [] → side ≡ Bot → (holding new side).held ≡ (coming old.state side).pending →
+      IsCaused old events side told new
+
+-- By these events a session makes one move, which is this note, and its frame is still held.
+pub record IsMade (old : SessionView) (events : List Event) (side : Side) (told : Note) (new : SessionView) : Type 0 where
+  pub move : Effect
+  pub run : Runs old.state events (move ∷ []) new.state
+  pub same : move.told ≡ told
+  pub caused : IsCaused old events side told new
+
+-- The lines that follow the one of a move, such that both are its entries.
+abbrev pub IsToldWith : {Answer : Type 0} → Form Answer → Side → Note → SessionView → List ℕ → Type 0
+IsToldWith form side told new added =
+    (source : Source) (old : SessionView) (events : List Event) → (made : IsMade old events side told new) →
+    (entries : List form.Entry) × form.tells source side old.state events (made.move ∷ []) new.state entries
+    × (texts_of form.text entries ≡ move_line source side told ++ added)
+    × ((before : Summary) → counted_by form.counted entries before ≡ counted told before)
+
+-- the entries of a line that tells nothing, which are not counted
+abbrev pub IsQuietWith : {Answer : Type 0} → Form Answer → List ℕ → List ℕ → Type 0
+IsQuietWith form line text =
+    (told : List form.Entry) × form.quiet line told × (texts_of form.text told ≡ text)
+    × ((before : Summary) → counted_by form.counted told before ≡ before)
+
+-- ---- sessions between two lines
+
+-- the session has these limits, which are right, and these words
+pub record IsUnder (config : Config) (words : List Word) (g : SessionView) : Type 0 where
+  pub limits : g.state.limits ≡ limits_with config words
+  pub accepted : config_fault config ≡ Ok tt
+
+-- and nothing waits for a wire
+pub record IsReady (config : Config) (words : List Word) (g : SessionView) : Type 0 where
+  pub idle : IsIdle g
+  pub under : IsUnder config words g
+
+-- ---- faults
+
+-- why a line of a report may be missing: memory is refused in a form alone that takes it late
+abbrev pub IsCauseIn : {Answer : Type 0} → Form Answer → Unreported → Type 0
+IsCauseIn form Write = ⊤
+IsCauseIn form Memory = form.late ≡ true
+
+-- the same as a fault of the log
+abbrev pub IsLateFault : {Answer : Type 0} → Form Answer → LogFault → Type 0
+IsLateFault form fault = (fault ≡ Faults.Write) ⊎ ((fault ≡ Faults.Memory) × (form.late ≡ true))
+
+abbrev pub fault_of : Unreported → LogFault
+fault_of Write = Faults.Write
+fault_of Memory = Faults.Memory

@@ -1,5 +1,6 @@
 //! What a check has told of a log so far.
 
+use crate::heading::Preamble;
 use daide_lines::output::Output;
 use daide_machine::Summary;
 
@@ -10,4 +11,6 @@ pub struct Account<'a, W> {
     pub summary: Summary,
     /// The lines.
     pub output: Output<'a, W>,
+    /// What the log's head sets.
+    pub head: Preamble,
 }

@@ -5,23 +5,26 @@
 //! No memory is taken but the sessions', once the head has said how much.
 
 ghost use Rattle.std.specs.Prelude.{◌≡◌, ◌≢◌, ◌≤◌, [], All, length, List, ℕ, Option, Err, IfOk, IfErr};
-ghost use Rattle.std.specs.Io.KnownBytes.{Appends, Keeps};
+ghost use Rattle.std.specs.Io.KnownBytes.{Keeps};
 ghost use Rattle.daide_lines.specs.Input.{IsSameReader};
 ghost use Rattle.daide_lines.specs.LogLine.{most_lines};
 ghost use Rattle.daide_lines.specs.Lines.{is_end, is_last};
 ghost use Rattle.daide_lines.specs.Output.{IsSameWriter, all_of};
-ghost use Rattle.daide_log.specs.Report.{summary_line};
 ghost use Rattle.daide_machine.specs.Bounds.{most_sessions};
 ghost use Rattle.daide_machine.specs.Summary.{nothing_counted};
-ghost use Rattle.daide_log.specs.Told.{IsIdle};
-ghost use Rattle.daide_log.specs.Progress.{Begins, IsFaultAfter, Reported, states_of};
+ghost use Rattle.daide_words.specs.declared.word.Word.{Word};
+ghost use Rattle.daide_words.specs.Words.{words_of};
+ghost use Rattle.daide_log.specs.Told.{IsReady, IsLateFault};
+ghost use Rattle.daide_log.specs.Log.{plain};
+ghost use Rattle.daide_log.specs.Progress.{Begins, IsAnswered, IsFaultAfter, IsFinished, Reported, states_of};
 ghost use Rattle.daide_lines.specs.Reader.{Reader, silent};
 
 use crate::account::Account;
-use crate::heading::Version;
+use crate::heading::Preamble;
 use crate::judge::{Origin, judge_line};
 use crate::opening::{open_sessions, read_preamble};
-use crate::page::put_summary;
+use crate::page::{Unreported, put_summary};
+use crate::style::{PlainStyle, Style};
 use daide_lines::block::Block;
 use daide_lines::event_line::MOST;
 use daide_lines::fault::LogFault;
@@ -36,15 +39,32 @@ use daide_session::Session;
 use std::alloc::Allocator;
 use std::io::{Read, Write};
 
-/// Writes the last line of a report.
-fn finish<W: Write>(summary: Summary, output: &mut Output<'_, W>) -> Result<Summary, LogFault>
-    ensures written { IfOk result (λ answer. (answer ≡ summary)
-        × Appends (all_of W.contents output.old) (all_of W.contents output.new) (summary_line summary)) }
-    ensures refused { IfErr result (λ fault. fault ≡ LogFault.Write) }
-    ensures same_writer { IsSameWriter output.old output.new }
+/// Writes what a report has behind all moves, and its last line.
+fn finish<A: Allocator, W: Write, S: Style>(
+    sessions: &[Session<A>],
+    style: &mut S,
+    account: &mut Account<'_, W>,
+) -> Result<S::Answer, LogFault>
+    requires few { length sessions.now ≤ most_sessions }
+    requires ready { All (IsReady account.old.head.limits.config (words_of account.old.head.words)) sessions.now }
+    ensures written { IfOk result (λ answer.
+        IsFinished (S.form (words_of account.old.head.words)) account.old.head.version (states_of sessions.now)
+        account.old.summary (all_of W.contents account.old.output) (all_of W.contents account.new.output) answer) }
+    ensures refused { IfErr result (IsLateFault (S.form (words_of account.old.head.words))) }
+    ensures same_writer { IsSameWriter account.old.output account.new.output }
 {
-    match put_summary(summary, output) {
-        Ok(()) => Ok(summary),
+    let answer = match style.close(
+        &account.head,
+        sessions,
+        account.summary,
+        &mut account.output,
+    ) {
+        Ok(answer) => answer,
+        Err(Unreported::Write) => return Err(LogFault::Write),
+        Err(Unreported::Memory) => return Err(LogFault::Memory),
+    };
+    match put_summary(account.summary, &mut account.output) {
+        Ok(()) => Ok(answer),
         Err(_) => Err(LogFault::Write),
     }
 }
@@ -70,24 +90,28 @@ fn is_last(found: Found) -> bool
 }
 
 /// Judges the lines behind so many of the head, up to the end of the log or its first fault.
-fn play<A: Allocator, R: LogReader, W: Write>(
-    version: Version,
+fn play<A: Allocator, R: LogReader, W: Write, S: Style>(
     sessions: &mut Vec<Session<A>, A>,
     lines: u32,
     input: &mut Input<'_, R>,
+    style: &mut S,
     account: &mut Account<'_, W>,
-) -> Result<Summary, LogFault>
+) -> Result<S::Answer, LogFault>
     requires some { 1 ≤ length sessions.old.items }
     requires few { length sessions.old.items ≤ most_sessions }
-    requires idle { All IsIdle sessions.old.items }
+    requires ready { All (IsReady account.old.head.limits.config (words_of account.old.head.words)) sessions.old.items }
     requires lines { lines ≤ most_lines }
     requires nothing { account.old.summary ≡ nothing_counted }
-    ensures report { (first : Reader) (before : Option (List ℕ)) → Begins (R.told input.old.reader.now) input.old.block
-        lines version (states_of sessions.old.items) (all_of W.contents account.old.output) first before →
-        IfOk result (Reported first (R.told input.new.reader.now) before (all_of W.contents account.new.output)) }
-    ensures refused { (first : Reader) (before : Option (List ℕ)) → Begins (R.told input.old.reader.now) input.old.block
-        lines version (states_of sessions.old.items) (all_of W.contents account.old.output) first before →
-        IfErr result (IsFaultAfter first (R.told input.new.reader.now) before (all_of W.contents account.new.output)) }
+    ensures report { (first : Reader) (before : Option (List ℕ)) →
+        Begins (S.form (words_of account.old.head.words)) (R.told input.old.reader.now) input.old.block
+        lines account.old.head.version (states_of sessions.old.items) (all_of W.contents account.old.output) first before →
+        IfOk result (Reported (S.form (words_of account.old.head.words)) first (R.told input.new.reader.now) before
+        (all_of W.contents account.new.output)) }
+    ensures refused { (first : Reader) (before : Option (List ℕ)) →
+        Begins (S.form (words_of account.old.head.words)) (R.told input.old.reader.now) input.old.block
+        lines account.old.head.version (states_of sessions.old.items) (all_of W.contents account.old.output) first before →
+        IfErr result (IsFaultAfter (S.form (words_of account.old.head.words)) first (R.told input.new.reader.now) before
+        (all_of W.contents account.new.output)) }
     ensures same_reader { IsSameReader input.old input.new }
     ensures same_writer { IsSameWriter account.old.output account.new.output }
 {
@@ -96,64 +120,70 @@ fn play<A: Allocator, R: LogReader, W: Write>(
     'lines: loop {
         let found = find_line(input, count, &mut account.output)?;
         if is_end(found) {
-            return finish(account.summary, &mut account.output);
+            return finish(sessions, style, account);
         }
         count += 1;
         let origin = Origin {
-            version,
+            version: account.head.version,
             line: count,
         };
-        judge_line(sessions, input.line(found), origin, &mut bytes, account)?;
+        judge_line(
+            sessions,
+            input.line(found),
+            origin,
+            &mut bytes,
+            style,
+            account,
+        )?;
         if is_last(found) {
-            return finish(account.summary, &mut account.output);
+            return finish(sessions, style, account);
         }
         pass_line(&mut input.block, found);
     }
 }
 
 /// Reports a log, with the end of the report held back.
-fn report<A: Allocator + Copy, R: LogReader, W: Write>(
+fn report<A: Allocator + Copy, R: LogReader, W: Write, S: Style>(
     alloc: A,
     input: &mut Input<'_, R>,
+    style: &mut S,
     account: &mut Account<'_, W>,
-) -> Result<Summary, LogFault>
+) -> Result<S::Answer, LogFault>
     requires unread { input.old.block ≡ [] }
     requires nothing { account.old.summary ≡ nothing_counted }
-    ensures report { IfOk result (λ summary. Reported (R.told input.old.reader.now)
-        (R.told input.new.reader.now) (all_of W.contents account.old.output) (all_of W.contents account.new.output) summary) }
-    ensures refused { IfErr result (λ fault. IsFaultAfter (R.told input.old.reader.now)
-        (R.told input.new.reader.now) (all_of W.contents account.old.output)
-        (all_of W.contents account.new.output) fault) }
+    ensures reported { (words : List Word) × IsAnswered (S.form words) (R.told input.old.reader.now)
+        (R.told input.new.reader.now) (all_of W.contents account.old.output) (all_of W.contents account.new.output)
+        result }
     ensures same_reader { IsSameReader input.old input.new }
     ensures same_writer { IsSameWriter account.old.output account.new.output }
 {
-    let opened = match read_preamble(input, &mut account.output) {
+    let opened = match read_preamble::<S, R, W>(input, &mut account.output) {
         Ok(opened) => opened,
         Err(fault) => return Err(fault),
     };
-    let head = opened.head;
-    let mut sessions = match open_sessions(alloc, &head) {
+    account.head = opened.head;
+    let mut sessions = match open_sessions(alloc, &opened.head) {
         Ok(sessions) => sessions,
         Err(fault) => return Err(fault),
     };
     if !opened.is_ended {
-        return finish(account.summary, &mut account.output);
+        return finish(&sessions, style, account);
     }
-    play(head.version, &mut sessions, opened.lines, input, account)
+    play(&mut sessions, opened.lines, input, style, account)
 }
 
 /// Hands over what is held back of a report that was answered so, and tells where that fails. A writer that failed is
 /// asked for nothing more.
-fn hand_over_rest<W: Write>(
-    answer: Result<Summary, LogFault>,
+fn hand_over_rest<T: Copy, W: Write>(
+    answer: Result<T, LogFault>,
     output: &mut Output<'_, W>,
-) -> Result<Summary, LogFault>
+) -> Result<T, LogFault>
     ensures failed { answer ≡ Err LogFault.Write → (result ≡ answer) × (output.new ≡ output.old) }
     ensures whole { result ≢ Err LogFault.Write → (result ≡ answer) × (output.new.page.items ≡ [])
         × Keeps (all_of W.contents output.old) (all_of W.contents output.new) }
     ensures same_writer { IsSameWriter output.old output.new }
 {
-    if answer == Err(LogFault::Write) {
+    if let Err(LogFault::Write) = answer {
         return answer;
     }
     match output.hand_over() {
@@ -163,38 +193,36 @@ fn hand_over_rest<W: Write>(
 }
 
 /// Reports a log, and hands over all that was held back, whether it has a fault or not.
-fn report_whole<A: Allocator + Copy, R: LogReader, W: Write>(
+pub(crate) fn report_whole<A: Allocator + Copy, R: LogReader, W: Write, S: Style>(
     alloc: A,
     input: &mut Input<'_, R>,
+    style: &mut S,
     account: &mut Account<'_, W>,
-) -> Result<Summary, LogFault>
+) -> Result<S::Answer, LogFault>
     requires unread { input.old.block ≡ [] }
     requires nothing { account.old.summary ≡ nothing_counted }
     requires none_held { account.old.output.page.items ≡ [] }
-    ensures report { IfOk result (λ summary. Reported (R.told input.old.reader.now)
-        (R.told input.new.reader.now) (W.contents account.old.output.writer.now) (W.contents account.new.output.writer.now) summary) }
-    ensures refused { IfErr result (λ fault. IsFaultAfter (R.told input.old.reader.now)
+    ensures reported { (words : List Word) × IsAnswered (S.form words) (R.told input.old.reader.now)
         (R.told input.new.reader.now) (W.contents account.old.output.writer.now)
-        (W.contents account.new.output.writer.now) fault) }
+        (W.contents account.new.output.writer.now) result }
     ensures same_reader { IsSameReader input.old input.new }
     ensures same_writer { IsSameWriter account.old.output account.new.output }
 {
-    let answer = report(alloc, input, account);
+    let answer = report(alloc, input, style, account);
     hand_over_rest(answer, &mut account.output)
 }
 
 /// Reads a log, and writes its report, as `check_log` does. Each read is made in time: the lines that came whole before it
 /// are reported by then, all of them, and the next line may begin with what came of it. So no read is made behind the line
 /// feed of a line of another form, the byte that makes a line too long, or the first byte of one line too many.
-#[tactic(auto, using(crate::proofs::LogLemmas::reported_alike, crate::proofs::LogLemmas::refused_alike))]
 pub fn check_stream<A: Allocator + Copy, R: LogReader, W: Write>(
     alloc: A,
     reader: &mut R,
     writer: &mut W,
 ) -> Result<Summary, LogFault>
-    ensures report { IfOk result (λ summary. Reported (R.told reader.old) (R.told reader.new)
+    ensures report { IfOk result (λ summary. Reported plain (R.told reader.old) (R.told reader.new)
         (W.contents writer.old) (W.contents writer.new) summary) }
-    ensures refused { IfErr result (λ fault. IsFaultAfter (R.told reader.old) (R.told reader.new)
+    ensures refused { IfErr result (λ fault. IsFaultAfter plain (R.told reader.old) (R.told reader.new)
         (W.contents writer.old) (W.contents writer.new) fault) }
 {
     let mut input = Input {
@@ -208,8 +236,9 @@ pub fn check_stream<A: Allocator + Copy, R: LogReader, W: Write>(
             page: Page::new(),
             writer,
         },
+        head: Preamble::new(),
     };
-    report_whole(alloc, &mut input, &mut account)
+    report_whole(alloc, &mut input, &mut PlainStyle, &mut account)
 }
 
 /// Reads a log, and writes its report: a line for each frame that became whole, each fault and each end, and the counts
@@ -223,9 +252,9 @@ pub fn check_log<A: Allocator + Copy, R: Read, W: Write>(
     reader: &mut R,
     writer: &mut W,
 ) -> Result<Summary, LogFault>
-    ensures report { IfOk result (λ summary. Reported (silent (R.remaining reader.old)) (silent (R.remaining reader.new))
+    ensures report { IfOk result (λ summary. Reported plain (silent (R.remaining reader.old)) (silent (R.remaining reader.new))
         (W.contents writer.old) (W.contents writer.new) summary) }
-    ensures refused { IfErr result (λ fault. IsFaultAfter (silent (R.remaining reader.old))
+    ensures refused { IfErr result (λ fault. IsFaultAfter plain (silent (R.remaining reader.old))
         (silent (R.remaining reader.new)) (W.contents writer.old) (W.contents writer.new) fault) }
 {
     check_stream(alloc, reader, writer)

@@ -11,6 +11,7 @@ ghost use Rattle.daide_log.specs.Held.{head_of, heading_of, IsHeld, whole};
 use crate::config_line::{MatchConfig, read_config, read_match_config};
 use daide_lines::match_line::is_match_name;
 use daide_lines::word_line::read_word;
+use daide_session::Config;
 use daide_words::{Word, Words};
 
 /// Of what a log is.
@@ -31,6 +32,25 @@ pub struct Preamble {
     pub limits: MatchConfig,
     /// The words.
     pub words: Words,
+}
+
+impl Preamble {
+    /// Returns what no log sets: no session, and no words.
+    pub(crate) fn new() -> Preamble {
+        Preamble {
+            version: Version::Single,
+            limits: MatchConfig {
+                config: Config {
+                    top_level: 0,
+                    max_body: 0,
+                    max_depth: 0,
+                },
+                sessions: 0,
+                words: 0,
+            },
+            words: Words::new(),
+        }
+    }
 }
 
 /// How far the head of a log has come.

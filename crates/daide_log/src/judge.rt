@@ -1,6 +1,6 @@
 //! One line of a log behind its head, judged by its session.
 
-ghost use Rattle.std.specs.Prelude.{◌≡◌, ◌⊎◌, ◌≤◌, All, length, Ok, Err, None, IfSome, OnOk, IfErr, MatchResult, option_map};
+ghost use Rattle.std.specs.Prelude.{◌≡◌, ◌⊎◌, ◌≤◌, ℕ, List, All, length, Ok, Err, None, IfSome, OnOk, IfErr, MatchResult, option_map};
 ghost use Rattle.daide_lines.specs.LogLine.{longest_piece};
 ghost use Rattle.daide_lines.specs.Output.{IsSameWriter, all_of};
 ghost use Rattle.daide_log.specs.Report.{events_of, side_of};
@@ -8,15 +8,18 @@ ghost use Rattle.daide_log.specs.Log.{event_in, source_in};
 ghost use Rattle.daide_lines.specs.Told.{IsWithin, event_told};
 ghost use Rattle.daide_machine.specs.Bounds.{most_sessions};
 ghost use Rattle.daide_machine.specs.Summary.{HasRoom, IsMoreBy};
-ghost use Rattle.daide_log.specs.Told.{IsIdle, Tells};
+ghost use Rattle.daide_words.specs.Words.{words_of};
+ghost use Rattle.daide_log.specs.Told.{IsReady, IsLateFault, IsQuietWith, Tells, fault_of};
+ghost use Rattle.std.specs.Io.KnownBytes.{Appends};
 ghost use Rattle.daide_lines.specs.MatchTold.{IsMatchWithin, match_event_told};
 ghost use Rattle.daide_log.specs.Progress.{Judges, states_of};
 
 use crate::account::Account;
 use crate::heading::Version;
-use crate::page::Unwritten;
+use crate::page::Unreported;
 use crate::play::{end, feed_all, time_out};
 use crate::report::Source;
+use crate::style::Style;
 use daide_lines::event_line::{MOST, Told, read_event};
 use daide_lines::fault::LogFault;
 use daide_lines::match_line::{MatchTold, read_match_event};
@@ -24,43 +27,46 @@ use daide_session::Session;
 use std::alloc::Allocator;
 use std::io::Write;
 
-/// A fault of the writer is `Write`.
-fn or_write(told: Result<(), Unwritten>) -> Result<(), LogFault>
-    ensures { MatchResult told (λ _. result ≡ Ok tt) (λ _. result ≡ Err LogFault.Write) }
+/// Returns why a line of a report is missing as a fault of the log.
+pub(crate) fn as_fault(told: Result<(), Unreported>) -> Result<(), LogFault>
+    ensures { MatchResult told (λ _. result ≡ Ok tt) (λ fault. result ≡ Err (fault_of fault)) }
 {
     match told {
         Ok(()) => Ok(()),
-        Err(_) => Err(LogFault::Write),
+        Err(Unreported::Write) => Err(LogFault::Write),
+        Err(Unreported::Memory) => Err(LogFault::Memory),
     }
 }
 
 /// Judges an event: its bytes, which lie at the front of the buffer, are fed, its end or the timer told, and what the
 /// session makes of it is reported.
-pub fn judge<A: Allocator, W: Write>(
+pub fn judge<A: Allocator, W: Write, S: Style>(
     session: &mut Session<A>,
     told: Told,
     source: Source,
     bytes: &[u8; MOST],
+    style: &mut S,
     account: &mut Account<'_, W>,
 ) -> Result<(), LogFault>
-    requires idle { IsIdle session.old }
+    requires ready { IsReady account.old.head.limits.config (words_of account.old.head.words) session.old }
     requires within { IsWithin told }
     requires room { HasRoom longest_piece account.old.summary }
-    ensures idle { IsIdle session.new }
+    ensures ready { IsReady account.old.head.limits.config (words_of account.old.head.words) session.new }
     ensures few { IsMoreBy longest_piece account.old.summary account.new.summary }
-    ensures judged { OnOk result (Tells source (side_of (event_told bytes.now told)) session.old.state
+    ensures judged { OnOk result (Tells (S.form (words_of account.old.head.words)) source (side_of (event_told bytes.now told)) session.old.state
         (events_of (event_told bytes.now told)) session.new.state
         account.old.summary account.new.summary (all_of W.contents account.old.output)
         (all_of W.contents account.new.output)) }
-    ensures refused { IfErr result (λ fault. fault ≡ LogFault.Write) }
+    ensures refused { IfErr result (IsLateFault (S.form (words_of account.old.head.words))) }
+    ensures same_head { account.new.head ≡ account.old.head }
     ensures same_writer { IsSameWriter account.old.output account.new.output }
 {
     match told {
         Told::Traffic(side, count) => {
-            or_write(feed_all(session, side, &bytes[..count], source, account))
+            as_fault(feed_all(session, side, &bytes[..count], source, style, account))
         }
-        Told::EndOf(side) => or_write(end(session, side, source, account)),
-        Told::TimeOver => or_write(time_out(session, source, account)),
+        Told::EndOf(side) => as_fault(end(session, side, source, style, account)),
+        Told::TimeOver => as_fault(time_out(session, source, style, account)),
         Told::Silence => Ok(()),
     }
 }
@@ -107,26 +113,45 @@ impl Origin {
     }
 }
 
+/// Writes what a line itself has in the report.
+fn quote<W: Write, S: Style>(
+    line: &[u8],
+    style: &mut S,
+    account: &mut Account<'_, W>,
+) -> Result<(), LogFault>
+    ensures text { OnOk result ((text : List ℕ)
+        × IsQuietWith (S.form (words_of account.old.head.words)) line.now text
+        × Appends (all_of W.contents account.old.output) (all_of W.contents account.new.output) text) }
+    ensures refused { IfErr result (IsLateFault (S.form (words_of account.old.head.words))) }
+    ensures same_head { account.new.head ≡ account.old.head }
+    ensures same_summary { account.new.summary ≡ account.old.summary }
+    ensures same_writer { IsSameWriter account.old.output account.new.output }
+{
+    as_fault(style.quote(&account.head, line, &mut account.output))
+}
+
 /// Judges a line by the session that it names. The bytes of traffic are decoded into the buffer.
-pub fn judge_line<A: Allocator, W: Write>(
+pub fn judge_line<A: Allocator, W: Write, S: Style>(
     sessions: &mut Vec<Session<A>, A>,
     line: &[u8],
     origin: Origin,
     bytes: &mut [u8; MOST],
+    style: &mut S,
     account: &mut Account<'_, W>,
 ) -> Result<(), LogFault>
     requires some { 1 ≤ length sessions.old.items }
     requires few { length sessions.old.items ≤ most_sessions }
-    requires idle { All IsIdle sessions.old.items }
+    requires ready { All (IsReady account.old.head.limits.config (words_of account.old.head.words)) sessions.old.items }
     requires room { HasRoom longest_piece account.old.summary }
     ensures same { length sessions.new.items ≡ length sessions.old.items }
-    ensures idle { All IsIdle sessions.new.items }
+    ensures ready { All (IsReady account.old.head.limits.config (words_of account.old.head.words)) sessions.new.items }
     ensures few { IsMoreBy longest_piece account.old.summary account.new.summary }
-    ensures judged { OnOk result (Judges origin.version origin.line (states_of sessions.old.items) line.now
+    ensures judged { OnOk result (Judges (S.form (words_of account.old.head.words)) origin.version origin.line (states_of sessions.old.items) line.now
         (states_of sessions.new.items) account.old.summary account.new.summary
         (all_of W.contents account.old.output)
         (all_of W.contents account.new.output)) }
-    ensures refused { IfErr result (λ fault. (fault ≡ LogFault.Write) ⊎ ((fault ≡ LogFault.BadLine origin.line)
+    ensures same_head { account.new.head ≡ account.old.head }
+    ensures refused { IfErr result (λ fault. IsLateFault (S.form (words_of account.old.head.words)) fault ⊎ ((fault ≡ LogFault.BadLine origin.line)
         × (event_in origin.version (length sessions.old.items) line.now ≡ None)
         × (all_of W.contents account.new.output ≡ all_of W.contents account.old.output))) }
     ensures same_writer { IsSameWriter account.old.output account.new.output }
@@ -134,11 +159,12 @@ pub fn judge_line<A: Allocator, W: Write>(
     let count = sessions.len() as u16;
     match read_told(origin.version, line, count, bytes) {
         None => Err(LogFault::BadLine(origin.line)),
-        Some(MatchTold::Quiet) => Ok(()),
+        Some(MatchTold::Quiet) => quote(line, style, account),
         Some(MatchTold::Of(session, told)) => {
+            quote(line, style, account)?;
             let place = session as usize - 1;
             let source = origin.source(session);
-            judge(&mut sessions[place], told, source, bytes, account)
+            judge(&mut sessions[place], told, source, bytes, style, account)
         }
     }
 }

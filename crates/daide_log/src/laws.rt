@@ -4,7 +4,7 @@ ghost use Rattle.std.specs.Prelude.{◌≡◌, ℕ, List, Option, Result};
 ghost use Rattle.daide_lines.specs.declared.fault.LogFault.{LogFault};
 ghost use Rattle.daide_machine.specs.declared.summary.Summary.{Summary};
 ghost use Rattle.daide_log.specs.Laws.{SessionsAreAlone};
-ghost use Rattle.daide_log.specs.Log.{IsReport};
+ghost use Rattle.daide_log.specs.Log.{IsReport, plain};
 ghost use Rattle.daide_log.specs.Progress.{HasFault, IsInTime};
 ghost use Rattle.daide_log.specs.RecordLaw.{RecordsAreReported, PortsAreRecorded};
 
@@ -28,7 +28,7 @@ pub fn log_has_one_report()
 /// byte that makes a line too long, or the first byte of one line too many is the last that a read may give.
 pub fn no_read_behind_a_fault()
     ensures { (before written : Option (List ℕ)) (came : List ℕ) (fault : LogFault) → HasFault came fault →
-        IsInTime before came written → ⊥ }
+        IsInTime plain before came written → ⊥ }
 {}
 
 /// The log that is written of what a session's ports answered reports that session: its moves, each once and in their

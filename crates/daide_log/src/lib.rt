@@ -8,6 +8,7 @@
 pub mod account;
 pub mod check;
 pub mod config_line;
+pub mod explained;
 pub mod heading;
 pub mod judge;
 pub mod laws;
@@ -18,9 +19,11 @@ pub mod record;
 mod record_text;
 pub mod recording;
 pub mod report;
+pub mod style;
 
 pub use check::{check_log, check_stream};
 pub use daide_lines::LogFault;
 pub use daide_lines::reader::LogReader;
+pub use explained::{Explained, explain_log, explain_stream};
 pub use record::{Record, RecordEnd};
 pub use recording::Recording;

@@ -11,9 +11,10 @@ ghost use Rattle.daide_log.specs.Heading.{HasSessions};
 ghost use Rattle.daide_lines.specs.LogLine.{most_lines};
 ghost use Rattle.daide_log.specs.Held.{further, at_last, whole, after_line};
 ghost use Rattle.daide_log.specs.Progress.{AreOpened, states_of};
-ghost use Rattle.daide_log.specs.Told.{IsIdle};
+ghost use Rattle.daide_log.specs.Told.{IsReady};
 
 use crate::heading::{Heading, Preamble};
+use crate::style::Style;
 use daide_lines::fault::LogFault;
 use daide_lines::input::Input;
 use daide_lines::lines::{Found, next_line};
@@ -90,13 +91,13 @@ fn after_line(
 }
 
 /// Reads the head of a log, line by line.
-pub fn read_preamble<R: LogReader, W: Write>(
+pub fn read_preamble<S: Style, R: LogReader, W: Write>(
     input: &mut Input<'_, R>,
     output: &mut Output<'_, W>,
 ) -> Result<Opened, LogFault>
     requires { input.old.block ≡ [] }
     ensures within { IfOk result (λ opened. HasSessions opened.head.limits) }
-    ensures opened { AreOpened (all_of W.contents output.old) (R.told input.old.reader.now) (R.told input.new.reader.now)
+    ensures opened { AreOpened S.form (all_of W.contents output.old) (R.told input.old.reader.now) (R.told input.new.reader.now)
         input.new.block result }
     ensures kept { OnOk result (Keeps (all_of W.contents output.old) (all_of W.contents output.new)) }
     ensures kept_at_fault { IfErr result (λ fault. fault ≢ LogFault.Write →
@@ -126,7 +127,8 @@ pub fn open_sessions<A: Allocator + Copy>(
 ) -> Result<Vec<Session<A>, A>, LogFault>
     ensures begun { IfOk result (λ sessions. states_of sessions.items ≡ replicate head.now.limits.sessions
         (opening (limits_with head.now.limits.config (words_of head.now.words)))) }
-    ensures idle { IfOk result (λ sessions. All IsIdle sessions.items) }
+    ensures ready { IfOk result (λ sessions.
+        All (IsReady head.now.limits.config (words_of head.now.words)) sessions.items) }
     ensures refused { IfErr result (λ fault. fault ≡ LogFault.Memory) }
 {
     let count = head.limits.sessions as usize;

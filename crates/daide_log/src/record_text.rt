@@ -16,7 +16,7 @@ use daide_machine::Config;
 use daide_words::{Operand, Slot, Word, Words};
 
 /// The digits, with upper-case letters.
-const DIGITS: &[u8; 16] = b"0123456789ABCDEF";
+pub(crate) const DIGITS: &[u8; 16] = b"0123456789ABCDEF";
 
 /// Puts the two digits of a byte.
 #[inline(always)]

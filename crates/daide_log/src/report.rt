@@ -1,10 +1,10 @@
 //! The lines of a report. Each is put straight behind those that are held back, where there is room for any line.
 
-ghost use Rattle.std.specs.Prelude.{◌≡◌, ◌<◌, ◌≤◌, ◌+◌, ◌%◌, [], ◌∷◌, ◌++◌, length};
+ghost use Rattle.std.specs.Prelude.{◌≡◌, ◌<◌, ◌≤◌, ◌+◌, ◌%◌, [], ◌∷◌, ◌++◌, codes, length, Some, None};
 ghost use Rattle.std.specs.Fmt.{decimal};
 ghost use Rattle.daide_lines.specs.Output.{page_size};
 ghost use Rattle.daide_log.specs.Report.{line_room, name_of_side, move_text, source_text, told_text, move_line};
-ghost use Rattle.daide_log.specs.Report.{summary_line as last_line};
+ghost use Rattle.daide_log.specs.Report.{summary_line as last_line, session_text, size_text, part_line};
 
 use daide_frame::{Code, Head, Side};
 use daide_lines::page::Page;
@@ -196,6 +196,86 @@ pub(crate) fn write_move(source: Source, side: Side, told: Note, line: &mut Page
 {
     put_source(source, line);
     put_told(side, told, line);
+}
+
+/// A frame that is not whole.
+#[derive(Clone, Copy)]
+pub(crate) struct Part {
+    /// How many bytes of it came.
+    pub came: usize,
+    /// How many it has in all, once its header is whole.
+    pub size: Option<usize>,
+}
+
+/// Puts how much of a header came.
+fn put_of_header(came: usize, line: &mut Page)
+    requires { length line.old.items + 86 ≤ page_size }
+    ensures text { line.new.items ≡ line.old.items ++ size_text came None }
+    ensures few { length line.new.items ≤ length line.old.items + 62 }
+{
+    put_number(came as u64, line);
+    put(b" of 4 bytes of a header", line);
+}
+
+/// Puts how much of a frame came.
+fn put_of_frame(came: usize, size: usize, line: &mut Page)
+    requires { length line.old.items + 86 ≤ page_size }
+    ensures text { line.new.items ≡ line.old.items ++ size_text came (Some size) }
+    ensures few { length line.new.items ≤ length line.old.items + 62 }
+{
+    put_number(came as u64, line);
+    put(b" of ", line);
+    put_number(size as u64, line);
+    put(b" bytes of a frame", line);
+}
+
+/// Puts how much of a frame that is not whole came.
+fn put_size(came: usize, size: Option<usize>, line: &mut Page)
+    requires { length line.old.items + 86 ≤ page_size }
+    ensures text { line.new.items ≡ line.old.items ++ size_text came size }
+    ensures few { length line.new.items ≤ length line.old.items + 62 }
+{
+    match size {
+        None => put_of_header(came, line),
+        Some(size) => put_of_frame(came, size, line),
+    }
+}
+
+/// Puts a session's number, if the report names it, and a space behind it.
+fn put_session(session: Option<u16>, line: &mut Page)
+    requires { length line.old.items + 124 ≤ page_size }
+    ensures text { line.new.items ≡ line.old.items ++ session_text session }
+    ensures few { length line.new.items ≤ length line.old.items + 21 }
+{
+    if let Some(number) = session {
+        put_number(number as u64, line);
+        line.push(b' ');
+    }
+}
+
+/// Puts a side, and what divides it from what is said of it.
+fn put_owner(side: Side, line: &mut Page)
+    requires { length line.old.items + 103 ≤ page_size }
+    ensures text { line.new.items ≡ line.old.items ++ name_of_side side ++ codes ": " }
+    ensures few { length line.new.items ≤ length line.old.items + 8 }
+{
+    match side {
+        Side::Bot => put(b"bot: ", line),
+        Side::Server => put(b"server: ", line),
+    }
+}
+
+/// Puts the line of a side's frame that is not whole, with four spaces before it.
+#[tactic(auto, unfolding(crate::specs::Report::part_line))]
+pub(crate) fn write_part(number: Option<u16>, side: Side, part: Part, line: &mut Page)
+    requires { length line.old.items + line_room ≤ page_size }
+    ensures { line.new.items ≡ line.old.items ++ part_line number side part.came part.size }
+{
+    put(b"    ", line);
+    put_session(number, line);
+    put_owner(side, line);
+    put_size(part.came, part.size, line);
+    line.push(b'\n');
 }
 
 /// Puts the last line of a report.

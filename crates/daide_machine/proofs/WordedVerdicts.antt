@@ -24,7 +24,7 @@ opening_has words Client l m h = h
 opening_has words ServerEnd l m h = h
 
 -- the messages of the table's opening symbol are those of its side and level
-worded_messages : (words : Words) → are_free words ≡ true → (side : Side2) (l : Level) (m : List ℕ) →
+pub worded_messages : (words : Words) → are_free words ≡ true → (side : Side2) (l : Level) (m : List ℕ) →
     IsMessageOf (SymbolMatchesIn (dialect_of words) (opening_of side l)) m ↔ IsMessageOver words side l m
 worded_messages words free side l m = (there, back)
   where

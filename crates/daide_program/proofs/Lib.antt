@@ -1,3 +1,5 @@
+mod EndingLemmas
 mod ExchangeLemmas
 mod Reading
 mod StreamLemmas
+mod AcceptedLemmas

@@ -5,19 +5,54 @@ use daide_frame::side::Side;
 use daide_grammar::level::Level;
 use std::alloc::{AllocError, Global};
 
-/// What the words ask for.
+/// What the words ask for. Words of one command line are borrowed for `'m`, their texts for `'a`.
 #[derive(Clone, Copy)]
-pub(crate) enum Order<'a> {
-    /// Show one frame, judged as the side's at the level, with the words of the settings at this path.
-    Show(Side, Level, Option<&'a str>),
+pub(crate) enum Order<'m, 'a> {
+    /// Show one frame.
+    Show(ShowOrder<'m, 'a>),
     /// Report a log.
-    Check,
+    Check(CheckOrder<'a>),
+    /// Write the frames of messages.
+    Frame(FrameOrder<'m, 'a>),
     /// Serve.
     Run(RunOrder<'a>),
     /// `--side` names no side.
     BadSide,
     /// `--level` names no level.
     BadLevel,
+}
+
+/// What to show of a frame.
+#[derive(Clone, Copy)]
+pub(crate) struct ShowOrder<'m, 'a> {
+    /// The side whose frame it is.
+    pub side: Side,
+    /// The level at which it is judged.
+    pub level: Level,
+    /// The path of the file of settings whose words count, if any.
+    pub words: Option<&'a str>,
+    /// Whether the verdict is explained.
+    pub is_explained: bool,
+    /// The frame, as words; without any, it is read from standard input.
+    pub typed: Option<&'m [&'a str]>,
+}
+
+/// How to report a log.
+#[derive(Clone, Copy)]
+pub(crate) struct CheckOrder<'a> {
+    /// The path of the log, or `-` for standard input.
+    pub path: &'a str,
+    /// Whether each message is printed and each verdict explained.
+    pub is_explained: bool,
+}
+
+/// Which messages to make frames of.
+#[derive(Clone, Copy)]
+pub(crate) struct FrameOrder<'m, 'a> {
+    /// The path of the file of settings whose words count, if any.
+    pub words: Option<&'a str>,
+    /// One message, as words; without any, standard input has a message on each line.
+    pub typed: Option<&'m [&'a str]>,
 }
 
 /// How to serve.
@@ -37,34 +72,59 @@ Without a command it does what 'show' does with its defaults. The options of 'sh
       --side <SIDE>       bot or server [default: bot]
       --level <N>         0, 10, 20, 30, 40, 50 or 60 [default: 0]
       --words <SETTINGS>  a file of settings, whose words count as words of press
+      --explain           say why the frame would not be relayed
 
 Exit status:
-  0  the frame would be relayed; the log has no PRN, HUH or fault; all bots were served; help and version
+  0  the frame would be relayed; the log has no PRN, HUH or fault; all messages have frames; all bots were served;
+     help and version
   1  a fault of the input, the output, the settings, the folder of records, the address to listen on, or memory, told in
      one line on standard error
   2  words that are not understood
   3  the frame is shown, and would not be relayed; the log is reported, and has a PRN, HUH or fault";
 
-/// How the frame is read, and what the exit status says of it.
+/// How the frame is read, examples, and what the exit status says of it.
 const SHOW_NOTES: &str = "\
 The input has at most 200,000 bytes. Spaces, tabs and line ends are dropped wherever they stand.
-The exit status is 0 where the frame would be relayed and 3 where not; 'daide-gate --help' has all.";
+The exit status is 0 if the frame would be relayed, and 3 if not; 'daide-gate --help' has all.
 
-/// What a log is, and what the exit status says of it.
+Examples:
+  daide-gate show --explain 02 00 00 04 48 03 40 00
+  daide-gate show --level 10 < examples/peace-proposal.hex";
+
+/// What a log is, examples, and what the exit status says of it.
 const CHECK_NOTES: &str = "\
 A log's first line is 'daide-log 1', its second 'config LEVEL BODY DEPTH'; each further one is 'bot HEX',
 'server HEX', 'end bot', 'end server' or 'timer', or is empty, or begins with '#'. The log of a match begins with
 'daide-log 2', and names each line's session. docs/FORMATS.md has both, and the report.
-The exit status is 0 where no message got PRN or HUH and there was no fault, and else 3.";
+The exit status is 0 if no message got PRN or HUH and there was no fault, and else 3. With '--explain' it is 3 also
+if a side's bytes end within a frame.
 
-/// What a run says, and what its exit status says of it.
+Examples:
+  daide-gate check examples/match.log
+  daide-gate check --explain examples/whole-match.log";
+
+/// What a message is, examples, and what the exit status says of it.
+const FRAME_NOTES: &str = "\
+A message is written as 'show' prints it: names, numbers, quoted text, #hhhh and brackets, with blanks between.
+Each frame is one line of hexadecimal digits, which 'daide-gate show' reads.
+The exit status is 0 if each message has a frame, and 1 at the first that has none.
+
+Examples:
+  daide-gate frame \"NME ('a') ('1')\"
+  echo 'GOF' | daide-gate frame | daide-gate show";
+
+/// What a run prints, examples, and what its exit status says of it.
 const RUN_NOTES: &str = "\
 It prints 'listening' once bots may come. What ends no run, as a server that can't be reached, is told in a
 line on standard error. With '--record' the folder gets a log of each session, session-000001.log and so on,
 which 'daide-gate check' reads; it must be there, and no file in it is written over.
-The exit status is 0 once all bots were served, and 1 where no bot can be.";
+The exit status is 0 once all bots were served, and 1 if no bot can be.
 
-/// An option that takes any one word, so that a wrong one is told in the program's own words.
+Examples:
+  daide-gate run examples/settings.toml
+  daide-gate run --verbose --record . examples/tournament.toml";
+
+/// Returns an option that takes any one word, so that a wrong one is refused in the program's own words.
 fn option<'a>(alloc: Global, name: &'a str, value: &'a str, help: &'a str) -> Arg<'a> {
     Arg::new(alloc, name)
         .long(name)
@@ -73,61 +133,100 @@ fn option<'a>(alloc: Global, name: &'a str, value: &'a str, help: &'a str) -> Ar
         .help(help)
 }
 
-/// The words of `show`.
+/// Returns an option without a value.
+fn flag<'a>(alloc: Global, name: &'a str, help: &'a str) -> Arg<'a> {
+    Arg::new(alloc, name)
+        .long(name)
+        .action(ArgAction::SetTrue)
+        .help(help)
+}
+
+/// Returns an argument that takes all words that are no options.
+fn all_words<'a>(alloc: Global, name: &'a str, help: &'a str) -> Arg<'a> {
+    Arg::new(alloc, name)
+        .action(ArgAction::Append)
+        .num_args(1..)
+        .help(help)
+}
+
+/// Returns the command `show`.
 fn show_command<'a>(alloc: Global) -> Result<Command<'a>, AllocError> {
     let side = "Whose frame it is, bot or server [default: bot]";
     let level = "The level of press, 0, 10, 20, 30, 40, 50 or 60 [default: 0]";
     let words = "The file of settings whose words count as words of press";
-    let mut options = Vec::new(alloc);
-    options.push(option(alloc, "side", "SIDE", side))?;
-    options.push(option(alloc, "level", "N", level))?;
-    options.push(option(alloc, "words", "SETTINGS", words))?;
+    let explain = "Say why the frame would not be relayed";
+    let typed = "The frame, as one word or more; without any, standard input is read";
+    let mut words_taken = Vec::new(alloc);
+    words_taken.push(option(alloc, "side", "SIDE", side))?;
+    words_taken.push(option(alloc, "level", "N", level))?;
+    words_taken.push(option(alloc, "words", "SETTINGS", words))?;
+    words_taken.push(flag(alloc, "explain", explain))?;
+    words_taken.push(all_words(alloc, "HEX", typed))?;
     Command::new(alloc, "show")
-        .about("Shows one frame, read as hexadecimal digits from standard input")
+        .about("Shows one frame, given as hexadecimal digits")
         .after_help(SHOW_NOTES)
-        .args(options)
+        .args(words_taken)
 }
 
-/// The word `check`, which takes no other.
-fn check_command<'a>(alloc: Global) -> Command<'a> {
+/// Returns the command `check`.
+fn check_command<'a>(alloc: Global) -> Result<Command<'a>, AllocError> {
+    let explain = "Print each message and its answer, and say why it was not relayed";
+    let file = Arg::new(alloc, "FILE")
+        .action(ArgAction::Set)
+        .help("The log; without it, and for '-', standard input is read");
+    let mut words_taken = Vec::new(alloc);
+    words_taken.push(flag(alloc, "explain", explain))?;
+    words_taken.push(file)?;
     Command::new(alloc, "check")
-        .about("Reports what a gateway makes of each line of a log, read from standard input")
+        .about("Reports what a gateway makes of each line of a log")
         .after_help(CHECK_NOTES)
+        .args(words_taken)
 }
 
-/// The words of `run`.
+/// Returns the command `frame`.
+fn frame_command<'a>(alloc: Global) -> Result<Command<'a>, AllocError> {
+    let words = "The file of settings whose words may be named";
+    let typed = "One message, as one word or more; without any, standard input has one a line";
+    let mut words_taken = Vec::new(alloc);
+    words_taken.push(option(alloc, "words", "SETTINGS", words))?;
+    words_taken.push(all_words(alloc, "TEXT", typed).allow_negative_numbers(true))?;
+    Command::new(alloc, "frame")
+        .about("Writes the frames of messages, as hexadecimal digits")
+        .after_help(FRAME_NOTES)
+        .args(words_taken)
+}
+
+/// Returns the command `run`.
 fn run_command<'a>(alloc: Global) -> Result<Command<'a>, AllocError> {
-    let verbose = Arg::new(alloc, "verbose")
-        .long("verbose")
-        .action(ArgAction::SetTrue)
-        .help("Tell where each session begins, and how it ended, on standard error");
-    let mut words = Vec::new(alloc);
-    words.push(verbose)?;
+    let verbose = "Tell where each session begins, and how it ended, on standard error";
     let record = "The folder in which a log of each session is kept";
-    words.push(option(alloc, "record", "FOLDER", record))?;
     let settings = Arg::new(alloc, "SETTINGS")
         .required(true)
         .action(ArgAction::Set)
         .help("The file of settings; docs/FORMATS.md and examples/settings.toml have its keys");
-    words.push(settings)?;
+    let mut words_taken = Vec::new(alloc);
+    words_taken.push(flag(alloc, "verbose", verbose))?;
+    words_taken.push(option(alloc, "record", "FOLDER", record))?;
+    words_taken.push(settings)?;
     let about =
         "Serves bots, each with a connection of its own to the server, until all were served";
     Command::new(alloc, "run")
         .about(about)
         .after_help(RUN_NOTES)
-        .args(words)
+        .args(words_taken)
 }
 
-/// The commands, in the order in which the help has them.
+/// Returns the commands, in the order in which the help has them.
 fn subcommands<'a>(alloc: Global) -> Result<Vec<Command<'a>>, AllocError> {
     let mut commands = Vec::new(alloc);
     commands.push(show_command(alloc)?)?;
-    commands.push(check_command(alloc))?;
+    commands.push(check_command(alloc)?)?;
+    commands.push(frame_command(alloc)?)?;
     commands.push(run_command(alloc)?)?;
     Ok(commands)
 }
 
-/// The command line that is understood.
+/// Returns the command line that is understood.
 pub(crate) fn command<'a>(alloc: Global) -> Result<Command<'a>, AllocError> {
     let subcommands = subcommands(alloc)?;
     Command::new(alloc, "daide-gate")
@@ -138,7 +237,7 @@ pub(crate) fn command<'a>(alloc: Global) -> Result<Command<'a>, AllocError> {
         .subcommands(subcommands)
 }
 
-/// The side that a word names.
+/// Returns the side that a word names.
 fn side_of(word: &str) -> Option<Side> {
     match word {
         "bot" => Some(Side::Bot),
@@ -147,7 +246,7 @@ fn side_of(word: &str) -> Option<Side> {
     }
 }
 
-/// The level that a word names, in decimal digits.
+/// Returns the level that a word names, in decimal digits.
 fn level_named(word: &str) -> Option<Level> {
     match word {
         "0" => Some(Level::L0),
@@ -161,7 +260,7 @@ fn level_named(word: &str) -> Option<Level> {
     }
 }
 
-/// What the words of `run` ask for.
+/// Returns what the words of `run` ask for.
 fn run_order<'a>(run: &ArgMatches<'a>) -> RunOrder<'a> {
     RunOrder {
         settings: run.get_str("SETTINGS").unwrap_or(""),
@@ -170,27 +269,52 @@ fn run_order<'a>(run: &ArgMatches<'a>) -> RunOrder<'a> {
     }
 }
 
-/// What the words of `show` ask for. A bad side is told before a bad level.
-fn show_order<'a>(side: Option<&str>, level: Option<&str>, words: Option<&'a str>) -> Order<'a> {
-    let Some(side) = side_of(side.unwrap_or("bot")) else {
-        return Order::BadSide;
-    };
-    match level_named(level.unwrap_or("0")) {
-        Some(level) => Order::Show(side, level, words),
-        None => Order::BadLevel,
+/// Returns what the words of `check` ask for.
+fn check_order<'a>(check: &ArgMatches<'a>) -> CheckOrder<'a> {
+    CheckOrder {
+        path: check.get_str("FILE").unwrap_or("-"),
+        is_explained: check.get_flag("explain"),
     }
 }
 
-/// What the words ask for; without any, what `show` does with its defaults.
-pub(crate) fn order_of<'a>(matches: &ArgMatches<'a>) -> Order<'a> {
+/// Returns what the words of `frame` ask for.
+fn frame_order<'m, 'a>(frame: &'m ArgMatches<'a>) -> FrameOrder<'m, 'a> {
+    FrameOrder {
+        words: frame.get_str("words"),
+        typed: frame.get_strs("TEXT"),
+    }
+}
+
+/// Returns what the words of `show` ask for. A bad side is refused before a bad level.
+fn show_order<'m, 'a>(show: &'m ArgMatches<'a>) -> Order<'m, 'a> {
+    let Some(side) = side_of(show.get_str("side").unwrap_or("bot")) else {
+        return Order::BadSide;
+    };
+    let Some(level) = level_named(show.get_str("level").unwrap_or("0")) else {
+        return Order::BadLevel;
+    };
+    Order::Show(ShowOrder {
+        side,
+        level,
+        words: show.get_str("words"),
+        is_explained: show.get_flag("explain"),
+        typed: show.get_strs("HEX"),
+    })
+}
+
+/// Returns what the words ask for; without any, what `show` does with its defaults.
+pub(crate) fn order_of<'m, 'a>(matches: &'m ArgMatches<'a>) -> Order<'m, 'a> {
     match matches.subcommand() {
         Some(("run", run)) => Order::Run(run_order(run)),
-        Some(("check", _)) => Order::Check,
-        Some((_, show)) => show_order(
-            show.get_str("side"),
-            show.get_str("level"),
-            show.get_str("words"),
-        ),
-        None => show_order(None, None, None),
+        Some(("check", check)) => Order::Check(check_order(check)),
+        Some(("frame", frame)) => Order::Frame(frame_order(frame)),
+        Some((_, show)) => show_order(show),
+        None => Order::Show(ShowOrder {
+            side: Side::Bot,
+            level: Level::L0,
+            words: None,
+            is_explained: false,
+            typed: None,
+        }),
     }
 }

@@ -2,6 +2,7 @@
 //! contracts are the laws.
 
 ghost use Rattle.daide_program.specs.Exchanged.{SessionsExchange, ServedSessionsExchange};
+ghost use Rattle.daide_program.specs.Accepted.{BotsAreCounted};
 
 use daide_machine::Ports;
 use daide_sockets::ports::SocketPorts;
@@ -21,4 +22,9 @@ pub fn sessions_exchange<S: Duplex>()
 pub fn served_sessions_exchange<R: Clock, S: Duplex + Drop>()
     ensures { ServedSessionsExchange ⟦<SocketPorts<'static, R, S> as Ports>⟧.becomes
         (λ ports. (ports.bot.stream, ports.server.stream)) S.to_give S.taken }
+{}
+
+/// The sockets of a run count each bot of which their answers say that it came.
+pub fn bots_are_counted<P: Ports, S: Duplex>()
+    ensures { BotsAreCounted P S.to_give S.taken }
 {}

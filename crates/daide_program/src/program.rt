@@ -1,71 +1,40 @@
 //! What the program does, over any streams.
 
-ghost use Rattle.std.specs.Prelude.{◌≤◌, IfOk};
+ghost use Rattle.std.specs.Prelude.{◌≡◌, ◌≢◌, ◌≤◌, IfOk};
+ghost use Rattle.clap.specs.Values.{kind_of};
+ghost use Rattle.daide_program.specs.Endings.{OrderEnds};
 
 use crate::arguments::{Order, command, order_of};
+use crate::checking::run_check;
 use crate::faults::{CLEAN, FAULT, NOT_RELAYED, USAGE, tell};
-use crate::running::{run, settings_at};
+use crate::framing::run_frame;
+use crate::hints::{suggest, usage_hint};
+use crate::running::run;
+use crate::showing::run_show;
 use clap::error::{Error, ErrorKind};
-use daide_frame::side::Side;
-use daide_grammar::level::Level;
-use daide_log::check_log;
-use daide_show::{show, show_with};
 use std::convert::AsStr;
 use std::io;
 use std::io::{Read, Write};
 use std::net::Net;
 use std::rt::{Clock, Files};
 
-/// Shows the frame of the input, with the words of the settings at a path. The settings are read before the input.
-fn run_show<R: AllocGlobal + Files, I: Read, O: Write, E: Write>(
-    rt: &R,
-    asked: (Side, Level, Option<&str>),
-    input: &mut I,
+/// Writes the help that was asked for, or what is wrong with the words. Returns the status.
+fn report_usage<S: AsStr, O: Write, E: Write>(
+    why: Error,
+    words: &[S],
     output: &mut O,
     errors: &mut E,
 ) -> io::Result<u8>
-    ensures { IfOk result (λ status. status ≤ NOT_RELAYED) }
-{
-    let (side, level, path) = asked;
-    let shown = match path {
-        None => show(rt.alloc(), side, level, input, output),
-        Some(path) => match settings_at(rt, path) {
-            Ok(settings) => show_with(rt.alloc(), side, level, &settings.words, input, output),
-            Err(fault) => return tell(errors, fault, FAULT),
-        },
-    };
-    match shown {
-        Ok(true) => Ok(CLEAN),
-        Ok(false) => Ok(NOT_RELAYED),
-        Err(fault) => tell(errors, fault, FAULT),
-    }
-}
-
-/// Reports the log of the input.
-fn run_check<R: AllocGlobal, I: Read, O: Write, E: Write>(
-    rt: &R,
-    input: &mut I,
-    output: &mut O,
-    errors: &mut E,
-) -> io::Result<u8>
-    ensures { IfOk result (λ status. status ≤ NOT_RELAYED) }
-{
-    match check_log(rt.alloc(), input, output) {
-        Ok(counts) if counts.prn == 0 && counts.huh == 0 && counts.faults == 0 => Ok(CLEAN),
-        Ok(_) => Ok(NOT_RELAYED),
-        Err(fault) => tell(errors, fault, FAULT),
-    }
-}
-
-/// Prints the help that was asked for, or tells what is wrong with the words.
-fn explain<O: Write, E: Write>(why: Error, output: &mut O, errors: &mut E) -> io::Result<u8>
-    ensures { IfOk result (λ status. status ≤ NOT_RELAYED) }
+    ensures bounded { IfOk result (λ status. status ≤ USAGE) }
+    ensures usage { IfOk result (λ status. kind_of why ≢ ErrorKind.OutOfMemory → kind_of why ≢ ErrorKind.DisplayHelp
+        → kind_of why ≢ ErrorKind.DisplayVersion → status ≡ USAGE) }
 {
     if why.kind() == ErrorKind::OutOfMemory {
         return tell(errors, "out of memory", FAULT);
     }
     if why.use_stderr() {
         write!(errors, "{why}")?;
+        suggest(usage_hint(why.kind(), words), errors);
         return Ok(USAGE);
     }
     match write!(output, "{why}") {
@@ -74,27 +43,31 @@ fn explain<O: Write, E: Write>(why: Error, output: &mut O, errors: &mut E) -> io
     }
 }
 
-/// Does what is asked for.
+/// Carries out an order. Returns the status.
 fn carry_out<R: AllocGlobal + Files + Clock + Net, I: Read, O: Write, E: Write>(
     rt: &R,
-    order: Order<'_>,
+    order: Order<'_, '_>,
     input: &mut I,
     output: &mut O,
     errors: &mut E,
 ) -> io::Result<u8>
-    ensures { IfOk result (λ status. status ≤ NOT_RELAYED) }
+    ensures bounded { IfOk result (λ status. status ≤ NOT_RELAYED) }
+    ensures ended { IfOk result (OrderEnds order.entry (I.remaining input.old) (I.remaining input.new)
+        (O.contents output.old) (O.contents output.new)) }
 {
     match order {
-        Order::Show(side, level, path) => run_show(rt, (side, level, path), input, output, errors),
-        Order::Check => run_check(rt, input, output, errors),
+        Order::Show(order) => run_show(rt, order, input, output, errors),
+        Order::Check(order) => run_check(rt, order, input, output, errors),
+        Order::Frame(order) => run_frame(rt, order, input, output, errors),
         Order::Run(order) => run(rt, order, output, errors),
         Order::BadSide => tell(errors, "bad side", USAGE),
         Order::BadLevel => tell(errors, "bad level", USAGE),
     }
 }
 
-/// Does what the words ask for, and gives the exit status, one of the four of `faults`. The first word is the program's
-/// name. Only a fault that could not be told is an error.
+/// Does what the words ask for, and returns the exit status, one of the four of `faults`. The first word is the program's
+/// name. Which order words give, and the texts of help and usage, is the option parser's. Only a fault that could not be
+/// reported is an error.
 pub fn answer<R: AllocGlobal + Files + Clock + Net, S: AsStr, I: Read, O: Write, E: Write>(
     rt: &R,
     words: &[S],
@@ -109,6 +82,6 @@ pub fn answer<R: AllocGlobal + Files + Clock + Net, S: AsStr, I: Read, O: Write,
     };
     match command.try_get_matches_from(words) {
         Ok(matches) => carry_out(rt, order_of(&matches), input, output, errors),
-        Err(why) => explain(why, output, errors),
+        Err(why) => report_usage(why, words, output, errors),
     }
 }

@@ -1,11 +1,15 @@
 //! A run of which each session is recorded in a folder: the system of its sockets, with a record round each session's
 //! ports. A run without one has the sockets' own system and nothing of this.
 
+ghost use Rattle.daide_sockets.specs.Pairing.{Transits};
+
 use crate::folder::{Folder, SessionFile, end};
 use daide_log::Recording;
 use daide_machine::{Connect, Notice, SessionEnd, System};
+use daide_sockets::connection::Connection;
 use daide_sockets::ports::SocketPorts;
 use daide_sockets::system::Sockets;
+use daide_streams::duplex::Duplex;
 use std::io::Write;
 use std::net::Net;
 use std::rt::{Clock, Files};
@@ -27,9 +31,22 @@ impl<R: AllocGlobal + Clock + Net + Files, E: Write + Drop> RecordedSockets<'_, 
 impl<'w, R: AllocGlobal + Clock + Net + Files, E: Write + Drop> System<
     Recording<SocketPorts<'w, &'w R>, SessionFile<R::File>>,
 > for RecordedSockets<'w, '_, R, E> {
-    ghost use Rattle.std.specs.Prelude.{None};
-
-    ghost told = { λ _. None };
+    ghost transition = { λ old answer new. Transits ⟦<Connection as Duplex>⟧.to_give ⟦<Connection as Duplex>⟧.taken
+        (λ ports. record {
+          number = ports.ports.number;
+          bot = ports.ports.bot.stream;
+          server = ports.ports.server.stream;
+        })
+        (record {
+          came = old.sockets.came;
+          arrivals = old.sockets.arrivals.items;
+          closing = old.sockets.closings;
+        }) answer
+        (record {
+          came = new.sockets.came;
+          arrivals = new.sockets.arrivals.items;
+          closing = new.sockets.closings;
+        }) };
 
     fn begin_round(&mut self) {
         self.sockets.begin_round();
@@ -43,7 +60,7 @@ impl<'w, R: AllocGlobal + Clock + Net + Files, E: Write + Drop> System<
         match self.sockets.connected() {
             Connect::Ready(ports) => {
                 let number = ports.number();
-                Connect::Ready(self.folder.begin(number, ports, self.sockets.errors()))
+                Connect::Ready(self.folder.begin(number, ports, &mut self.sockets.errors))
             }
             Connect::Failed => Connect::Failed,
             Connect::Pending => Connect::Pending,
@@ -55,7 +72,7 @@ impl<'w, R: AllocGlobal + Clock + Net + Files, E: Write + Drop> System<
         ports: Recording<SocketPorts<'w, &'w R>, SessionFile<R::File>>,
         end_of: SessionEnd,
     ) {
-        let ports = end(ports, self.sockets.errors());
+        let ports = end(ports, &mut self.sockets.errors);
         self.sockets.retire(ports, end_of);
     }
 

@@ -1,15 +1,17 @@
 //! `run`: the settings of a file, and the gateway at work until all its bots were served.
 
-ghost use Rattle.std.specs.Prelude.{◌≡◌, ◌≤◌, IfOk, IfSome, string_bytes};
+ghost use Rattle.std.specs.Prelude.{◌≡◌, ◌≤◌, None, [], IfOk, IfSome, IsOkAnd, string_bytes};
+ghost use Rattle.daide_words.specs.Words.{words_of};
 
 use crate::arguments::RunOrder;
 use crate::faults::{CLEAN, FAULT, tell};
 use crate::folder::Folder;
-use crate::gateway::{GatewayFault, fault_of, serve_at, serve_with};
+use crate::gateway::{GatewayFault, bind, serve_on};
 use crate::recorded::RecordedSockets;
 use crate::text::{TextFault, read_text};
 use daide_settings::{Settings, SettingsError, read_settings};
-use daide_sockets::ground::{Ground, ground_of, sockets_on};
+use daide_sockets::ground::{Ground, sockets_on};
+use daide_words::Words;
 use std::alloc::Allocator;
 use std::io::{Read, Write};
 use std::net::Net;
@@ -62,8 +64,21 @@ pub(crate) fn settings_at<R: AllocGlobal + Files>(
     read_settings(rt.alloc(), text.as_str()).map_err(RunFault::Settings)
 }
 
-/// Serves with the settings of a text, and tells of its sessions where it `is_verbose`. Whom it serves is the system's to
-/// say, of which no contract speaks.
+/// Returns the words of the settings at a path; without a path there are none.
+pub(crate) fn words_at<R: AllocGlobal + Files>(
+    rt: &R,
+    path: Option<&str>,
+) -> Result<Words, RunFault>
+    ensures { path.entry ≡ None → IsOkAnd result (λ words. words_of words ≡ []) }
+{
+    match path {
+        None => Ok(Words::new()),
+        Some(path) => settings_at(rt, path).map(|settings| settings.words),
+    }
+}
+
+/// Serves with the settings of a text, and tells of its sessions where it `is_verbose`: it binds, opens the sockets of a
+/// run, and serves on them; each of the three says what it does.
 pub fn run_text<R: AllocGlobal + Clock + Net, O: Write, E: Write>(
     rt: &R,
     text: &str,
@@ -72,7 +87,19 @@ pub fn run_text<R: AllocGlobal + Clock + Net, O: Write, E: Write>(
     errors: &mut E,
 ) -> Result<(), RunFault> {
     let settings = read_settings(rt.alloc(), text).map_err(RunFault::Settings)?;
-    serve_at(rt, &settings, is_verbose, output, errors).map_err(RunFault::Gateway)
+    let Ground {
+        listener,
+        servers,
+        poller,
+    } = bind(rt, &settings).map_err(RunFault::Gateway)?;
+    let at = (listener, servers.as_slice(), &poller);
+    let Some(mut system) = sockets_on(rt, &settings, at, errors) else {
+        return Err(RunFault::Memory);
+    };
+    system.set_verbose(is_verbose);
+    let served = serve_on(rt.alloc(), &settings, &mut system, output);
+    system.finish();
+    served.map_err(|fault| RunFault::Gateway(GatewayFault::Serve(fault)))
 }
 
 /// Serves with the settings of a file, and keeps a record of each session in a folder.
@@ -91,14 +118,14 @@ fn run_recorded<R: AllocGlobal + Files + Clock + Net, O: Write, E: Write>(
         listener,
         servers,
         poller,
-    } = ground_of(rt, &settings).map_err(|fault| RunFault::Gateway(fault_of(fault)))?;
+    } = bind(rt, &settings).map_err(RunFault::Gateway)?;
     let at = (listener, servers.as_slice(), &poller);
     let Some(mut sockets) = sockets_on(rt, &settings, at, errors) else {
         return Err(RunFault::Memory);
     };
     sockets.set_verbose(is_verbose);
     let mut system = RecordedSockets { sockets, folder };
-    let served = serve_with(rt.alloc(), &settings, &mut system, output);
+    let served = serve_on(rt.alloc(), &settings, &mut system, output);
     system.finish();
     served.map_err(|fault| RunFault::Gateway(GatewayFault::Serve(fault)))
 }

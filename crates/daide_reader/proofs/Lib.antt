@@ -10,4 +10,5 @@ pub mod SliceLemmas
 pub mod CellLemmas
 pub mod Counts
 pub mod Sizes
+pub mod Fronts
 pub mod StretchLemmas

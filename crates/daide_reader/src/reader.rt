@@ -3,16 +3,18 @@
 //! Where no message continues, the place is kept and the stack dropped; the brackets are counted to
 //! the end, since a message that is not paired is answered as such wherever it went wrong before.
 
-ghost use Rattle.std.specs.Prelude.{◌≡◌, ◌≤◌, ◌<◌, ◌+◌, ◌-◌, ◌*◌, ◌/◌, ◌%◌, ◌^◌, ◌++◌, [], ◌∷◌, List, ℕ, Option, None, Some, IsSome, IsTrue, ◌↔◌, ◌⊎◌, if◌then◌else◌, false, true, length, take};
+ghost use Rattle.std.specs.Prelude.{◌≡◌, ◌≤◌, ◌<◌, ◌+◌, ◌-◌, ◌*◌, ◌/◌, ◌%◌, ◌^◌, ◌++◌, [], ◌∷◌, List, ℕ, Option, None, Some, MatchOption, IsSome, IsTrue, ◌↔◌, ◌⊎◌, if◌then◌else◌, false, true, length, take};
 ghost use Rattle.daide_token.specs.Token.{tokens_of};
 ghost use Rattle.daide_grammar.specs.declared.symbol.Sym.{Sym};
 ghost use Rattle.daide_grammar.specs.Depth.{open_brackets};
+ghost use Rattle.daide_grammar.specs.Paired.{begins_with_prn};
 ghost use Rattle.daide_grammar.specs.Words.{Words};
 ghost use Rattle.daide_reader.specs.Bounds.{longest_message, most_symbols, most_tokens};
 ghost use Rattle.daide_reader.specs.ViablePrefix.{IsMessageOf};
+ghost use Rattle.daide_reader.specs.ErrorPlace.{AreAllowed};
 ghost use Rattle.daide_reader.specs.Verdict.{HasVerdict};
 ghost use Rattle.daide_reader.specs.Outline.{IsOutlineOf};
-ghost use Rattle.daide_reader.specs.Reading.{StandsAfter, IsSettled, IsRaised, tokens_read, brackets_open, steps_since};
+ghost use Rattle.daide_reader.specs.Reading.{HasPlace, StandsAfter, IsSettled, IsRaised, tokens_read, brackets_open, steps_since};
 ghost use Rattle.daide_reader.specs.declared.verdict.Verdict.TheVariants.{Prn};
 
 use crate::brackets::are_open;
@@ -259,6 +261,18 @@ impl<T: Predict, const N: usize> Reader<T, N> {
             StandsAfter T.Predict words first max_depth self.now p → result ≡ open_brackets p }
     {
         self.unclosed.unwrap_or(0) as usize
+    }
+
+    /// The place of the first token that no message continues or that opens one bracket too many, where one was
+    /// read: with none, every front of the tokens is allowed. Of a message that begins with PRN it says nothing.
+    pub fn place(&self) -> Option<u16>
+        ensures exact { result ≡ self.now.place }
+        ensures place { (words : Words) (first : Sym) (max_depth : ℕ) (p : List ℕ) → begins_with_prn p ≡ false →
+            StandsAfter T.Predict words first max_depth self.now p →
+            MatchOption result (AreAllowed (IsMessageOf (T.language words first)) max_depth p)
+            (HasPlace (T.language words first) max_depth p) }
+    {
+        self.place
     }
 
     /// How many symbols the stack holds: none once a place was found.

@@ -1,7 +1,7 @@
 -- The sessions of a run, step after step.
 use Rattle.std.proofs.Common.{◌≡◌, ℕ, zero, suc, ◌<◌, ◌≤◌, Bool, true, false, List, [], ◌∷◌, ◌++◌, length, take, set}
 use Rattle.std.proofs.Common.{◌+◌, refl, sym, ap, ◌∙◌, subst, arith, append-nil, length-append}
-use Rattle.std.specs.Prelude.{◌==◌, ◌&&◌, ◌||◌, Option, Some, None, Contains, All, is_none, is_some, not}
+use Rattle.std.specs.Prelude.{◌==◌, ◌&&◌, ◌||◌, Option, Some, None, Ok, Contains, All, is_none, is_some, not}
 use Rattle.std.proofs.lemmas.Bool.{eqb-true}
 use Rattle.std.proofs.lemmas.List.{take_all, length-set}
 use Rattle.std.proofs.lemmas.List.Elements.{All-nil, All-cons, All-head, All-tail, All-same, All-append, All-set}
@@ -16,7 +16,8 @@ use Rattle.daide_machine.specs.Machine.{Limits, is_over}
 use Rattle.daide_machine.specs.Wires.{SessionView, IsNew, is_closed}
 use Rattle.daide_machine.specs.Ports.{PortAnswer, Clock, BecomesBy, events_of}
 use Rattle.daide_turns.specs.Headline.{untouched, Stands, IsBoundedAndExact}
-use Rattle.daide_turns.specs.Hub.{HubView, IsTurned, Changes}
+use Rattle.daide_turns.specs.Hub.{HubView, IsHubSize, IsTurned, Changes}
+use Rattle.daide_machine.specs.Config.{config_fault}
 use Rattle.daide_turns.specs.HubRuns.{Turned, HubRuns}
 use Rattle.daide_turns.proofs.Stretches.{becomes_then}
 use Rattle.daide_turns.proofs.Standing.{new_stands}
@@ -533,9 +534,10 @@ module _ {P : Type 0} (becomes : P → PortAnswer → P → Type 0) (settings : 
   all_there false none count accepted sessions connecting a b e = absurd (cc)
 
   -- rounds until all were served are a whole run
-  pub whole_run : (n : ℕ) (answers : List (SystemAnswer P)) (end : ServiceView P) →
+  pub whole_run : (config_fault settings.config ≡ Ok tt) × IsHubSize settings.max_sessions →
+      (n : ℕ) (answers : List (SystemAnswer P)) (end : ServiceView P) →
       Rounds becomes n (opening settings) answers end → is_done end ≡ true → IsWholeRun becomes settings answers
-  whole_run n answers end rounds done =
+  whole_run accepted n answers end rounds done =
       let kept = rounds_serve n answers end rounds in
       let empty = nobody_left (end.tally.accepted == end.tally.sessions) (end.tally.connecting == 0)
       (length end.hub.places) done in
@@ -548,6 +550,7 @@ module _ {P : Type 0} (becomes : P → PortAnswer → P → Type 0) (settings : 
       let all = there.0 in
       let none = there.1 in
       record {
+        accepted = accepted;
         serves = (n, end, rounds, done);
         each = kept.gone;
         none_lost = omega (arith, balance, empty);

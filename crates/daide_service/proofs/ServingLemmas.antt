@@ -1,22 +1,23 @@
--- What the system told, step after step; the turns of a round, and a run's rounds.
-use Rattle.std.proofs.Common.{◌≡◌, ℕ, zero, suc, ◌+◌, Bool, true, false, List, [], ◌∷◌, ◌++◌, Option}
+-- The turns of a round, and a run's rounds.
+use Rattle.std.proofs.Common.{◌≡◌, ℕ, zero, suc, ◌+◌, Bool, true, false, List, [], ◌∷◌, ◌++◌}
 use Rattle.std.proofs.Common.{refl, ap, ◌∙◌, subst, add-one, take, arith, ◌<◌, inr, sym, Result, Ok, Err}
 use Rattle.std.specs.Prelude.{◌||◌, ◌==◌, length, slice_get, IfSome, IfErr}
 use Rattle.std.specs.Result.{IsErrAnd}
 use Rattle.std.proofs.lemmas.List.{length-set}
 use Rattle.std.proofs.Math.Dec.{eqb-suc-zero}
 use Rattle.daide_machine.specs.Wires.{SessionView}
-use Rattle.daide_machine.specs.Ports.{PortAnswer, Tells}
-use Rattle.daide_turns.proofs.Stretches.{or_assoc, tells_nil, tells_then}
+use Rattle.daide_machine.specs.Ports.{PortAnswer}
+use Rattle.daide_turns.proofs.Stretches.{or_assoc}
 use Rattle.daide_turns.specs.Hub.{HubView, Changes, IsTurned}
 use Rattle.daide_turns.specs.HubRuns.{HubCall, Turned, HubStep, HubRuns}
 use Rattle.daide_service.specs.Metered.{MeteredView, Meters}
-use Rattle.daide_machine.specs.System.{SystemAnswer}
+use Rattle.daide_machine.specs.System.{SystemAnswer, TransitsBy}
 use Rattle.daide_settings.specs.declared.settings.Settings.{Settings}
 use Rattle.daide_service.specs.declared.serving.ServeFault.{ServeFault}
 use Rattle.daide_service.specs.declared.serving.ServeFault.TheVariants as Faults
 use Rattle.daide_service.specs.Serving.{ServiceView, any_moved, wait_where, turns_below, Round, Rounds, is_done, opening}
 use Rattle.daide_service.specs.Serving.{BreaksOff, GivesUp}
+use Rattle.daide_service.proofs.TransitLemmas.{transits_then}
 
 pub not_none : (n : ℕ) → (n ≡ 0 → ⊥) → (n == 0) ≡ false
 not_none zero h = absurd (h refl)
@@ -61,34 +62,37 @@ pub waits_alike : {P : Type 0} (a b c d e p q r s t : Bool) → a ≡ p → b �
     wait_where {P = P} (a || b || c || d) e ≡ wait_where (p || q || r || s) t
 waits_alike a b c d e p q r s t h i j k l = rw (h, i, j, k, l) refl
 
-module _ {P : Type 0} (becomes : P → PortAnswer → P → Type 0) where
-  -- so many rounds, and what the system told in them
-  abbrev pub Ran : ℕ → ServiceView P → Option (List (SystemAnswer P)) → ServiceView P → Option (List (SystemAnswer P)) → Type 0
-  Ran n old s new t = (answers : List (SystemAnswer P)) × Tells s answers t × Rounds becomes n old answers new
+module _ {P S : Type 0} (becomes : P → PortAnswer → P → Type 0) (transition : S → SystemAnswer P → S → Type 0) where
+  -- so many rounds, and what the system answered in them
+  abbrev pub Ran : ℕ → ServiceView P → S → ServiceView P → S → Type 0
+  Ran n old s new t =
+      (answers : List (SystemAnswer P)) × TransitsBy transition s answers t × Rounds becomes n old answers new
 
-  pub no_rounds : (a : ServiceView P) (s : Option (List (SystemAnswer P))) → Ran 0 a s a s
-  no_rounds a s = ([], tells_nil s, (refl, refl))
+  pub no_rounds : (a : ServiceView P) (s : S) → Ran 0 a s a s
+  no_rounds a s = ([], refl, (refl, refl))
 
-  pub another_round : (n : ℕ) (a b c : ServiceView P) (s t u : Option (List (SystemAnswer P))) → Ran n a s b t →
-      is_done b ≡ false → (answers : List (SystemAnswer P)) → Tells t answers u → Round becomes b answers c →
+  pub another_round : (n : ℕ) (a b c : ServiceView P) (s t u : S) → Ran n a s b t → is_done b ≡ false →
+      (answers : List (SystemAnswer P)) → TransitsBy transition t answers u → Round becomes b answers c →
       Ran (n + 1) a s c u
   another_round n a b c s t u h e answers k r = (
     h.0 ++ answers,
-    tells_then s t u h.0 answers h.1 k,
+    transits_then transition h.0 answers s t u h.1 k,
     rw add-one (b, h.0, answers, refl, h.2, e, r),
   )
 
 -- ---- a run that gives up
 
-module _ {P : Type 0} (becomes : P → PortAnswer → P → Type 0) (settings : Settings) where
+module _ {P S : Type 0} (becomes : P → PortAnswer → P → Type 0) (transition : S → SystemAnswer P → S → Type 0)
+    (settings : Settings) where
   -- a round of it was broken off
-  pub runs_out : (n : ℕ) (mid end : ServiceView P) (s t u : Option (List (SystemAnswer P))) →
-      Ran becomes n (opening settings) s mid t → is_done mid ≡ false → (last : List (SystemAnswer P)) → Tells t last u →
-      BreaksOff mid last end →
-      (answers : List (SystemAnswer P)) × Tells s answers u × GivesUp becomes settings Faults.Memory answers
-  runs_out n mid end s t u ran going_on last told breaks = (
+  pub runs_out : (n : ℕ) (mid end : ServiceView P) (s t u : S) →
+      Ran becomes transition n (opening settings) s mid t → is_done mid ≡ false → (last : List (SystemAnswer P)) →
+      TransitsBy transition t last u → BreaksOff mid last end →
+      (answers : List (SystemAnswer P)) × TransitsBy transition s answers u
+      × GivesUp becomes settings Faults.Memory answers
+  runs_out n mid end s t u ran going_on last goes breaks = (
     ran.0 ++ last,
-    tells_then s t u ran.0 last ran.1 told,
+    transits_then transition ran.0 last s t u ran.1 goes,
     inr (record {
       n = n;
       before = ran.0;

@@ -1,14 +1,14 @@
 -- What a run makes of each of its sessions: those that it holds, and those whose ports it lets go.
 use Rattle.std.specs.Prelude.{◌≡◌, ℕ, zero, suc, ◌+◌, nat_lt, true, false, List, [], ◌∷◌, length}
-use Rattle.std.specs.Prelude.{Option, Some, None, is_none, Contains, All}
+use Rattle.std.specs.Prelude.{Option, Some, None, is_none, Ok, Contains, All}
 use Rattle.daide_machine.specs.declared.ending.Ending.{Ending}
 use Rattle.daide_machine.specs.Machine.{Limits, SessionState, Effect, Runs}
 use Rattle.daide_machine.specs.Wires.{SessionView, is_closed}
 use Rattle.daide_words.specs.Words.{words_of}
-use Rattle.daide_machine.specs.Config.{limits_with}
+use Rattle.daide_machine.specs.Config.{config_fault, limits_with}
 use Rattle.daide_machine.specs.Ports.{PortAnswer, Clock, Pulled, Offered, BecomesBy, events_of}
 use Rattle.daide_turns.specs.Headline.{untouched, IsBoundedAndExact}
-use Rattle.daide_turns.specs.Hub.{IsTurned}
+use Rattle.daide_turns.specs.Hub.{IsTurned, IsHubSize}
 use Rattle.daide_settings.specs.declared.settings.Settings.{Settings}
 use Rattle.daide_machine.specs.declared.system.Connect.TheVariants.{Ready, Failed, Pending}
 use Rattle.daide_machine.specs.declared.system.Cause.{Cause}
@@ -126,11 +126,12 @@ SessionsAreServed {P} becomes = (settings : Settings) (n : ℕ) (answers : List 
     × (run.tally.accepted ≡ counted comes answers)
     × (counted comes answers ≡ run.tally.connecting + counted connects answers + counted unreached answers)
 
--- A whole run: rounds until all bots were served and none is held. So each connect that came about was a session, which
+-- A whole run of settings whose limits were accepted: rounds until all bots were served and none is held. So each connect that came about was a session, which
 -- was served, and let go as a closed one: by all that its ports answered it is bounded and exact, and none is lost. As
 -- many bots came as the settings say, and of each the ports were let go or the server couldn't be reached.
 pub record IsWholeRun {P : Type 0} (becomes : P → PortAnswer → P → Type 0) (settings : Settings)
     (answers : List (SystemAnswer P)) : Type 0 where
+  pub accepted : (config_fault settings.config ≡ Ok tt) × IsHubSize settings.max_sessions
   pub serves : Serves becomes settings answers
   pub each : All (LetsGo becomes settings answers) answers
   pub none_lost : counted connects answers ≡ counted retires answers

@@ -6,8 +6,7 @@ ghost use Rattle.std.specs.Prelude.{◌≡◌, ◌+◌, ◌≤◌, ◌==◌, fal
 ghost use Rattle.std.specs.Prelude.{Ok, OnOk, OnErr, IfOk, IfErr};
 ghost use Rattle.daide_machine.specs.Config.{config_fault};
 ghost use Rattle.daide_turns.specs.Hub.{IsHubSize};
-ghost use Rattle.daide_machine.specs.System.{SystemAnswer, Connects};
-ghost use Rattle.daide_machine.specs.Ports.{Tells};
+ghost use Rattle.daide_machine.specs.System.{SystemAnswer, Connects, TransitsBy};
 ghost use Rattle.daide_service.specs.Serving.{IsWithin, Admits, FinishesConnect, TurnsAll, any_moved, RemovesClosed, parting};
 ghost use Rattle.daide_service.specs.Serving.{is_told, cause_by, end_by};
 ghost use Rattle.daide_service.specs.Serving.{wait_where, any_progress, Round, is_done, opening, fault_of};
@@ -75,7 +74,7 @@ fn fault_of(fault: HubError) -> ServeFault
 fn admit<P: Ports, S: System<P>>(count: usize, tally: &mut Tally, system: &mut S) -> bool
     requires held { count + tally.old.connecting ≤ tally.old.max_sessions }
     requires accepted { tally.old.accepted ≤ tally.old.sessions }
-    ensures admits { (answers : List (SystemAnswer P)) × Tells (S.told system.old) answers (S.told system.new)
+    ensures admits { (answers : List (SystemAnswer P)) × TransitsBy S.transition system.old answers system.new
         × Admits count tally.old answers tally.new × (result ≡ any_progress answers) }
     ensures held { count + tally.new.connecting ≤ tally.new.max_sessions }
     ensures accepted { tally.new.accepted ≤ tally.new.sessions }
@@ -101,12 +100,12 @@ fn finish_connect<P: Ports, A: Allocator + Copy, S: System<P>>(
 ) -> Result<bool, ServeFault>
     requires { IsWithin hub.old tally.old }
     ensures finishes { IfOk result (λ stirred. (answers : List (SystemAnswer P))
-        × Tells (S.told system.old) answers (S.told system.new)
+        × TransitsBy S.transition system.old answers system.new
         × FinishesConnect hub.old tally.old answers hub.new tally.new × (stirred ≡ any_progress answers)) }
     ensures within { IsWithin hub.new tally.new }
     ensures refused { IfErr result (λ fault. fault ≡ ServeFault.Memory) }
     ensures broken_off { OnErr result ((ports : P)
-        × Tells (S.told system.old) (Connects (Connect.Ready ports) ∷ []) (S.told system.new)
+        × TransitsBy S.transition system.old (Connects (Connect.Ready ports) ∷ []) system.new
         × ((tally.old.connecting == 0) ≡ false)) }
     ensures left { OnErr result ((hub.new ≡ hub.old) × (tally.new ≡ arrived tally.old)) }
 {
@@ -177,8 +176,8 @@ fn cause_of(told: Option<Ending>, ending: Ending) -> Cause
 
 /// Lets ports go, with how their session ended, and tells where their turns are spent.
 fn part_with<P: Ports, S: System<P>>(removed: Removed<Metered<P>>, system: &mut S)
-    ensures { Tells (S.told system.old) (parting removed.ports
-        (end_by removed.ports.told (Some removed.ending) removed.summary)) (S.told system.new) }
+    ensures { TransitsBy S.transition system.old (parting removed.ports
+        (end_by removed.ports.told (Some removed.ending) removed.summary)) system.new }
 {
     let Removed {
         ports,
@@ -201,7 +200,7 @@ fn remove_closed<P: Ports, A: Allocator + Copy, S: System<P>>(
     hub: &mut Hub<Metered<P>, A>,
     system: &mut S,
 ) -> bool
-    ensures removes { (answers : List (SystemAnswer P)) × Tells (S.told system.old) answers (S.told system.new)
+    ensures removes { (answers : List (SystemAnswer P)) × TransitsBy S.transition system.old answers system.new
         × RemovesClosed hub.old answers hub.new × (result ≡ any_progress answers) }
     ensures max { hub.new.max ≡ hub.old.max }
     ensures fewer { length hub.new.places ≤ length hub.old.places }
@@ -218,7 +217,7 @@ fn remove_closed<P: Ports, A: Allocator + Copy, S: System<P>>(
 
 /// Waits, where nothing moved.
 fn rest<P: Ports, S: System<P>>(moved: bool, more: bool, system: &mut S)
-    ensures { Tells (S.told system.old) (wait_where moved more) (S.told system.new) }
+    ensures { TransitsBy S.transition system.old (wait_where moved more) system.new }
 {
     if !moved {
         system.wait(more);
@@ -267,10 +266,10 @@ impl<P: Ports, A: Allocator + Copy> Service<P, A> {
     /// them.
     pub fn round<S: System<P>>(&mut self, system: &mut S) -> Result<(), ServeFault>
         ensures round { OnOk result ((answers : List (SystemAnswer P))
-            × Tells (S.told system.old) answers (S.told system.new) × Round P.becomes self.old answers self.new) }
+            × TransitsBy S.transition system.old answers system.new × Round P.becomes self.old answers self.new) }
         ensures refused { IfErr result (λ fault. fault ≡ ServeFault.Memory) }
         ensures broken_off { OnErr result ((answers : List (SystemAnswer P))
-            × Tells (S.told system.old) answers (S.told system.new) × BreaksOff self.old answers self.new) }
+            × TransitsBy S.transition system.old answers system.new × BreaksOff self.old answers self.new) }
     {
         system.begin_round();
         let came = admit::<P, S>(self.hub.count(), &mut self.tally, system);
@@ -294,9 +293,9 @@ pub fn serve<P: Ports, A: Allocator + Copy, S: System<P>>(
     system: &mut S,
 ) -> Result<(), ServeFault>
     ensures served { OnOk result ((answers : List (SystemAnswer P))
-        × Tells (S.told system.old) answers (S.told system.new) × IsWholeRun P.becomes settings.now answers) }
+        × TransitsBy S.transition system.old answers system.new × IsWholeRun P.becomes settings.now answers) }
     ensures given_up { IfErr result (λ fault. (answers : List (SystemAnswer P))
-        × Tells (S.told system.old) answers (S.told system.new) × GivesUp P.becomes settings.now fault answers) }
+        × TransitsBy S.transition system.old answers system.new × GivesUp P.becomes settings.now fault answers) }
     ensures refused { IfErr result (IsServeCause settings.now) }
     ensures unasked { IfErr result (λ fault. IsOfSettings fault → system.new ≡ system.old) }
 {

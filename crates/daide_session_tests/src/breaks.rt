@@ -1,8 +1,8 @@
 //! A session whose wires break: at every place of a conversation a side's stream ends, or the wire toward it fails.
 //!
-//! The conversation has a relayed message, an HLO, a PRN and a HUH, in single bytes and with one byte a put. What
-//! each side may have been sent was worked out by hand: the frames of the whole conversation up to some place, and
-//! then a final message.
+//! One conversation has a relayed message, an HLO, a PRN and a HUH; the other a name, an HLO and a press message. Both
+//! come in single bytes, with one byte a put. What each side may have been sent was worked out by hand: the frames of
+//! the whole conversation up to some place, and then a final message.
 
 use crate::relays::{NEVER, sent};
 use crate::script::WIDEST;
@@ -15,41 +15,82 @@ use daide_turns::relaying::{RelayEnd, relay};
 use std::alloc::Global;
 use std::test::Fail;
 
-/// The IM; then OBS, which goes on; `GOF (`, which gets PRN; and an empty message, which gets HUH.
-const FROM_THE_BOT: Script<'static> = Script {
-    pulls: &[
-        Arrival::Bytes(&[0, 0, 0, 4, 0, 1, 0xDA, 0x10]),
-        Arrival::Bytes(&[2, 0, 0, 2, 0x48, 0x0F]),
-        Arrival::Bytes(&[2, 0, 0, 4, 0x48, 0x03, 0x40, 0x00]),
-        Arrival::Bytes(&[2, 0, 0, 0]),
-    ],
-    puts: &[],
-};
-
 /// HLO ( ENG ) ( 1234 ) ( ( LVL 10 ) )
 const HLO: &[u8] = &[
     2, 0, 0, 0x1A, 0x48, 0x04, 0x40, 0, 0x41, 0x01, 0x40, 0x01, 0x40, 0, 0x04, 0xD2, 0x40, 0x01,
     0x40, 0, 0x40, 0, 0x49, 0x03, 0, 0x0A, 0x40, 0x01, 0x40, 0x01,
 ];
 
-/// The RM, and an HLO, all of which came before the bot's next message.
+/// What both sides say, what each is sent where nothing breaks, and how many bytes that is.
+#[derive(Clone, Copy)]
+pub struct Conversation {
+    bot: Script<'static>,
+    server: Script<'static>,
+    to_bot: (&'static [&'static [u8]], usize),
+    to_server: (&'static [&'static [u8]], usize),
+}
+
+/// The RM, and an HLO, both of which came before the bot's next message.
 const FROM_THE_SERVER: Script<'static> = Script {
     pulls: &[Arrival::Bytes(&[1, 0, 0, 0]), Arrival::Bytes(HLO)],
     puts: &[],
 };
 
-/// What the bot is sent: the RM, the HLO, PRN and HUH.
-const TO_THE_BOT: &[&[u8]] = &[
-    &[1, 0, 0, 0],
-    HLO,
-    &[
-        2, 0, 0, 0x0A, 0x48, 0x13, 0x40, 0, 0x48, 0x03, 0x40, 0, 0x40, 0x01,
-    ],
-    &[2, 0, 0, 8, 0x48, 0x06, 0x40, 0, 0x49, 0x02, 0x40, 0x01],
+/// The IM; then OBS, which goes on; `GOF (`, which gets PRN; and an empty message, which gets HUH. The bot is sent the
+/// RM, the HLO, PRN and HUH, and the server the IM and OBS.
+pub const ANSWERS: Conversation = Conversation {
+    bot: Script {
+        pulls: &[
+            Arrival::Bytes(&[0, 0, 0, 4, 0, 1, 0xDA, 0x10]),
+            Arrival::Bytes(&[2, 0, 0, 2, 0x48, 0x0F]),
+            Arrival::Bytes(&[2, 0, 0, 4, 0x48, 0x03, 0x40, 0x00]),
+            Arrival::Bytes(&[2, 0, 0, 0]),
+        ],
+        puts: &[],
+    },
+    server: FROM_THE_SERVER,
+    to_bot: (
+        &[
+            &[1, 0, 0, 0],
+            HLO,
+            &[
+                2, 0, 0, 0x0A, 0x48, 0x13, 0x40, 0, 0x48, 0x03, 0x40, 0, 0x40, 0x01,
+            ],
+            &[2, 0, 0, 8, 0x48, 0x06, 0x40, 0, 0x49, 0x02, 0x40, 0x01],
+        ],
+        60,
+    ),
+    to_server: (
+        &[&[0, 0, 0, 4, 0, 1, 0xDA, 0x10], &[2, 0, 0, 2, 0x48, 0x0F]],
+        14,
+    ),
+};
+
+/// NME ( 'a' ) ( 'b' )
+const NAME: &[u8] = &[
+    2, 0, 0, 0x0E, 0x48, 0x0C, 0x40, 0, 0x4B, 0x61, 0x40, 0x01, 0x40, 0, 0x4B, 0x62, 0x40, 0x01,
 ];
 
-/// What the server is sent: the IM and OBS.
-const TO_THE_SERVER: &[&[u8]] = &[&[0, 0, 0, 4, 0, 1, 0xDA, 0x10], &[2, 0, 0, 2, 0x48, 0x0F]];
+/// SND ( FRA ) ( PRP ( PCE ( ENG FRA ) ) ), a message from level 10 on.
+const PRESS: &[u8] = &[
+    2, 0, 0, 0x1C, 0x48, 0x17, 0x40, 0, 0x41, 0x02, 0x40, 0x01, 0x40, 0, 0x4A, 0x13, 0x40, 0, 0x4A,
+    0x10, 0x40, 0, 0x41, 0x01, 0x41, 0x02, 0x40, 0x01, 0x40, 0x01, 0x40, 0x01,
+];
+
+/// The IM; then a name, and press, both of which go on: the HLO came before the header of the press.
+const PRESS_GOES_ON: Conversation = Conversation {
+    bot: Script {
+        pulls: &[
+            Arrival::Bytes(&[0, 0, 0, 4, 0, 1, 0xDA, 0x10]),
+            Arrival::Bytes(NAME),
+            Arrival::Bytes(PRESS),
+        ],
+        puts: &[],
+    },
+    server: FROM_THE_SERVER,
+    to_bot: (&[&[1, 0, 0, 0], HLO], 34),
+    to_server: (&[&[0, 0, 0, 4, 0, 1, 0xDA, 0x10], NAME, PRESS], 58),
+};
 
 /// A final message.
 const FM: &[u8] = &[3, 0, 0, 0];
@@ -74,6 +115,7 @@ impl Break {
 #[derive(Drop)]
 pub struct Breaking {
     pub ports: MemoryPorts<'static>,
+    conversation: Conversation,
     at: Break,
     bot_pulls: usize,
     server_pulls: usize,
@@ -81,10 +123,11 @@ pub struct Breaking {
     server_puts: usize,
 }
 
-/// Ports before their first call, which break there.
-pub fn breaking_at(alloc: Global, at: Break) -> Breaking {
+/// Ports of a conversation before their first call, which break there.
+pub fn breaking_at(alloc: Global, conversation: Conversation, at: Break) -> Breaking {
     Breaking {
-        ports: MemoryPorts::new(alloc, FROM_THE_BOT, FROM_THE_SERVER, NEVER),
+        ports: MemoryPorts::new(alloc, conversation.bot, conversation.server, NEVER),
+        conversation,
         at,
         bot_pulls: 0,
         server_pulls: 0,
@@ -180,19 +223,14 @@ fn are_sent(bytes: &[u8], frames: &[&[u8]], failed: bool) -> bool {
     rest.is_empty() || rest == FM || (failed && FM.starts_with(rest))
 }
 
-/// What a side was sent, and how many bytes that is where nothing broke.
-fn expected_to(side: Side) -> (&'static [&'static [u8]], usize) {
-    match side {
-        Bot => (TO_THE_BOT, 60),
-        Server => (TO_THE_SERVER, 14),
-    }
-}
-
 /// A side was sent whole frames of its own, and all of them where nothing broke.
 fn assert_sent_well(alloc: Global, ports: &Breaking, side: Side, is_all: bool) -> Result<(), Fail> {
     let bytes = sent(alloc, ports.ports.calls().unwrap_or(&[]), side)?;
     let failed = ports.at.is_put && ports.at.side == side;
-    let (frames, count) = expected_to(side);
+    let (frames, count) = match side {
+        Bot => ports.conversation.to_bot,
+        Server => ports.conversation.to_server,
+    };
     holds(are_sent(bytes.as_slice(), frames, failed), "whole frames")?;
     holds(!is_all || bytes.len() == count, "all was sent")
 }
@@ -206,9 +244,9 @@ pub fn end_of(alloc: Global, ports: &mut Breaking) -> Result<RelayEnd, Fail> {
     Ok(relay(&mut session, ports, TURNS))
 }
 
-/// Relays the conversation, which breaks there, looks at what each side was sent, and answers whether it was closed.
-fn is_closed_well(alloc: Global, at: Break) -> Result<bool, Fail> {
-    let mut ports = breaking_at(alloc, at);
+/// Relays a conversation, which breaks there, looks at what each side was sent, and answers whether it was closed.
+fn is_closed_well(alloc: Global, conversation: Conversation, at: Break) -> Result<bool, Fail> {
+    let mut ports = breaking_at(alloc, conversation, at);
     let is_closed = end_of(alloc, &mut ports)? == RelayEnd::Closed;
     assert_sent_well(alloc, &ports, Bot, !is_closed)?;
     assert_sent_well(alloc, &ports, Server, !is_closed)?;
@@ -219,7 +257,7 @@ fn is_closed_well(alloc: Global, at: Break) -> Result<bool, Fail> {
 pub const KINDS: &[(bool, Side)] = &[(false, Bot), (false, Server), (true, Bot), (true, Server)];
 
 /// How many conversations that break at calls of this number are closed.
-fn closed_at(alloc: Global, number: usize) -> Result<usize, Fail> {
+fn closed_at(alloc: Global, conversation: Conversation, number: usize) -> Result<usize, Fail> {
     let mut closed = 0_usize;
     for (is_put, side) in KINDS {
         let at = Break {
@@ -227,23 +265,37 @@ fn closed_at(alloc: Global, number: usize) -> Result<usize, Fail> {
             side: *side,
             number,
         };
-        if is_closed_well(alloc, at)? {
+        if is_closed_well(alloc, conversation, at)? {
             closed = closed.saturating_add(1);
         }
     }
     Ok(closed)
 }
 
+/// A conversation that breaks at each of its first calls is closed so often, at least.
+fn assert_closed(
+    alloc: Global,
+    conversation: Conversation,
+    calls: usize,
+    least: usize,
+) -> Result<(), Fail> {
+    let mut closed = 0_usize;
+    for number in 1..=calls {
+        closed = closed.saturating_add(closed_at(alloc, conversation, number)?);
+    }
+    holds(closed >= least, "how many were closed")
+}
+
 #[test]
 fn ends_and_failures_at_every_place(rt: HostRuntime) -> Result<(), Fail> {
-    let mut closed = 0_usize;
-    for number in 1..110 {
-        closed = closed.saturating_add(closed_at(rt.alloc(), number)?);
-    }
     // 60 puts to the bot, 14 to the server, and their pulls up to the last that gives a byte, of which the bot waits
     // for 32 and the server for 20
-    holds(
-        closed >= 60 + 14 + (26 + 32) + (34 + 20),
-        "how many were closed",
-    )
+    let least = 60 + 14 + (26 + 32) + (34 + 20);
+    assert_closed(rt.alloc(), ANSWERS, 109, least)
+}
+
+#[test]
+fn ends_and_failures_at_every_place_of_press(rt: HostRuntime) -> Result<(), Fail> {
+    let least = 34 + 58 + (58 + 32) + (34 + 20);
+    assert_closed(rt.alloc(), PRESS_GOES_ON, 109, least)
 }

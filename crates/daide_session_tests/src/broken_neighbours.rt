@@ -1,7 +1,7 @@
 //! Two sessions in a hub, one of which breaks: at every place of its conversation a side's stream ends, or the wire
 //! toward it fails. It ends as it does alone, and the other's calls and bytes are what they are alone.
 
-use crate::breaks::{Break, Breaking, KINDS, TURNS, breaking_at, end_of};
+use crate::breaks::{ANSWERS, Break, Breaking, KINDS, TURNS, breaking_at, end_of};
 use crate::relays::sent;
 use crate::script::WIDEST;
 use daide_frame::side::Side::{Bot, Server};
@@ -19,7 +19,7 @@ const NOWHERE: Break = Break {
 
 /// The ports of a relay alone, which breaks there.
 fn alone_at(alloc: Global, at: Break) -> Result<Breaking, Fail> {
-    let mut ports = breaking_at(alloc, at);
+    let mut ports = breaking_at(alloc, ANSWERS, at);
     end_of(alloc, &mut ports)?;
     Ok(ports)
 }
@@ -69,7 +69,10 @@ fn play(hub: &mut Hub<Breaking>, place: usize) -> Option<Breaking> {
 fn hub_of(alloc: Global, first: Break, second: Break) -> Result<Hub<Breaking>, Fail> {
     let mut hub = Hub::new(alloc, WIDEST, 2)?;
     for at in [first, second] {
-        holds(hub.add(breaking_at(alloc, at)).is_ok(), "it is added")?;
+        holds(
+            hub.add(breaking_at(alloc, ANSWERS, at)).is_ok(),
+            "it is added",
+        )?;
     }
     Ok(hub)
 }

@@ -14,6 +14,8 @@ mod broken_neighbours;
 #[cfg(test)]
 mod chains;
 #[cfg(test)]
+mod cut_frames;
+#[cfg(test)]
 mod endings;
 #[cfg(test)]
 mod growths;

@@ -1,10 +1,11 @@
-//! Whole ranges of sizes: hubs of each number of sessions, and the longest bodies.
+//! Whole ranges of sizes: hubs of each number of sessions, sessions of each depth and each body, and the longest bodies.
 
 use crate::relays::{NEVER, QUIET};
 use crate::script::{WIDEST, bytes_of, script_of};
 use daide_frame::side::Side::{self, Bot, Server};
 use daide_machine::config::Config;
 use daide_machine::ports::Ports;
+use daide_session::session::Session;
 use daide_tests::memory_ports::MemoryPorts;
 use daide_tests::rows::{holds, same};
 use daide_tests::words::two_words;
@@ -65,8 +66,39 @@ fn assert_filled(alloc: Global, max: usize) -> Result<(), Fail> {
 
 #[test]
 fn hub_is_full_at_its_size(rt: HostRuntime) -> Result<(), Fail> {
-    for max in &[1, 2, 16, 100, 101, 255, 256] {
-        assert_filled(rt.alloc(), *max)?;
+    for max in 1..=256usize {
+        assert_filled(rt.alloc(), max)?;
+    }
+    Ok(())
+}
+
+/// A session of these limits is made, without words and with them.
+fn assert_session(alloc: Global, config: Config) -> Result<(), Fail> {
+    let plain = Session::new(alloc, config);
+    same(&plain.err(), &None, &(config.max_body, config.max_depth))?;
+    let worded = Session::with_words(alloc, config, two_words());
+    same(&worded.err(), &None, &(config.max_body, config.max_depth))
+}
+
+#[test]
+fn session_of_each_depth(rt: HostRuntime) -> Result<(), Fail> {
+    for max_depth in 4..=254u16 {
+        assert_session(
+            rt.alloc(),
+            Config {
+                max_depth,
+                ..WIDEST
+            },
+        )?;
+    }
+    Ok(())
+}
+
+#[test]
+fn session_of_each_body(rt: HostRuntime) -> Result<(), Fail> {
+    for half in 256..=32_763u16 {
+        let max_body = half.saturating_mul(2);
+        assert_session(rt.alloc(), Config { max_body, ..WIDEST })?;
     }
     Ok(())
 }

@@ -1,5 +1,8 @@
 //! Whole runs in memory: what the system was asked, in which order, and what each bot was served.
 
+ghost use Rattle.std.specs.Prelude.{◌≡◌};
+ghost use Rattle.daide_session_tests.specs.Retired.{KeepsRetired};
+
 use crate::hubs::{Growths, NO_GROWTHS};
 use crate::relays::{NEVER, QUIET, assert_sent};
 use crate::script::counts_of;
@@ -79,16 +82,16 @@ impl Harness {
         }
     }
 
-    /// What the system was asked is remembered, where there is memory.
-    fn note(&mut self, event: Event) {
+    /// Keeps what the system was asked, if there is memory.
+    fn note(&mut self, event: Event)
+        ensures { self.new ≡ record self.old { events = self.new.events } }
+    {
         let _ = self.events.push(event);
     }
 }
 
 impl System<MemoryPorts<'static>> for Harness {
-    ghost use Rattle.std.specs.Prelude.{None};
-
-    ghost told = { λ _. None };
+    ghost transition = { λ old answer new. KeepsRetired old.retired.items answer new.retired.items };
 
     fn begin_round(&mut self) {
         self.note(Event::Begun);

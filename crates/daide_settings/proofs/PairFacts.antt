@@ -10,20 +10,21 @@ use Rattle.toml.specs.Data.{Data, string, integer, boolean, array, no_items, ite
 use Rattle.daide_settings.specs.declared.settings.key.Key.{Key}
 use Rattle.daide_settings.specs.declared.settings.key.Key.TheVariants.{Listen, Server, TopLevel, MaxBody, MaxDepth}
 use Rattle.daide_settings.specs.declared.settings.key.Key.TheVariants.{ImSeconds, MaxSessions, Sessions, Turns, IdleSeconds}
-use Rattle.daide_settings.specs.declared.settings.key.Key.TheVariants.{Words}
+use Rattle.daide_settings.specs.declared.settings.key.Key.TheVariants.{Words, StallSeconds}
 use Rattle.daide_settings.specs.declared.settings.SettingsError.{SettingsError}
 use Rattle.daide_settings.specs.declared.settings.SettingsError.TheVariants.{Unknown, WrongType, Range}
 use Rattle.daide_settings.specs.Settings.{Given, is_in_range, text_judged, judged_members}
 
--- ---- documents of all eleven keys
+-- ---- documents of all twelve keys
 
 -- the value of each key, in the order of the table; members stand in the order of their keys' bytes
 abbrev document : (ℕ → Data) → Members
 document value =
     member (codes "idle_seconds") (value 9) (member (codes "im_seconds") (value 5) (member (codes "listen") (value 0)
     (member (codes "max_body") (value 3) (member (codes "max_depth") (value 4) (member (codes "max_sessions") (value 6)
-    (member (codes "server") (value 1) (member (codes "sessions") (value 7) (member (codes "top_level") (value 2)
-    (member (codes "turns") (value 8) (member (codes "words") (value 10) no_members))))))))))
+    (member (codes "server") (value 1) (member (codes "sessions") (value 7) (member (codes "stall_seconds") (value 11)
+    (member (codes "top_level") (value 2) (member (codes "turns") (value 8) (member (codes "words") (value 10)
+    no_members)))))))))))
 
 abbrev at : List Data → ℕ → Data
 at values n = slice_index_or values n (boolean false)
@@ -32,7 +33,8 @@ at values n = slice_index_or values n (boolean false)
 abbrev right : List Data
 right =
     string (codes "l") ∷ string (codes "s") ∷ integer (pos 20) ∷ integer (pos 1024) ∷ integer (pos 13)
-    ∷ integer (pos 4) ∷ integer (pos 5) ∷ integer (pos 6) ∷ integer (pos 7) ∷ integer (pos 8) ∷ array no_items ∷ []
+    ∷ integer (pos 4) ∷ integer (pos 5) ∷ integer (pos 6) ∷ integer (pos 7) ∷ integer (pos 8) ∷ array no_items
+    ∷ integer (pos 9) ∷ []
 
 each_key_has_its_field : judged_members (document (at right)) ≡ Ok (record {
   listen = codes "l";
@@ -46,6 +48,7 @@ each_key_has_its_field : judged_members (document (at right)) ≡ Ok (record {
   turns = 7;
   idle_seconds = 8;
   words = [];
+  stall_seconds = 9;
 })
 unfolding judged_members
 each_key_has_its_field = refl
@@ -62,11 +65,11 @@ abbrev ranged : List Data
 ranged =
     string [] ∷ string [] ∷ integer (pos 25) ∷ integer (pos 513) ∷ integer (pos 3) ∷ integer (pos 3601)
     ∷ integer (pos 257) ∷ integer (pos 1000001) ∷ integer (pos 0) ∷ integer (pos 86401)
-    ∷ array (item no_slot no_items) ∷ []
+    ∷ array (item no_slot no_items) ∷ integer (pos 86401) ∷ []
 
 -- a value of a type that no key has
 abbrev typed : List Data
-typed = replicate 11 (boolean true)
+typed = replicate 12 (boolean true)
 
 -- ---- two faults
 
@@ -78,15 +81,15 @@ faulty first second i j =
 -- for each key but the last, with each key behind it
 abbrev pairs : List Data → List Data → List (List (Result Given SettingsError))
 pairs first second =
-    map (λ i. map (faulty first second i) (range_with_len (i + 1) (10 - i))) (range_with_len 0 10)
+    map (λ i. map (faulty first second i) (range_with_len (i + 1) (11 - i))) (range_with_len 0 11)
 
--- what is told of each key with ten, nine, .. keys behind it
+-- what is told of each key with eleven, ten, .. keys behind it
 abbrev told : (Key → SettingsError) → List (List (Result Given SettingsError))
 told fault =
-    replicate 10 (Err (fault Listen)) ∷ replicate 9 (Err (fault Server)) ∷ replicate 8 (Err (fault TopLevel))
-    ∷ replicate 7 (Err (fault MaxBody)) ∷ replicate 6 (Err (fault MaxDepth)) ∷ replicate 5 (Err (fault ImSeconds))
-    ∷ replicate 4 (Err (fault MaxSessions)) ∷ replicate 3 (Err (fault Sessions)) ∷ replicate 2 (Err (fault Turns))
-    ∷ replicate 1 (Err (fault IdleSeconds)) ∷ []
+    replicate 11 (Err (fault Listen)) ∷ replicate 10 (Err (fault Server)) ∷ replicate 9 (Err (fault TopLevel))
+    ∷ replicate 8 (Err (fault MaxBody)) ∷ replicate 7 (Err (fault MaxDepth)) ∷ replicate 6 (Err (fault ImSeconds))
+    ∷ replicate 5 (Err (fault MaxSessions)) ∷ replicate 4 (Err (fault Sessions)) ∷ replicate 3 (Err (fault Turns))
+    ∷ replicate 2 (Err (fault IdleSeconds)) ∷ replicate 1 (Err (fault Words)) ∷ []
 
 first_key_told : (pairs ranged ranged ≡ told Range) × (pairs typed typed ≡ told WrongType)
     × (pairs ranged typed ≡ told Range) × (pairs typed ranged ≡ told WrongType)
@@ -95,12 +98,12 @@ first_key_told = (refl, refl, refl, refl)
 
 -- of each key alone
 abbrev alone : List Data → List (Result Given SettingsError)
-alone faults = map (λ i. faulty faults faults i i) (range_with_len 0 11)
+alone faults = map (λ i. faulty faults faults i i) (range_with_len 0 12)
 
 abbrev keys : List Key
 keys =
     Listen ∷ Server ∷ TopLevel ∷ MaxBody ∷ MaxDepth ∷ ImSeconds ∷ MaxSessions ∷ Sessions ∷ Turns ∷ IdleSeconds
-    ∷ Words ∷ []
+    ∷ Words ∷ StallSeconds ∷ []
 
 each_key_told : (alone ranged ≡ map (λ key. Err (Range key)) keys) × (alone typed ≡ map (λ key. Err (WrongType key)) keys)
 unfolding judged_members
@@ -111,8 +114,8 @@ abbrev with_unknown : List Data → ℕ → Result Given SettingsError
 with_unknown faults i =
     judged_members (member (codes "depth") (integer (pos 5)) (document (λ n. if n == i then at faults n else at right n)))
 
-unknown_key_told : (map (with_unknown ranged) (range_with_len 0 12) ≡ replicate 12 (Err Unknown))
-    × (map (with_unknown typed) (range_with_len 0 12) ≡ replicate 12 (Err Unknown))
+unknown_key_told : (map (with_unknown ranged) (range_with_len 0 13) ≡ replicate 13 (Err Unknown))
+    × (map (with_unknown typed) (range_with_len 0 13) ≡ replicate 13 (Err Unknown))
 unfolding judged_members
 unknown_key_told = (refl, refl)
 

@@ -8,7 +8,7 @@ use Rattle.toml.specs.Parse.{parse_document}
 use Rattle.toml.proofs.OnLiterals.{toml_on_literals}
 use Rattle.daide_settings.specs.declared.settings.key.Key.TheVariants.{Listen, Server, TopLevel, MaxBody, MaxDepth}
 use Rattle.daide_settings.specs.declared.settings.key.Key.TheVariants.{ImSeconds, MaxSessions, Sessions, Turns, IdleSeconds}
-use Rattle.daide_settings.specs.declared.settings.key.Key.TheVariants.{Words}
+use Rattle.daide_settings.specs.declared.settings.key.Key.TheVariants.{Words, StallSeconds}
 use Rattle.daide_settings.specs.declared.settings.key.TheConstants.Key.{ALL}
 use Rattle.daide_settings.specs.declared.settings.SettingsError.TheVariants.{NotToml, Unknown, Missing}
 use Rattle.daide_settings.specs.declared.settings.SettingsError.TheVariants.{WrongType, Range}
@@ -27,7 +27,7 @@ use Rattle.daide_settings.specs.declared.settings.SettingsError.{SettingsError}
 
 -- each key once, in the order in which they are judged
 all_keys : ALL ≡ Listen ∷ Server ∷ TopLevel ∷ MaxBody ∷ MaxDepth ∷ ImSeconds ∷ MaxSessions ∷ Sessions ∷ Turns
-    ∷ IdleSeconds ∷ Words ∷ []
+    ∷ IdleSeconds ∷ Words ∷ StallSeconds ∷ []
 all_keys = refl
 
 -- ---- ranges, at both ends
@@ -140,6 +140,15 @@ a_day = refl
 more_than_a_day : is_in_range IdleSeconds 86401 ≡ false
 more_than_a_day = refl
 
+never_stalled : is_in_range StallSeconds 0 ≡ true
+never_stalled = refl
+
+stalled_for_a_day : is_in_range StallSeconds 86400 ≡ true
+stalled_for_a_day = refl
+
+stalled_for_more_than_a_day : is_in_range StallSeconds 86401 ≡ false
+stalled_for_more_than_a_day = refl
+
 -- ---- whole documents; members stand in the order of their keys' bytes
 
 abbrev both : Members → Members
@@ -161,6 +170,7 @@ defaults : judged_members two_addresses ≡ Ok (record {
   turns = 1000000000;
   idle_seconds = 0;
   words = [];
+  stall_seconds = 60;
 })
 unfolding judged_members
 defaults = refl

@@ -16,4 +16,5 @@ given_of settings = record {
   turns = settings.turns;
   idle_seconds = settings.idle_seconds;
   words = words_of settings.words;
+  stall_seconds = settings.stall_seconds;
 }

@@ -9,7 +9,7 @@ use Rattle.daide_machine.specs.Config.{is_level, is_body, is_depth}
 use Rattle.daide_settings.specs.declared.settings.key.Key.{Key}
 use Rattle.daide_settings.specs.declared.settings.key.Key.TheVariants.{Listen, Server, TopLevel, MaxBody, MaxDepth}
 use Rattle.daide_settings.specs.declared.settings.key.Key.TheVariants.{ImSeconds, MaxSessions, Sessions, Turns, IdleSeconds}
-use Rattle.daide_settings.specs.declared.settings.key.Key.TheVariants.{Words}
+use Rattle.daide_settings.specs.declared.settings.key.Key.TheVariants.{Words, StallSeconds}
 use Rattle.daide_settings.specs.declared.settings.SettingsError.{SettingsError}
 use Rattle.daide_settings.specs.declared.settings.SettingsError.TheVariants.{NotToml, Unknown, Missing}
 use Rattle.daide_settings.specs.declared.settings.SettingsError.TheVariants.{WrongType, Range}
@@ -31,6 +31,7 @@ key_text Sessions = codes "sessions"
 key_text Turns = codes "turns"
 key_text IdleSeconds = codes "idle_seconds"
 key_text Words = codes "words"
+key_text StallSeconds = codes "stall_seconds"
 
 abbrev pub is_within : ℕ → ℕ → ℕ → Bool
 is_within low high n = nat_le low n && nat_le n high
@@ -48,6 +49,7 @@ is_in_range Sessions n = is_within 1 1000000 n
 is_in_range Turns n = is_within 1 1000000000000 n
 is_in_range IdleSeconds n = is_within 0 86400 n
 is_in_range Words n = is_within 0 16 n
+is_in_range StallSeconds n = is_within 0 86400 n
 
 -- the number of a key that a document doesn't have; the two addresses have none, and must stand, and words are none
 abbrev pub default_of : Key → Option ℕ
@@ -62,6 +64,7 @@ default_of Sessions = Some 1
 default_of Turns = Some 1000000000
 default_of IdleSeconds = Some 0
 default_of Words = None
+default_of StallSeconds = Some 60
 
 -- whether a document may have this key
 abbrev pub is_known : List ℕ → Bool
@@ -70,6 +73,7 @@ is_known text =
     || bytes_eq text (key_text MaxBody) || bytes_eq text (key_text MaxDepth) || bytes_eq text (key_text ImSeconds)
     || bytes_eq text (key_text MaxSessions) || bytes_eq text (key_text Sessions) || bytes_eq text (key_text Turns)
     || bytes_eq text (key_text IdleSeconds) || bytes_eq text (key_text Words)
+    || bytes_eq text (key_text StallSeconds)
 
 abbrev pub has_only_known : Members → Bool
 has_only_known members = has_only is_known members
@@ -115,6 +119,7 @@ pub record Given : Type 0 where
   pub turns : ℕ
   pub idle_seconds : ℕ
   pub words : List Word
+  pub stall_seconds : ℕ
 
 -- the next judgement, if the one before it passed
 abbrev pub then_with : {A B : Type 0} → Result A SettingsError → (A → Result B SettingsError) → Result B SettingsError
@@ -135,6 +140,7 @@ keys_judged members =
     then_with (number_of Turns (get_member (key_text Turns) members)) (λ turns.
     then_with (number_of IdleSeconds (get_member (key_text IdleSeconds) members)) (λ idle_seconds.
     then_with (words_judged (get_member (key_text Words) members)) (λ words.
+    then_with (number_of StallSeconds (get_member (key_text StallSeconds) members)) (λ stall_seconds.
     Ok (record {
       listen = listen;
       server = server;
@@ -147,7 +153,8 @@ keys_judged members =
       turns = turns;
       idle_seconds = idle_seconds;
       words = words;
-    }))))))))))))
+      stall_seconds = stall_seconds;
+    })))))))))))))
 
 -- a key that no settings have is told before any key is judged
 unfoldable pub judged_members : Members → Result Given SettingsError

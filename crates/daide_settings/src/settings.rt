@@ -73,6 +73,8 @@ pub struct Settings {
     pub idle_seconds: u32,
     /// The words of press that the operator adds.
     pub words: Words,
+    /// After how long a side that takes none of the bytes that wait for it counts as lost, in seconds; 0 for never.
+    pub stall_seconds: u32,
 }
 
 /// Whether a table's keys are all known.
@@ -151,6 +153,7 @@ fn settings_of(alloc: Global, table: &Table) -> Result<Settings, SettingsError>
     let turns = number_at(table, Key::Turns)?;
     let idle_seconds = number_at(table, Key::IdleSeconds)?;
     let words = words_at(found(table, Key::Words))?;
+    let stall_seconds = number_at(table, Key::StallSeconds)?;
     let Ok(listen) = Address::new(alloc, listen) else {
         return Err(SettingsError::Memory);
     };
@@ -171,6 +174,7 @@ fn settings_of(alloc: Global, table: &Table) -> Result<Settings, SettingsError>
         turns,
         idle_seconds: idle_seconds as u32,
         words,
+        stall_seconds: stall_seconds as u32,
     })
 }
 

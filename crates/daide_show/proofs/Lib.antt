@@ -3,4 +3,8 @@ pub mod Outcomes
 pub mod AnswerParts
 pub mod OneFrame
 pub mod OneWay
+pub mod OnlyAdded
+pub mod OddGroups
+pub mod NoteLemmas
 mod InputFacts
+mod NoteFacts

@@ -1,16 +1,12 @@
 -- An input is shown in one way.
-use Rattle.std.proofs.Common.{◌≡◌, ℕ, Bool, true, false, ltb, List, length, Result, Ok, Err, ap, sym, ◌∙◌}
+use Rattle.std.proofs.Common.{◌≡◌, ℕ, Bool, true, false, ltb, List, [], length, Result, Ok, Err, ap, sym, subst, ◌∙◌}
 use Rattle.std.specs.Prelude.{MatchResult}
 use Rattle.std.specs.Bool.{MatchBool}
 use Rattle.hex.specs.declared.error.FromHexError.{FromHexError}
 use Rattle.daide_token.specs.Token.{tokens_of}
-use Rattle.daide_frame.specs.declared.side.Side.{Side}
 use Rattle.daide_frame.specs.declared.head.Kind.{Kind}
 use Rattle.daide_frame.specs.declared.head.Kind.TheVariants.{Im, Rm, Dm, Fm, Em}
-use Rattle.daide_grammar.specs.declared.side.Side2.{Side2}
-use Rattle.daide_grammar.specs.declared.level.Level.{Level}
 use Rattle.daide_grammar.specs.SideMessages.{IsMessageOver}
-use Rattle.daide_words.specs.declared.word.Word.{Word}
 use Rattle.daide_words.specs.Word.{grammar_words}
 use Rattle.daide_reader.specs.declared.verdict.Verdict.{Verdict}
 use Rattle.daide_reader.proofs.VerdictLemmas.{verdict_is_one}
@@ -19,47 +15,69 @@ use Rattle.daide_show.specs.declared.frame_view.ShowFault.{ShowFault}
 use Rattle.daide_show.specs.declared.frame_view.ShowFault.TheVariants.{TooLong, NotHex}
 use Rattle.daide_show.specs.Input.{limit, bytes_of}
 use Rattle.daide_machine.specs.Machine.{side2_of}
-use Rattle.daide_show.specs.Shown.{Shown, OneFrame, faulty, whole, not_one, found_in}
-use Rattle.daide_show.specs.Shown.{message_shown, IsFrameShownAs, IsOneShownAs, AreShownAs, IsShownAs}
+use Rattle.daide_explain.specs.Explained.{IsExplained}
+use Rattle.daide_show.specs.Shown.{Asked, Shown, OneFrame, faulty, whole, not_one, found_in, message_shown}
+use Rattle.daide_show.specs.Shown.{AreLines, IsMessageShownAs, IsFrameShownAs, IsOneShownAs, AreShownAs, IsShownAs}
 
-module _ (words : List Word) where
-  frame_is_one : (end : Side2) (level : Level) (kind : Kind) (len : ℕ) (body : List ℕ) (s t : Shown) →
-      IsFrameShownAs words end level kind len body s → IsFrameShownAs words end level kind len body t → s ≡ t
-  frame_is_one end level Im len body s t x y = x ∙ sym y
-  frame_is_one end level Rm len body s t x y = x ∙ sym y
-  frame_is_one end level Dm len body s t x y =
-      x.2
-      ∙ ap (λ (v : Verdict). message_shown words len body v)
-      (verdict_is_one (IsMessageOver (grammar_words words) end level) greatest_depth (tokens_of body) x.0 y.0 x.1 y.1)
-      ∙ sym y.2
-  frame_is_one end level Fm len body s t x y = x ∙ sym y
-  frame_is_one end level Em len body s t x y = x ∙ sym y
+-- an explanation is one, of the message of each body and each verdict
+abbrev pub IsOneExplanation : Asked → Type 0
+IsOneExplanation asked =
+    (m : List ℕ) (verdict : Verdict) (one other : List ℕ) →
+    IsExplained asked.words (side2_of asked.side) asked.level greatest_depth m verdict one →
+    IsExplained asked.words (side2_of asked.side) asked.level greatest_depth m verdict other → one ≡ other
 
-  one_is_one : (side : Side) (level : Level) (frame : OneFrame) (one other : Result Shown ShowFault) →
-      IsOneShownAs words side level frame one → IsOneShownAs words side level frame other → one ≡ other
-  one_is_one side level (faulty code) one other x y = x ∙ sym y
-  one_is_one side level not_one one other x y = x ∙ sym y
-  one_is_one side level (whole head body) one other x y =
-      x.1
-      ∙ ap (λ (s : Shown). Ok s) (frame_is_one (side2_of side) level head.kind head.len body x.0 y.0 x.2 y.2)
-      ∙ sym y.1
+-- what is shown of an input's bytes, where it has some
+abbrev pub Decoded : Asked → Result (List ℕ) FromHexError → Result Shown ShowFault → Type 0
+Decoded asked bytes outcome =
+    MatchResult bytes (λ b. AreShownAs asked b outcome) (λ _. outcome ≡ Err NotHex)
 
-  -- what is shown of an input's bytes, where it has some
-  abbrev Decoded : Side → Level → Result (List ℕ) FromHexError → Result Shown ShowFault → Type 0
-  Decoded side level bytes outcome =
-      MatchResult bytes (λ b. AreShownAs words side level b outcome) (λ _. outcome ≡ Err NotHex)
+module _ (asked : Asked) (once : IsOneExplanation asked) where
+  lines_are_one : (explained : Bool) (m : List ℕ) (verdict : Verdict) (one other : List ℕ) →
+      MatchBool explained
+      (IsExplained asked.words (side2_of asked.side) asked.level greatest_depth m verdict one) (one ≡ []) →
+      MatchBool explained
+      (IsExplained asked.words (side2_of asked.side) asked.level greatest_depth m verdict other) (other ≡ []) →
+      one ≡ other
+  lines_are_one true m verdict one other x y = once m verdict one other x y
+  lines_are_one false m verdict one other x y = x ∙ sym y
 
-  bytes_are_one : (side : Side) (level : Level) (bytes : Result (List ℕ) FromHexError)
-      (one other : Result Shown ShowFault) →
-      Decoded side level bytes one → Decoded side level bytes other → one ≡ other
-  bytes_are_one side level (Ok bytes) one other x y = one_is_one side level (found_in longest_body bytes) one other x y
-  bytes_are_one side level (Err e) one other x y = x ∙ sym y
+  message_is_one : (len : ℕ) (body : List ℕ) (s t : Shown) → IsMessageShownAs asked len body s →
+      IsMessageShownAs asked len body t → s ≡ t
+  message_is_one len body s t x y =
+      let m = tokens_of body in
+      let same : x.0 ≡ y.0 =
+      verdict_is_one (IsMessageOver (grammar_words asked.words) (side2_of asked.side) asked.level) greatest_depth m
+      x.0 y.0 x.2 y.2 in
+      let lines : x.1 ≡ y.1 =
+      lines_are_one asked.explained m y.0 x.1 y.1 (subst (λ (v : Verdict). AreLines asked m v x.1) same x.3) y.3 in
+      x.4 ∙ ap (λ (v : Verdict). message_shown asked.words len body v x.1) same
+      ∙ ap (λ (l : List ℕ). message_shown asked.words len body y.0 l) lines ∙ sym y.4
 
-  pub shown_is_one : (side : Side) (level : Level) (input : List ℕ) (one other : Result Shown ShowFault) →
-      IsShownAs words side level input one → IsShownAs words side level input other → one ≡ other
-  shown_is_one side level input one other x y = by_length (ltb limit (length input)) x y
+  frame_is_one : (kind : Kind) (len : ℕ) (body : List ℕ) (s t : Shown) → IsFrameShownAs asked kind len body s →
+      IsFrameShownAs asked kind len body t → s ≡ t
+  frame_is_one Im len body s t x y = x ∙ sym y
+  frame_is_one Rm len body s t x y = x ∙ sym y
+  frame_is_one Dm len body s t x y = message_is_one len body s t x y
+  frame_is_one Fm len body s t x y = x ∙ sym y
+  frame_is_one Em len body s t x y = x ∙ sym y
+
+  one_is_one : (frame : OneFrame) (one other : Result Shown ShowFault) → IsOneShownAs asked frame one →
+      IsOneShownAs asked frame other → one ≡ other
+  one_is_one (faulty code) one other x y = x ∙ sym y
+  one_is_one not_one one other x y = x ∙ sym y
+  one_is_one (whole head body) one other x y =
+      x.1 ∙ ap (λ (s : Shown). Ok s) (frame_is_one head.kind head.len body x.0 y.0 x.2 y.2) ∙ sym y.1
+
+  bytes_are_one : (bytes : Result (List ℕ) FromHexError) (one other : Result Shown ShowFault) →
+      Decoded asked bytes one → Decoded asked bytes other → one ≡ other
+  bytes_are_one (Ok bytes) one other x y = one_is_one (found_in longest_body bytes) one other x y
+  bytes_are_one (Err e) one other x y = x ∙ sym y
+
+  pub shown_is_one : (input : List ℕ) (one other : Result Shown ShowFault) → IsShownAs asked input one →
+      IsShownAs asked input other → one ≡ other
+  shown_is_one input one other x y = by_length (ltb limit (length input)) x y
     where
-      by_length : (long : Bool) → MatchBool long (one ≡ Err TooLong) (Decoded side level (bytes_of input) one) →
-          MatchBool long (other ≡ Err TooLong) (Decoded side level (bytes_of input) other) → one ≡ other
+      by_length : (long : Bool) → MatchBool long (one ≡ Err TooLong) (Decoded asked (bytes_of input) one) →
+          MatchBool long (other ≡ Err TooLong) (Decoded asked (bytes_of input) other) → one ≡ other
       by_length true x y = x ∙ sym y
-      by_length false x y = bytes_are_one side level (bytes_of input) one other x y
+      by_length false x y = bytes_are_one (bytes_of input) one other x y

@@ -16,8 +16,7 @@ is_blank b = b == 32 || b == 9 || b == 13 || b == 10
 abbrev pub digits_of : List ℕ → List ℕ
 digits_of input = filter (λ b. not (is_blank b)) input
 
--- the bytes of an input, two digits each and in either case; no bytes where there is another
--- character, or half a byte
+-- the bytes of an input, two digits each and in either case; an error if there is another character, or half a byte
 abbrev pub bytes_of : List ℕ → Result (List ℕ) FromHexError
 bytes_of input = decode_of (digits_of input)
 

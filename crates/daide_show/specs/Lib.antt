@@ -1,3 +1,5 @@
 pub mod Input
 pub mod Shown
 pub mod Found
+pub mod Note
+pub mod Groups

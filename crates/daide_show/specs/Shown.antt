@@ -15,7 +15,6 @@ use Rattle.daide_frame.specs.Code.{code_digits}
 use Rattle.daide_frame.specs.Kind.{name_of_kind}
 use Rattle.daide_frame.specs.InitialMessage.{im_of}
 use Rattle.daide_frame.specs.Frames.{Item, Begun, Whole, Wrong, first_items, items_of}
-use Rattle.daide_grammar.specs.declared.side.Side2.{Side2}
 use Rattle.daide_grammar.specs.declared.level.Level.{Level}
 use Rattle.daide_grammar.specs.SideMessages.{IsMessageOver}
 use Rattle.daide_words.specs.declared.word.Word.{Word}
@@ -26,10 +25,34 @@ use Rattle.daide_reader.specs.declared.verdict.Verdict.TheVariants.{Relay, Prn, 
 use Rattle.daide_machine.specs.Answers.{answer_body}
 use Rattle.daide_machine.specs.Bounds.{longest_body, greatest_depth}
 use Rattle.daide_machine.specs.Machine.{side2_of}
+use Rattle.daide_explain.specs.Explained.{IsExplained}
 use Rattle.daide_show.specs.Input.{limit, bytes_of}
+use Rattle.daide_words.specs.Words.{words_of}
+use Rattle.daide_show.specs.declared.frame_view.Request.{Request}
 use Rattle.daide_show.specs.declared.frame_view.ShowFault.{ShowFault}
 use Rattle.daide_show.specs.declared.frame_view.ShowFault.TheVariants.{Read, TooLong, NotHex, NotOneFrame}
 use Rattle.daide_show.specs.declared.frame_view.ShowFault.TheVariants.{Memory, Write}
+
+-- how a frame is judged and shown: the operator's words, whose frame it is, at which level, and whether a message that
+-- is not relayed is explained
+pub record Asked : Type 0 where
+  pub words : List Word
+  pub side : Side
+  pub level : Level
+  pub explained : Bool
+
+-- what a request asks
+abbrev pub asked_of : Request → Asked
+asked_of request = record {
+  words = words_of request.words.now;
+  side = request.side;
+  level = request.level;
+  explained = request.is_explained;
+}
+
+-- a frame of a side at a level, without words and without an explanation
+abbrev pub plain_asked : Side → Level → Asked
+plain_asked side level = record { words = []; side = side; level = level; explained = false }
 
 -- what is written, and whether the frame would be relayed
 pub record Shown : Type 0 where
@@ -83,27 +106,39 @@ abbrev pub im_shown : ℕ → Result (Unit {0}) Code → Shown
 im_shown len (Ok good) = relayed_shown Im len
 im_shown len (Err code) = fault_shown code
 
--- a message and its verdict
-abbrev pub message_shown : List Word → ℕ → List ℕ → Verdict → Shown
-message_shown words len body verdict = record {
-  text = kind_line Dm len ++ line (printed words (tokens_of body)) ++ verdict_lines words verdict body;
+-- a message, its verdict, and the lines that explain it
+abbrev pub message_shown : List Word → ℕ → List ℕ → Verdict → List ℕ → Shown
+message_shown words len body verdict lines = record {
+  text = kind_line Dm len ++ line (printed words (tokens_of body)) ++ verdict_lines words verdict body ++ lines;
   relayed = is_relay verdict;
 }
 
--- what was shown stands after what was there
+-- the lines that explain a verdict, if it is to be explained; else there are none
+abbrev pub AreLines : Asked → List ℕ → Verdict → List ℕ → Type 0
+AreLines asked m verdict lines =
+    MatchBool asked.explained
+    (IsExplained asked.words (side2_of asked.side) asked.level greatest_depth m verdict lines)
+    (lines ≡ [])
+
+-- a message of a body is shown by the verdict that its side's grammar, with these words, has for it
+abbrev pub IsMessageShownAs : Asked → ℕ → List ℕ → Shown → Type 0
+IsMessageShownAs asked len body shown =
+    (verdict : Verdict) × (lines : List ℕ)
+    × HasVerdict (IsMessageOver (grammar_words asked.words) (side2_of asked.side) asked.level) greatest_depth
+    (tokens_of body) verdict
+    × AreLines asked (tokens_of body) verdict lines × (shown ≡ message_shown asked.words len body verdict lines)
+
+-- what was shown is added after what was there
 abbrev pub Adds : List ℕ → List ℕ → Bool → Shown → Type 0
 Adds old new relayed shown = (new ≡ old ++ shown.text) × (relayed ≡ shown.relayed)
 
--- what is shown of a whole frame; a DM by the verdict that its end's grammar, with these words, has for its message
-abbrev pub IsFrameShownAs : List Word → Side2 → Level → Kind → ℕ → List ℕ → Shown → Type 0
-IsFrameShownAs words end level Im len body shown = shown ≡ im_shown len (im_of body)
-IsFrameShownAs words end level Rm len body shown = shown ≡ relayed_shown Rm len
-IsFrameShownAs words end level Dm len body shown =
-    (verdict : Verdict)
-    × HasVerdict (IsMessageOver (grammar_words words) end level) greatest_depth (tokens_of body) verdict
-    × (shown ≡ message_shown words len body verdict)
-IsFrameShownAs words end level Fm len body shown = shown ≡ relayed_shown Fm len
-IsFrameShownAs words end level Em len body shown = shown ≡ relayed_shown Em len
+-- what is shown of a whole frame
+abbrev pub IsFrameShownAs : Asked → Kind → ℕ → List ℕ → Shown → Type 0
+IsFrameShownAs asked Im len body shown = shown ≡ im_shown len (im_of body)
+IsFrameShownAs asked Rm len body shown = shown ≡ relayed_shown Rm len
+IsFrameShownAs asked Dm len body shown = IsMessageShownAs asked len body shown
+IsFrameShownAs asked Fm len body shown = shown ≡ relayed_shown Fm len
+IsFrameShownAs asked Em len body shown = shown ≡ relayed_shown Em len
 
 -- what some bytes are as one frame
 pub data OneFrame : Type 0 where
@@ -123,34 +158,42 @@ unfoldable pub found_in : ℕ → List ℕ → OneFrame
 found_in cap bytes = found_among (length bytes) (items_of (first_items cap bytes))
 
 -- what is shown of a frame, or that there is not one
-abbrev pub IsOneShownAs : List Word → Side → Level → OneFrame → Result Shown ShowFault → Type 0
-IsOneShownAs words side level (faulty code) outcome = outcome ≡ Ok (fault_shown code)
-IsOneShownAs words side level (whole head body) outcome =
-    (shown : Shown) × (outcome ≡ Ok shown) × IsFrameShownAs words (side2_of side) level head.kind head.len body shown
-IsOneShownAs words side level not_one outcome = outcome ≡ Err NotOneFrame
+abbrev pub IsOneShownAs : Asked → OneFrame → Result Shown ShowFault → Type 0
+IsOneShownAs asked (faulty code) outcome = outcome ≡ Ok (fault_shown code)
+IsOneShownAs asked (whole head body) outcome =
+    (shown : Shown) × (outcome ≡ Ok shown) × IsFrameShownAs asked head.kind head.len body shown
+IsOneShownAs asked not_one outcome = outcome ≡ Err NotOneFrame
 
 -- what is shown of some bytes
-abbrev pub AreShownAs : List Word → Side → Level → List ℕ → Result Shown ShowFault → Type 0
-AreShownAs words side level bytes outcome = IsOneShownAs words side level (found_in longest_body bytes) outcome
+abbrev pub AreShownAs : Asked → List ℕ → Result Shown ShowFault → Type 0
+AreShownAs asked bytes outcome = IsOneShownAs asked (found_in longest_body bytes) outcome
 
 -- what is shown of an input, or the input's fault
-abbrev pub IsShownAs : List Word → Side → Level → List ℕ → Result Shown ShowFault → Type 0
-IsShownAs words side level input outcome =
+abbrev pub IsShownAs : Asked → List ℕ → Result Shown ShowFault → Type 0
+IsShownAs asked input outcome =
     MatchBool (nat_lt limit (length input)) (outcome ≡ Err TooLong)
-    (MatchResult (bytes_of input) (λ bytes. AreShownAs words side level bytes outcome) (λ _. outcome ≡ Err NotHex))
+    (MatchResult (bytes_of input) (λ bytes. AreShownAs asked bytes outcome) (λ _. outcome ≡ Err NotHex))
 
 -- what is shown of the input was written, and the answer is whether its frame would be relayed
-abbrev pub Shows : List Word → Side → Level → List ℕ → Bool → Option (List ℕ) → Option (List ℕ) → Type 0
-Shows words side level input relayed old new =
-    (shown : Shown) × IsShownAs words side level input (Ok shown) × (relayed ≡ shown.relayed)
-    × Appends old new shown.text
+abbrev pub Shows : Asked → List ℕ → Bool → Option (List ℕ) → Option (List ℕ) → Type 0
+Shows asked input relayed old new =
+    (shown : Shown) × IsShownAs asked input (Ok shown) × (relayed ≡ shown.relayed) × Appends old new shown.text
 
--- what an input has to do with a fault: those of the input are its own, a failed write comes only where
--- there is something to show, and the reader's and memory's say nothing of it
-abbrev pub IsFaultAt : List Word → Side → Level → List ℕ → ShowFault → Type 0
-IsFaultAt words side level input Read = ⊤
-IsFaultAt words side level input TooLong = IsShownAs words side level input (Err TooLong)
-IsFaultAt words side level input NotHex = IsShownAs words side level input (Err NotHex)
-IsFaultAt words side level input NotOneFrame = IsShownAs words side level input (Err NotOneFrame)
-IsFaultAt words side level input Memory = ⊤
-IsFaultAt words side level input Write = (shown : Shown) × IsShownAs words side level input (Ok shown)
+-- what an input has to do with a fault: those of the input are its own, a failed write comes only if there is
+-- something to show, and the reader's and memory's say nothing of it
+abbrev pub IsFaultAt : Asked → List ℕ → ShowFault → Type 0
+IsFaultAt asked input Read = ⊤
+IsFaultAt asked input TooLong = IsShownAs asked input (Err TooLong)
+IsFaultAt asked input NotHex = IsShownAs asked input (Err NotHex)
+IsFaultAt asked input NotOneFrame = IsShownAs asked input (Err NotOneFrame)
+IsFaultAt asked input Memory = ⊤
+IsFaultAt asked input Write = (shown : Shown) × IsShownAs asked input (Ok shown)
+
+-- of an input that is shown, an explanation only adds lines after the text, and none if the frame is relayed; of
+-- another one it changes nothing
+abbrev pub OnlyAdds : Result Shown ShowFault → Result Shown ShowFault → Type 0
+OnlyAdds (Ok plain) (Ok explained) =
+    (lines : List ℕ) × (explained.text ≡ plain.text ++ lines) × (explained.relayed ≡ plain.relayed)
+    × (plain.relayed ≡ true → lines ≡ [])
+OnlyAdds (Err plain) (Err explained) = explained ≡ plain
+OnlyAdds _ _ = ⊥

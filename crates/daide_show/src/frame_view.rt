@@ -1,34 +1,32 @@
 //! One frame, shown in plain words.
 //!
-//! The input is read up to its limit before anything is decided, and the text is whole before any
-//! of it is written: so a fault of the input, or want of memory, leaves nothing written.
+//! The input is read up to its limit before anything is decided, and the text is whole before any of it is written: so
+//! a fault of the input, or want of memory, leaves nothing written.
 
-mod input;
-mod one_frame;
+pub(crate) mod input;
+pub(crate) mod one_frame;
 mod text;
-mod verdict_of;
 
-ghost use Rattle.std.specs.Prelude.{◌≢◌, ◌≤◌, ◌+◌, ℕ, List, [], length, IfOk, IfErr, IfSome, Ok, Err};
+ghost use Rattle.std.specs.Prelude.{◌≢◌, ◌≤◌, ◌+◌, ℕ, List, length, IfOk, IfErr, IfSome, Ok, Err};
 ghost use Rattle.std.specs.Io.KnownBytes.{Consumes, Keeps};
-ghost use Rattle.daide_words.specs.Words.{words_of};
 ghost use Rattle.daide_show.specs.Input.{limit};
-ghost use Rattle.daide_show.specs.Shown.{AreShownAs, IsShownAs, Shows, IsFaultAt};
+ghost use Rattle.daide_show.specs.Shown.{asked_of, plain_asked, AreShownAs, IsShownAs, Shows, IsFaultAt};
 
 use daide_frame::{Cutter, Side};
 use daide_grammar::Level;
 use daide_machine::MAX_BODY;
-use daide_machine::rules::side2_of;
 use daide_words::Words;
 use hex::FromHexError;
-use input::{drop_blanks, read_input};
+pub use input::read_input;
+use input::{LIMIT, digits_of};
 use one_frame::{Found, find_frame};
 use std::alloc::Allocator;
 use std::io::{Read, Write};
 use text::{write_fault, write_frame};
 use thiserror::Error;
 
-/// Why nothing is shown, in the order in which it is tested; `Memory` comes at the growth that was
-/// refused, before anything is written.
+/// Why nothing is shown, in the order in which it is tested; `Memory` comes at the growth that was refused, before
+/// anything is written.
 #[derive(Clone, Copy, Debug, PartialEq, Eq, Error)]
 pub enum ShowFault {
     /// The reader failed.
@@ -51,18 +49,29 @@ pub enum ShowFault {
     Write,
 }
 
-/// What is written for some bytes, and whether they would be relayed.
+/// How a frame is judged, and how much is shown of it.
+#[derive(Clone, Copy)]
+pub struct Request<'a> {
+    /// Whose frame it is.
+    pub side: Side,
+    /// The level of press at which a message is judged.
+    pub level: Level,
+    /// The operator's words: messages are judged with them, and they are printed by their own names.
+    pub words: &'a Words,
+    /// Whether a message that is not relayed is explained.
+    pub is_explained: bool,
+}
+
+/// Returns what is written for some bytes, and whether they would be relayed.
 fn show_bytes<A: Allocator + Copy>(
     alloc: A,
-    side: Side,
-    level: Level,
-    words: &Words,
+    request: &Request<'_>,
     bytes: &[u8],
 ) -> Result<(Vec<u8, A>, bool), ShowFault>
-    ensures shown { IfOk result (λ answer. AreShownAs (words_of words.now) side level bytes.now
+    ensures shown { IfOk result (λ answer. AreShownAs (asked_of request.now) bytes.now
         (Ok (record { text = answer.0.items; relayed = answer.1 }))) }
     ensures refused { IfErr result (λ fault. fault ≢ ShowFault.Memory
-        → AreShownAs (words_of words.now) side level bytes.now (Err fault)) }
+        → AreShownAs (asked_of request.now) bytes.now (Err fault)) }
 {
     let Ok(mut cutter) = Cutter::new(alloc, MAX_BODY) else {
         return Err(ShowFault::Memory);
@@ -71,15 +80,7 @@ fn show_bytes<A: Allocator + Copy>(
     let written = match find_frame(&mut cutter, bytes) {
         Found::NotOneFrame => return Err(ShowFault::NotOneFrame),
         Found::Fault(code) => write_fault(code, &mut text),
-        Found::Whole(head) => write_frame(
-            alloc,
-            words,
-            side2_of(side),
-            level,
-            head,
-            cutter.body(),
-            &mut text,
-        ),
+        Found::Whole(head) => write_frame(alloc, request, head, cutter.body(), &mut text),
     };
     match written {
         Ok(relayed) => Ok((text, relayed)),
@@ -87,31 +88,64 @@ fn show_bytes<A: Allocator + Copy>(
     }
 }
 
-/// What is written for an input, and whether its frame would be relayed.
-fn show_input<A: Allocator + Copy>(
+/// Returns what is written for an input, and whether its frame would be relayed.
+fn text_of_input<A: Allocator + Copy>(
     alloc: A,
-    side: Side,
-    level: Level,
-    words: &Words,
-    mut input: Vec<u8, A>,
+    request: &Request<'_>,
+    input: &[u8],
 ) -> Result<(Vec<u8, A>, bool), ShowFault>
-    requires { length input.items ≤ limit }
-    ensures shown { IfOk result (λ answer. IsShownAs (words_of words.now) side level input.items
+    ensures shown { IfOk result (λ answer. IsShownAs (asked_of request.now) input.now
         (Ok (record { text = answer.0.items; relayed = answer.1 }))) }
     ensures refused { IfErr result (λ fault. fault ≢ ShowFault.Memory
-        → IsShownAs (words_of words.now) side level input.items (Err fault)) }
+        → IsShownAs (asked_of request.now) input.now (Err fault)) }
 {
-    drop_blanks(&mut input);
-    match hex::decode(alloc, input.as_slice()) {
-        Ok(bytes) => show_bytes(alloc, side, level, words, bytes.as_slice()),
+    if input.len() > LIMIT {
+        return Err(ShowFault::TooLong);
+    }
+    let Ok(digits) = digits_of(alloc, input) else {
+        return Err(ShowFault::Memory);
+    };
+    match hex::decode(alloc, digits.as_slice()) {
+        Ok(bytes) => show_bytes(alloc, request, bytes.as_slice()),
         Err(FromHexError::OutOfMemory) => Err(ShowFault::Memory),
         Err(_) => Err(ShowFault::NotHex),
     }
 }
 
-/// Reads one frame in hexadecimal digits, and writes what it is and what becomes of it, judged as
-/// the side's at the level. The answer is whether it would be relayed. At most 200,001 bytes are
-/// read, of a reader that may have no end.
+/// Writes what the frame of an input is and what becomes of it, as it was asked. Returns whether it would be relayed.
+///
+/// The input's faults come in the order of `ShowFault`; none is `Read`.
+pub fn show_input<A: Allocator + Copy, W: Write>(
+    alloc: A,
+    request: &Request<'_>,
+    input: &[u8],
+    writer: &mut W,
+) -> Result<bool, ShowFault>
+    // What is written is what is shown for the input, and the answer is true exactly at a relay.
+    ensures shown { IfOk result (λ relayed.
+        Shows (asked_of request.now) input.now relayed (W.contents writer.old) (W.contents writer.new)) }
+
+    // A fault of the input is its own, and a write fails only if there is something to show.
+    ensures refused { IfErr result (λ fault. IsFaultAt (asked_of request.now) input.now fault) }
+
+    // Only a failed write can leave something written.
+    ensures nothing_written { IfErr result (λ fault. fault ≢ ShowFault.Write
+        → Keeps (W.contents writer.old) (W.contents writer.new)) }
+
+    // Nothing is read.
+    ensures nothing_read { IfErr result (λ fault. fault ≢ ShowFault.Read) }
+{
+    let (text, relayed) = text_of_input(alloc, request, input)?;
+    match writer.write_all(text.as_slice()) {
+        Ok(()) => Ok(relayed),
+        Err(_) => Err(ShowFault::Write),
+    }
+}
+
+/// Reads one frame in hexadecimal digits, and writes what it is and what becomes of it, judged as the side's at the
+/// level. Returns whether it would be relayed.
+///
+/// At most 200,001 bytes are read, of a reader that may have no end.
 pub fn show<A: Allocator + Copy, R: Read, W: Write>(
     alloc: A,
     side: Side,
@@ -121,52 +155,52 @@ pub fn show<A: Allocator + Copy, R: Read, W: Write>(
 ) -> Result<bool, ShowFault>
     // What is written is what is shown for the input, and the answer is true exactly at a relay.
     ensures shown { IfOk result (λ relayed. IfSome (R.remaining reader.old) (λ input.
-        Shows [] side level input relayed (W.contents writer.old) (W.contents writer.new))) }
+        Shows (plain_asked side level) input relayed (W.contents writer.old) (W.contents writer.new))) }
 
-    // A fault of the input is its own, and a write fails only where there is something to show.
+    // A fault of the input is its own, and a write fails only if there is something to show.
     ensures refused { IfErr result (λ fault. IfSome (R.remaining reader.old) (λ input.
-        IsFaultAt [] side level input fault)) }
+        IsFaultAt (plain_asked side level) input fault)) }
 
     // Only a failed write can leave something written.
     ensures nothing_written { IfErr result (λ fault. fault ≢ ShowFault.Write
         → Keeps (W.contents writer.old) (W.contents writer.new)) }
 
-    // No more is read than tells an input that is too long.
+    // No more is read than shows that an input is too long.
     ensures read { (bytes : List ℕ) × Consumes (R.remaining reader.old) (R.remaining reader.new) bytes
         × (length bytes ≤ limit + 1) }
 {
-    show_with(alloc, side, level, &Words::new(), reader, writer)
+    let request = Request {
+        side,
+        level,
+        words: &Words::new(),
+        is_explained: false,
+    };
+    show_with(alloc, &request, reader, writer)
 }
 
-/// Shows a frame as `show` does, judged with an operator's words too, which are printed by their own names.
+/// Shows a frame as `show` does, judged and shown as it was asked.
 pub fn show_with<A: Allocator + Copy, R: Read, W: Write>(
     alloc: A,
-    side: Side,
-    level: Level,
-    words: &Words,
+    request: &Request<'_>,
     reader: &mut R,
     writer: &mut W,
 ) -> Result<bool, ShowFault>
     // What is written is what is shown for the input, and the answer is true exactly at a relay.
     ensures shown { IfOk result (λ relayed. IfSome (R.remaining reader.old) (λ input.
-        Shows (words_of words.now) side level input relayed (W.contents writer.old) (W.contents writer.new))) }
+        Shows (asked_of request.now) input relayed (W.contents writer.old) (W.contents writer.new))) }
 
-    // A fault of the input is its own, and a write fails only where there is something to show.
+    // A fault of the input is its own, and a write fails only if there is something to show.
     ensures refused { IfErr result (λ fault. IfSome (R.remaining reader.old) (λ input.
-        IsFaultAt (words_of words.now) side level input fault)) }
+        IsFaultAt (asked_of request.now) input fault)) }
 
     // Only a failed write can leave something written.
     ensures nothing_written { IfErr result (λ fault. fault ≢ ShowFault.Write
         → Keeps (W.contents writer.old) (W.contents writer.new)) }
 
-    // No more is read than tells an input that is too long.
+    // No more is read than shows that an input is too long.
     ensures read { (bytes : List ℕ) × Consumes (R.remaining reader.old) (R.remaining reader.new) bytes
         × (length bytes ≤ limit + 1) }
 {
     let input = read_input(alloc, reader)?;
-    let (text, relayed) = show_input(alloc, side, level, words, input)?;
-    match writer.write_all(text.as_slice()) {
-        Ok(()) => Ok(relayed),
-        Err(_) => Err(ShowFault::Write),
-    }
+    show_input(alloc, request, input.as_slice(), writer)
 }

@@ -1,6 +1,6 @@
 //! What holds of the definitions by themselves.
 
-ghost use Rattle.std.specs.Prelude.{◌≡◌, ℕ, ◌++◌, false, List, Result};
+ghost use Rattle.std.specs.Prelude.{◌≡◌, ℕ, ◌++◌, false, true, List, Result, option_map};
 ghost use Rattle.daide_token.specs.Token.{tokens_of};
 ghost use Rattle.daide_frame.specs.declared.side.Side.{Side};
 ghost use Rattle.daide_grammar.specs.declared.level.Level.{Level};
@@ -8,12 +8,34 @@ ghost use Rattle.daide_words.specs.declared.word.Word.{Word};
 ghost use Rattle.daide_reader.specs.declared.verdict.Verdict.{Verdict};
 ghost use Rattle.daide_machine.specs.Answers.{answer_body};
 ghost use Rattle.daide_show.specs.declared.frame_view.ShowFault.{ShowFault};
-ghost use Rattle.daide_show.specs.Shown.{Shown, IsShownAs, is_relay, line, printed, verdict_lines, verdict_name};
+ghost use Rattle.daide_show.specs.Note.{fault_of_note, input_note_of, noted_fault};
+ghost use Rattle.daide_show.specs.Shown.{Asked, OnlyAdds, Shown, IsShownAs, is_relay, line, printed};
+ghost use Rattle.daide_show.specs.Shown.{verdict_lines, verdict_name};
+
+use daide_explain::laws::explained_in_one_way;
 
 /// An input is shown in one way, or refused with one fault: so the clauses of `show` leave it no choice.
 pub fn input_is_shown_in_one_way()
-    ensures { (words : List Word) (side : Side) (level : Level) (input : List ℕ) (one other : Result Shown ShowFault) →
-        IsShownAs words side level input one → IsShownAs words side level input other → one ≡ other }
+    ensures { (asked : Asked) (input : List ℕ) (one other : Result Shown ShowFault) →
+        IsShownAs asked input one → IsShownAs asked input other → one ≡ other }
+{
+    explained_in_one_way();
+}
+
+/// An explanation only adds lines after what is shown without it, and none if the frame is relayed; the answer and
+/// each fault are the same.
+pub fn explanation_only_adds()
+    ensures { (words : List Word) (side : Side) (level : Level) (input : List ℕ)
+        (plain explained : Result Shown ShowFault) →
+        IsShownAs (record { words = words; side = side; level = level; explained = false }) input plain →
+        IsShownAs (record { words = words; side = side; level = level; explained = true }) input explained →
+        OnlyAdds plain explained }
+{}
+
+/// An input has a note if and only if its fault is `NotHex` or `NotOneFrame`, and the note is of that fault.
+pub fn note_is_of_the_fault()
+    ensures { (asked : Asked) (input : List ℕ) (outcome : Result Shown ShowFault) → IsShownAs asked input outcome →
+        option_map fault_of_note (input_note_of input) ≡ noted_fault outcome }
 {}
 
 /// The answer that is shown is the text of the body that a session sends back for that verdict.

@@ -3,12 +3,17 @@
 //! Neither an accept nor a connect is waited for. The server's name was resolved at the start; where it has several
 //! addresses they are tried in turn, within one time for all.
 
+ghost use Rattle.std.specs.Prelude.{◌≡◌, Some, None, false, IfOk, IfErr, IfSome, IsSome};
+ghost use Rattle.daide_sockets.specs.Pairing.{GoesOn, IsBegun, IsFresh, IsJoined};
+
+use crate::connection::Connection;
 use crate::poller::{Poller, Registration};
 use crate::ports::{Socket, SocketPorts};
 use mio::Interest;
 use mio::net::{TcpListener, TcpStream};
 use std::io;
 use std::io::ErrorKind;
+use std::marker::Model;
 use std::net::{Net, SocketAddr};
 use std::rt::Clock;
 use std::time::{Duration, Instant};
@@ -87,11 +92,11 @@ enum Progress {
 
 /// A bot whose connect to the server is under way.
 #[derive(Drop)]
-pub(crate) struct Arrival<'w> {
+pub(crate) struct Arrival<'w, S: Drop = Connection> {
     /// Its session's number.
     number: u32,
-    bot: Socket<'w>,
-    server: Option<Socket<'w>>,
+    bot: Socket<'w, S>,
+    server: Option<Socket<'w, S>>,
     /// How many addresses were tried.
     tried: usize,
     /// When the server is given up.
@@ -100,24 +105,41 @@ pub(crate) struct Arrival<'w> {
     im_over: Option<Instant>,
 }
 
-/// What became of a bot that came, whose connect to the server is over.
-#[derive(Drop)]
-pub(crate) enum Outcome<'w, R: Clock> {
-    /// Bot and server are joined.
-    Joined(SocketPorts<'w, R>),
-    /// No address of the server was reached in its time; the session's number and the bot's own socket are left.
-    Unreached(u32, Socket<'w>),
+impl<'w, S: Drop> Model for Arrival<'w, S> {
+    ghost use Rattle.std.specs.Prelude.{◌≡◌, IfSome, option_map};
+    ghost use Rattle.daide_sockets.specs.Pairing.{Arriving};
+
+    ghost Value = { Arriving S };
+
+    ghost view = { λ a. record {
+      number = a.number;
+      bot = a.bot.stream;
+      server = option_map (λ socket. socket.stream) a.server;
+    } };
+
+    // its connect is its own
+    ghost invariant = { λ a. IfSome a.server (λ socket. socket.made_for ≡ a.number) };
 }
 
-/// The socket of a connect that begins, to the first address not tried yet to which that can be done. It is given up at
-/// this moment.
+/// A bot no address of whose server was reached in its time: its session's number, and its own socket.
+#[derive(Drop)]
+pub(crate) struct Unreached<'w, S: Drop = Connection> {
+    pub number: u32,
+    pub bot: Socket<'w, S>,
+}
+
+/// The socket of a connect that begins for the session of this number, to the first address not tried yet to which that
+/// can be done. It is given up at this moment.
 fn begun<'w, R: Clock, N: Net>(
     poller: &'w Poller<R>,
     net: &N,
     servers: &[SocketAddr],
     tried: &mut usize,
+    number: u32,
     gives_up: Option<Instant>,
-) -> Option<Socket<'w>> {
+) -> Option<Socket<'w>>
+    ensures { IfSome result (λ socket. IsFresh socket.stream × (socket.made_for ≡ number)) }
+{
     for address in servers.iter().skip(*tried) {
         *tried = tried.saturating_add(1);
         let Ok(stream) = TcpStream::connect(net, *address) else {
@@ -125,7 +147,7 @@ fn begun<'w, R: Clock, N: Net>(
         };
         if let Some(socket) = Socket::new(poller, stream) {
             socket.place.flags.due.set(gives_up);
-            return Some(socket);
+            return Some(socket.of_connect(number));
         }
     }
     None
@@ -137,13 +159,19 @@ impl<'w> Arrival<'w> {
         poller: &'w Poller<R>,
         net: &N,
         servers: &[SocketAddr],
-        (number, bot): (u32, Socket<'w>),
-        (im_time, connect_time): (Duration, Duration),
-    ) -> Arrival<'w> {
+        came: (u32, Socket<'w>),
+        times: (Duration, Duration),
+    ) -> Arrival<'w>
+        ensures number { result.number ≡ came.entry.0 }
+        ensures bot { result.bot ≡ came.entry.1.stream }
+        ensures server { IsBegun result.server }
+    {
+        let (number, bot) = came;
+        let (im_time, connect_time) = times;
         let gives_up = poller.after(connect_time);
         let im_over = poller.after(im_time);
         let mut tried = 0;
-        let server = begun(poller, net, servers, &mut tried, gives_up);
+        let server = begun(poller, net, servers, &mut tried, number, gives_up);
         Arrival {
             number,
             bot,
@@ -182,13 +210,23 @@ impl<'w> Arrival<'w> {
         poller: &'w Poller<R>,
         net: &N,
         servers: &[SocketAddr],
-    ) -> bool {
+    ) -> bool
+        ensures goes_on { GoesOn self.old self.new }
+        ensures reached { result ≡ false → IsSome self.new.server → self.new ≡ self.old }
+    {
         match self.progress() {
             Progress::Connected => return false,
             Progress::Failed => {
                 // The row of the last one is free for the next.
                 drop(self.server.take());
-                self.server = begun(poller, net, servers, &mut self.tried, self.gives_up);
+                self.server = begun(
+                    poller,
+                    net,
+                    servers,
+                    &mut self.tried,
+                    self.number,
+                    self.gives_up,
+                );
             }
             Progress::Pending => {}
         }
@@ -197,13 +235,24 @@ impl<'w> Arrival<'w> {
         }
         self.server.is_some()
     }
+}
 
-    /// The ports of a bot whose server is there, either of which may be silent for so long; none for ever.
+impl<'w, S: Drop> Arrival<'w, S> {
+    /// The ports of a bot whose server is there. Either may be silent for the first of these times, and take nothing for
+    /// the second; none is for ever.
     pub(crate) fn join<R: Clock>(
         self,
         poller: &'w Poller<R>,
-        idle_time: Option<Duration>,
-    ) -> Outcome<'w, R> {
+        times: (Option<Duration>, Option<Duration>),
+    ) -> Result<SocketPorts<'w, R, S>, Unreached<'w, S>>
+        ensures joined { IfOk result (λ ports. IsJoined self.entry (record {
+          number = ports.number;
+          bot = ports.bot.stream;
+          server = ports.server.stream;
+        })) }
+        ensures unreached { IfErr result (λ left. (left.number ≡ self.entry.number)
+            × (left.bot.stream ≡ self.entry.bot) × (self.entry.server ≡ None)) }
+    {
         let Arrival {
             number,
             bot,
@@ -213,11 +262,26 @@ impl<'w> Arrival<'w> {
             im_over,
         } = self;
         let Some(server) = server else {
-            return Outcome::Unreached(number, bot);
+            return Err(Unreached { number, bot });
         };
         server.place.flags.due.set(None);
         bot.place.flags.due.set(im_over);
         let ports = SocketPorts::new(poller, bot, server);
-        Outcome::Joined(ports.of_session(number, idle_time))
+        Ok(ports.of_session(number, times))
+    }
+
+    /// The same of a bot whose connect is given up, wherever it stands.
+    pub(crate) fn give_up(self) -> Unreached<'w, S>
+        ensures { (result.number ≡ self.entry.number) × (result.bot.stream ≡ self.entry.bot) }
+    {
+        let Arrival {
+            number,
+            bot,
+            server: _,
+            tried: _,
+            gives_up: _,
+            im_over: _,
+        } = self;
+        Unreached { number, bot }
     }
 }

@@ -4,10 +4,11 @@
 //! never arrive. So what is held is written, and writing is shut down; what still comes is read and dropped, within bounds;
 //! then the socket is closed. Where the peer doesn't read, what is held is written once it does.
 
-ghost use Rattle.std.specs.Prelude.{◌≡◌, ◌+◌, ◌<◌, List, [], ◌∷◌, ℕ, length, true, false};
+ghost use Rattle.std.specs.Prelude.{◌≡◌, ◌+◌, ◌<◌, List, [], ◌∷◌, ℕ, length, true, false, IfOk};
 ghost use Rattle.daide_machine.specs.Ports.{Tells};
 ghost use Rattle.daide_streams.specs.Buffers.{Passes, IsUnread, IsUnwritten};
 ghost use Rattle.daide_streams.specs.Calls.{WritingEnded};
+ghost use Rattle.daide_sockets.specs.Pairing.{Closes, ClosesBoth, with_room};
 
 use crate::connection::Connection;
 use crate::poller::Poller;
@@ -15,6 +16,7 @@ use crate::ports::{Socket, SocketPorts};
 use daide_streams::dropping::Dropping;
 use daide_streams::duplex::Duplex;
 use std::alloc::{AllocError, Global};
+use std::marker::Model;
 use std::rt::Clock;
 use std::time::Duration;
 
@@ -74,7 +76,9 @@ impl<'w, S: Duplex + Drop> Closing<'w, S> {
         self.socket.stream.end_writing();
     }
 
-    /// Writes what is held, and shuts down writing once that is all. Of its bytes none is read, and none is lost.
+    /// Writes what is held, and shuts down writing once that is all, or once the peer is stalled. Of its bytes none is read,
+    /// and none is lost before that.
+    #[tactic(auto, using(daide_streams::proofs::BufferLemmas::flush_then))]
     fn end_writing<R: Clock>(&mut self, poller: &Poller<R>)
         ensures rest { self.new.rest ≡ self.old.rest }
         ensures passes { Passes S.to_give S.taken self.old.socket.stream [] [] self.new.socket.stream }
@@ -83,6 +87,7 @@ impl<'w, S: Duplex + Drop> Closing<'w, S> {
         ensures ended { self.old.is_ended ≡ false → self.new.is_ended ≡ true →
             self.new.socket.stream.has_failed ≡ false → self.new.socket.stream.behind ≡ [] }
     {
+        self.socket.give_up_stalled();
         self.socket.flush();
         if self.socket.stream.is_behind() {
             return;
@@ -145,21 +150,45 @@ pub struct Closings<'w, S: Duplex + Drop = Connection> {
     next: usize,
 }
 
+impl<'w, S: Duplex + Drop> Model for Closings<'w, S> {
+    ghost use Rattle.std.specs.Prelude.{◌≤◌, List, map, vec_len, vec_capacity};
+    ghost use Rattle.daide_streams.specs.Buffers.{Buffer};
+
+    ghost Value = { List (Buffer S) };
+
+    ghost view = { λ c. map (λ closing. closing.socket.stream) c.sockets.items };
+
+    // there is room for all
+    ghost invariant = { λ c. (vec_len c.sockets ≤ 256) × (256 ≤ vec_capacity c.sockets) };
+}
+
 impl<'w, S: Duplex + Drop> Closings<'w, S> {
     /// None yet, and room for all.
-    pub fn new(alloc: Global) -> Result<Closings<'w, S>, AllocError> {
+    pub fn new(alloc: Global) -> Result<Closings<'w, S>, AllocError>
+        ensures { IfOk result (λ closings. closings ≡ []) }
+    {
         Ok(Closings {
             sockets: Vec::with_capacity(alloc, MOST_CLOSING)?,
             next: 0,
         })
     }
 
-    /// Begins to close a socket. Where there are `MOST_CLOSING` already, the one that began first is closed.
-    pub fn begin<R: Clock>(&mut self, poller: &Poller<R>, socket: Socket<'w, S>) {
+    /// Closes the one that began first, where there are `MOST_CLOSING`.
+    fn make_room(&mut self)
+        ensures last_ones { self.new ≡ with_room self.old }
+        ensures room { length self.new < MOST_CLOSING }
+    {
         if self.sockets.len() >= MOST_CLOSING {
             self.sockets.remove(0);
             self.next = self.next.saturating_sub(1);
         }
+    }
+
+    /// Begins to close a socket. Where there are `MOST_CLOSING` already, the one that began first is closed.
+    pub fn begin<R: Clock>(&mut self, poller: &Poller<R>, socket: Socket<'w, S>)
+        ensures { Closes S.to_give S.taken self.old socket.entry.stream self.new }
+    {
+        self.make_room();
         let mut closing = Closing::new(socket);
         closing.end_writing(poller);
         // There is room: a socket for which there were none would be closed at once.
@@ -167,7 +196,13 @@ impl<'w, S: Duplex + Drop> Closings<'w, S> {
     }
 
     /// Begins to close both sockets of a session.
-    pub fn begin_both<R: Clock>(&mut self, poller: &Poller<R>, ports: SocketPorts<'w, R, S>) {
+    pub fn begin_both<R: Clock>(&mut self, poller: &Poller<R>, ports: SocketPorts<'w, R, S>)
+        ensures { ClosesBoth S.to_give S.taken self.old (record {
+          number = ports.entry.number;
+          bot = ports.entry.bot.stream;
+          server = ports.entry.server.stream;
+        }) self.new }
+    {
         let (bot, server) = ports.into_sockets();
         self.begin(poller, bot);
         self.begin(poller, server);

@@ -1,6 +1,6 @@
 //! What a run stands on: where bots come, where the server is, and the table of the run's sockets.
 
-ghost use Rattle.std.specs.Prelude.{◌≡◌, ◌+◌, ◌*◌, ◌^◌, ◌<◌, IfOk, IfSome, false, vec_len};
+ghost use Rattle.std.specs.Prelude.{◌≡◌, ◌+◌, ◌*◌, ◌^◌, ◌<◌, IfOk, IfSome, false, [], vec_len};
 ghost use Rattle.daide_sockets.specs.Times.{IsSeconds, IsIdleTime};
 
 use crate::closing::MOST_CLOSING;
@@ -104,8 +104,11 @@ pub fn sockets_on<'w, R: AllocGlobal + Clock + Net, E: Write + Drop>(
     errors: E,
 ) -> Option<Sockets<'w, R, E>>
     ensures none_came { IfSome result (λ sockets. (sockets.came ≡ 0) × (sockets.is_verbose ≡ false)) }
+    ensures none_held { IfSome result (λ sockets. (sockets.arrivals.items ≡ []) × (sockets.closings ≡ [])) }
     ensures im_time { IfSome result (λ sockets. IsSeconds settings.now.im_seconds sockets.im_time) }
     ensures idle_time { IfSome result (λ sockets. IsIdleTime settings.now.idle_seconds sockets.idle_time) }
+    ensures stall_time { IfSome result (λ sockets. IsIdleTime settings.now.stall_seconds sockets.stall_time
+        × (sockets.stall_seconds ≡ settings.now.stall_seconds)) }
     ensures connect_time { IfSome result (λ sockets. IsSeconds CONNECT_SECONDS sockets.connect_time) }
 {
     let (listener, servers, poller) = ground;

@@ -2,7 +2,7 @@
 //!
 //! No call waits but the loop's own wait. `poller` is what is known of each socket, `connection` is a connection as a
 //! stream both ways, `ports` are a session's, `admission` takes bots and connects them, `closing` closes in stages,
-//! `session_notice` has the lines of a session, `system` puts them together for the loop, and `ground` is what a run
+//! `session_notice` has the lines of a session, `timed` what its times came to, `system` puts them together for the loop, and `ground` is what a run
 //! stands on at the addresses of settings.
 //!
 //! What the system answers, and what a shared cell holds, no contract can name. So a call that hangs on either is
@@ -13,10 +13,12 @@ pub mod admission;
 pub mod closing;
 pub mod connection;
 pub mod ground;
+pub mod laws;
 pub mod poller;
 pub mod ports;
 pub mod session_notice;
 pub mod system;
+pub mod timed;
 
 // No other crate knows `mio`, so what a caller names of it has its name here.
 pub use mio::Interest;

@@ -34,6 +34,9 @@ pub struct Flags {
     pub due: Cell<Option<Instant>>,
     /// The moment from which the peer counts as silent, if nothing comes of it before; none where it never does.
     pub(crate) silent_from: Cell<Option<Instant>>,
+    /// The moment at which the peer counts as stalled, if it takes no byte before; none if no byte waits for it, or if it
+    /// never counts so.
+    pub(crate) stalls_at: Cell<Option<Instant>>,
 }
 
 /// The table of a run, and the moment at which the system was asked last.
@@ -70,6 +73,25 @@ pub enum PollerError {
     Memory,
 }
 
+/// Returns whether a moment is over by what the clock read last; one that isn't given never is.
+pub(crate) fn is_past(now: Option<Instant>, moment: Option<Instant>) -> bool
+    ensures { IsNone moment → result ≡ false }
+{
+    match (moment, now) {
+        (Some(moment), Some(now)) => moment <= now,
+        _ => false,
+    }
+}
+
+/// Returns the earlier of two moments, of which either may be missing.
+fn earlier(one: Option<Instant>, other: Option<Instant>) -> Option<Instant> {
+    match (one, other) {
+        (Some(one), Some(other)) => Some(one.min(other)),
+        (one, None) => one,
+        (None, other) => other,
+    }
+}
+
 /// A socket's row of the table, which is free again where this is dropped.
 pub struct Registration<'w> {
     /// What is known of the socket.
@@ -91,6 +113,7 @@ impl Flags {
             readiness: Cell::new(Readiness::UNKNOWN),
             due: Cell::new(None),
             silent_from: Cell::new(None),
+            stalls_at: Cell::new(None),
         }
     }
 
@@ -111,6 +134,17 @@ impl Flags {
         self.readiness.set(Readiness::UNKNOWN);
         self.due.set(None);
         self.silent_from.set(None);
+        self.stalls_at.set(None);
+    }
+
+    /// Notes a write: whether it took a byte, whether bytes still wait, and when the peer counts as stalled, if it takes none
+    /// from now on. The time runs from the last byte that was taken, or from when the first began to wait.
+    pub(crate) fn note_written(&self, took: bool, waits: bool, stalls_at: Option<Instant>) {
+        if !waits {
+            self.stalls_at.set(None);
+        } else if took || self.stalls_at.get().is_none() {
+            self.stalls_at.set(stalls_at);
+        }
     }
 
     /// Notes that a read may give something, or a write take something. What was noted before stays so.
@@ -149,18 +183,14 @@ impl Flags {
         }
     }
 
-    /// The moment that is waited for, of a socket that is there. A silence that began already is waited for no more: the
-    /// next pull tells it, and where none is made, since a session has no room, there is nothing to be done.
+    /// Returns the moment that is waited for, of a socket that is there. A silence that began already is waited for no more:
+    /// the next pull reports it, and if none is made, since a session has no room, there is nothing to be done.
     fn awaited(&self, now: Instant) -> Option<Instant> {
         if !self.is_taken.get() {
             return None;
         }
         let silent_from = self.silent_from.get().filter(|moment| *moment > now);
-        match (self.due.get(), silent_from) {
-            (Some(due), Some(silent_from)) => Some(due.min(silent_from)),
-            (due, None) => due,
-            (None, silent_from) => silent_from,
-        }
+        earlier(earlier(self.due.get(), self.stalls_at.get()), silent_from)
     }
 }
 
@@ -207,6 +237,11 @@ impl<R: Clock> Poller<R> {
         &self.pool
     }
 
+    /// The moment at which the clock was read last; none if it can't be read.
+    pub(crate) fn now(&self) -> &Cell<Option<Instant>> {
+        &self.now
+    }
+
     /// So long after the moment at which the system was asked last; none where the clock can't be read, or no such moment is known.
     pub fn after(&self, duration: Duration) -> Option<Instant> {
         self.now.get()?.checked_add(duration)
@@ -216,10 +251,7 @@ impl<R: Clock> Poller<R> {
     pub fn is_over(&self, moment: Option<Instant>) -> bool
         ensures { IsNone moment → result ≡ false }
     {
-        match (moment, self.now.get()) {
-            (Some(moment), Some(now)) => moment <= now,
-            _ => false,
-        }
+        is_past(self.now.get(), moment)
     }
 
     /// Follows a socket, where the table has a row for it and the system agrees.

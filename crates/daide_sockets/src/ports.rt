@@ -5,16 +5,17 @@
 //! their answers what these gave and took. Of the system's own connections nothing is known, so there it is what the
 //! system's read and write answered.
 
-ghost use Rattle.std.specs.Prelude.{◌≡◌, ◌≢◌, ◌<◌, IsNone, [], min, length, take, true, false};
+ghost use Rattle.std.specs.Prelude.{◌≡◌, ◌≢◌, ◌<◌, IsNone, IfSome, [], min, length, take, true, false};
 ghost use Rattle.daide_machine.specs.Ports.{IsPullWithin, IsPutWithin, pulled_len};
 ghost use Rattle.daide_streams.specs.Buffers.{Passes, IsUnread, IsBufferedPull};
 ghost use Rattle.daide_streams.specs.declared.readiness.Readiness.{Readiness};
 ghost use Rattle.daide_streams.specs.Streams.{Moves};
-ghost use Rattle.daide_streams.specs.Taking.{front_of};
-ghost use Rattle.daide_sockets.specs.Lines.{silent_of};
+ghost use Rattle.daide_streams.specs.Taking.{front_of, taken_len};
+ghost use Rattle.daide_sockets.specs.Pairing.{IsFresh};
 
 use crate::connection::Connection;
-use crate::poller::{Flags, Poller, Registration};
+use crate::poller::{Flags, Poller, Registration, is_past};
+use crate::timed::Timed;
 use daide_frame::side::Side;
 use daide_machine::ports::{Ports, Pull, Put};
 use daide_streams::buffered::Buffered;
@@ -22,8 +23,9 @@ use daide_streams::duplex::Duplex;
 use daide_streams::pool::Pool;
 use mio::Interest;
 use mio::net::TcpStream;
+use std::cell::Cell;
 use std::rt::Clock;
-use std::time::Duration;
+use std::time::{Duration, Instant};
 
 /// For how many turns bytes are held at most that may be written, though more come all the time.
 const MOST_TURNS_HELD: usize = 32;
@@ -37,14 +39,26 @@ pub struct Socket<'w, S: Drop = Connection> {
     pub place: Registration<'w>,
     /// Room for what is held.
     pub(crate) pool: &'w Pool,
-    /// Whether nothing came of its peer for too long, so that it was taken as ended.
-    is_silent: bool,
+    /// The moment at which the clock was read last.
+    clock: &'w Cell<Option<Instant>>,
+    /// How long its peer may take none of the bytes that wait for it; none for ever.
+    stall_time: Option<Duration>,
+    /// What its times came to.
+    timed: Timed,
+    /// Whether it took bytes since its turn began, so that more may follow.
+    is_gathering: bool,
+    /// Whether its last pull gave bytes, so that an answer to them may be put to it in parts.
+    gave: bool,
+    /// The number of the session whose connect made it; 0 of one that no connect of a run made.
+    made_for: u32,
 }
 
 impl<'w> Socket<'w> {
     /// Follows a connection; none where the table has no row for it, or the system refuses. Small writes go out at
     /// once.
-    pub fn new<R: Clock>(poller: &'w Poller<R>, stream: TcpStream) -> Option<Socket<'w>> {
+    pub fn new<R: Clock>(poller: &'w Poller<R>, stream: TcpStream) -> Option<Socket<'w>>
+        ensures { IfSome result (λ socket. IsFresh socket.stream) }
+    {
         let mut stream = stream;
         // A connection that keeps small writes back is slower, and right.
         let _ = stream.set_nodelay(true);
@@ -63,14 +77,56 @@ impl<'w, S: Drop> Socket<'w, S> {
         place: Registration<'w>,
     ) -> Socket<'w, S>
         ensures stream { result.stream ≡ record { stream = stream; ahead = []; behind = []; has_failed = false } }
-        ensures silent { result.is_silent ≡ false }
+        ensures timed { result.timed ≡ record { is_silent = false; is_stalled = false; ends_stalled = false } }
+        ensures stall_time { IsNone result.stall_time }
     {
         Socket {
             stream: Buffered::new(stream),
             place,
             pool: poller.pool(),
-            is_silent: false,
+            clock: poller.now(),
+            stall_time: None,
+            timed: Timed::NONE,
+            is_gathering: false,
+            gave: false,
+            made_for: 0,
         }
+    }
+
+    /// The same, made by the connect of the session of this number.
+    pub(crate) fn of_connect(self, number: u32) -> Socket<'w, S>
+        ensures stream { result.stream ≡ self.entry.stream }
+        ensures made_for { result.made_for ≡ number }
+    {
+        let Socket {
+            stream,
+            place,
+            pool,
+            clock,
+            stall_time,
+            timed,
+            is_gathering,
+            gave,
+            made_for: _,
+        } = self;
+        Socket {
+            stream,
+            place,
+            pool,
+            clock,
+            stall_time,
+            timed,
+            is_gathering,
+            gave,
+            made_for: number,
+        }
+    }
+
+    /// Sets how long its peer may take none of the bytes that wait for it; none for ever.
+    pub fn set_stall_time(&mut self, time: Option<Duration>)
+        ensures { self.new ≡ record self.old { stall_time = time } }
+    {
+        self.stall_time = time;
     }
 
     /// The connection itself.
@@ -82,6 +138,41 @@ impl<'w, S: Drop> Socket<'w, S> {
 }
 
 impl<S: Duplex + Drop> Socket<'_, S> {
+    /// Returns when its peer counts as stalled, if it takes none of the bytes that wait from now on; none for ever.
+    fn stalls_at(&self) -> Option<Instant> {
+        self.clock.get()?.checked_add(self.stall_time?)
+    }
+
+    /// Notes what a call wrote, of so many bytes that were held before it or handed over: it took a byte if fewer are held now.
+    fn note_written(&self, before: usize, waits: bool) {
+        let took = self.stream.behind_len() < before;
+        self.place.flags.note_written(took, waits, self.stalls_at());
+    }
+
+    /// Gives up writing to a peer that took no byte for too long while bytes waited for it: from now on each put fails.
+    #[tactic(auto, using(daide_streams::proofs::BufferLemmas::same_passes))]
+    pub(crate) fn give_up_stalled(&mut self)
+        ensures passes { Passes S.to_give S.taken self.old.stream [] [] self.new.stream }
+        ensures unread { IsUnread S.to_give self.old.stream self.new.stream }
+        ensures stalled { self.new.timed.is_stalled ≡ true → self.old.timed.is_stalled ≡ false →
+            self.new.stream.has_failed ≡ true }
+        ensures patient { IsNone self.old.stall_time → self.new.timed ≡ self.old.timed }
+        ensures silent { self.new.timed.is_silent ≡ self.old.timed.is_silent }
+        ensures ends { self.new.timed.ends_stalled ≡ self.old.timed.ends_stalled }
+        ensures gathering { self.new.is_gathering ≡ self.old.is_gathering }
+    {
+        let flags = self.place.flags;
+        if self.stall_time.is_none() {
+            return;
+        }
+        if !is_past(self.clock.get(), flags.stalls_at.get()) {
+            return;
+        }
+        flags.stalls_at.set(None);
+        self.stream.give_up();
+        self.timed.is_stalled = true;
+    }
+
     /// Hands out what was read ahead, or reads what is there: what is told as `Got` is, in order, what the connection
     /// gave.
     #[tactic(auto, using(daide_streams::proofs::BufferLemmas::same_passes))]
@@ -94,16 +185,20 @@ impl<S: Duplex + Drop> Socket<'_, S> {
             × IsBufferedPull S.calls (length buffer.old) known self.old.stream result still self.new.stream }
         ensures handed { 0 < length self.old.stream.ahead →
             result ≡ Pull.Got (min (length self.old.stream.ahead) (length buffer.old)) }
-        ensures silent { self.new.is_silent ≡ self.old.is_silent }
+        ensures timed { self.new.timed ≡ self.old.timed }
+        ensures gathering { self.new.is_gathering ≡ self.old.is_gathering }
+        ensures idle { result ≡ Pull.Idle → self.new.gave ≡ false }
     {
         let flags = self.place.flags;
         let mut readiness = flags.readiness.get();
+        self.gave = false;
         // Most turns of an idle session end here.
         if !readiness.may_read && !self.stream.is_ahead() {
             return Pull::Idle;
         }
         let pull = self.stream.pull(self.pool, &mut readiness, buffer);
         flags.readiness.set(readiness);
+        self.gave = matches!(pull, Pull::Got(_));
         pull
     }
 
@@ -115,12 +210,25 @@ impl<S: Duplex + Drop> Socket<'_, S> {
         ensures fails { result ≡ Put.Failed → self.new.stream.has_failed ≡ true }
         ensures failed { self.old.stream.has_failed ≡ true →
             (result ≡ Put.Failed) × (self.new.stream ≡ self.old.stream) }
-        ensures silent { self.new.is_silent ≡ self.old.is_silent }
+        ensures timed { self.new.timed ≡ self.old.timed }
+        ensures gathers { 0 < taken_len result → self.new.is_gathering ≡ true }
+        ensures gathering { taken_len result ≡ 0 → self.new.is_gathering ≡ self.old.is_gathering }
     {
         let flags = self.place.flags;
+        let held = self.stream.behind_len();
         let mut readiness = flags.readiness.get();
         let put = self.stream.put(self.pool, &mut readiness, bytes);
         flags.readiness.set(readiness);
+        match put {
+            Put::Took(count) => {
+                if count > 0 {
+                    self.is_gathering = true;
+                }
+                let waits = count < bytes.len() || self.stream.is_behind();
+                self.note_written(held.saturating_add(count), waits);
+            }
+            Put::Failed => flags.stalls_at.set(None),
+        }
         put
     }
 
@@ -129,15 +237,33 @@ impl<S: Duplex + Drop> Socket<'_, S> {
     pub fn flush(&mut self)
         ensures passes { Passes S.to_give S.taken self.old.stream [] [] self.new.stream }
         ensures unread { IsUnread S.to_give self.old.stream self.new.stream }
-        ensures silent { self.new.is_silent ≡ self.old.is_silent }
+        ensures timed { self.new.timed ≡ self.old.timed }
+        ensures gathering { self.new.is_gathering ≡ self.old.is_gathering }
     {
         if !self.stream.is_behind() {
             return;
         }
         let flags = self.place.flags;
+        let held = self.stream.behind_len();
         let mut readiness = flags.readiness.get();
         self.stream.flush(self.pool, &mut readiness);
         flags.readiness.set(readiness);
+        self.note_written(held, self.stream.is_behind());
+    }
+
+    /// Writes what is held, unless its session may have more to put: an answer to what it gave, of which parts were put
+    /// since the turn began. A turn in which something was put is followed by another without a wait.
+    #[tactic(auto, using(daide_streams::proofs::BufferLemmas::same_passes))]
+    fn flush_gathered(&mut self)
+        ensures passes { Passes S.to_give S.taken self.old.stream [] [] self.new.stream }
+        ensures unread { IsUnread S.to_give self.old.stream self.new.stream }
+        ensures timed { self.new.timed ≡ self.old.timed }
+        ensures gathering { self.old.is_gathering ≡ true → self.old.gave ≡ true → self.new ≡ self.old }
+    {
+        if self.is_gathering && self.gave {
+            return;
+        }
+        self.flush();
     }
 }
 
@@ -176,11 +302,26 @@ impl<S: Duplex + Drop> Socket<'_, S> {
     fn flush_late(&mut self, held: TurnsHeld)
         ensures passes { Passes S.to_give S.taken self.old.stream [] [] self.new.stream }
         ensures unread { IsUnread S.to_give self.old.stream self.new.stream }
-        ensures silent { self.new.is_silent ≡ self.old.is_silent }
+        ensures timed { self.new.timed ≡ self.old.timed }
+        ensures gathering { self.new.is_gathering ≡ self.old.is_gathering }
     {
         if held.is_over() {
             self.flush();
         }
+    }
+
+    /// Begins a turn: gives up writing to a stalled peer, and writes what was held for long enough. Nothing was put in it yet.
+    #[tactic(auto, using(daide_streams::proofs::BufferLemmas::flush_then, daide_streams::proofs::BufferLemmas::unread_then))]
+    fn begin_turn(&mut self, held: TurnsHeld)
+        ensures passes { Passes S.to_give S.taken self.old.stream [] [] self.new.stream }
+        ensures unread { IsUnread S.to_give self.old.stream self.new.stream }
+        ensures silent { self.new.timed.is_silent ≡ self.old.timed.is_silent }
+        ensures ends { self.new.timed.ends_stalled ≡ self.old.timed.ends_stalled }
+        ensures gathering { self.new.is_gathering ≡ false }
+    {
+        self.is_gathering = false;
+        self.give_up_stalled();
+        self.flush_late(held);
     }
 }
 
@@ -209,9 +350,9 @@ impl<R: Clock> Patience<'_, R> {
     }
 }
 
-/// Pulls of one socket of a session. Where nothing comes, nothing more comes now that is for the other: what is held of
-/// it is written. Where nothing came for too long, one more read is made, and where that finds nothing either the side is
-/// taken as ended.
+/// Pulls from one socket of a session. If nothing comes, nothing more comes now that is for the other: what is held for
+/// that one is written, unless parts of an answer to it were put in this turn. If nothing came for too long, one more read
+/// is made, and if that finds nothing either, the side is taken as ended. So is a stalled one of which nothing comes.
 fn pull_past<R: Clock, S: Duplex + Drop>(
     patience: &Patience<'_, R>,
     own: &mut Socket<'_, S>,
@@ -225,14 +366,19 @@ fn pull_past<R: Clock, S: Duplex + Drop>(
         result ≡ Pull.Got (min (length own.old.stream.ahead) (length buffer.old)) }
     ensures other { Passes S.to_give S.taken other.old.stream [] [] other.new.stream }
     ensures unread { IsUnread S.to_give other.old.stream other.new.stream }
-    // a side that isn't taken as silent is told as its stream is read
-    ensures asked { own.new.is_silent ≡ false → (known still : Readiness)
+    // a side that isn't taken as ended by a time is reported as its stream is read
+    ensures asked { own.new.timed.is_silent ≡ false → own.new.timed.ends_stalled ≡ false → (known still : Readiness)
         × IsBufferedPull S.calls (length buffer.old) known own.old.stream result still own.new.stream }
-    // a side is taken as silent by an end alone, and of what may be silent for ever none is
-    ensures silent { result ≢ Pull.Ended → own.new.is_silent ≡ own.old.is_silent }
-    ensures patient { IsNone patience.now.time → own.new.is_silent ≡ own.old.is_silent }
-    ensures stays { own.old.is_silent ≡ true → own.new.is_silent ≡ true }
-    ensures other_silent { other.new.is_silent ≡ other.old.is_silent }
+    // a side is taken as silent or stalled by an end alone, and of what may be silent for ever none is silent
+    ensures silent { result ≢ Pull.Ended → own.new.timed ≡ own.old.timed }
+    ensures patient { IsNone patience.now.time → own.new.timed.is_silent ≡ own.old.timed.is_silent }
+    ensures stays { own.old.timed.is_silent ≡ true → own.new.timed.is_silent ≡ true }
+    // none is taken as stalled whose writes don't count as failed for that
+    ensures stalled { own.new.timed.is_stalled ≡ own.old.timed.is_stalled }
+    ensures ends { own.old.timed.is_stalled ≡ false → own.new.timed.ends_stalled ≡ own.old.timed.ends_stalled }
+    ensures other_timed { other.new.timed ≡ other.old.timed }
+    // the parts of an answer are written together
+    ensures gathering { other.old.is_gathering ≡ true → other.old.gave ≡ true → other.new ≡ other.old }
 {
     let is_late = patience.is_over(own.place.flags);
     if is_late {
@@ -243,16 +389,20 @@ fn pull_past<R: Clock, S: Duplex + Drop>(
         patience.begin(own.place.flags);
         return pull;
     }
-    other.flush();
+    other.flush_gathered();
+    if own.timed.is_stalled {
+        own.timed.ends_stalled = true;
+        return Pull::Ended;
+    }
     if is_late {
-        own.is_silent = true;
+        own.timed.is_silent = true;
         return Pull::Ended;
     }
     pull
 }
 
-/// Puts to one socket of a session. Where it takes nothing, its session may have nothing more to do: what is held of the
-/// other is written.
+/// Puts to one socket of a session. If it takes nothing, its session may have nothing more to do: what is held for the
+/// other is written, unless parts of an answer to that one were put in this turn.
 fn put_past<S: Duplex + Drop>(
     own: &mut Socket<'_, S>,
     other: &mut Socket<'_, S>,
@@ -263,13 +413,14 @@ fn put_past<S: Duplex + Drop>(
     ensures failed { own.old.stream.has_failed ≡ true → result ≡ Put.Failed }
     ensures other { Passes S.to_give S.taken other.old.stream [] [] other.new.stream }
     ensures unread { IsUnread S.to_give other.old.stream other.new.stream }
-    ensures silent { (own.new.is_silent ≡ own.old.is_silent) × (other.new.is_silent ≡ other.old.is_silent) }
+    ensures timed { (own.new.timed ≡ own.old.timed) × (other.new.timed ≡ other.old.timed) }
+    ensures gathering { other.old.is_gathering ≡ true → other.old.gave ≡ true → other.new ≡ other.old }
 {
     let put = own.put(bytes);
     if put != Put::Took(0) {
         return put;
     }
-    other.flush();
+    other.flush_gathered();
     put
 }
 
@@ -296,8 +447,7 @@ impl<'w, R: Clock, S: Drop> SocketPorts<'w, R, S> {
         ensures server { result.server.stream ≡ server.entry.stream }
         ensures number { result.number ≡ 0 }
         ensures patient { IsNone result.patience.time }
-        ensures silent { (result.bot.is_silent ≡ bot.entry.is_silent)
-            × (result.server.is_silent ≡ server.entry.is_silent) }
+        ensures timed { (result.bot.timed ≡ bot.entry.timed) × (result.server.timed ≡ server.entry.timed) }
     {
         let patience = Patience { poller, time: None };
         SocketPorts {
@@ -310,24 +460,31 @@ impl<'w, R: Clock, S: Drop> SocketPorts<'w, R, S> {
         }
     }
 
-    /// The same, as those of a run's session of this number, which begins now: a side of which nothing comes for so long
-    /// is taken as ended; none for ever.
-    pub(crate) fn of_session(self, number: u32, time: Option<Duration>) -> SocketPorts<'w, R, S>
+    /// The same, as those of a run's session of this number, which begins now: a side of which nothing comes for the first
+    /// of these times is taken as ended, and one that takes nothing for the second counts as lost; none is for ever.
+    pub(crate) fn of_session(
+        self,
+        number: u32,
+        times: (Option<Duration>, Option<Duration>),
+    ) -> SocketPorts<'w, R, S>
         ensures bot { result.bot.stream ≡ self.entry.bot.stream }
         ensures server { result.server.stream ≡ self.entry.server.stream }
         ensures number { result.number ≡ number }
-        ensures time { result.patience.time ≡ time }
-        ensures silent { (result.bot.is_silent ≡ self.entry.bot.is_silent)
-            × (result.server.is_silent ≡ self.entry.server.is_silent) }
+        ensures time { result.patience.time ≡ times.0 }
+        ensures stall_time { (result.bot.stall_time ≡ times.1) × (result.server.stall_time ≡ times.1) }
+        ensures timed { (result.bot.timed ≡ self.entry.bot.timed) × (result.server.timed ≡ self.entry.server.timed) }
     {
+        let (time, stall_time) = times;
         let SocketPorts {
             number: _,
             patience,
             held_for_bot,
             held_for_server,
-            bot,
-            server,
+            mut bot,
+            mut server,
         } = self;
+        bot.set_stall_time(stall_time);
+        server.set_stall_time(stall_time);
         let patience = Patience {
             poller: patience.poller,
             time,
@@ -351,17 +508,11 @@ impl<'w, R: Clock, S: Drop> SocketPorts<'w, R, S> {
         self.number
     }
 
-    /// The side that was taken as ended, since nothing came of it for too long; the bot, where that is both.
-    pub fn silent_side(&self) -> Option<Side>
-        ensures { result ≡ silent_of self.now.bot.is_silent self.now.server.is_silent }
+    /// Returns what the times of the bot's socket and of the server's came to.
+    pub fn timed(&self) -> (Timed, Timed)
+        ensures { result ≡ (self.now.bot.timed, self.now.server.timed) }
     {
-        if self.bot.is_silent {
-            return Some(Side::Bot);
-        }
-        if self.server.is_silent {
-            return Some(Side::Server);
-        }
-        None
+        (self.bot.timed, self.server.timed)
     }
 
     /// The sockets of the bot and of the server.
@@ -381,7 +532,7 @@ impl<'w, R: Clock, S: Drop> SocketPorts<'w, R, S> {
     }
 
     /// Counts a turn, each of which asks the clock first; it asks the system nothing.
-    fn begin_turn(&mut self)
+    fn count_turn(&mut self)
         ensures bot { self.new.bot ≡ self.old.bot }
         ensures server { self.new.server ≡ self.old.server }
     {
@@ -394,15 +545,15 @@ impl<'w, R: Clock, S: Drop> SocketPorts<'w, R, S> {
 }
 
 impl<R: Clock, S: Duplex + Drop> SocketPorts<'_, R, S> {
-    /// Writes what was held for long enough.
-    fn flush_late(&mut self)
+    /// Begins a turn of both sockets.
+    fn begin_turn(&mut self)
         ensures bot { Passes S.to_give S.taken self.old.bot.stream [] [] self.new.bot.stream }
         ensures server { Passes S.to_give S.taken self.old.server.stream [] [] self.new.server.stream }
         ensures bot_unread { IsUnread S.to_give self.old.bot.stream self.new.bot.stream }
         ensures server_unread { IsUnread S.to_give self.old.server.stream self.new.server.stream }
     {
-        self.bot.flush_late(self.held_for_bot);
-        self.server.flush_late(self.held_for_server);
+        self.bot.begin_turn(self.held_for_bot);
+        self.server.begin_turn(self.held_for_server);
     }
 }
 
@@ -425,8 +576,8 @@ impl<R: Clock, S: Duplex + Drop> Ports for SocketPorts<'_, R, S> {
     }
 
     fn clock_popped(&mut self) -> bool {
+        self.count_turn();
         self.begin_turn();
-        self.flush_late();
         let due = &self.bot.place.flags.due;
         let is_over = self.patience.poller.is_over(due.get());
         if is_over {

@@ -1,9 +1,10 @@
-//! The lines that a run tells of each of its sessions, where it is asked to.
+//! The lines that a run writes about each of its sessions, if it is asked to.
 
 ghost use Rattle.std.specs.Prelude.{◌≡◌};
 ghost use Rattle.daide_machine.specs.Summary.{nothing_counted};
-ghost use Rattle.daide_sockets.specs.Lines.{why_by};
+ghost use Rattle.daide_sockets.specs.Lines.{why_by, why_ended};
 
+use crate::timed::{Timed, timed_at};
 use daide_frame::code::Code;
 use daide_frame::side::Side;
 use daide_machine::ending::Ending;
@@ -32,13 +33,20 @@ pub enum SessionNotice {
 }
 
 impl SessionNotice {
-    /// The line of a session that is over; its side that was taken as ended for its silence is this, if there is one.
-    pub fn of_end(number: u32, end: SessionEnd, silent: Option<Side>) -> SessionNotice
-        ensures { result ≡ SessionNotice.Ended number (why_by end.cause silent) (record { 0 = end.summary }) }
+    /// Returns the line of a session that is over, by what the times of its two sockets came to, and by how many seconds
+    /// a side may be stalled.
+    pub fn of_end(
+        number: u32,
+        end: SessionEnd,
+        timed: (Timed, Timed),
+        stall_seconds: u32,
+    ) -> SessionNotice
+        ensures { result ≡ SessionNotice.Ended number (why_by end.cause timed stall_seconds)
+            (record { 0 = end.summary }) }
     {
         SessionNotice::Ended {
             number,
-            why: why_of(end.cause, silent),
+            why: why_of(end.cause, timed, stall_seconds),
             counts: Counts(end.summary),
         }
     }
@@ -62,16 +70,37 @@ pub enum Why {
     Ended(Cause),
     /// Nothing came of this side for too long.
     Silent(Side),
+    /// This side took no byte for so many seconds, though bytes waited for it.
+    Stalled(Side, u32),
     /// Its server couldn't be reached.
     NoServer,
 }
 
-/// Why a session is over, of which this is told and whose side is silent, if one is.
-pub fn why_of(cause: Cause, silent: Option<Side>) -> Why
-    ensures { result ≡ why_by cause silent }
+/// Returns why a session is over that a side's end ended.
+fn why_ended(side: Side, timed: Timed, stall_seconds: u32) -> Why
+    ensures { result ≡ why_ended side timed stall_seconds }
 {
-    match (cause, silent) {
-        (Cause::Session(Ending::Ended(side)), Some(silent)) if silent == side => Why::Silent(side),
+    if timed.is_silent {
+        return Why::Silent(side);
+    }
+    if timed.ends_stalled {
+        return Why::Stalled(side, stall_seconds);
+    }
+    Why::Ended(Cause::Session(Ending::Ended(side)))
+}
+
+/// Returns why a session is over, by its cause, by what the times of its two sockets came to, and by how many seconds a
+/// side may be stalled.
+pub fn why_of(cause: Cause, timed: (Timed, Timed), stall_seconds: u32) -> Why
+    ensures { result ≡ why_by cause timed stall_seconds }
+{
+    match cause {
+        Cause::Session(Ending::Ended(side)) => {
+            why_ended(side, timed_at(timed, side), stall_seconds)
+        }
+        Cause::Session(Ending::Lost(side)) if timed_at(timed, side).is_stalled => {
+            Why::Stalled(side, stall_seconds)
+        }
         _ => Why::Ended(cause),
     }
 }
@@ -102,6 +131,9 @@ impl fmt::Display for Why {
             Why::Ended(Cause::Session(ending)) => write_ending(f, ending),
             Why::Ended(Cause::TurnsSpent) => f.write_str("turns spent"),
             Why::Silent(side) => write!(f, "{} silent", name_of(side)),
+            Why::Stalled(side, seconds) => {
+                write!(f, "{} took nothing for {seconds} s", name_of(side))
+            }
             Why::NoServer => f.write_str("no server"),
         }
     }

@@ -1,15 +1,18 @@
 //! What a run asks of the system, over sockets.
 
-ghost use Rattle.std.specs.Prelude.{◌≡◌, ◌+◌, ◌*◌, ◌^◌, ◌<◌, IfSome, None, false};
+ghost use Rattle.std.specs.Prelude.{◌≡◌, ◌+◌, ◌*◌, ◌^◌, ◌<◌, IfSome, None, false, [], length};
 ghost use Rattle.daide_sockets.specs.Times.{IsSeconds, IsIdleTime};
+ghost use Rattle.daide_sockets.specs.Pairing.{FirstBecomes, Transits, Closes};
 
-use crate::admission::{Acceptor, Arrival, Outcome};
+use crate::admission::{Acceptor, Arrival, Unreached};
 use crate::closing::{Closings, MOST_CLOSING};
+use crate::connection::Connection;
 use crate::poller::Poller;
 use crate::ports::{Socket, SocketPorts};
 use crate::session_notice::SessionNotice;
 use daide_machine::system::{Connect, Notice, SessionEnd, System};
 use daide_settings::Settings;
+use daide_streams::duplex::Duplex;
 use mio::net::TcpListener;
 use std::alloc::Global;
 use std::io::Write;
@@ -27,7 +30,7 @@ pub fn most_sockets(max_sessions: usize) -> usize
         .saturating_add(1)
 }
 
-/// How long a side may be silent, by so many seconds of the settings; none where they say for ever.
+/// How long a side may be silent, or take nothing, by so many seconds of the settings; none where they say for ever.
 fn idle_time_of(seconds: u32) -> Option<Duration>
     ensures { IsIdleTime seconds result }
 {
@@ -47,12 +50,17 @@ pub struct Sockets<'w, R: Clock + Net, E: Write + Drop> {
     im_time: Duration,
     /// How long a side may be silent; none for ever.
     idle_time: Option<Duration>,
+    /// How long a side may take none of the bytes that wait for it; none for ever.
+    stall_time: Option<Duration>,
+    /// The same in seconds, as the settings have it.
+    stall_seconds: u32,
     connect_time: Duration,
     /// How many bots came.
     came: u32,
     arrivals: Vec<Arrival<'w>>,
     closings: Closings<'w>,
-    errors: E,
+    /// Where lines for the operator go.
+    pub errors: E,
     /// Whether a line is told where a session begins, and one where it ends.
     is_verbose: bool,
 }
@@ -70,8 +78,11 @@ impl<'w, R: Clock + Net, E: Write + Drop> Sockets<'w, R, E> {
         errors: E,
     ) -> Option<Sockets<'w, R, E>>
         ensures none_came { IfSome result (λ sockets. (sockets.came ≡ 0) × (sockets.is_verbose ≡ false)) }
+        ensures none_held { IfSome result (λ sockets. (sockets.arrivals.items ≡ []) × (sockets.closings ≡ [])) }
         ensures im_time { IfSome result (λ sockets. IsSeconds settings.now.im_seconds sockets.im_time) }
         ensures idle_time { IfSome result (λ sockets. IsIdleTime settings.now.idle_seconds sockets.idle_time) }
+        ensures stall_time { IfSome result (λ sockets. IsIdleTime settings.now.stall_seconds sockets.stall_time
+            × (sockets.stall_seconds ≡ settings.now.stall_seconds)) }
         ensures connect_time { IfSome result (λ sockets. sockets.connect_time ≡ connect_time) }
     {
         let (listener, servers) = at;
@@ -89,6 +100,8 @@ impl<'w, R: Clock + Net, E: Write + Drop> Sockets<'w, R, E> {
             servers,
             im_time: Duration::from_secs(u64::from(settings.im_seconds)),
             idle_time: idle_time_of(settings.idle_seconds),
+            stall_time: idle_time_of(settings.stall_seconds),
+            stall_seconds: settings.stall_seconds,
             connect_time,
             came: 0,
             arrivals,
@@ -105,33 +118,61 @@ impl<'w, R: Clock + Net, E: Write + Drop> Sockets<'w, R, E> {
         self.is_verbose = is_verbose;
     }
 
-    /// Where lines for the operator go.
-    pub fn errors(&mut self) -> &mut E {
-        &mut self.errors
-    }
-
     /// Tells a line of a session, where that is asked for.
-    fn tell_of_session(&mut self, notice: SessionNotice) {
+    fn tell_of_session(&mut self, notice: SessionNotice)
+        ensures { self.new ≡ record self.old { errors = self.new.errors } }
+    {
         if self.is_verbose {
             // Where nobody reads it the run goes on.
             let _ = writeln!(self.errors, "daide-gate: {notice}");
         }
     }
 
-    /// What became of a bot whose connect is over; without a server its session is over, and its socket closes.
-    fn joined(&mut self, arrival: Arrival<'w>) -> Connect<SocketPorts<'w, &'w R>> {
-        match arrival.join(self.poller, self.idle_time) {
-            Outcome::Joined(ports) => Connect::Ready(ports),
-            Outcome::Unreached(number, bot) => {
-                self.tell_of_session(SessionNotice::of_no_server(number));
-                self.closings.begin(self.poller, bot);
+    /// A bot whose server wasn't reached: its session is over, and its socket closes.
+    fn let_go(&mut self, left: Unreached<'w>)
+        ensures closes { Closes ⟦<Connection as Duplex>⟧.to_give ⟦<Connection as Duplex>⟧.taken self.old.closings
+            left.entry.bot.stream self.new.closings }
+        ensures came { self.new.came ≡ self.old.came }
+        ensures arrivals { self.new.arrivals.items ≡ self.old.arrivals.items }
+    {
+        self.tell_of_session(SessionNotice::of_no_server(left.number));
+        self.closings.begin(self.poller, left.bot);
+    }
+
+    /// What became of the bot that is looked at first: its connect came about, or it is over, and its socket closes; or
+    /// it is still under way, and looked at last.
+    fn look_at_first(&mut self) -> Connect<SocketPorts<'w, &'w R>>
+        requires { 0 < length self.old.arrivals.items }
+        ensures { FirstBecomes ⟦<Connection as Duplex>⟧.to_give ⟦<Connection as Duplex>⟧.taken
+            (λ ports. record { number = ports.number; bot = ports.bot.stream; server = ports.server.stream })
+            (record { came = self.old.came; arrivals = self.old.arrivals.items; closing = self.old.closings })
+            result (record { came = self.new.came; arrivals = self.new.arrivals.items; closing = self.new.closings }) }
+    {
+        let mut arrival = self.arrivals.remove(0);
+        if arrival.advances(self.poller, self.runtime, self.servers) {
+            return match self.arrivals.push(arrival) {
+                Ok(()) => Connect::Pending,
+                // There was room for it before.
+                Err(refused) => {
+                    self.let_go(refused.value.give_up());
+                    Connect::Failed
+                }
+            };
+        }
+        match arrival.join(self.poller, (self.idle_time, self.stall_time)) {
+            Ok(ports) => Connect::Ready(ports),
+            Err(left) => {
+                self.let_go(left);
                 Connect::Failed
             }
         }
     }
 
     /// Goes on with the sockets that close, and reopens the acceptor where its pause is over.
-    fn tidy(&mut self) {
+    fn tidy(&mut self)
+        ensures came { self.new.came ≡ self.old.came }
+        ensures arrivals { self.new.arrivals.items ≡ self.old.arrivals.items }
+    {
         self.acceptor.reopen(self.poller);
         self.closings.advance(self.poller);
     }
@@ -153,7 +194,9 @@ impl<'w, R: Clock + Net, E: Write + Drop> Sockets<'w, R, E> {
     }
 
     /// Waits, but where a socket that closes may have more to drop.
-    fn rest(&mut self) {
+    fn rest(&mut self)
+        ensures { self.new ≡ self.old }
+    {
         if self.closings.is_ready() {
             self.poller.look();
         } else {
@@ -163,9 +206,10 @@ impl<'w, R: Clock + Net, E: Write + Drop> Sockets<'w, R, E> {
 }
 
 impl<'w, R: Clock + Net, E: Write + Drop> System<SocketPorts<'w, &'w R>> for Sockets<'w, R, E> {
-    ghost use Rattle.std.specs.Prelude.{None};
-
-    ghost told = { λ _. None };
+    ghost transition = { λ old answer new. Transits ⟦<Connection as Duplex>⟧.to_give ⟦<Connection as Duplex>⟧.taken
+        (λ ports. record { number = ports.number; bot = ports.bot.stream; server = ports.server.stream })
+        (record { came = old.came; arrivals = old.arrivals.items; closing = old.closings }) answer
+        (record { came = new.came; arrivals = new.arrivals.items; closing = new.closings }) };
 
     fn begin_round(&mut self) {
         self.poller.look_by_turns();
@@ -173,40 +217,46 @@ impl<'w, R: Clock + Net, E: Write + Drop> System<SocketPorts<'w, &'w R>> for Soc
     }
 
     fn accept(&mut self) -> bool {
+        let Some(number) = self.came.checked_add(1) else {
+            return false;
+        };
         let Some((stream, address)) = self.acceptor.accept(self.poller) else {
             return false;
         };
         let Some(bot) = Socket::new(self.poller, stream) else {
             return false;
         };
-        self.came = self.came.saturating_add(1);
+        let times = (self.im_time, self.connect_time);
+        let came = (number, bot);
+        let arrival = Arrival::new(self.poller, self.runtime, self.servers, came, times);
+        if self.arrivals.push(arrival).is_err() {
+            return false;
+        }
+        self.came = number;
         self.tell_of_session(SessionNotice::Began {
-            number: self.came,
+            number,
             bot: address,
         });
-        let came = (self.came, bot);
-        let times = (self.im_time, self.connect_time);
-        let arrival = Arrival::new(self.poller, self.runtime, self.servers, came, times);
-        self.arrivals.push(arrival).is_ok()
+        true
     }
 
     fn connected(&mut self) -> Connect<SocketPorts<'w, &'w R>> {
         // One that is pending goes to the end, so after a look at each the order is as before.
-        for _ in 0..self.arrivals.len() {
-            let Some(arrival) = self.arrivals.first_mut() else {
+        for _look in 0..self.arrivals.len() {
+            if self.arrivals.is_empty() {
                 break;
-            };
-            if !arrival.advances(self.poller, self.runtime, self.servers) {
-                let arrival = self.arrivals.remove(0);
-                return self.joined(arrival);
             }
-            self.arrivals.rotate_left(1);
+            match self.look_at_first() {
+                Connect::Ready(ports) => return Connect::Ready(ports),
+                Connect::Failed => return Connect::Failed,
+                Connect::Pending => {}
+            }
         }
         Connect::Pending
     }
 
     fn retire(&mut self, ports: SocketPorts<'w, &'w R>, end: SessionEnd) {
-        let notice = SessionNotice::of_end(ports.number(), end, ports.silent_side());
+        let notice = SessionNotice::of_end(ports.number(), end, ports.timed(), self.stall_seconds);
         self.tell_of_session(notice);
         self.closings.begin_both(self.poller, ports);
     }

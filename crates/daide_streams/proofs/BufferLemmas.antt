@@ -181,6 +181,10 @@ module _ {S : Type 0} (to_give got : S → Option (List ℕ)) where
         ∙ sym (append_assoc first.went next.went c.behind);
   }
 
+  -- nothing was read by either of two calls
+  pub unread_then : (a b c : Buffer S) → IsUnread to_give a b → IsUnread to_give b c → IsUnread to_give a c
+  unread_then a b c first next = record { ahead = next.ahead ∙ first.ahead; gives = next.gives ∙ first.gives }
+
   -- a call behind a flush
   pub flush_then : (a b c : Buffer S) (over : List ℕ) → Passes to_give got a [] [] b → Passes to_give got b [] over c →
       Passes to_give got a [] over c

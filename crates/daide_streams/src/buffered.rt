@@ -95,6 +95,13 @@ impl<S: Drop> Buffered<S> {
         self.behind.is_some() && !self.has_failed
     }
 
+    /// Gives up writing: from now on it is as after a failed write, and nothing of what is held is written.
+    pub fn give_up(&mut self)
+        ensures { self.new ≡ record self.old { has_failed = true } }
+    {
+        self.has_failed = true;
+    }
+
     /// How many bytes are held that are not written yet.
     pub fn behind_len(&self) -> usize
         ensures { result ≡ length self.now.behind }

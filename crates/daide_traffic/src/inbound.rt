@@ -6,7 +6,7 @@
 //! it answers: only its header is written anew, `PRN (`, `HUH (`, `ERR` and `)` are fixed words, and the body
 //! stays where it came. So a side holds one body, and a frame takes no more memory when it is answered.
 
-ghost use Rattle.std.specs.Prelude.{◌≡◌, ℕ, ◌+◌, ◌-◌, ◌*◌, ◌/◌, ◌<◌, ◌≤◌, List, [], ◌∷◌, ◌++◌, length, drop, ◌⊎◌};
+ghost use Rattle.std.specs.Prelude.{◌≡◌, ℕ, ◌+◌, ◌-◌, ◌*◌, ◌/◌, ◌<◌, ◌≤◌, List, [], ◌∷◌, ◌++◌, length, take, drop, ◌⊎◌};
 ghost use Rattle.std.specs.Prelude.{true, false, is_some, Some, None, IfOk, if◌then◌else◌};
 ghost use Rattle.daide_frame.specs.Frames.{fed, fed_items, told, IsFault, IsWholeBody, head_in, missing};
 ghost use Rattle.daide_frame.specs.Frames.{announced};
@@ -177,6 +177,20 @@ impl<A: Allocator> Inbound<A> {
         ensures short { length result.now ≤ longest_body }
     {
         self.cutter.body()
+    }
+
+    /// Returns the header's bytes that are held, good or not, also while its answer waits.
+    pub fn header(&self) -> &[u8]
+        ensures { result.now ≡ take 4 self.now.held }
+    {
+        self.cutter.header()
+    }
+
+    /// Returns the level at which the message is read.
+    pub fn level(&self) -> Level
+        ensures { result ≡ self.now.level }
+    {
+        self.level
     }
 
     /// At a header, of whose body nothing came: its message is read at this level.

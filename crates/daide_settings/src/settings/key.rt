@@ -34,11 +34,14 @@ pub enum Key {
     IdleSeconds,
     /// The words of press that an operator adds: an array of at most 16 tables; none by default.
     Words,
+    /// After how long a side that takes none of the bytes that wait for it counts as lost, in seconds: 0 to 86,400, where
+    /// 0 is never; 60 by default.
+    StallSeconds,
 }
 
 impl Key {
     /// Every key, in the order in which they are judged.
-    pub const ALL: [Key; 11] = [
+    pub const ALL: [Key; 12] = [
         Key::Listen,
         Key::Server,
         Key::TopLevel,
@@ -50,6 +53,7 @@ impl Key {
         Key::Turns,
         Key::IdleSeconds,
         Key::Words,
+        Key::StallSeconds,
     ];
 
     /// The key as a document writes it.
@@ -68,6 +72,7 @@ impl Key {
             Key::Turns => "turns",
             Key::IdleSeconds => "idle_seconds",
             Key::Words => "words",
+            Key::StallSeconds => "stall_seconds",
         }
     }
 
@@ -87,6 +92,7 @@ impl Key {
             Key::Sessions => Some(1),
             Key::Turns => Some(1_000_000_000),
             Key::IdleSeconds => Some(0),
+            Key::StallSeconds => Some(60),
         }
     }
 
@@ -110,6 +116,7 @@ impl Key {
             Key::Turns => 1 <= number && number <= 1_000_000_000_000,
             Key::IdleSeconds => number <= 86_400,
             Key::Words => number <= 16,
+            Key::StallSeconds => number <= 86_400,
         }
     }
 }
@@ -139,5 +146,6 @@ pub(crate) fn is_known(text: &str) -> bool
             | "turns"
             | "idle_seconds"
             | "words"
+            | "stall_seconds"
     )
 }

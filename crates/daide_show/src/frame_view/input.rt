@@ -5,21 +5,20 @@ ghost use Rattle.std.specs.Io.KnownBytes.{Consumes};
 ghost use Rattle.daide_show.specs.Input.{is_blank, digits_of, limit};
 
 use super::ShowFault;
-use std::alloc::Allocator;
+use std::alloc::{AllocError, Allocator};
 use std::io::Read;
 
 /// The most bytes that an input may have.
-const LIMIT: usize = 200_000;
+pub(crate) const LIMIT: usize = 200_000;
 
-/// The most bytes that are asked for at once.
+/// The most bytes of one read.
 const PIECE: usize = 4096;
 
-/// Reads all there is, if that is not too long. A failed read is a fault whatever its kind, so that
-/// a reader which is always interrupted ends the call too.
-pub(super) fn read_input<A: Allocator, R: Read>(
-    alloc: A,
-    reader: &mut R,
-) -> Result<Vec<u8, A>, ShowFault>
+/// Reads all there is, if that is not too long; at most 200,001 bytes are read.
+///
+/// The faults are `Read`, `TooLong` and `Memory`. A failed read is a fault whatever its kind, so that a reader which is
+/// always interrupted ends the call too.
+pub fn read_input<A: Allocator, R: Read>(alloc: A, reader: &mut R) -> Result<Vec<u8, A>, ShowFault>
     ensures fits { IfOk result (λ input. length input.items ≤ limit) }
     ensures whole { IfOk result (λ input. IfSome (R.remaining reader.old) (λ all. input.items ≡ all)) }
     ensures too_long { IfErr result (λ fault. fault ≡ ShowFault.TooLong
@@ -48,16 +47,20 @@ pub(super) fn read_input<A: Allocator, R: Read>(
     unreachable!()
 }
 
-/// Whether a byte is dropped wherever it stands.
-fn is_blank(byte: u8) -> bool
+/// Returns whether a byte is a blank, which is dropped.
+pub(crate) fn is_blank(byte: u8) -> bool
     ensures { result ≡ is_blank byte }
 {
     matches!(byte, b' ' | b'\t' | b'\r' | b'\n')
 }
 
-/// Drops the blanks, and leaves the digits in their order.
-pub(super) fn drop_blanks<A: Allocator>(input: &mut Vec<u8, A>)
-    ensures { input.new.items ≡ digits_of input.old.items }
+/// Returns the digits in their order, without the blanks.
+pub(crate) fn digits_of<A: Allocator>(alloc: A, input: &[u8]) -> Result<Vec<u8, A>, AllocError>
+    ensures { IfOk result (λ digits. digits.items ≡ digits_of input.now) }
 {
-    input.retain(|byte| !is_blank(*byte));
+    input
+        .iter()
+        .copied()
+        .filter(|byte| !is_blank(*byte))
+        .collect(alloc)
 }

@@ -9,7 +9,7 @@ use std::alloc::Allocator;
 
 /// What some bytes are as one frame.
 #[derive(Clone, Copy)]
-pub(super) enum Found {
+pub(crate) enum Found {
     /// The frame is wrong; what follows its fault was not looked at.
     Fault(Code),
     /// They are the frame of this header, whole and with nothing after it; its body is in the cutter.
@@ -30,7 +30,7 @@ fn found_of(step: Step, head: Option<Head>, is_all: bool) -> Found
 }
 
 /// Cuts the header off, and then the body.
-pub(super) fn find_frame<A: Allocator>(cutter: &mut Cutter<A>, bytes: &[u8]) -> Found
+pub(crate) fn find_frame<A: Allocator>(cutter: &mut Cutter<A>, bytes: &[u8]) -> Found
     requires { cutter.old.bytes ≡ [] }
     ensures { found_by result (drop 4 cutter.new.bytes) ≡ found_in cutter.old.cap bytes.now }
 {

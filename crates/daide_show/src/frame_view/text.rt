@@ -1,27 +1,47 @@
 //! The text of a frame.
 
-ghost use Rattle.std.specs.Prelude.{◌≡◌, ◌≤◌, ◌*◌, ◌%◌, ◌++◌, length, true, IfOk, OnOk};
+ghost use Rattle.std.specs.Prelude.{◌≡◌, ◌≤◌, ◌*◌, ◌%◌, ◌++◌, ℕ, List, length, true, IfOk, OnOk};
 ghost use Rattle.daide_token.specs.Token.{tokens_of};
 ghost use Rattle.daide_frame.specs.Head.{has_right_length};
+ghost use Rattle.daide_frame.specs.InitialMessage.{im_of};
+ghost use Rattle.daide_grammar.specs.SideMessages.{IsMessageOver};
+ghost use Rattle.daide_words.specs.Word.{grammar_words};
 ghost use Rattle.daide_words.specs.Words.{words_of};
-ghost use Rattle.daide_show.specs.Shown.{Shown, Adds, IsFrameShownAs};
-ghost use Rattle.daide_reader.specs.Verdict.{IsPlaceIn};
+ghost use Rattle.daide_reader.specs.Verdict.{HasVerdict, IsPlaceIn};
 ghost use Rattle.daide_machine.specs.Answers.{answer_body};
-ghost use Rattle.daide_machine.specs.Bounds.{longest_body};
+ghost use Rattle.daide_machine.specs.Bounds.{longest_body, greatest_depth};
+ghost use Rattle.daide_machine.specs.Machine.{side2_of};
+ghost use Rattle.daide_show.specs.Shown.{Shown, Adds, AreLines, IsFrameShownAs, IsMessageShownAs, asked_of};
 ghost use Rattle.daide_show.specs.Shown.{line, printed, kind_line, fault_shown, relayed_shown, im_shown};
 ghost use Rattle.daide_show.specs.Shown.{verdict_lines, is_relay};
-ghost use Rattle.daide_frame.specs.InitialMessage.{im_of};
 
-use super::verdict_of::verdict_of;
+use super::Request;
+use daide_explain::{Rules, verdict_of, write_explained};
 use daide_frame::{Code, Head, Kind, check_im};
-use daide_grammar::{Level, Side2};
+use daide_machine::MAX_DEPTH;
 use daide_machine::answers::{CLOSE_WORD, ERR_WORD, HUH_OPEN, PRN_OPEN};
+use daide_machine::rules::side2_of;
 use daide_reader::Verdict;
 use daide_token::write_text_with;
 use daide_words::Words;
 use std::alloc::{AllocError, Allocator};
 use std::io;
 use std::io::Write;
+
+/// Returns the rules by which a message is judged: those of its side, at the greatest depth.
+fn rules_of<'a>(request: &Request<'a>) -> Rules<'a>
+    ensures words { result.words.now ≡ request.now.words.now }
+    ensures end { result.end ≡ side2_of request.now.side }
+    ensures level { result.level ≡ request.now.level }
+    ensures depth { result.max_depth ≡ greatest_depth }
+{
+    Rules {
+        words: request.words,
+        end: side2_of(request.side),
+        level: request.level,
+        max_depth: MAX_DEPTH,
+    }
+}
 
 /// Writes a frame's kind, and the length of its body.
 fn write_kind<A: Allocator>(head: Head, text: &mut Vec<u8, A>) -> io::Result<()>
@@ -126,12 +146,30 @@ fn write_im<A: Allocator>(head: Head, body: &[u8], text: &mut Vec<u8, A>) -> io:
     }
 }
 
-/// Writes a message and what becomes of it.
+/// Writes the lines that explain a verdict, if that was asked for.
+fn write_lines<A: Allocator + Copy>(
+    alloc: A,
+    request: &Request<'_>,
+    verdict: Verdict,
+    body: &[u8],
+    text: &mut Vec<u8, A>,
+) -> io::Result<()>
+    requires capped { length body.now ≤ longest_body }
+    requires verdict { HasVerdict (IsMessageOver (grammar_words (words_of request.now.words.now))
+        (side2_of request.now.side) request.now.level) greatest_depth (tokens_of body.now) verdict }
+    ensures { OnOk result ((lines : List ℕ) × AreLines (asked_of request.now) (tokens_of body.now) verdict lines
+        × (text.new.items ≡ text.old.items ++ lines)) }
+{
+    if !request.is_explained {
+        return Ok(());
+    }
+    write_explained(alloc, &rules_of(request), verdict, body, text)
+}
+
+/// Writes a message, what becomes of it, and why, if that was asked for.
 fn write_message<A: Allocator + Copy>(
     alloc: A,
-    words: &Words,
-    end: Side2,
-    level: Level,
+    request: &Request<'_>,
     head: Head,
     body: &[u8],
     text: &mut Vec<u8, A>,
@@ -140,21 +178,21 @@ fn write_message<A: Allocator + Copy>(
     requires even { length body.now % 2 ≡ 0 }
     requires capped { length body.now ≤ longest_body }
     ensures { IfOk result (λ relayed. (shown : Shown)
-        × IsFrameShownAs (words_of words.now) end level Kind.Dm head.len body.now shown
+        × IsMessageShownAs (asked_of request.now) head.len body.now shown
         × Adds text.old.items text.new.items relayed shown) }
 {
-    let verdict = verdict_of(words, end, level, body);
+    let verdict = verdict_of(&rules_of(request), body);
     write_kind(head, text)?;
-    write_tokens(words, body, text)?;
-    write_verdict(alloc, words, verdict, body, text)
+    write_tokens(request.words, body, text)?;
+    let relayed = write_verdict(alloc, request.words, verdict, body, text)?;
+    write_lines(alloc, request, verdict, body, text)?;
+    Ok(relayed)
 }
 
 /// Writes a whole frame and what becomes of it; the answer is whether it would be relayed.
 pub(super) fn write_frame<A: Allocator + Copy>(
     alloc: A,
-    words: &Words,
-    end: Side2,
-    level: Level,
+    request: &Request<'_>,
     head: Head,
     body: &[u8],
     text: &mut Vec<u8, A>,
@@ -162,12 +200,12 @@ pub(super) fn write_frame<A: Allocator + Copy>(
     requires right { has_right_length head.kind (length body.now) ≡ true }
     requires capped { length body.now ≤ longest_body }
     ensures { IfOk result (λ relayed. (shown : Shown)
-        × IsFrameShownAs (words_of words.now) end level head.kind head.len body.now shown
+        × IsFrameShownAs (asked_of request.now) head.kind head.len body.now shown
         × Adds text.old.items text.new.items relayed shown) }
 {
     match head.kind {
         Kind::Im => write_im(head, body, text),
-        Kind::Dm => write_message(alloc, words, end, level, head, body, text),
+        Kind::Dm => write_message(alloc, request, head, body, text),
         Kind::Rm | Kind::Fm | Kind::Em => write_relayed(head, text),
     }
 }

@@ -1,115 +1,167 @@
-use Rattle.std.proofs.Common.{◌≡◌, ◌+◌, refl, sym, ap, ◌∙◌, subst, Ok, None, List, ℕ, ◌⊎◌, length}
+use Rattle.std.proofs.Common.{◌≡◌, ◌+◌, refl, sym, ap, ◌∙◌, subst, Ok, None, List, ℕ, ◌⊎◌, length, All, IfOk, IfErr}
 use Rattle.daide_lines.specs.declared.lines.Found.{Found}
 use Rattle.daide_lines.specs.declared.lines.Found.TheVariants.{Line}
-use Rattle.daide_lines.specs.declared.fault.LogFault.TheVariants.{BadLine, Write}
+use Rattle.daide_lines.specs.declared.fault.LogFault.{LogFault}
+use Rattle.daide_lines.specs.declared.fault.LogFault.TheVariants.{BadLine}
 use Rattle.daide_lines.specs.Input.{line_at, rest_at}
 use Rattle.daide_lines.specs.Lines.{IsFound}
 use Rattle.daide_lines.specs.Output.{all_of}
+use Rattle.daide_words.specs.Words.{words_of}
+use Rattle.daide_machine.specs.Wires.{SessionView}
+use Rattle.daide_log.specs.declared.heading.Preamble.{Preamble}
 use Rattle.daide_log.specs.Log.{event_in}
-use Rattle.daide_log.specs.Progress.{Judges, states_of}
+use Rattle.daide_log.specs.Told.{IsReady, IsLateFault}
+use Rattle.daide_log.specs.Progress.{Judges, IsFinished, states_of}
 use Rattle.daide_log.proofs.EventLemmas.{plays_first, plays_more, finished_at_end, finished_at_last, fault_in_play}
 use Rattle.daide_log.proofs.EventLemmas.{unfinished, fault_handed_on, bad_in_play, at_end, at_last_line, as_line}
 use Rattle.daide_log.proofs.check.play.Goals as goal
 
 pub lines-init : goal.lines-init
 lines-init g c = (
-  plays_first (g.R.LogReader.told c.args.input.now.reader.now) c.args.input.now.block c.args.lines c.args.version
+  plays_first (g.S.Style.form (words_of c.args.account.now.head.words)) (IsReady c.args.account.now.head.limits.config (words_of c.args.account.now.head.words)) (g.R.LogReader.told c.args.input.now.reader.now) c.args.input.now.block c.args.lines
+      c.args.account.now.head.version
       c.args.sessions.now.items c.args.account.now.summary (all_of g.W.Write.contents c.args.account.now.output)
-      c.requires.idle c.requires.lines c.requires.nothing,
+      c.requires.ready c.requires.lines c.requires.nothing,
+  refl,
   refl,
   refl,
 )
 
 pub returns-in_err-found-clause-refused : goal.returns-in_err-found-clause-refused
 returns-in_err-found-clause-refused g c =
-    fault_handed_on _ (g.R.LogReader.told c.find_line.new.input.reader.now)
+    fault_handed_on (g.S.Style.form (words_of c.args.account.now.head.words)) _ (g.R.LogReader.told c.find_line.new.input.reader.now)
     (all_of g.W.Write.contents c.find_line.new.output) c.in_err-found.field-0.0 c.from_residual.result
     c.from_residual.ensures.1
-    (fault_in_play _ (g.R.LogReader.told c.lines.input.reader.now)
+    (fault_in_play (g.S.Style.form (words_of c.args.account.now.head.words)) (IsReady c.args.account.now.head.limits.config (words_of c.args.account.now.head.words)) _ (g.R.LogReader.told c.lines.input.reader.now)
     (g.R.LogReader.told c.find_line.new.input.reader.now) c.lines.input.block c.find_line.new.input.block
-    c.find_line.new.input.text.items c.lines.count c.args.version c.lines.sessions.items
+    c.find_line.new.input.text.items c.lines.count c.args.account.now.head.version c.lines.sessions.items
     (length c.args.sessions.now.items) c.lines.account.summary (all_of g.W.Write.contents c.lines.account.output)
     (all_of g.W.Write.contents c.find_line.new.output) c.in_err-found.field-0.0 c.lines.invariant.0
     c.in_err-found.ensures.found c.in_err-found.ensures.kept_at_fault)
 
+pub finish-requires-clause-ready : goal.finish-requires-clause-ready
+finish-requires-clause-ready g c =
+    subst (λ (l : List SessionView). All (IsReady c.lines.account.head.limits.config (words_of c.lines.account.head.words)) l)
+    (sym c.deref.ensures.value)
+    (subst (λ (h : Preamble). All (IsReady h.limits.config (words_of h.words)) c.lines.sessions.items)
+    (sym c.lines.invariant.3) c.lines.invariant.0.ready)
+
+pub finish-requires-then-is_last-clause-ready : goal.finish-requires-then-is_last-clause-ready
+finish-requires-then-is_last-clause-ready g c =
+    subst (λ (l : List SessionView). All (IsReady c.judge_line.new.account.head.limits.config
+    (words_of c.judge_line.new.account.head.words)) l) (sym c.deref-then-is_last.ensures.value)
+    (subst (λ (h : Preamble). All (IsReady h.limits.config (words_of h.words)) c.judge_line.new.sessions.items)
+    (sym c.judge_line.ensures.same_head) c.judge_line.ensures.ready)
+
+pub judge_line-requires-clause-ready : goal.judge_line-requires-clause-ready
+judge_line-requires-clause-ready g c =
+    subst (λ (h : Preamble). All (IsReady h.limits.config (words_of h.words)) c.lines.sessions.items)
+    (sym c.lines.invariant.3) c.lines.invariant.0.ready
+
 pub returns-then-is_end-clause-report : goal.returns-then-is_end-clause-report
 returns-then-is_end-clause-report g c =
-    finished_at_end _ (g.R.LogReader.told c.lines.input.reader.now) (g.R.LogReader.told c.find_line.new.input.reader.now)
-    c.lines.input.block c.find_line.new.input.block c.find_line.new.input.text.items c.lines.count c.args.version
+    finished_at_end (g.S.Style.form (words_of c.args.account.now.head.words)) (IsReady c.args.account.now.head.limits.config (words_of c.args.account.now.head.words)) _ (g.R.LogReader.told c.lines.input.reader.now) (g.R.LogReader.told c.find_line.new.input.reader.now)
+    c.lines.input.block c.find_line.new.input.block c.find_line.new.input.text.items c.lines.count
+    c.args.account.now.head.version
     c.lines.sessions.items (length c.args.sessions.now.items) c.lines.account.summary
-    (all_of g.W.Write.contents c.lines.account.output) (all_of g.W.Write.contents c.find_line.new.output) (all_of g.W.Write.contents c.finish.new.output)
+    (all_of g.W.Write.contents c.lines.account.output) (all_of g.W.Write.contents c.find_line.new.output) (all_of g.W.Write.contents c.finish.new.account.output)
     c.finish.result c.lines.invariant.0
     (subst (λ (f : Found). IsFound (all_of g.W.Write.contents c.lines.account.output) (g.R.LogReader.told c.lines.input.reader.now) c.lines.input.block c.lines.count (Ok f)
     (line_at f c.find_line.new.input.block c.find_line.new.input.text.items)
     (g.R.LogReader.told c.find_line.new.input.reader.now) (rest_at f c.find_line.new.input.block))
     (at_end c.in_ok-found.found (sym c.is_end.ensures ∙ c.if-is_end.true)) c.in_ok-found.ensures.found)
-    c.in_ok-found.ensures.kept c.finish.ensures.written
+    c.in_ok-found.ensures.kept
+    (subst (λ (h : Preamble). IfOk c.finish.result (λ answer. IsFinished (g.S.Style.form (words_of h.words)) h.version
+    (states_of c.lines.sessions.items) c.lines.account.summary (all_of g.W.Write.contents c.find_line.new.output)
+    (all_of g.W.Write.contents c.finish.new.account.output) answer)) c.lines.invariant.3 (rw c.deref.ensures.value at c.finish.ensures.written))
 
 pub returns-then-is_end-clause-refused : goal.returns-then-is_end-clause-refused
 returns-then-is_end-clause-refused g c =
-    unfinished _ (g.R.LogReader.told c.lines.input.reader.now) (g.R.LogReader.told c.find_line.new.input.reader.now)
+    unfinished (g.S.Style.form (words_of c.args.account.now.head.words)) (IsReady c.args.account.now.head.limits.config (words_of c.args.account.now.head.words)) _ (g.R.LogReader.told c.lines.input.reader.now) (g.R.LogReader.told c.find_line.new.input.reader.now)
     c.lines.input.block (rest_at c.in_ok-found.found c.find_line.new.input.block)
     (line_at c.in_ok-found.found c.find_line.new.input.block c.find_line.new.input.text.items) c.lines.count
-    c.args.version c.lines.sessions.items (length c.args.sessions.now.items) c.lines.account.summary
-    (all_of g.W.Write.contents c.lines.account.output) (all_of g.W.Write.contents c.finish.new.output)
-    c.in_ok-found.found c.finish.result c.lines.invariant.0 c.in_ok-found.ensures.found c.finish.ensures.refused
+    c.args.account.now.head.version c.lines.sessions.items (length c.args.sessions.now.items) c.lines.account.summary
+    (all_of g.W.Write.contents c.lines.account.output) (all_of g.W.Write.contents c.finish.new.account.output)
+    c.in_ok-found.found c.finish.result c.lines.invariant.0 c.in_ok-found.ensures.found
+    (subst (λ (h : Preamble). IfErr c.finish.result (IsLateFault (g.S.Style.form (words_of h.words)))) c.lines.invariant.3
+    c.finish.ensures.refused)
 
 pub returns-in_err-judge_line-clause-refused : goal.returns-in_err-judge_line-clause-refused
 returns-in_err-judge_line-clause-refused g c =
-    fault_handed_on _ (g.R.LogReader.told c.find_line.new.input.reader.now)
+    fault_handed_on (g.S.Style.form (words_of c.args.account.now.head.words)) _ (g.R.LogReader.told c.find_line.new.input.reader.now)
     (all_of g.W.Write.contents c.judge_line.new.account.output) c.in_err-judge_line.field-0.0
     c.from_residual-in_err-judge_line.result c.from_residual-in_err-judge_line.ensures.1
-    (bad_in_play _ (g.R.LogReader.told c.lines.input.reader.now) (g.R.LogReader.told c.find_line.new.input.reader.now)
+    (bad_in_play (g.S.Style.form (words_of c.args.account.now.head.words)) (IsReady c.args.account.now.head.limits.config (words_of c.args.account.now.head.words)) _ (g.R.LogReader.told c.lines.input.reader.now) (g.R.LogReader.told c.find_line.new.input.reader.now)
     c.lines.input.block (rest_at c.in_ok-found.found c.find_line.new.input.block)
-    (line_at c.in_ok-found.found c.find_line.new.input.block c.find_line.new.input.text.items) c.lines.count c.args.version
+    (line_at c.in_ok-found.found c.find_line.new.input.block c.find_line.new.input.text.items) c.lines.count
+    c.args.account.now.head.version
     c.lines.sessions.items (length c.args.sessions.now.items) c.lines.account.summary
     (all_of g.W.Write.contents c.lines.account.output) (all_of g.W.Write.contents c.find_line.new.output)
     (all_of g.W.Write.contents c.judge_line.new.account.output) c.in_ok-found.found c.in_err-judge_line.field-0.0
     c.lines.invariant.0 c.in_ok-found.ensures.found (sym c.is_end.ensures ∙ c.if-is_end.false)
     c.in_ok-found.ensures.kept
-    (subst (λ (l : List ℕ). (c.in_err-judge_line.field-0.0 ≡ Write)
+    (subst (λ (h : Preamble). IsLateFault (g.S.Style.form (words_of h.words)) c.in_err-judge_line.field-0.0
     ⊎ ((c.in_err-judge_line.field-0.0 ≡ BadLine (c.lines.count + 1))
-    × (event_in c.args.version (length c.lines.sessions.items) l ≡ None)
+    × (event_in h.version (length c.lines.sessions.items)
+    (line_at c.in_ok-found.found c.find_line.new.input.block c.find_line.new.input.text.items) ≡ None)
+    × (all_of g.W.Write.contents c.judge_line.new.account.output ≡ all_of g.W.Write.contents c.find_line.new.output))) c.lines.invariant.3
+    (subst (λ (l : List ℕ). IsLateFault (g.S.Style.form (words_of c.lines.account.head.words)) c.in_err-judge_line.field-0.0
+    ⊎ ((c.in_err-judge_line.field-0.0 ≡ BadLine (c.lines.count + 1))
+    × (event_in c.lines.account.head.version (length c.lines.sessions.items) l ≡ None)
     × (all_of g.W.Write.contents c.judge_line.new.account.output ≡ all_of g.W.Write.contents c.find_line.new.output)))
-    c.line.ensures c.in_err-judge_line.ensures.refused))
+    c.line.ensures c.in_err-judge_line.ensures.refused)))
 
 pub returns-then-is_last-clause-report : goal.returns-then-is_last-clause-report
 returns-then-is_last-clause-report g c =
-    finished_at_last _ (g.R.LogReader.told c.lines.input.reader.now) (g.R.LogReader.told c.find_line.new.input.reader.now)
-    c.lines.input.block c.find_line.new.input.block c.find_line.new.input.text.items c.lines.count c.args.version
+    let line = line_at c.in_ok-found.found c.find_line.new.input.block c.find_line.new.input.text.items in
+    finished_at_last (g.S.Style.form (words_of c.args.account.now.head.words)) (IsReady c.args.account.now.head.limits.config (words_of c.args.account.now.head.words)) _ (g.R.LogReader.told c.lines.input.reader.now) (g.R.LogReader.told c.find_line.new.input.reader.now)
+    c.lines.input.block c.find_line.new.input.block c.find_line.new.input.text.items c.lines.count
+    c.args.account.now.head.version
     c.lines.sessions.items c.judge_line.new.sessions.items (length c.args.sessions.now.items) c.lines.account.summary
     c.judge_line.new.account.summary (all_of g.W.Write.contents c.lines.account.output) (all_of g.W.Write.contents c.find_line.new.output)
     (all_of g.W.Write.contents c.judge_line.new.account.output)
-    (all_of g.W.Write.contents c.finish-then-is_last.new.output) c.finish-then-is_last.result c.lines.invariant.0
+    (all_of g.W.Write.contents c.finish-then-is_last.new.account.output) c.finish-then-is_last.result c.lines.invariant.0
     (subst (λ (f : Found). IsFound (all_of g.W.Write.contents c.lines.account.output) (g.R.LogReader.told c.lines.input.reader.now) c.lines.input.block c.lines.count (Ok f)
     (line_at f c.find_line.new.input.block c.find_line.new.input.text.items)
     (g.R.LogReader.told c.find_line.new.input.reader.now) (rest_at f c.find_line.new.input.block))
     (at_last_line c.in_ok-found.found (sym c.is_last.ensures ∙ c.if-is_last.true)) c.in_ok-found.ensures.found)
     c.in_ok-found.ensures.kept
-    (subst (λ (l : List ℕ). Judges c.args.version (c.lines.count + 1) (states_of c.lines.sessions.items) l
+    (subst (λ (h : Preamble). Judges (g.S.Style.form (words_of h.words)) h.version (c.lines.count + 1)
+    (states_of c.lines.sessions.items) c.find_line.new.input.text.items
+    (states_of c.judge_line.new.sessions.items) c.lines.account.summary c.judge_line.new.account.summary
+    (all_of g.W.Write.contents c.find_line.new.output) (all_of g.W.Write.contents c.judge_line.new.account.output)) c.lines.invariant.3
+    (subst (λ (l : List ℕ). Judges (g.S.Style.form (words_of c.lines.account.head.words)) c.lines.account.head.version
+    (c.lines.count + 1) (states_of c.lines.sessions.items) l
     (states_of c.judge_line.new.sessions.items) c.lines.account.summary c.judge_line.new.account.summary
     (all_of g.W.Write.contents c.find_line.new.output) (all_of g.W.Write.contents c.judge_line.new.account.output))
     (c.line.ensures
     ∙ ap (λ (f : Found). line_at f c.find_line.new.input.block c.find_line.new.input.text.items)
     (at_last_line c.in_ok-found.found (sym c.is_last.ensures ∙ c.if-is_last.true)))
-    c.in_ok-judge_line.ensures.judged)
-    c.finish-then-is_last.ensures.written
+    c.in_ok-judge_line.ensures.judged))
+    (subst (λ (h : Preamble). IfOk c.finish-then-is_last.result (λ answer. IsFinished (g.S.Style.form (words_of h.words))
+    h.version (states_of c.judge_line.new.sessions.items) c.judge_line.new.account.summary
+    (all_of g.W.Write.contents c.judge_line.new.account.output) (all_of g.W.Write.contents c.finish-then-is_last.new.account.output) answer))
+    (c.judge_line.ensures.same_head ∙ c.lines.invariant.3) (rw c.deref-then-is_last.ensures.value at c.finish-then-is_last.ensures.written))
 
 pub returns-then-is_last-clause-refused : goal.returns-then-is_last-clause-refused
 returns-then-is_last-clause-refused g c =
-    unfinished _ (g.R.LogReader.told c.lines.input.reader.now) (g.R.LogReader.told c.find_line.new.input.reader.now)
+    unfinished (g.S.Style.form (words_of c.args.account.now.head.words)) (IsReady c.args.account.now.head.limits.config (words_of c.args.account.now.head.words)) _ (g.R.LogReader.told c.lines.input.reader.now) (g.R.LogReader.told c.find_line.new.input.reader.now)
     c.lines.input.block (rest_at c.in_ok-found.found c.find_line.new.input.block)
     (line_at c.in_ok-found.found c.find_line.new.input.block c.find_line.new.input.text.items) c.lines.count
-    c.args.version c.lines.sessions.items (length c.args.sessions.now.items) c.lines.account.summary
-    (all_of g.W.Write.contents c.lines.account.output) (all_of g.W.Write.contents c.finish-then-is_last.new.output)
-    c.in_ok-found.found c.finish-then-is_last.result c.lines.invariant.0 c.in_ok-found.ensures.found c.finish-then-is_last.ensures.refused
+    c.args.account.now.head.version
+    c.lines.sessions.items (length c.args.sessions.now.items) c.lines.account.summary
+    (all_of g.W.Write.contents c.lines.account.output) (all_of g.W.Write.contents c.finish-then-is_last.new.account.output)
+    c.in_ok-found.found c.finish-then-is_last.result c.lines.invariant.0 c.in_ok-found.ensures.found
+    (subst (λ (h : Preamble). IfErr c.finish-then-is_last.result (IsLateFault (g.S.Style.form (words_of h.words))))
+    (c.judge_line.ensures.same_head ∙ c.lines.invariant.3) c.finish-then-is_last.ensures.refused)
 
 pub lines-preserved : goal.lines-preserved
 lines-preserved g c =
     let now = g.R.LogReader.told c.lines.input.reader.now in
     let new = g.R.LogReader.told c.find_line.new.input.reader.now in
     let line = line_at c.in_ok-found.found c.find_line.new.input.block c.find_line.new.input.text.items in (
-      plays_more _ now new c.lines.input.block c.pass_line.new.block line c.lines.count c.args.version
+      plays_more (g.S.Style.form (words_of c.args.account.now.head.words)) (IsReady c.args.account.now.head.limits.config (words_of c.args.account.now.head.words)) _ now new c.lines.input.block c.pass_line.new.block line c.lines.count
+          c.args.account.now.head.version
           c.lines.sessions.items c.judge_line.new.sessions.items (length c.args.sessions.now.items)
           c.lines.account.summary c.judge_line.new.account.summary (all_of g.W.Write.contents c.lines.account.output)
           (all_of g.W.Write.contents c.find_line.new.output) (all_of g.W.Write.contents c.judge_line.new.account.output) c.lines.invariant.0
@@ -119,12 +171,20 @@ lines-preserved g c =
           c.in_ok-found.found (sym c.is_end.ensures ∙ c.if-is_end.false) (sym c.is_last.ensures ∙ c.if-is_last.false)
           c.in_ok-found.ensures.found))
           c.in_ok-found.ensures.kept
-          (subst (λ (l : List ℕ). Judges c.args.version (c.lines.count + 1) (states_of c.lines.sessions.items) l
+          (subst (λ (h : Preamble). Judges (g.S.Style.form (words_of h.words)) h.version (c.lines.count + 1)
+          (states_of c.lines.sessions.items) line
+          (states_of c.judge_line.new.sessions.items) c.lines.account.summary c.judge_line.new.account.summary
+          (all_of g.W.Write.contents c.find_line.new.output) (all_of g.W.Write.contents c.judge_line.new.account.output)) c.lines.invariant.3
+          (subst (λ (l : List ℕ). Judges (g.S.Style.form (words_of c.lines.account.head.words)) c.lines.account.head.version
+          (c.lines.count + 1) (states_of c.lines.sessions.items) l
           (states_of c.judge_line.new.sessions.items) c.lines.account.summary c.judge_line.new.account.summary
           (all_of g.W.Write.contents c.find_line.new.output)
           (all_of g.W.Write.contents c.judge_line.new.account.output))
-          c.line.ensures c.in_ok-judge_line.ensures.judged)
-          c.judge_line.ensures.few c.judge_line.ensures.idle c.judge_line.ensures.same,
+          c.line.ensures c.in_ok-judge_line.ensures.judged))
+          c.judge_line.ensures.few
+          (subst (λ (h : Preamble). All (IsReady h.limits.config (words_of h.words)) c.judge_line.new.sessions.items)
+          c.lines.invariant.3 c.judge_line.ensures.ready) c.judge_line.ensures.same,
       c.find_line.ensures.same_reader ∙ c.lines.invariant.1,
       c.judge_line.ensures.same_writer ∙ c.find_line.ensures.same_writer ∙ c.lines.invariant.2,
+      c.judge_line.ensures.same_head ∙ c.lines.invariant.3,
     )

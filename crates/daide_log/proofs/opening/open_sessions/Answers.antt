@@ -4,21 +4,24 @@ use Rattle.daide_machine.specs.Machine.{opening}
 use Rattle.daide_machine.specs.Config.{limits_with}
 use Rattle.daide_words.specs.Words.{words_of}
 use Rattle.daide_log.specs.Progress.{states_of}
-use Rattle.daide_log.specs.Told.{IsIdle}
-use Rattle.daide_log.proofs.EventLemmas.{new_is_idle, one_more_opened}
+use Rattle.daide_log.specs.Told.{IsReady}
+use Rattle.daide_log.proofs.EventLemmas.{new_is_ready, one_more_opened}
 use Rattle.daide_log.proofs.opening.open_sessions.Goals as goal
 
 pub loop-session-preserved : goal.loop-session-preserved
 loop-session-preserved g c =
-    let limits = limits_with c.args.head.now.limits.config (words_of c.args.head.now.words) in
+    let config = c.args.head.now.limits.config in
+    let words = words_of c.args.head.now.words in
+    let limits = limits_with config words in
     let items = c.loop-session.sessions.items in
     let session = c.in-Ok-with_words.session in
     let invariant = c.loop-session.invariant in
     let added = c.push_reserved.ensures.items in (
       ap states_of added ∙ one_more_opened limits items c.loop-session._session session invariant.0
           c.in-Ok-with_words.ensures.opening,
-      subst (All IsIdle) (sym added)
-          (All-push IsIdle items session invariant.1 (new_is_idle limits session c.in-Ok-with_words.ensures.opening)),
+      subst (All (IsReady config words)) (sym added)
+          (All-push (IsReady config words) items session invariant.1
+          (new_is_ready config words session c.in-Ok-with_words.ensures.opening c.in-Ok-with_words.ensures.accepted)),
       omega (arith, ap length added, length-append items (session ∷ []), invariant.2),
       omega (arith, c.push_reserved.ensures.capacity, invariant.3),
     )

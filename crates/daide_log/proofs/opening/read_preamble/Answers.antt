@@ -15,8 +15,9 @@ lines-init g c =
     let old = g.R.LogReader.told c.args.input.now.reader.now in
     let first = all_of g.W.Write.contents c.args.output.now in (
       record {
-        has_read = subst (λ (held : List ℕ). HasRead first old old held 0 [] (Opening Unnamed)) (sym c.requires)
-            (nothing_read first old);
+        has_read = λ words.
+            subst (λ (held : List ℕ). HasRead (g.S.Style.form words) first old old held 0 [] (Opening Unnamed)) (sym c.requires)
+            (nothing_read (g.S.Style.form words) first old);
         held_well = tt;
         fits = omega arith;
         kept = keeps_all (all_of g.W.Write.contents c.args.output.now);
@@ -30,8 +31,8 @@ returns-in-Err-clause-opened g c =
     let old = g.R.LogReader.told c.args.input.now.reader.now in
     let now = g.R.LogReader.told c.lines.input.reader.now in
     let new = g.R.LogReader.told c.next_line-found.new.input.reader.now in
-    subst (IsPreambleProgress (all_of g.W.Write.contents c.args.output.now) old new c.next_line-found.new.input.block c.lines.count) (sym c.after_line.ensures ∙ c.in-Err.is)
-    (head_judged (all_of g.W.Write.contents c.args.output.now) (all_of g.W.Write.contents c.lines.output) old now new c.lines.input.block c.next_line-found.new.input.text.items c.next_line-found.new.input.block c.lines.count
+    subst (IsPreambleProgress g.S.Style.form (all_of g.W.Write.contents c.args.output.now) old new c.next_line-found.new.input.block c.lines.count) (sym c.after_line.ensures ∙ c.in-Err.is)
+    (head_judged g.S.Style.form g.met.S.Style.lawful (all_of g.W.Write.contents c.args.output.now) (all_of g.W.Write.contents c.lines.output) old now new c.lines.input.block c.next_line-found.new.input.text.items c.next_line-found.new.input.block c.lines.count
     c.next_line-found.result c.lines.heading c.with_line-more.result c.lines.invariant.0.has_read c.lines.invariant.0.kept
     c.next_line-found.ensures.found
     (c.with_line-more.ensures.heading ∙ ap (heading_after (heading_of c.lines.heading)) c.as_slice.ensures.value))
@@ -50,9 +51,9 @@ returns-in-Ok-Done-clause-opened g c =
     let old = g.R.LogReader.told c.args.input.now.reader.now in
     let now = g.R.LogReader.told c.lines.input.reader.now in
     let new = g.R.LogReader.told c.next_line-found.new.input.reader.now in
-    subst (IsPreambleProgress (all_of g.W.Write.contents c.args.output.now) old new c.next_line-found.new.input.block c.lines.count)
+    subst (IsPreambleProgress g.S.Style.form (all_of g.W.Write.contents c.args.output.now) old new c.next_line-found.new.input.block c.lines.count)
     (sym c.after_line.ensures ∙ c.in-Ok-Done.is ∙ ap Ok c.in-Ok-Done.field-0-is)
-    (head_judged (all_of g.W.Write.contents c.args.output.now) (all_of g.W.Write.contents c.lines.output) old now new c.lines.input.block c.next_line-found.new.input.text.items c.next_line-found.new.input.block c.lines.count
+    (head_judged g.S.Style.form g.met.S.Style.lawful (all_of g.W.Write.contents c.args.output.now) (all_of g.W.Write.contents c.lines.output) old now new c.lines.input.block c.next_line-found.new.input.text.items c.next_line-found.new.input.block c.lines.count
     c.next_line-found.result c.lines.heading c.with_line-more.result c.lines.invariant.0.has_read c.lines.invariant.0.kept
     c.next_line-found.ensures.found
     (c.with_line-more.ensures.heading ∙ ap (heading_after (heading_of c.lines.heading)) c.as_slice.ensures.value))
@@ -66,9 +67,9 @@ lines-preserved g c =
     let mid = all_of g.W.Write.contents c.lines.output in
     let last = all_of g.W.Write.contents c.next_line-found.new.output in
     let is = sym c.after_line.ensures ∙ c.in-Ok-More.is ∙ ap Ok c.in-Ok-More.field-0-is in
-    let step : IsPreambleProgress (all_of g.W.Write.contents c.args.output.now) old new c.next_line-found.new.input.block c.lines.count (Ok (More c.in-Ok-More.next)) =
-    subst (IsPreambleProgress (all_of g.W.Write.contents c.args.output.now) old new c.next_line-found.new.input.block c.lines.count) is
-    (head_judged (all_of g.W.Write.contents c.args.output.now) (all_of g.W.Write.contents c.lines.output) old now new c.lines.input.block c.next_line-found.new.input.text.items c.next_line-found.new.input.block c.lines.count
+    let step : IsPreambleProgress g.S.Style.form (all_of g.W.Write.contents c.args.output.now) old new c.next_line-found.new.input.block c.lines.count (Ok (More c.in-Ok-More.next)) =
+    subst (IsPreambleProgress g.S.Style.form (all_of g.W.Write.contents c.args.output.now) old new c.next_line-found.new.input.block c.lines.count) is
+    (head_judged g.S.Style.form g.met.S.Style.lawful (all_of g.W.Write.contents c.args.output.now) (all_of g.W.Write.contents c.lines.output) old now new c.lines.input.block c.next_line-found.new.input.text.items c.next_line-found.new.input.block c.lines.count
     c.next_line-found.result c.lines.heading c.with_line-more.result c.lines.invariant.0.has_read c.lines.invariant.0.kept
     c.next_line-found.ensures.found
     (c.with_line-more.ensures.heading ∙ ap (heading_after (heading_of c.lines.heading)) c.as_slice.ensures.value)) in (

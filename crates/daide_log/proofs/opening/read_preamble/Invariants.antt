@@ -6,7 +6,7 @@ use Rattle.daide_log.proofs.opening.read_preamble.Given as goal
 
 abbrev pub invariant-lines : goal.invariant-lines
 invariant-lines g l =
-    IsReading (g.R.LogReader.told l.fn.input.reader.now) (g.R.LogReader.told l.input.reader.now) l.input.block l.count l.heading
+    IsReading g.S.Style.form (g.R.LogReader.told l.fn.input.reader.now) (g.R.LogReader.told l.input.reader.now) l.input.block l.count l.heading
     (all_of g.W.Write.contents l.fn.output)
     (all_of g.W.Write.contents l.output) × IsSameReader l.fn.input l.input × IsSameWriter l.fn.output l.output
 

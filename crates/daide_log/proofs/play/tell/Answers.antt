@@ -1,13 +1,17 @@
+use Rattle.std.proofs.Common.{◌++◌, List, ℕ}
 use Rattle.daide_lines.specs.Output.{all_of}
-use Rattle.daide_log.proofs.PlayLemmas.{appends_none}
+use Rattle.daide_log.specs.Report.{move_line}
+use Rattle.daide_log.proofs.EventLemmas.{on_ok}
+use Rattle.daide_log.proofs.PlayLemmas.{appends_more}
 use Rattle.daide_log.proofs.play.tell.Goals as goal
 
-pub returns-in-Nothing-clause-counted : goal.returns-in-Nothing-clause-counted
-returns-in-Nothing-clause-counted g c = c.count.ensures.counted c.requires
-
-pub returns-in-Nothing-clause-text : goal.returns-in-Nothing-clause-text
-returns-in-Nothing-clause-text g c =
-    rw c.in-Nothing.is (appends_none (all_of g.W.Write.contents c.args.account.now.output))
-
-pub returns-in-Frame-clause-counted : goal.returns-in-Frame-clause-counted
-returns-in-Frame-clause-counted g c = c.count.ensures.counted c.requires
+pub returns-clause-text : goal.returns-clause-text
+returns-clause-text g c =
+    on_ok c.explain.result _ _ c.explain.ensures.text
+    (λ t. (
+      t.0,
+      t.1,
+      appends_more (all_of g.W.Write.contents c.args.account.now.output) (all_of g.W.Write.contents c.put_move.new.output)
+          (all_of g.W.Write.contents c.explain.new.output) (move_line c.args.source c.args.side c.args.told) t.0
+          c.in_ok-put_move.ensures.text t.2,
+    ))

@@ -1,7 +1,6 @@
 use Rattle.std.proofs.Common.{◌≤◌, List, sym, ◌∙◌, subst, arith, rules}
-use Rattle.daide_machine.specs.Ports.{Tells}
 use Rattle.daide_service.specs.declared.serving.ServeFault.{ServeFault}
-use Rattle.daide_machine.specs.System.{SystemAnswer}
+use Rattle.daide_machine.specs.System.{SystemAnswer, TransitsBy}
 use Rattle.daide_service.specs.Serving.{ServiceView, GivesUp, opening}
 use Rattle.daide_service.proofs.ServingLemmas.{Ran, no_rounds, another_round, at_memory, runs_out}
 use Rattle.daide_service.proofs.ServedLemmas.{whole_run}
@@ -9,15 +8,14 @@ use Rattle.daide_service.proofs.serving.serve.Goals as goal
 
 pub loop-round-init : goal.loop-round-init
 loop-round-init g c =
-    let told = g.S.System.told c.args.system.now in
     let first = opening {P = g.row.P.Denot} c.args.settings.now in
-    subst (λ (s : ServiceView g.row.P.Denot). Ran g.P.Ports.becomes 0 first told s told) (sym c.in_ok-service.ensures.opening)
-    (no_rounds g.P.Ports.becomes first told)
+    subst (λ (s : ServiceView g.row.P.Denot). Ran g.P.Ports.becomes g.S.System.transition 0 first c.args.system.now s c.args.system.now) (sym c.in_ok-service.ensures.opening)
+    (no_rounds g.P.Ports.becomes g.S.System.transition first c.args.system.now)
 
 pub loop-round-preserved : goal.loop-round-preserved
 loop-round-preserved g c =
     let round = c.in_ok-round.ensures.round in
-    another_round g.P.Ports.becomes c.loop-round._round _ _ _ _ _ _ c.loop-round.invariant
+    another_round g.P.Ports.becomes g.S.System.transition c.loop-round._round _ _ _ _ _ _ c.loop-round.invariant
     (sym c.is_done.ensures ∙ c.if-is_done.false) round.0 round.1 round.2
 
 pub returns-then-is_done-clause-served : goal.returns-then-is_done-clause-served
@@ -25,20 +23,20 @@ returns-then-is_done-clause-served g c =
     let ran = c.loop-round.invariant in (
       ran.0,
       ran.1,
-      whole_run g.P.Ports.becomes c.args.settings.now c.loop-round._round ran.0 c.loop-round.service ran.2
+      whole_run g.P.Ports.becomes c.args.settings.now c.in_ok-service.ensures.accepted c.loop-round._round ran.0
+          c.loop-round.service ran.2
           (sym c.is_done.ensures ∙ c.if-is_done.true),
     )
 
 -- a round is broken off for want of memory alone
 pub returns-in_err-round-clause-given_up : goal.returns-in_err-round-clause-given_up
 returns-in_err-round-clause-given_up g c =
-    let told = g.S.System.told in
     let broken = c.in_err-round.ensures.broken_off in
     at_memory c.from_residual-in_err-round.result c.in_err-round.field-0.0 (λ (fault : ServeFault). (answers : List (SystemAnswer g.row.P.Denot))
-    × Tells (told c.args.system.now) answers (told c.round.new.system)
+    × TransitsBy g.S.System.transition c.args.system.now answers c.round.new.system
     × GivesUp g.P.Ports.becomes c.args.settings.now fault answers)
     c.from_residual-in_err-round.ensures.1 c.in_err-round.ensures.refused
-    (runs_out g.P.Ports.becomes c.args.settings.now c.loop-round._round _ _ _ _ _ c.loop-round.invariant
+    (runs_out g.P.Ports.becomes g.S.System.transition c.args.settings.now c.loop-round._round _ _ _ _ _ c.loop-round.invariant
     (sym c.is_done.ensures ∙ c.if-is_done.false) broken.0 broken.1 broken.2)
 
 -- all rounds were made where the loop went to its end

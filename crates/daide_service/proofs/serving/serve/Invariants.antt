@@ -5,5 +5,4 @@ use Rattle.daide_service.proofs.serving.serve.Given as goal
 -- the rounds so far
 abbrev pub invariant-loop-round : goal.invariant-loop-round
 invariant-loop-round g l =
-    let told = g.S.System.told in
-    Ran g.P.Ports.becomes l._round (opening l.settings) (told l.initial.system) l.service (told l.system)
+    Ran g.P.Ports.becomes g.S.System.transition l._round (opening l.settings) l.initial.system l.service l.system

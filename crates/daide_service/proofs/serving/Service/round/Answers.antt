@@ -1,16 +1,15 @@
 use Rattle.std.proofs.Common.{ℕ, List, [], ◌∷◌, ◌++◌, Result, Ok, Err, refl, ap, ◌∙◌, subst, arith}
 use Rattle.std.specs.Prelude.{◌||◌, OnErr}
 use Rattle.daide_machine.specs.declared.system.Connect.TheVariants.{Ready}
-use Rattle.daide_machine.specs.System.{SystemAnswer, Begins, Connects}
-use Rattle.daide_machine.specs.Ports.{Tells}
+use Rattle.daide_machine.specs.System.{SystemAnswer, Begins, Connects, TransitsBy}
 use Rattle.daide_service.specs.Serving.{ServiceView, Admits, BreaksOff, Round, wait_where, accepts}
 use Rattle.daide_service.proofs.ServingLemmas.{waits_alike}
-use Rattle.daide_turns.proofs.Stretches.{tells_then}
+use Rattle.daide_service.proofs.TransitLemmas.{transits_then}
 use Rattle.daide_service.proofs.serving.Service.round.Goals as goal
 
 pub returns-clause-round : goal.returns-clause-round
 returns-clause-round g c =
-    let told = g.S.System.told in
+    let go = g.S.System.transition in
     let old = c.self.inside in
     let admits = c.admit-came.ensures.admits in
     let finishes = c.in_ok-met.ensures.finishes in
@@ -43,10 +42,10 @@ returns-clause-round g c =
       asked = ap (λ w. Begins ∷ admits.0 ++ finishes.0 ++ removes.0 ++ w) asleep;
     } in (
       Begins ∷ admits.0 ++ finishes.0 ++ removes.0 ++ wait_where stirred c.accepts-more.result,
-      tells_then _ _ _ (Begins ∷ admits.0 ++ finishes.0 ++ removes.0) _
-          (tells_then _ _ _ (Begins ∷ admits.0 ++ finishes.0) removes.0
-          (tells_then _ _ _ (Begins ∷ admits.0) finishes.0
-          (tells_then _ _ _ (Begins ∷ []) admits.0 c.begin_round.ensures admits.1) finishes.1) removes.1)
+      transits_then go (Begins ∷ admits.0 ++ finishes.0 ++ removes.0) _ _ _ _
+          (transits_then go (Begins ∷ admits.0 ++ finishes.0) removes.0 _ _ _
+          (transits_then go (Begins ∷ admits.0) finishes.0 _ _ _
+          (c.begin_round.new.self, c.begin_round.ensures, admits.1) finishes.1) removes.1)
           c.rest.ensures,
       subst (λ (a : ServiceView g.row.P.Denot). Round g.P.Ports.becomes a
           (Begins ∷ admits.0 ++ finishes.0 ++ removes.0 ++ wait_where stirred c.accepts-more.result)
@@ -60,7 +59,7 @@ at_error (Err e) P h = h
 
 pub returns-in_err-met-clause-broken_off : goal.returns-in_err-met-clause-broken_off
 returns-in_err-met-clause-broken_off g c =
-    let told = g.S.System.told in
+    let go = g.S.System.transition in
     let admits = c.admit-came.ensures.admits in
     let broken = c.in_err-met.ensures.broken_off in
     let left = c.in_err-met.ensures.left in
@@ -77,9 +76,9 @@ returns-in_err-met-clause-broken_off g c =
       leaves = rw (left.0, left.1) refl;
     } in
     at_error c.from_residual.result ((all : List (SystemAnswer g.row.P.Denot))
-    × Tells (told c.args.system.now) all (told c.finish_connect.new.system) × BreaksOff c.args.self.now all after) (
+    × TransitsBy go c.args.system.now all c.finish_connect.new.system × BreaksOff c.args.self.now all after) (
       answers,
-      tells_then _ _ _ (Begins ∷ admits.0) (Connects (Ready broken.0) ∷ [])
-          (tells_then _ _ _ (Begins ∷ []) admits.0 c.begin_round.ensures admits.1) broken.1,
+      transits_then go (Begins ∷ admits.0) (Connects (Ready broken.0) ∷ []) _ _ _
+          (c.begin_round.new.self, c.begin_round.ensures, admits.1) broken.1,
       subst (λ (a : ServiceView g.row.P.Denot). BreaksOff a answers after) c.self.view_is breaks,
     )

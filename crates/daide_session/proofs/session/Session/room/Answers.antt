@@ -1,10 +1,11 @@
 use Rattle.std.proofs.Common.{ℕ, ◌<◌, sym, ap, ◌∙◌, subst}
 use Rattle.daide_frame.specs.Frames.{missing}
-use Rattle.daide_machine.specs.Machine.{Coming, is_over}
-use Rattle.daide_machine.specs.Wires.{SessionView, waiting, room_of, is_awaited}
+use Rattle.daide_machine.specs.Machine.{Coming, coming, is_over}
+use Rattle.daide_machine.specs.Wires.{SessionView, Holding, holding, waiting, room_of, is_awaited}
 use Rattle.daide_machine.proofs.FramesHeard.{not_both}
 use Rattle.daide_session.specs.Session.{gateway_of}
 use Rattle.daide_session.proofs.MovesLemmas.{room_over, room_awaited, room_open, coming_at}
+use Rattle.daide_session.proofs.ReactionLemmas.{holding_at}
 use Rattle.daide_session.proofs.session.Session.room.Goals.{then-is_over-via-then-is_over}
 use Rattle.daide_session.proofs.session.Session.room.Goals.{then-is_over-via-else-is_over+then-is_awaited}
 use Rattle.daide_session.proofs.session.Session.room.Goals as goal
@@ -60,3 +61,24 @@ returns-clause-waited_for g c = λ live free.
     ∙ (sym (ap (missing t.cap) (c.is_awaited.ensures.tied (sym c.is_awaited.ensures.value ∙ c.if-is_awaited.false)))
     ∙ sym c.room.ensures))
     some
+
+pub returns-then-is_over-clause-tied : goal.returns-then-is_over-clause-tied
+returns-then-is_over-clause-tied g c = λ live free. elim c.then-is_over.branch [
+  | then-is_over-via-then-is_over w ↦
+      absurd (not_both (is_over c.args.self.now.state.phase) (sym c.is_over.ensures ∙ w.if-is_over.true) live)
+  | then-is_over-via-else-is_over+then-is_awaited w ↦
+      absurd (not_both (is_awaited (waiting c.args.self.now) c.args.side)
+      (ap (λ (v : SessionView). is_awaited (waiting v) c.args.side) (sym c.self.view_is) ∙ (sym w.is_awaited.ensures.value
+      ∙ w.if-is_awaited.true)) free)
+]
+
+pub returns-clause-tied : goal.returns-clause-tied
+returns-clause-tied g c = λ live free.
+    let t = c.self.inside.traffic in
+    let s = c.self.inside.stage in
+    let side = c.args.side in
+    ap (λ (v : SessionView). (holding v side).held) (sym c.self.view_is)
+    ∙ (ap (λ (h : Holding). h.held) (holding_at t s side)
+    ∙ (c.is_awaited.ensures.tied (sym c.is_awaited.ensures.value ∙ c.if-is_awaited.false)
+    ∙ (ap (λ (x : Coming). x.pending) (sym (coming_at t s side))
+    ∙ ap (λ (v : SessionView). (coming v.state side).pending) c.self.view_is)))

@@ -1,0 +1,15 @@
+use Rattle.std.proofs.Common.{ℕ, ◌+◌, ◌++◌, ◌∷◌, [], take, drop, sym, ap, ◌∙◌, arith}
+use Rattle.daide_token.specs.Token.{tokens_of}
+use Rattle.daide_reader.proofs.SliceLemmas.{tokens_of-next, tokens_of-rest}
+use Rattle.daide_explain.proofs.brackets.token_at.Goals as goal
+
+pub returns : goal.returns
+returns c =
+    let m = tokens_of c.args.body.now in
+    let is = sym c.from_be.ensures in
+    record {
+      front = tokens_of-next c.args.place c.args.body.now (omega arith)
+          ∙ ap (λ (t : ℕ). take c.args.place m ++ t ∷ []) is;
+      rest = tokens_of-rest c.args.place c.args.body.now (omega arith)
+          ∙ ap (λ (t : ℕ). t ∷ drop (c.args.place + 1) m) is;
+    }

@@ -1,0 +1,15 @@
+use Rattle.std.proofs.Common.{◌<◌}
+use Rattle.daide_token.specs.Token.{tokens_of}
+use Rattle.daide_grammar.specs.declared.level.Level.{Level}
+use Rattle.daide_words.specs.Word.{grammar_words}
+use Rattle.daide_words.specs.Words.{words_of}
+use Rattle.daide_explain.specs.LowestLevel.{IsBelow, IsRelayedAt}
+use Rattle.daide_explain.proofs.LevelPlaces.{level_place}
+use Rattle.daide_explain.proofs.levels.lowest_level.Given as goal
+
+-- the message is relayed at none of the levels before this one
+abbrev pub invariant-loop-i : goal.invariant-loop-i
+invariant-loop-i l =
+    (high : Level) → level_place high < l.i → IsBelow l.fn.rules.level high →
+    ¬ IsRelayedAt (grammar_words (words_of l.fn.rules.words.now)) l.fn.rules.end high l.fn.rules.max_depth
+    (tokens_of l.fn.body)

@@ -1,0 +1,16 @@
+use Rattle.std.proofs.Common.{ℕ, List, ◌++◌, take}
+use Rattle.daide_token.specs.Token.{tokens_of}
+use Rattle.daide_grammar.specs.SideMessages.{IsMessageOver}
+use Rattle.daide_words.specs.Word.{grammar_words}
+use Rattle.daide_words.specs.Words.{words_of}
+use Rattle.daide_explain.specs.Expected.{IsExpected}
+use Rattle.daide_explain.specs.Listed.{IsFilteredBy}
+use Rattle.daide_explain.proofs.listed.append_codes.Given as goal
+
+-- the first items were filtered
+abbrev pub invariant-loop-code : goal.invariant-loop-code
+invariant-loop-code g l =
+    let expected = IsExpected (IsMessageOver (grammar_words (words_of l.fn.rules.words.now)) l.fn.rules.end l.fn.rules.level) l.fn.rules.max_depth
+    (tokens_of l.fn.before) in
+    (done : List ℕ) → IsFilteredBy expected done l.initial.tokens.items →
+    IsFilteredBy expected (done ++ take l.code-index l.codes) l.tokens.items

@@ -1,0 +1,14 @@
+use Rattle.std.proofs.Common.{◌≡◌, false, true, sym, ◌∙◌}
+use Rattle.daide_explain.proofs.Deep.{after_the_end, deep_if_full}
+use Rattle.daide_explain.proofs.text.is_too_deep.Goals as goal
+
+pub returns-then-place-body : goal.returns-then-place-body
+returns-then-place-body c = (
+  λ f. let no_way : false ≡ true = f in absurd cc,
+  λ h. absurd (after_the_end c.args.rules.now.max_depth c.args.body.now c.args.place c.if-place-body.true h),
+)
+
+pub returns : goal.returns
+returns c =
+    deep_if_full c.args.rules.now.max_depth c.args.body.now c.args.place c.token_at.result c.open_before.result c.token_at.ensures.rest
+    (sym c.code.ensures ∙ c.if-code-ne16384.false) c.open_before.ensures

@@ -1,0 +1,20 @@
+use Rattle.std.proofs.Common.{◌++◌, List, ℕ, refl, ap, ◌∙◌}
+use Rattle.std.proofs.lemmas.Result.{on_ok_weaker}
+use Rattle.daide_token.specs.Token.{tokens_of}
+use Rattle.daide_words.specs.Words.{words_of}
+use Rattle.daide_explain.specs.Explained.{expected_line}
+use Rattle.daide_explain.proofs.text.write_expected.Goals as goal
+
+pub returns : goal.returns
+returns g c =
+    let words = words_of c.args.rules.now.words.now in
+    let p = tokens_of c.args.before.now in
+    let kept = c.in_ok-tokens.tokens.items in
+    let ends = c.is_end_expected-ends.result in
+    on_ok_weaker c.write_line.result
+    (λ e. (
+      expected_line words p kept ends,
+      (kept, ends, record { tokens = c.in_ok-tokens.ensures; at_end = c.is_end_expected-ends.ensures }, refl),
+      e ∙ ap (λ (ts : List ℕ). c.args.text.now.items ++ expected_line words p ts ends) c.as_slice.ensures.value,
+    ))
+    c.write_line.ensures

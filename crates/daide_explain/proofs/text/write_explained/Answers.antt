@@ -1,0 +1,55 @@
+use Rattle.std.proofs.Common.{◌*◌, [], subst, sym, refl, append-nil}
+use Rattle.std.proofs.lemmas.Result.{on_ok_weaker}
+use Rattle.daide_reader.specs.declared.verdict.Verdict.{Verdict}
+use Rattle.daide_explain.specs.Explained.{IsExplained}
+use Rattle.daide_token.specs.Token.{tokens_of}
+use Rattle.daide_grammar.specs.SideMessages.{IsMessageOver}
+use Rattle.daide_words.specs.Word.{grammar_words}
+use Rattle.daide_words.specs.Words.{words_of}
+use Rattle.daide_reader.specs.declared.verdict.Verdict.TheVariants.{Huh}
+use Rattle.daide_reader.specs.Verdict.{HasVerdict}
+use Rattle.daide_reader.proofs.BodyLemmas.{place_in}
+use Rattle.daide_explain.proofs.Places.{huh_plain, front_plain}
+use Rattle.daide_explain.proofs.text.write_explained.Goals as goal
+
+pub write_place-requires-clause-within : goal.write_place-requires-clause-within
+write_place-requires-clause-within g c =
+    let message = IsMessageOver (grammar_words (words_of c.args.rules.now.words.now)) c.args.rules.now.end c.args.rules.now.level in
+    place_in message c.args.rules.now.max_depth c.args.body.now (Huh c.in-Huh.place)
+    (subst (HasVerdict message c.args.rules.now.max_depth (tokens_of c.args.body.now)) c.in-Huh.is c.requires.verdict)
+
+pub write_place-requires-clause-plain : goal.write_place-requires-clause-plain
+write_place-requires-clause-plain g c =
+    let words = grammar_words (words_of c.args.rules.now.words.now) in
+    front_plain c.args.body.now (2 * c.in-Huh.place)
+    (huh_plain words c.args.rules.now.end c.args.rules.now.level c.args.rules.now.max_depth (tokens_of c.args.body.now) c.in-Huh.place
+    (subst (HasVerdict (IsMessageOver words c.args.rules.now.end c.args.rules.now.level) c.args.rules.now.max_depth (tokens_of c.args.body.now))
+    c.in-Huh.is c.requires.verdict))
+
+pub returns-in-Relay : goal.returns-in-Relay
+returns-in-Relay g c =
+    let same = sym c.in-Relay.is in (
+      [],
+      subst (λ (v : Verdict). IsExplained (words_of c.args.rules.now.words.now) c.args.rules.now.end c.args.rules.now.level c.args.rules.now.max_depth (tokens_of c.args.body.now) v []) same refl,
+      sym (append-nil c.args.text.now.items),
+    )
+
+pub returns-in-Prn : goal.returns-in-Prn
+returns-in-Prn g c =
+    on_ok_weaker c.write_unpaired.result
+    (λ w. (
+      w.0,
+      subst (λ (v : Verdict). IsExplained (words_of c.args.rules.now.words.now) c.args.rules.now.end c.args.rules.now.level c.args.rules.now.max_depth (tokens_of c.args.body.now) v w.0) (sym c.in-Prn.is) w.1,
+      w.2,
+    ))
+    c.write_unpaired.ensures
+
+pub returns-in-Huh : goal.returns-in-Huh
+returns-in-Huh g c =
+    on_ok_weaker c.write_place.result
+    (λ w. (
+      w.0,
+      subst (λ (v : Verdict). IsExplained (words_of c.args.rules.now.words.now) c.args.rules.now.end c.args.rules.now.level c.args.rules.now.max_depth (tokens_of c.args.body.now) v w.0) (sym c.in-Huh.is) w.1,
+      w.2,
+    ))
+    c.write_place.ensures

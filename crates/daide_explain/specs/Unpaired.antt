@@ -1,0 +1,25 @@
+-- The first bracket that is not paired. (own)
+use Rattle.std.specs.Prelude.{◌≡◌, ℕ, ◌<◌, List, ◌∷◌, ◌++◌, length, Some, IsSome}
+use Rattle.daide_token.specs.Token.{bra, ket}
+use Rattle.daide_grammar.specs.Table.Brackets.{counted}
+use Rattle.daide_explain.specs.declared.brackets.Unpaired.{Unpaired}
+use Rattle.daide_explain.specs.declared.brackets.Unpaired.TheVariants.{Ket, Bra, Nothing}
+
+-- the token at the place i is this one, with these before it and these after it
+pub record IsTokenAt (m : List ℕ) (token i : ℕ) (before after : List ℕ) : Type 0 where
+  pub whole : m ≡ before ++ token ∷ after
+  pub place : length before ≡ i
+
+-- the token at the place is KET, and each bracket before it is closed: it is the first KET that closes nothing
+abbrev pub IsFirstKet : List ℕ → ℕ → Type 0
+IsFirstKet m i = (before after : List ℕ) × IsTokenAt m ket i before after × (counted before ≡ Some 0)
+
+-- the token at the place is BRA, and no KET after it closes more than was opened after it
+abbrev pub IsNeverClosed : List ℕ → ℕ → Type 0
+IsNeverClosed m i = (before after : List ℕ) × IsTokenAt m bra i before after × IsSome (counted after)
+
+-- the first KET that closes nothing; else the first BRA that is never closed; else each bracket is paired
+abbrev pub IsUnpairedIn : List ℕ → Unpaired → Type 0
+IsUnpairedIn m (Ket i) = IsFirstKet m i
+IsUnpairedIn m (Bra i) = IsSome (counted m) × IsNeverClosed m i × ((j : ℕ) → j < i → ¬ IsNeverClosed m j)
+IsUnpairedIn m Nothing = counted m ≡ Some 0

@@ -1,0 +1,56 @@
+//! The bracket that is not paired.
+
+ghost use Rattle.std.specs.Prelude.{◌≡◌, ◌≤◌, ◌<◌, ◌+◌, ◌*◌, ◌++◌, ◌∷◌, [], length, take, drop};
+ghost use Rattle.daide_token.specs.Token.{tokens_of};
+ghost use Rattle.daide_machine.specs.Bounds.{longest_body};
+ghost use Rattle.daide_explain.specs.Unpaired.{IsUnpairedIn};
+
+use daide_token::Token;
+
+/// The first bracket of a message that is not paired.
+#[derive(Clone, Copy)]
+pub enum Unpaired {
+    /// The first KET that closes nothing.
+    Ket(usize),
+    /// The first BRA that is never closed; each KET closes one.
+    Bra(usize),
+    /// Each bracket is paired.
+    Nothing,
+}
+
+/// Returns the token at a place of a body.
+pub(crate) fn token_at(body: &[u8], place: usize) -> Token
+    requires inside { 2 * place + 1 < length body.now }
+    requires small { length body.now ≤ longest_body }
+    ensures front { take (place + 1) (tokens_of body.now) ≡ take place (tokens_of body.now) ++ result ∷ [] }
+    ensures rest { drop place (tokens_of body.now) ≡ result ∷ drop (place + 1) (tokens_of body.now) }
+{
+    Token::from_be([body[2 * place], body[2 * place + 1]])
+}
+
+/// Returns the first bracket of a body that is not paired.
+pub fn find_unpaired(body: &[u8]) -> Unpaired
+    requires { length body.now ≤ longest_body }
+    ensures { IsUnpairedIn (tokens_of body.now) result }
+{
+    let mut opened: usize = 0;
+    let mut first: usize = 0;
+    for i in 0..body.len() / 2 {
+        let token = token_at(body, i);
+        if token.code() == 0x4000 {
+            if opened == 0 {
+                first = i;
+            }
+            opened += 1;
+        } else if token.code() == 0x4001 {
+            if opened == 0 {
+                return Unpaired::Ket(i);
+            }
+            opened -= 1;
+        }
+    }
+    if opened == 0 {
+        return Unpaired::Nothing;
+    }
+    Unpaired::Bra(first)
+}

@@ -1,0 +1,20 @@
+//! Why a message was refused, exactly: what was expected at its error place, from which level it is relayed, and
+//! which bracket is not paired.
+//!
+//! No session calls this: it reads the tokens before the error place again for each class of tokens.
+#![tactic(auto)]
+
+pub mod brackets;
+pub mod expected;
+pub mod laws;
+pub mod levels;
+pub mod listed;
+pub mod rules;
+pub mod text;
+
+pub use brackets::{Unpaired, find_unpaired};
+pub use expected::{is_end_expected, is_expected, is_relayed, verdict_of};
+pub use levels::lowest_level;
+pub use listed::list_expected;
+pub use rules::Rules;
+pub use text::write_explained;

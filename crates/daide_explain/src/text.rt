@@ -1,0 +1,360 @@
+//! The explanation as text.
+
+ghost use Rattle.std.specs.Prelude.{◌≡◌, ◌≤◌, ◌*◌, ◌++◌, ◌∷◌, [], List, ℕ, codes, if◌then◌else◌, option_map};
+ghost use Rattle.std.specs.Prelude.{IsTrue, ◌↔◌, false, take, length, OnOk};
+ghost use Rattle.daide_token.specs.Token.{tokens_of};
+ghost use Rattle.daide_grammar.specs.Depth.{open_brackets};
+ghost use Rattle.daide_grammar.specs.Paired.{begins_with_prn};
+ghost use Rattle.daide_grammar.specs.SideMessages.{IsMessageOver};
+ghost use Rattle.daide_words.specs.Word.{grammar_words};
+ghost use Rattle.daide_words.specs.Words.{words_of};
+ghost use Rattle.daide_reader.specs.Verdict.{HasVerdict};
+ghost use Rattle.daide_machine.specs.Bounds.{longest_body, least_depth, greatest_depth};
+ghost use Rattle.daide_explain.specs.Explained.{IsExplained, IsUnpairedExplained, unpaired_line};
+ghost use Rattle.daide_explain.specs.Explained.{AreElsewhere, IsPlaceCause, IsExpectedLine, IsPlaceExplained, IsTooDeepAt};
+ghost use Rattle.daide_explain.specs.Explained.{brackets_in, class_items, end_item, expected_line, has_unknown, item};
+ghost use Rattle.daide_explain.specs.Explained.{items, kind_name, level_line, other_side, side_line};
+
+use crate::brackets::{Unpaired, find_unpaired, token_at};
+use crate::expected::{is_end_expected, is_relayed};
+use crate::levels::lowest_level;
+use crate::listed::list_expected;
+use crate::rules::Rules;
+use daide_grammar::{Level, Side2};
+use daide_machine::{MAX_DEPTH, STACK_ENTRIES};
+use daide_reader::{Reader, Verdict};
+use daide_token::{Class, Token, write_text_with};
+use daide_words::{Extended, Words};
+use std::alloc::Allocator;
+use std::io;
+use std::io::Write;
+
+/// Returns the name of a kind, a class of many tokens.
+fn kind_name(class: Class) -> Option<&'static str>
+    ensures { option_map (λ name. name.now) result ≡ kind_name class }
+{
+    match class {
+        Class::Num => Some("<number>"),
+        Class::Power => Some("<power>"),
+        Class::Note => Some("<note>"),
+        Class::Outcome => Some("<result>"),
+        Class::Coast => Some("<coast>"),
+        Class::Season => Some("<season>"),
+        Class::Text => Some("<text>"),
+        Class::Province => Some("<province>"),
+        Class::Param => Some("<parameter>"),
+        _ => None,
+    }
+}
+
+/// Writes the item of a token's class: its kind, or the name of its only token.
+fn write_item<A: Allocator>(words: &Words, token: Token, text: &mut Vec<u8, A>) -> io::Result<()>
+    ensures { OnOk result (text.new.items ≡ text.old.items ++ item (words_of words.now) token) }
+{
+    if token.code() == 0x4002 {
+        return text.write_all(b"<other>");
+    }
+    match kind_name(token.class()) {
+        Some(name) => text.write_all(name.as_bytes()),
+        None => write_text_with(words.names(), &token.to_be(), text),
+    }
+}
+
+/// Writes the items of some tokens' classes, with a space before each.
+fn write_items<A: Allocator>(
+    words: &Words,
+    tokens: &[Token],
+    text: &mut Vec<u8, A>,
+) -> io::Result<()>
+    ensures { OnOk result (text.new.items ≡ text.old.items ++ items (words_of words.now) tokens.now) }
+{
+    for token in tokens {
+        text.write_all(b" ")?;
+        write_item(words, *token, text)?;
+    }
+    Ok(())
+}
+
+/// Writes the items of the brackets among some tokens.
+fn write_brackets<A: Allocator>(
+    words: &Words,
+    tokens: &[Token],
+    text: &mut Vec<u8, A>,
+) -> io::Result<()>
+    ensures { OnOk result (text.new.items ≡ text.old.items ++ items (words_of words.now) (brackets_in tokens.now)) }
+{
+    for token in tokens {
+        if token.code() == 0x4000 || token.code() == 0x4001 {
+            text.write_all(b" ")?;
+            write_item(words, *token, text)?;
+        }
+    }
+    Ok(())
+}
+
+/// Returns whether a token of an unknown category is among some tokens.
+fn has_unknown(tokens: &[Token]) -> bool
+    ensures { result ≡ has_unknown tokens.now }
+{
+    tokens.iter().any(|token| token.code() == 0x5800)
+}
+
+/// Writes the items of the expected classes: if a token of an unknown category is expected, the brackets and `<any>`.
+fn write_classes<A: Allocator>(
+    words: &Words,
+    tokens: &[Token],
+    text: &mut Vec<u8, A>,
+) -> io::Result<()>
+    ensures { OnOk result (text.new.items ≡ text.old.items ++ class_items (words_of words.now) tokens.now) }
+{
+    if has_unknown(tokens) {
+        write_brackets(words, tokens, text)?;
+        return text.write_all(b" <any>");
+    }
+    write_items(words, tokens, text)
+}
+
+/// Writes the item of the end, if it is expected, and the line's end.
+fn write_end<A: Allocator>(ends: bool, text: &mut Vec<u8, A>) -> io::Result<()>
+    ensures { OnOk result (text.new.items ≡ text.old.items ++ end_item ends) }
+{
+    if ends {
+        return text.write_all(b" <end>\n");
+    }
+    text.write_all(b"\n")
+}
+
+/// Returns how many brackets the tokens of a body leave open.
+fn open_before(rules: &Rules<'_>, before: &[u8]) -> usize
+    requires { length before.now ≤ longest_body }
+    ensures { result ≡ open_brackets (tokens_of before.now) }
+{
+    let _names = rules.words.names();
+    let mut reader: Reader<Extended, STACK_ENTRIES> = Reader::new(
+        Extended::new(*rules.words),
+        MAX_DEPTH,
+    );
+    reader.start(rules.end, rules.level);
+    reader.read(before);
+    reader.open()
+}
+
+/// Writes the line of what is expected, or, if nothing is, how many brackets are open.
+fn write_line<A: Allocator>(
+    rules: &Rules<'_>,
+    before: &[u8],
+    tokens: &[Token],
+    ends: bool,
+    text: &mut Vec<u8, A>,
+) -> io::Result<()>
+    requires { length before.now ≤ longest_body }
+    ensures { OnOk result (text.new.items
+        ≡ text.old.items ++ expected_line (words_of rules.now.words.now) (tokens_of before.now) tokens.now ends) }
+{
+    if tokens.is_empty() && !ends {
+        let open = open_before(rules, before);
+        return writeln!(text, "too deep: {open} brackets are open");
+    }
+    text.write_all(b"expected:")?;
+    write_classes(rules.words, tokens, text)?;
+    write_end(ends, text)
+}
+
+/// Writes what is expected after the tokens of a body.
+fn write_expected<A: Allocator + Copy>(
+    alloc: A,
+    rules: &Rules<'_>,
+    before: &[u8],
+    text: &mut Vec<u8, A>,
+) -> io::Result<()>
+    requires low { least_depth ≤ rules.now.max_depth }
+    requires high { rules.now.max_depth ≤ greatest_depth }
+    requires capped { length before.now ≤ longest_body }
+    requires plain { begins_with_prn (tokens_of before.now) ≡ false }
+    ensures { OnOk result ((line : List ℕ) × IsExpectedLine (words_of rules.now.words.now)
+        (IsMessageOver (grammar_words (words_of rules.now.words.now)) rules.now.end rules.now.level)
+        rules.now.max_depth (tokens_of before.now) line
+        × (text.new.items ≡ text.old.items ++ line)) }
+{
+    let tokens = list_expected(alloc, rules, before)?;
+    let ends = is_end_expected(rules, before);
+    write_line(rules, before, tokens.as_slice(), ends, text)
+}
+
+/// Returns whether the token at a place of a body is BRA and as many brackets are open before it as may be.
+fn is_too_deep(rules: &Rules<'_>, body: &[u8], place: usize) -> bool
+    requires capped { length body.now ≤ longest_body }
+    requires within { 2 * place ≤ length body.now }
+    ensures { IsTrue result ↔ IsTooDeepAt rules.now.max_depth (tokens_of body.now) place }
+{
+    if 2 * place + 1 >= body.len() {
+        return false;
+    }
+    if token_at(body, place).code() != 0x4000 {
+        return false;
+    }
+    open_before(rules, &body[..2 * place]) == rules.max_depth as usize
+}
+
+/// Returns whether the message of a body begins with PRN.
+fn begins_with_prn(body: &[u8]) -> bool
+    ensures { result ≡ begins_with_prn (tokens_of body.now) }
+{
+    match body {
+        [high, low, ..] => Token::from_be([*high, *low]).code() == 0x4813,
+        _ => false,
+    }
+}
+
+/// Writes the line of a bracket that is not paired.
+fn write_bracket<A: Allocator>(unpaired: Unpaired, text: &mut Vec<u8, A>) -> io::Result<()>
+    ensures { OnOk result (text.new.items ≡ text.old.items ++ unpaired_line unpaired) }
+{
+    match unpaired {
+        Unpaired::Ket(place) => writeln!(text, "unpaired: ) at {place}"),
+        Unpaired::Bra(place) => writeln!(text, "unpaired: ( at {place}"),
+        Unpaired::Nothing => Ok(()),
+    }
+}
+
+/// Writes which bracket of a message is not paired.
+fn write_unpaired<A: Allocator>(body: &[u8], text: &mut Vec<u8, A>) -> io::Result<()>
+    requires { length body.now ≤ longest_body }
+    ensures { OnOk result ((line : List ℕ) × IsUnpairedExplained (tokens_of body.now) line
+        × (text.new.items ≡ text.old.items ++ line)) }
+{
+    if begins_with_prn(body) {
+        return text.write_all(b"unpaired: PRN\n");
+    }
+    write_bracket(find_unpaired(body), text)
+}
+
+/// Writes from which level a message is relayed, if from any.
+fn write_level<A: Allocator>(least: Option<Level>, text: &mut Vec<u8, A>) -> io::Result<()>
+    ensures { OnOk result (text.new.items ≡ text.old.items ++ level_line least) }
+{
+    let Some(higher) = least else {
+        return Ok(());
+    };
+    let number = higher.number();
+    writeln!(text, "relayed from level {number}")
+}
+
+/// Returns the other side.
+fn other_side(end: Side2) -> Side2
+    ensures { result ≡ other_side end }
+{
+    match end {
+        Side2::Client => Side2::ServerEnd,
+        Side2::ServerEnd => Side2::Client,
+    }
+}
+
+/// Writes that a message is relayed as the other side's, if it is.
+#[tactic(auto, unfolding(crate::specs::Explained::side_line))]
+fn write_side<A: Allocator>(end: Side2, other: bool, text: &mut Vec<u8, A>) -> io::Result<()>
+    ensures { OnOk result (text.new.items ≡ text.old.items ++ side_line end other) }
+{
+    if !other {
+        return Ok(());
+    }
+    match end {
+        Side2::Client => text.write_all(b"relayed with --side server\n"),
+        Side2::ServerEnd => text.write_all(b"relayed with --side bot\n"),
+    }
+}
+
+/// Writes from which level a message is relayed, and whether it is relayed as the other side's.
+fn write_elsewhere<A: Allocator>(
+    rules: &Rules<'_>,
+    body: &[u8],
+    text: &mut Vec<u8, A>,
+) -> io::Result<()>
+    requires low { least_depth ≤ rules.now.max_depth }
+    requires high { rules.now.max_depth ≤ greatest_depth }
+    requires capped { length body.now ≤ longest_body }
+    ensures { OnOk result ((lines : List ℕ) × AreElsewhere (words_of rules.now.words.now) rules.now.end
+        rules.now.level rules.now.max_depth (tokens_of body.now) lines
+        × (text.new.items ≡ text.old.items ++ lines)) }
+{
+    let other = Rules {
+        words: rules.words,
+        end: other_side(rules.end),
+        level: rules.level,
+        max_depth: rules.max_depth,
+    };
+    let least = lowest_level(rules, body);
+    let is_other = is_relayed(&other, body);
+    write_level(least, text)?;
+    write_side(rules.end, is_other, text)
+}
+
+/// Writes the line of the error place of a message.
+fn write_cause<A: Allocator + Copy>(
+    alloc: A,
+    rules: &Rules<'_>,
+    place: usize,
+    body: &[u8],
+    text: &mut Vec<u8, A>,
+) -> io::Result<()>
+    requires low { least_depth ≤ rules.now.max_depth }
+    requires high { rules.now.max_depth ≤ greatest_depth }
+    requires capped { length body.now ≤ longest_body }
+    requires within { 2 * place ≤ length body.now }
+    requires plain { begins_with_prn (tokens_of (take (2 * place) body.now)) ≡ false }
+    ensures { OnOk result ((line : List ℕ) × IsPlaceCause (words_of rules.now.words.now) rules.now.end rules.now.level
+        rules.now.max_depth (tokens_of body.now) place line
+        × (text.new.items ≡ text.old.items ++ line)) }
+{
+    if is_too_deep(rules, body, place) {
+        return writeln!(text, "too deep: ( at {place}");
+    }
+    write_expected(alloc, rules, &body[..2 * place], text)
+}
+
+/// Writes what is wrong at the error place of a message, and under which other rules it is relayed.
+fn write_place<A: Allocator + Copy>(
+    alloc: A,
+    rules: &Rules<'_>,
+    place: usize,
+    body: &[u8],
+    text: &mut Vec<u8, A>,
+) -> io::Result<()>
+    requires low { least_depth ≤ rules.now.max_depth }
+    requires high { rules.now.max_depth ≤ greatest_depth }
+    requires capped { length body.now ≤ longest_body }
+    requires within { 2 * place ≤ length body.now }
+    requires plain { begins_with_prn (tokens_of (take (2 * place) body.now)) ≡ false }
+    ensures { OnOk result ((lines : List ℕ) × IsPlaceExplained (words_of rules.now.words.now) rules.now.end
+        rules.now.level rules.now.max_depth (tokens_of body.now) place lines
+        × (text.new.items ≡ text.old.items ++ lines)) }
+{
+    write_cause(alloc, rules, place, body, text)?;
+    write_elsewhere(rules, body, text)
+}
+
+/// Writes the lines that explain the verdict on the message of a body; none if it is relayed.
+///
+/// A failed write or a refused growth of `text` is the error.
+pub fn write_explained<A: Allocator + Copy>(
+    alloc: A,
+    rules: &Rules<'_>,
+    verdict: Verdict,
+    body: &[u8],
+    text: &mut Vec<u8, A>,
+) -> io::Result<()>
+    requires low { least_depth ≤ rules.now.max_depth }
+    requires high { rules.now.max_depth ≤ greatest_depth }
+    requires capped { length body.now ≤ longest_body }
+    requires verdict { HasVerdict (IsMessageOver (grammar_words (words_of rules.now.words.now)) rules.now.end
+        rules.now.level) rules.now.max_depth (tokens_of body.now) verdict }
+    ensures { OnOk result ((lines : List ℕ) × IsExplained (words_of rules.now.words.now) rules.now.end
+        rules.now.level rules.now.max_depth (tokens_of body.now) verdict lines
+        × (text.new.items ≡ text.old.items ++ lines)) }
+{
+    match verdict {
+        Verdict::Relay => Ok(()),
+        Verdict::Prn => write_unpaired(body, text),
+        Verdict::Huh(place) => write_place(alloc, rules, place as usize, body, text),
+    }
+}

@@ -1,0 +1,119 @@
+-- The lines of frames that are not whole, one after the other.
+use Rattle.std.proofs.Common.{◌≡◌, ℕ, ◌+◌, List, [], ◌∷◌, ◌++◌, length, Option, refl, sym, ap, ◌∙◌, subst, arith}
+use Rattle.std.proofs.Common.{append_assoc, append-nil, length-append, zero, suc, ◌-◌, ◌≤◌, get_or, All}
+use Rattle.daide_machine.specs.Wires.{SessionView}
+use Rattle.daide_log.specs.declared.heading.Version.{Version}
+use Rattle.daide_log.specs.Progress.{states_of}
+use Rattle.daide_log.specs.Told.{IsIdle}
+use Rattle.std.specs.Io.KnownBytes.{Appends}
+use Rattle.daide_log.specs.Report.{texts_of}
+use Rattle.std.proofs.Common.{Bool, true, false, cond, take, drop, Some, None}
+use Rattle.std.specs.Prelude.{nat_lt}
+use Rattle.daide_frame.proofs.ListLemmas.{ltb_no}
+use Rattle.daide_frame.specs.declared.side.Side.{Side}
+use Rattle.daide_frame.specs.Frames.{announced, announced_by, head_in}
+use Rattle.daide_log.specs.declared.report.Part as reports
+use Rattle.daide_log.specs.Explained.{Part, part_of, part_text, parts_of, parts_from, number_in}
+use Rattle.daide_log.specs.Explaining.{HasPut, part_by, part_with}
+use Rattle.daide_log.proofs.PlayLemmas.{appends_more, appends_none, texts_of-append}
+
+-- a front of the lines is written and counted, and these are left
+pub record PutsParts (all left : List Part) (count : ℕ) (a b : Option (List ℕ)) : Type 0 where
+  pub done : List Part
+  pub whole : done ++ left ≡ all
+  pub put : HasPut done count a b
+
+pub no_parts : (all : List Part) (a : Option (List ℕ)) → PutsParts all all 0 a a
+no_parts all a = record { done = []; whole = refl; put = (refl, appends_none a) }
+
+pub both_put : (one other : List Part) (m n : ℕ) (a b c : Option (List ℕ)) → HasPut one m a b → HasPut other n b c →
+    HasPut (one ++ other) (m + n) a c
+both_put one other m n a b c h k = (
+  omega (arith, h.0, k.0, length-append one other),
+  subst (Appends a c) (sym (texts_of-append part_text one other))
+      (appends_more a b c (texts_of part_text one) (texts_of part_text other) h.1 k.1),
+)
+
+pub more_parts : (all left more after : List Part) (m n : ℕ) (a b c : Option (List ℕ)) → PutsParts all left m a b →
+    left ≡ more ++ after → HasPut more n b c → PutsParts all after (m + n) a c
+more_parts all left more after m n a b c p e h = record {
+  done = p.done ++ more;
+  whole = append_assoc p.done more after ∙ ap (λ (l : List Part). p.done ++ l) (sym e) ∙ p.whole;
+  put = both_put p.done more m n a b c p.put h;
+}
+
+pub all_parts : (all left : List Part) (count : ℕ) (a b : Option (List ℕ)) → PutsParts all left count a b → left ≡ [] →
+    HasPut all count a b
+all_parts all left count a b p e =
+    subst (λ (l : List Part). HasPut l count a b)
+    (sym (append-nil p.done) ∙ ap (λ (l : List Part). p.done ++ l) (sym e) ∙ p.whole) p.put
+
+-- ---- one frame
+
+abbrev one_part : Option ℕ → Side → Option ℕ → ℕ → List Part
+one_part number side size came = record { session = number; side = side; came = came; size = size } ∷ []
+
+pub part_is : (number : Option ℕ) (side : Side) (cap : ℕ) (at_fault : Bool) (held : List ℕ) →
+    part_with number side (part_by (length (take 4 held)) (length (drop 4 held)) at_fault (announced cap held))
+    ≡ part_of number side cap at_fault held
+part_is number side cap at_fault [] = refl
+part_is number side cap true (p ∷ []) = refl
+part_is number side cap true (p ∷ q ∷ []) = refl
+part_is number side cap true (p ∷ q ∷ r ∷ []) = refl
+part_is number side cap true (p ∷ q ∷ r ∷ s ∷ held) = refl
+part_is number side cap false (p ∷ []) = refl
+part_is number side cap false (p ∷ q ∷ []) = refl
+part_is number side cap false (p ∷ q ∷ r ∷ []) = refl
+part_is number side cap false (p ∷ q ∷ r ∷ s ∷ held) =
+    let same : 4 + length held ≡ length (p ∷ q ∷ r ∷ s ∷ held) = omega arith in
+    let long : nat_lt (length (p ∷ q ∷ r ∷ s ∷ held)) 4 ≡ false = ltb_no (length (p ∷ q ∷ r ∷ s ∷ held)) 4 (omega arith) in
+    ap (one_part number side (Some (4 + announced cap (p ∷ q ∷ r ∷ s ∷ held)))) same
+    ∙ ap (λ (b : Bool). one_part number side (cond b None (Some (4 + announced cap (p ∷ q ∷ r ∷ s ∷ held))))
+    (length (p ∷ q ∷ r ∷ s ∷ held))) (sym long)
+
+pub part_found : (number : Option ℕ) (side : Side) (cap : ℕ) (at_fault : Bool) (held pending : List ℕ) (header body : ℕ)
+    (fault : Bool) (size : ℕ) (part : Option reports.Part) → header ≡ length (take 4 held) → body ≡ length (drop 4 held) →
+    fault ≡ at_fault → size ≡ announced_by (head_in cap held) → part ≡ part_by header body fault size → held ≡ pending →
+    part_with number side part ≡ part_of number side cap at_fault pending
+unfolding announced
+part_found number side cap at_fault held pending header body fault size part e f k n p tied =
+    ap (part_with number side) (p
+    ∙ ap (λ (h : ℕ). part_by h body fault size) e
+    ∙ ap (λ (b : ℕ). part_by (length (take 4 held)) b fault size) f
+    ∙ ap (λ (b : Bool). part_by (length (take 4 held)) (length (drop 4 held)) b size) k
+    ∙ ap (λ (m : ℕ). part_by (length (take 4 held)) (length (drop 4 held)) at_fault m) n)
+    ∙ part_is number side cap at_fault held
+    ∙ ap (part_of number side cap at_fault) tied
+
+-- ---- a session of a slice at a time
+
+take_all : {A : Type 0} → (n : ℕ) (v : List A) → length v ≤ n → take n v ≡ v
+take_all zero [] h = refl
+take_all (suc n) [] h = refl
+take_all zero (x ∷ v) h = absurd (omega arith)
+take_all {A} (suc n) (x ∷ v) h = ap (λ (l : List A). x ∷ l) (take_all n v (omega (arith, h)))
+
+pub parts_next : (version : Version) (number n m k : ℕ) (all : List Part) (rest : List SessionView) (session : SessionView)
+    (a b c : Option (List ℕ)) → PutsParts all (parts_from version number (states_of rest)) m a b → 1 ≤ length rest →
+    length rest - 1 ≤ n → session ≡ get_or rest 0 session → HasPut (parts_of (number_in version number) session.state) k b c →
+    PutsParts all (parts_from version (number + 1) (states_of (take n (drop 1 rest)))) (m + k) a c
+parts_next version number n m k all [] session a b c p some long is put = absurd (omega arith)
+parts_next version number n m k all (x ∷ rest) session a b c p some long is put =
+    subst (λ (l : List SessionView). PutsParts all (parts_from version (number + 1) (states_of l)) (m + k) a c)
+    (sym (take_all n rest (omega (arith, long))))
+    (more_parts all (parts_from version number (states_of (x ∷ rest))) (parts_of (number_in version number) x.state)
+    (parts_from version (number + 1) (states_of rest)) m k a b c p refl
+    (subst (λ (s : SessionView). HasPut (parts_of (number_in version number) s.state) k b c) is put))
+
+pub idle_next : (rest : List SessionView) (n : ℕ) → All IsIdle rest → 1 ≤ length rest → length rest - 1 ≤ n →
+    All IsIdle (take n (drop 1 rest))
+idle_next [] n all some long = absurd (omega arith)
+idle_next (x ∷ rest) n all some long =
+    subst (All IsIdle) (sym (take_all n rest (omega (arith, long)))) (λ k d less. all (suc k) d (omega (arith, less)))
+
+pub one_less : (rest : List SessionView) (n number total : ℕ) → number + length rest ≡ 1 + total → 1 ≤ length rest →
+    length rest - 1 ≤ n → (number + 1) + length (take n (drop 1 rest)) ≡ 1 + total
+one_less [] n number total e some long = absurd (omega arith)
+one_less (x ∷ rest) n number total e some long =
+    let whole = ap (λ (l : List SessionView). length l) (take_all n rest (omega (arith, long))) in
+    omega (arith, whole, e)

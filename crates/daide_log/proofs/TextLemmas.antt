@@ -1,0 +1,32 @@
+-- Lines of an explanation, one after the other.
+use Rattle.std.proofs.Common.{◌≡◌, ℕ, List, [], ◌∷◌, ◌++◌, length, take, drop, refl, sym, ap, ◌∙◌, subst, append_assoc, append-nil}
+use Rattle.std.specs.List.{AllZip}
+use Rattle.std.proofs.lemmas.List.{take-append-drop}
+use Rattle.std.proofs.lemmas.List.Elements.{same_from_all_zip}
+use Rattle.daide_grammar.specs.declared.level.Level.{Level}
+use Rattle.daide_grammar.specs.declared.side.Side2.{Side2}
+use Rattle.daide_words.specs.declared.word.Word.{Word}
+use Rattle.daide_reader.specs.declared.verdict.Verdict.{Verdict}
+use Rattle.daide_reader.specs.declared.verdict.Verdict.TheVariants.{Relay, Prn, Huh}
+use Rattle.daide_log.specs.Explained.{AreRefusedLines, AreMessageLines}
+
+pub four_lines : (old a b c d t u v w : List ℕ) → t ≡ old ++ a → u ≡ t ++ b → v ≡ u ++ c → w ≡ v ++ d →
+    w ≡ old ++ (((a ++ b) ++ c) ++ d)
+four_lines old a b c d t u v w e f g h =
+    h ∙ ap (λ (l : List ℕ). l ++ d) (g ∙ ap (λ (l : List ℕ). l ++ c) (f ∙ ap (λ (l : List ℕ). l ++ b) e))
+    ∙ simp append_assoc
+
+pub as_message : (words : List Word) (end : Side2) (level : Level) (max_depth : ℕ) (body : List ℕ) (verdict : Verdict)
+    (lines : List ℕ) → (verdict ≡ Relay → ⊥) → AreRefusedLines words end level max_depth body verdict lines →
+    AreMessageLines words end level max_depth body verdict lines
+as_message words end level max_depth body Relay lines other h = absurd (other refl)
+as_message words end level max_depth body Prn lines other h = h
+as_message words end level max_depth body (Huh place) lines other h = h
+
+-- a header and a body are the bytes that are held
+pub held_of_parts : (held header body bytes : List ℕ) → header ≡ take 4 held → body ≡ drop 4 held →
+    AllZip (λ x y. y ≡ x) (header ++ (body ++ [])) bytes → bytes ≡ held
+held_of_parts held header body bytes e f each =
+    same_from_all_zip (λ x y. y ≡ x) (header ++ (body ++ [])) bytes each (λ x y e. e)
+    ∙ ap (λ (l : List ℕ). header ++ l) (append-nil body)
+    ∙ ap (λ (l : List ℕ). l ++ body) e ∙ ap (λ (l : List ℕ). take 4 held ++ l) f ∙ take-append-drop 4 held

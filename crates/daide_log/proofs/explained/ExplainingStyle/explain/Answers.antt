@@ -1,0 +1,28 @@
+use Rattle.std.proofs.Common.{◌≡◌, ◌++◌, ◌∙◌, List, ℕ, subst, sym, ap}
+use Rattle.std.specs.Io.KnownBytes.{Appends}
+use Rattle.daide_lines.specs.Output.{all_of}
+use Rattle.daide_words.specs.Words.{words_of}
+use Rattle.daide_log.specs.Explained.{indented}
+use Rattle.daide_log.proofs.EventLemmas.{on_ok}
+use Rattle.daide_log.proofs.MadeLemmas.{rightly_told, told_with}
+use Rattle.daide_log.proofs.explained.ExplainingStyle.explain.Goals as goal
+
+pub write_lines-requires : goal.write_lines-requires
+write_lines-requires g c = record {
+  right = rightly_told c.args.head.now.limits.config (words_of c.args.head.now.words) c.requires.made.0 c.args.side
+      c.args.session.now c.requires.under c.requires.made.1 c.args.told c.requires.made.2;
+}
+
+pub returns-clause-text : goal.returns-clause-text
+returns-clause-text g c =
+    let written = c.in-Ok.ensures in
+    let text = c.as_slice.ensures.value ∙ written.2 ∙ ap (λ (l : List ℕ). l ++ written.0) c.clear.ensures.items in
+    on_ok c.put_indented.result _ _ c.put_indented.ensures.text
+    (λ appends. (
+      indented written.0,
+      λ source old events made.
+          told_with c.args.head.now.limits.config (words_of c.args.head.now.words) old c.args.side c.args.session.now
+          c.requires.under events c.args.told written.0 source made written.1,
+      subst (λ (t : List ℕ). Appends (all_of g.W.Write.contents c.args.output.now)
+          (all_of g.W.Write.contents c.put_indented.new.output) (indented t)) text appends,
+    ))

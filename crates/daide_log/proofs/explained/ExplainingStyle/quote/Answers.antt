@@ -1,0 +1,14 @@
+use Rattle.std.proofs.Common.{◌∷◌, [], ◌∙◌, sym, refl, append-nil}
+use Rattle.daide_log.specs.Explained.{Remark, line}
+use Rattle.daide_log.proofs.EventLemmas.{on_ok}
+use Rattle.daide_log.proofs.explained.ExplainingStyle.quote.Goals as goal
+
+pub returns-then-is_remark-clause-text : goal.returns-then-is_remark-clause-text
+returns-then-is_remark-clause-text g c =
+    let is = sym c.is_remark.ensures ∙ c.if-is_remark.true in
+    on_ok c.put_remark.result _ _ c.put_remark.ensures.text
+    (λ e. (
+      line c.args.line.now,
+      (Remark c.args.line.now ∷ [], rw is refl, append-nil (line c.args.line.now), λ before. refl),
+      e,
+    ))

@@ -1,0 +1,12 @@
+use Rattle.std.proofs.Common.{length}
+use Rattle.daide_lines.specs.Output.{IsSameWriter, all_of}
+use Rattle.daide_log.proofs.PageTexts.{Puts}
+use Rattle.daide_log.proofs.page.put_text.Given as goal
+
+abbrev pub invariant-bytes : goal.invariant-bytes
+invariant-bytes g l =
+    Puts (all_of g.W.Write.contents l.fn.output) (all_of g.W.Write.contents l.output) l.text l.rest
+    × IsSameWriter l.fn.output l.output
+
+abbrev pub decreases-bytes : goal.decreases-bytes
+decreases-bytes g l = length l.rest

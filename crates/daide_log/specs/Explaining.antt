@@ -1,0 +1,68 @@
+-- What the code knows of a frame that a session still holds when it explains its move. (own)
+use Rattle.std.specs.Prelude.{◌≡◌, ⊤, ℕ, ◌≤◌, ◌%◌, List, [], length, drop}
+use Rattle.std.specs.Bool.{MatchBool}
+use Rattle.daide_token.specs.Token.{tokens_of}
+use Rattle.daide_frame.specs.declared.side.Side.{Side}
+use Rattle.daide_grammar.specs.SideMessages.{IsMessageOver}
+use Rattle.daide_words.specs.declared.word.Word.{Word}
+use Rattle.daide_words.specs.Word.{grammar_words}
+use Rattle.daide_reader.specs.Verdict.{HasVerdict, IsPlaceIn}
+use Rattle.daide_machine.specs.Bounds.{longest_body, least_depth, greatest_depth}
+use Rattle.daide_machine.specs.declared.config.Config.{Config}
+use Rattle.daide_machine.specs.declared.note.Deed.{Deed}
+use Rattle.daide_machine.specs.declared.note.Note.{Note}
+use Rattle.daide_machine.specs.declared.note.Note.TheVariants as Notes
+use Rattle.daide_machine.specs.Machine.{coming, is_dm, side2_of}
+use Rattle.daide_machine.specs.Wires.{SessionView, holding}
+use Rattle.std.specs.Prelude.{Option, Some, None, ◌∷◌, ◌+◌, ◌==◌, ◌||◌, nat_lt, Bool, if◌then◌else◌}
+use Rattle.std.specs.Io.KnownBytes.{Appends}
+use Rattle.daide_log.specs.declared.report.Part as reports
+use Rattle.daide_log.specs.Report.{texts_of}
+use Rattle.daide_log.specs.Explained.{AreMessageLines, Part, fault_lines, part_text, verdict_by}
+
+-- the limits are right, and the body has whole tokens
+pub record IsRuled (max_depth : ℕ) (body : List ℕ) : Type 0 where
+  pub low : least_depth ≤ max_depth
+  pub high : max_depth ≤ greatest_depth
+  pub capped : length body ≤ longest_body
+  pub even : length body % 2 ≡ 0
+
+-- the message that is held had this fate by the grammar's verdict
+pub record IsRightFate (words : List Word) (config : Config) (side : Side) (deed : Deed) (new : SessionView) : Type 0 where
+  pub ruled : IsRuled config.max_depth (drop 4 (holding new side).held)
+  pub within : IsPlaceIn (drop 4 (holding new side).held) (verdict_by deed)
+  pub verdict : HasVerdict (IsMessageOver (grammar_words words) (side2_of side) (coming new.state side).noted)
+      config.max_depth (tokens_of (drop 4 (holding new side).held)) (verdict_by deed)
+
+abbrev pub IsRightlyTold : List Word → Config → Side → Note → SessionView → Type 0
+IsRightlyTold words config side Notes.Nothing new = ⊤
+IsRightlyTold words config side (Notes.Frame head deed) new =
+    MatchBool (is_dm head.kind) (IsRightFate words config side deed new) ⊤
+IsRightlyTold words config side (Notes.Fault code) new = ⊤
+
+-- the lines of a move, by the frame that is held
+abbrev pub AreLinesBy : List Word → ℕ → Side → Note → SessionView → List ℕ → Type 0
+AreLinesBy words max_depth side Notes.Nothing new lines = lines ≡ []
+AreLinesBy words max_depth side (Notes.Frame head deed) new lines =
+    MatchBool (is_dm head.kind)
+    (AreMessageLines words (side2_of side) (coming new.state side).noted max_depth (drop 4 (holding new side).held)
+    (verdict_by deed) lines)
+    (lines ≡ [])
+AreLinesBy words max_depth side (Notes.Fault code) new lines = lines ≡ fault_lines code (holding new side).held
+
+-- ---- frames that are not whole
+
+-- by the bytes of its header and its body, whether it is at fault, and how many bytes the header announces
+abbrev pub part_by : ℕ → ℕ → Bool → ℕ → Option reports.Part
+part_by header body at_fault announced =
+    if (header == 0) || at_fault then None
+    else Some (record { came = header + body; size = if nat_lt header 4 then None else Some (4 + announced) })
+
+abbrev pub part_with : Option ℕ → Side → Option reports.Part → List Part
+part_with session side None = []
+part_with session side (Some part) =
+    record { session = session; side = side; came = part.came; size = part.size } ∷ []
+
+-- their lines were written, and they were counted
+abbrev pub HasPut : List Part → ℕ → Option (List ℕ) → Option (List ℕ) → Type 0
+HasPut parts count before after = (count ≡ length parts) × Appends before after (texts_of part_text parts)

@@ -1,0 +1,569 @@
+//! The report of a log with its explanations.
+
+ghost use Rattle.std.specs.Prelude.{◌≡◌, ◌*◌, ◌≤◌, ℕ, ◌++◌, ◌%◌, false, All, List, Option, drop, length, IfOk, OnOk};
+ghost use Rattle.std.specs.Io.KnownBytes.{Appends};
+ghost use Rattle.daide_token.specs.Token.{tokens_of};
+ghost use Rattle.daide_grammar.specs.SideMessages.{IsMessageOver};
+ghost use Rattle.daide_words.specs.Word.{grammar_words};
+ghost use Rattle.daide_words.specs.declared.word.Word.{Word};
+ghost use Rattle.daide_words.specs.Words.{words_of};
+ghost use Rattle.daide_reader.specs.Verdict.{HasVerdict, IsPlaceIn};
+ghost use Rattle.daide_machine.specs.Answers.{answer_body};
+ghost use Rattle.daide_lines.specs.Output.{IsSameWriter, all_of};
+ghost use Rattle.daide_lines.specs.Reader.{silent};
+ghost use Rattle.daide_log.specs.Explained.{explained, is_remark, line, printed, pair, pairs, token_line, bytes_line, fault_lines};
+ghost use Rattle.daide_log.specs.Explained.{AreRefusedLines, AreMessageLines, is_at_fault, verdict_by as verdict_of_deed};
+ghost use Rattle.daide_log.specs.Explained.{part_of as spec_part_of, parts_of, parts_from, number_in as number_of};
+ghost use Rattle.daide_log.specs.Explaining.{part_by, part_with, HasPut};
+ghost use Rattle.daide_frame.specs.Frames.{announced_by};
+ghost use Rattle.daide_machine.specs.Bounds.{longest_body, most_sessions};
+ghost use Rattle.daide_machine.specs.Machine.{coming, is_dm, side2_of};
+ghost use Rattle.daide_machine.specs.Wires.{holding, is_awaited, waiting};
+ghost use Rattle.daide_log.specs.Explaining.{IsRuled, IsRightFate, IsRightlyTold, AreLinesBy};
+ghost use Rattle.daide_log.specs.Progress.{IsAnswered, states_of};
+ghost use Rattle.daide_log.specs.Told.{IsIdle, IsUnder};
+ghost use Rattle.daide_log.specs.Lawful.{explained_lawful};
+
+use crate::account::Account;
+use crate::check::report_whole;
+use crate::heading::{Preamble, Version};
+use crate::page::{Unreported, put_byte, put_indented, put_part, put_text};
+use crate::record_text::DIGITS;
+use crate::report::Part;
+use crate::style::Style;
+use daide_explain::{Rules, write_explained};
+use daide_frame::{Code, Head, Kind, Side};
+use daide_lines::LogFault;
+use daide_lines::block::Block;
+use daide_lines::input::Input;
+use daide_lines::output::Output;
+use daide_lines::page::Page;
+use daide_lines::reader::LogReader;
+use daide_lines::text::Text;
+use daide_machine::answers::{CLOSE_WORD, ERR_WORD, HUH_OPEN, PRN_OPEN};
+use daide_machine::rules::side2_of;
+use daide_machine::{Deed, Note, Summary};
+use daide_reader::Verdict;
+use daide_session::{Ending, Session};
+use daide_token::write_text_with;
+use daide_words::Words;
+use std::alloc::{AllocError, Allocator};
+use std::io;
+use std::io::{Read, Write};
+
+/// What is answered of a log without a fault.
+#[derive(Clone, Copy, Debug, PartialEq, Eq)]
+pub struct Explained {
+    /// The moves, counted, as the report's last line has them.
+    pub counts: Summary,
+    /// How many lines of the report say that a frame is not whole.
+    pub unfinished: u32,
+}
+
+/// The report with explanations. One text is kept for all of them, and cleared before each.
+#[derive(Drop)]
+struct Explaining<B: Allocator> {
+    alloc: B,
+    text: Vec<u8, B>,
+}
+
+/// Writes tokens on a line of their own, the operator's words by their names.
+fn write_tokens<B: Allocator>(words: &Words, tokens: &[u8], text: &mut Vec<u8, B>) -> io::Result<()>
+    requires { length tokens.now % 2 ≡ 0 }
+    ensures { OnOk result (text.new.items ≡ text.old.items
+        ++ line (printed (words_of words.now) (tokens_of tokens.now))) }
+{
+    write_text_with(words.names(), tokens, text)?;
+    text.write_all(b"\n")
+}
+
+/// Returns a message that is relayed, as it came.
+fn answer_relay<B: Allocator>(alloc: B, body: &[u8]) -> Result<Vec<u8, B>, AllocError>
+    requires { length body.now % 2 ≡ 0 }
+    ensures even { IfOk result (λ answer. length answer.items % 2 ≡ 0) }
+    ensures body { IfOk result (λ answer. answer.items ≡ answer_body body.now Verdict.Relay) }
+{
+    let parts: [&[u8]; 1] = [body];
+    parts.concat(alloc)
+}
+
+/// Returns the answer to a message that is not paired.
+fn answer_prn<B: Allocator>(alloc: B, body: &[u8]) -> Result<Vec<u8, B>, AllocError>
+    requires { length body.now % 2 ≡ 0 }
+    ensures even { IfOk result (λ answer. length answer.items % 2 ≡ 0) }
+    ensures body { IfOk result (λ answer. answer.items ≡ answer_body body.now Verdict.Prn) }
+{
+    let parts: [&[u8]; 3] = [&PRN_OPEN, body, &CLOSE_WORD];
+    parts.concat(alloc)
+}
+
+/// Returns the answer to a message that is wrong at a place.
+fn answer_huh<B: Allocator>(alloc: B, place: u16, body: &[u8]) -> Result<Vec<u8, B>, AllocError>
+    requires even { length body.now % 2 ≡ 0 }
+    requires within { 2 * place ≤ length body.now }
+    ensures even { IfOk result (λ answer. length answer.items % 2 ≡ 0) }
+    ensures body { IfOk result (λ answer. answer.items ≡ answer_body body.now (Verdict.Huh place)) }
+{
+    let (before, after) = body.split_at(2 * place as usize);
+    let parts: [&[u8]; 5] = [&HUH_OPEN, before, &ERR_WORD, after, &CLOSE_WORD];
+    parts.concat(alloc)
+}
+
+/// Returns the body of the answer to a message.
+fn answer_of<B: Allocator>(
+    alloc: B,
+    verdict: Verdict,
+    body: &[u8],
+) -> Result<Vec<u8, B>, AllocError>
+    requires even { length body.now % 2 ≡ 0 }
+    requires within { IsPlaceIn body.now verdict }
+    ensures even { IfOk result (λ answer. length answer.items % 2 ≡ 0) }
+    ensures body { IfOk result (λ answer. answer.items ≡ answer_body body.now verdict) }
+{
+    match verdict {
+        Verdict::Relay => answer_relay(alloc, body),
+        Verdict::Prn => answer_prn(alloc, body),
+        Verdict::Huh(place) => answer_huh(alloc, place, body),
+    }
+}
+
+/// Writes the text of a message that was refused, its level, its answer and why.
+fn write_refused<B: Allocator + Copy>(
+    alloc: B,
+    rules: &Rules<'_>,
+    verdict: Verdict,
+    body: &[u8],
+    text: &mut Vec<u8, B>,
+) -> io::Result<()>
+    requires ruled { IsRuled rules.now.max_depth body.now }
+    requires within { IsPlaceIn body.now verdict }
+    requires verdict { HasVerdict (IsMessageOver (grammar_words (words_of rules.now.words.now)) rules.now.end
+        rules.now.level) rules.now.max_depth (tokens_of body.now) verdict }
+    ensures { OnOk result ((lines : List ℕ) × AreRefusedLines (words_of rules.now.words.now) rules.now.end
+        rules.now.level rules.now.max_depth body.now verdict lines
+        × (text.new.items ≡ text.old.items ++ lines)) }
+{
+    let answer = answer_of(alloc, verdict, body)?;
+    write_tokens(rules.words, body, text)?;
+    let level = rules.level.number();
+    writeln!(text, "judged at level {level}")?;
+    write_tokens(rules.words, answer.as_slice(), text)?;
+    write_explained(alloc, rules, verdict, body, text)
+}
+
+/// Writes the lines that explain a message.
+fn write_message<B: Allocator + Copy>(
+    alloc: B,
+    rules: &Rules<'_>,
+    verdict: Verdict,
+    body: &[u8],
+    text: &mut Vec<u8, B>,
+) -> io::Result<()>
+    requires ruled { IsRuled rules.now.max_depth body.now }
+    requires within { IsPlaceIn body.now verdict }
+    requires verdict { HasVerdict (IsMessageOver (grammar_words (words_of rules.now.words.now)) rules.now.end
+        rules.now.level) rules.now.max_depth (tokens_of body.now) verdict }
+    ensures { OnOk result ((lines : List ℕ) × AreMessageLines (words_of rules.now.words.now) rules.now.end
+        rules.now.level rules.now.max_depth body.now verdict lines
+        × (text.new.items ≡ text.old.items ++ lines)) }
+{
+    match verdict {
+        Verdict::Relay => write_tokens(rules.words, body, text),
+        Verdict::Prn => write_refused(alloc, rules, verdict, body, text),
+        Verdict::Huh(_) => write_refused(alloc, rules, verdict, body, text),
+    }
+}
+
+/// Returns the verdict by which a message had this fate.
+fn verdict_by(deed: Deed) -> Verdict
+    ensures { result ≡ verdict_of_deed deed }
+{
+    match deed {
+        Deed::Relayed | Deed::Dropped => Verdict::Relay,
+        Deed::Prn => Verdict::Prn,
+        Deed::Huh(place) => Verdict::Huh(place),
+    }
+}
+
+/// Writes a byte in two upper-case digits.
+fn write_pair<B: Allocator>(byte: u8, text: &mut Vec<u8, B>) -> io::Result<()>
+    ensures { OnOk result (text.new.items ≡ text.old.items ++ pair byte) }
+{
+    let pair = [DIGITS[(byte / 16) as usize], DIGITS[(byte % 16) as usize]];
+    text.write_all(&pair)
+}
+
+/// Writes bytes in upper-case pairs, with a space between two.
+fn write_pairs<B: Allocator>(bytes: &[u8], text: &mut Vec<u8, B>) -> io::Result<()>
+    ensures { OnOk result (text.new.items ≡ text.old.items ++ pairs bytes.now) }
+{
+    let mut rest = bytes;
+    'bytes: while let [byte, more @ ..] = rest {
+        write_pair(*byte, text)?;
+        if !more.is_empty() {
+            text.write_all(b" ")?;
+        }
+        rest = more;
+    }
+    Ok(())
+}
+
+/// Writes the bytes of an invalid token, which are the last, and its place.
+fn write_token<B: Allocator>(bytes: &[u8], text: &mut Vec<u8, B>) -> io::Result<()>
+    ensures { OnOk result (text.new.items ≡ text.old.items ++ token_line bytes.now) }
+{
+    text.write_all(b"bytes: ")?;
+    write_pairs(&bytes[bytes.len().saturating_sub(2)..], text)?;
+    let place = bytes.len().saturating_sub(6) / 2;
+    writeln!(text, " at token {place}")
+}
+
+/// Writes bytes at fault on a line, if there are any.
+fn write_bytes<B: Allocator>(bytes: &[u8], text: &mut Vec<u8, B>) -> io::Result<()>
+    ensures { OnOk result (text.new.items ≡ text.old.items ++ bytes_line bytes.now) }
+{
+    if bytes.is_empty() {
+        return Ok(());
+    }
+    text.write_all(b"bytes: ")?;
+    write_pairs(bytes, text)?;
+    text.write_all(b"\n")
+}
+
+/// Writes the lines of a fault, by the bytes since the last whole frame.
+fn write_fault<B: Allocator>(code: Code, bytes: &[u8], text: &mut Vec<u8, B>) -> io::Result<()>
+    ensures { OnOk result (text.new.items ≡ text.old.items ++ fault_lines code bytes.now) }
+{
+    let name = code.name();
+    writeln!(text, "{name}")?;
+    match code {
+        Code::InvalidToken => write_token(bytes, text),
+        _ => write_bytes(bytes, text),
+    }
+}
+
+/// Whether a frame is a message.
+fn is_message(kind: Kind) -> bool
+    ensures { result ≡ is_dm kind }
+{
+    match kind {
+        Kind::Dm => true,
+        Kind::Im | Kind::Rm | Kind::Fm | Kind::Em => false,
+    }
+}
+
+/// Writes the lines of the message that a session holds of a side.
+fn write_held<A: Allocator, B: Allocator + Copy>(
+    alloc: B,
+    head: &Preamble,
+    session: &Session<A>,
+    fate: (Side, Deed),
+    text: &mut Vec<u8, B>,
+) -> io::Result<()>
+    requires right { IsRightFate (words_of head.now.words) head.now.limits.config fate.0 fate.1 session.now }
+    ensures { OnOk result ((lines : List ℕ)
+        × AreMessageLines (words_of head.now.words) (side2_of fate.0) (coming session.now.state fate.0).noted
+        head.now.limits.config.max_depth (drop 4 (holding session.now fate.0).held) (verdict_of_deed fate.1) lines
+        × (text.new.items ≡ text.old.items ++ lines)) }
+{
+    let (side, deed) = fate;
+    let rules = Rules {
+        words: &head.words,
+        end: side2_of(side),
+        level: session.noted(side),
+        max_depth: head.limits.config.max_depth,
+    };
+    write_message(alloc, &rules, verdict_by(deed), session.body(side), text)
+}
+
+/// Writes the lines of the frame at fault that a session holds of a side.
+fn write_faulty<A: Allocator, B: Allocator + Copy>(
+    alloc: B,
+    session: &Session<A>,
+    side: Side,
+    code: Code,
+    text: &mut Vec<u8, B>,
+) -> io::Result<()>
+    ensures { OnOk result (text.new.items ≡ text.old.items ++ fault_lines code (holding session.now side).held) }
+{
+    let parts: [&[u8]; 2] = [session.header(side), session.body(side)];
+    let bytes = parts.concat(alloc)?;
+    write_fault(code, bytes.as_slice(), text)
+}
+
+/// Writes the lines that explain a side's move, by the frame that the session holds.
+fn write_lines<A: Allocator, B: Allocator + Copy>(
+    alloc: B,
+    head: &Preamble,
+    session: &Session<A>,
+    moved: (Side, Note),
+    text: &mut Vec<u8, B>,
+) -> io::Result<()>
+    requires right { IsRightlyTold (words_of head.now.words) head.now.limits.config moved.0 moved.1 session.now }
+    ensures { OnOk result ((lines : List ℕ)
+        × AreLinesBy (words_of head.now.words) head.now.limits.config.max_depth moved.0 moved.1 session.now lines
+        × (text.new.items ≡ text.old.items ++ lines)) }
+{
+    let (side, told) = moved;
+    match told {
+        Note::Nothing => Ok(()),
+        Note::Frame(frame, deed) => {
+            if is_message(frame.kind) {
+                return write_held(alloc, head, session, (side, deed), text);
+            }
+            Ok(())
+        }
+        Note::Fault(code) => write_faulty(alloc, session, side, code, text),
+    }
+}
+
+/// Whether a session ended by a fault of the side.
+fn is_at_fault(ending: Option<Ending>, side: Side) -> bool
+    ensures { result ≡ is_at_fault side ending }
+{
+    match ending {
+        Some(Ending::Fault(at, _)) => at == side,
+        _ => false,
+    }
+}
+
+/// Returns the length that a header announces, 0 until it is whole.
+fn announced_by(head: Option<Head>) -> usize
+    ensures value { result ≡ announced_by head }
+    ensures few { result ≤ 65535 }
+{
+    match head {
+        None => 0,
+        Some(head) => head.len as usize,
+    }
+}
+
+/// Returns a frame that is not whole, by the bytes of its header and its body.
+fn part_in(header: usize, body: usize, at_fault: bool, announced: usize) -> Option<Part>
+    requires few { header ≤ 4 }
+    requires small { body ≤ longest_body }
+    requires capped { announced ≤ 65535 }
+    ensures { result ≡ part_by header body at_fault announced }
+{
+    if header == 0 || at_fault {
+        return None;
+    }
+    let came = header + body;
+    let size = if header < 4 {
+        None
+    } else {
+        Some(4 + announced)
+    };
+    Some(Part { came, size })
+}
+
+/// Returns what a session holds of a side's frame, unless there is nothing, or the frame is at fault.
+fn part_of<A: Allocator>(session: &Session<A>, side: Side) -> Option<Part>
+    requires { is_awaited (waiting session.now) side ≡ false }
+    ensures { (number : Option ℕ) → part_with number side result ≡ spec_part_of number side session.now.state.limits.cap
+        (is_at_fault side session.now.state.ending) (coming session.now.state side).pending }
+{
+    let header = session.header(side);
+    let body = session.body(side);
+    let at_fault = is_at_fault(session.ending(), side);
+    let announced = announced_by(session.head(side));
+    part_in(header.len(), body.len(), at_fault, announced)
+}
+
+/// Writes the line of a side's frame that is not whole, and counts it.
+fn put_unfinished<A: Allocator, W: Write>(
+    session: &Session<A>,
+    number: Option<u16>,
+    side: Side,
+    output: &mut Output<'_, W>,
+) -> Result<u32, Unreported>
+    requires { is_awaited (waiting session.now) side ≡ false }
+    ensures text { IfOk result (λ count. HasPut (spec_part_of number side session.now.state.limits.cap
+        (is_at_fault side session.now.state.ending) (coming session.now.state side).pending) count
+        (all_of W.contents output.old) (all_of W.contents output.new)) }
+    ensures few { IfOk result (λ count. count ≤ 1) }
+    ensures same_writer { IsSameWriter output.old output.new }
+{
+    match part_of(session, side) {
+        None => Ok(0),
+        Some(part) => {
+            put_part(number, side, part, output)?;
+            Ok(1)
+        }
+    }
+}
+
+/// Returns a session's number, if the report names it.
+fn number_in(version: Version, number: u16) -> Option<u16>
+    ensures { result ≡ number_of version number }
+{
+    match version {
+        Version::Single => None,
+        Version::Match => Some(number),
+    }
+}
+
+/// Writes the lines of a session's frames that are not whole, and counts them.
+fn put_session<A: Allocator, W: Write>(
+    session: &Session<A>,
+    number: Option<u16>,
+    output: &mut Output<'_, W>,
+) -> Result<u32, Unreported>
+    requires { IsIdle session.now }
+    ensures text { IfOk result (λ count. HasPut (parts_of number session.now.state) count
+        (all_of W.contents output.old) (all_of W.contents output.new)) }
+    ensures few { IfOk result (λ count. count ≤ 2) }
+    ensures same_writer { IsSameWriter output.old output.new }
+{
+    let bot = put_unfinished(session, number, Side::Bot, output)?;
+    let server = put_unfinished(session, number, Side::Server, output)?;
+    Ok(bot + server)
+}
+
+/// Writes the lines of all frames that are not whole, and counts them.
+fn put_parts<A: Allocator, W: Write>(
+    version: Version,
+    sessions: &[Session<A>],
+    output: &mut Output<'_, W>,
+) -> Result<u32, Unreported>
+    requires few { length sessions.now ≤ most_sessions }
+    requires idle { All IsIdle sessions.now }
+    ensures text { IfOk result (λ count. HasPut (parts_from version 1 (states_of sessions.now)) count
+        (all_of W.contents output.old) (all_of W.contents output.new)) }
+    ensures same_writer { IsSameWriter output.old output.new }
+{
+    let mut count = 0;
+    let mut number = 1;
+    let mut rest = sessions;
+    'sessions: while let [session, more @ ..] = rest {
+        count += put_session(session, number_in(version, number), output)?;
+        number += 1;
+        rest = more;
+    }
+    Ok(count)
+}
+
+/// Whether a line of the log is a comment.
+fn is_remark(line: &[u8]) -> bool
+    ensures { result ≡ is_remark line.now }
+{
+    !line.is_empty() && line[0] == b'#'
+}
+
+/// Writes a comment as it stands in the log.
+fn put_remark<W: Write>(comment: &[u8], output: &mut Output<'_, W>) -> Result<(), Unreported>
+    ensures text { OnOk result (Appends (all_of W.contents output.old) (all_of W.contents output.new)
+        (line comment.now)) }
+    ensures same_writer { IsSameWriter output.old output.new }
+{
+    put_text(comment, output)?;
+    put_byte(b'\n', output)
+}
+
+impl<B: Allocator + Copy> Style for Explaining<B> {
+    type Answer = Explained;
+
+    ghost form = { λ words. explained words };
+
+    fn explain<A: Allocator, W: Write>(
+        &mut self,
+        head: &Preamble,
+        session: &Session<A>,
+        side: Side,
+        told: Note,
+        output: &mut Output<'_, W>,
+    ) -> Result<(), Unreported> {
+        self.text.clear();
+        let Ok(()) = write_lines(self.alloc, head, session, (side, told), &mut self.text) else {
+            return Err(Unreported::Memory);
+        };
+        put_indented(self.text.as_slice(), output)
+    }
+
+    fn quote<W: Write>(
+        &mut self,
+        _head: &Preamble,
+        line: &[u8],
+        output: &mut Output<'_, W>,
+    ) -> Result<(), Unreported> {
+        if is_remark(line) {
+            return put_remark(line, output);
+        }
+        Ok(())
+    }
+
+    fn close<A: Allocator, W: Write>(
+        &mut self,
+        head: &Preamble,
+        sessions: &[Session<A>],
+        summary: Summary,
+        output: &mut Output<'_, W>,
+    ) -> Result<Explained, Unreported> {
+        let unfinished = put_parts(head.version, sessions, output)?;
+        Ok(Explained {
+            counts: summary,
+            unfinished,
+        })
+    }
+
+    ghost lawful = { explained_lawful };
+}
+
+/// Reads a log, and writes its report with explanations, as `explain_stream` does, by way of this text.
+#[tactic(auto, using(crate::proofs::LogLemmas::answered_alike))]
+fn explain_over<A: Allocator + Copy, R: LogReader, W: Write>(
+    alloc: A,
+    style: &mut Explaining<A>,
+    reader: &mut R,
+    writer: &mut W,
+) -> Result<Explained, LogFault>
+    ensures { (words : List Word) × IsAnswered (explained words) (R.told reader.old) (R.told reader.new)
+        (W.contents writer.old) (W.contents writer.new) result }
+{
+    let mut input = Input {
+        block: Block::new(),
+        text: Text::new(),
+        reader,
+    };
+    let mut account = Account {
+        summary: Summary::new(),
+        output: Output {
+            page: Page::new(),
+            writer,
+        },
+        head: Preamble::new(),
+    };
+    report_whole(alloc, &mut input, style, &mut account)
+}
+
+/// Reads a log, and writes its report with explanations, as `explain_log` does. Each read is made in time, as those of
+/// `check_stream` are.
+pub fn explain_stream<A: Allocator + Copy, R: LogReader, W: Write>(
+    alloc: A,
+    reader: &mut R,
+    writer: &mut W,
+) -> Result<Explained, LogFault>
+    ensures { (words : List Word) × IsAnswered (explained words) (R.told reader.old) (R.told reader.new)
+        (W.contents writer.old) (W.contents writer.new) result }
+{
+    let mut style = Explaining {
+        alloc,
+        text: Vec::new(alloc),
+    };
+    explain_over(alloc, &mut style, reader, writer)
+}
+
+/// Reads a log, and writes its report with explanations.
+///
+/// The faults are those of `check_log`, in their order; but `Memory` may also come while the lines are judged, when a
+/// growth of a text is refused. After `Memory` and `Write` nothing is said of how much of the report was written.
+pub fn explain_log<A: Allocator + Copy, R: Read, W: Write>(
+    alloc: A,
+    reader: &mut R,
+    writer: &mut W,
+) -> Result<Explained, LogFault>
+    ensures { (words : List Word) × IsAnswered (explained words) (silent (R.remaining reader.old))
+        (silent (R.remaining reader.new)) (W.contents writer.old) (W.contents writer.new) result }
+{
+    explain_stream(alloc, reader, writer)
+}

@@ -1,0 +1,127 @@
+//! How a check reports what the lines of a log make of its sessions: plainly, or with explanations (`explained`).
+
+ghost use Rattle.std.specs.Prelude.{◌≡◌, ◌≤◌, ℕ, All, List, length, IfOk, IfErr, OnOk};
+ghost use Rattle.std.specs.Io.KnownBytes.{Appends};
+ghost use Rattle.daide_words.specs.declared.word.Word.{Word};
+ghost use Rattle.daide_words.specs.Words.{words_of};
+ghost use Rattle.daide_lines.specs.Output.{IsSameWriter, all_of};
+ghost use Rattle.daide_machine.specs.Bounds.{most_sessions};
+ghost use Rattle.daide_machine.specs.Events.{Event};
+ghost use Rattle.daide_machine.specs.Wires.{SessionView};
+ghost use Rattle.daide_machine.specs.declared.summary.Summary.{Summary};
+ghost use Rattle.daide_log.specs.Form.{Form, IsLawful};
+ghost use Rattle.daide_log.specs.Log.{plain};
+ghost use Rattle.daide_log.specs.Progress.{states_of};
+ghost use Rattle.daide_log.specs.Told.{IsMade, IsReady, IsUnder, IsToldWith, IsQuietWith, IsCauseIn};
+ghost use Rattle.daide_log.specs.Lawful.{plain_lawful};
+
+use crate::heading::Preamble;
+use crate::page::Unreported;
+use daide_frame::Side;
+use daide_lines::output::Output;
+use daide_machine::{Note, Summary};
+use daide_session::Session;
+use std::alloc::Allocator;
+use std::io::Write;
+
+/// What a report has beside the lines of moves and of the counts, and what a check answers.
+pub trait Style {
+    /// What is answered of a log without a fault.
+    type Answer: Copy;
+
+    ghost form: { List Word → Form Self.Answer };
+
+    /// Writes what follows the line of a side's move, while the session still holds the frame that made it.
+    fn explain<A: Allocator, W: Write>(
+        &mut self,
+        head: &Preamble,
+        session: &Session<A>,
+        side: Side,
+        told: Note,
+        output: &mut Output<'_, W>,
+    ) -> Result<(), Unreported>
+        requires under { IsUnder head.now.limits.config (words_of head.now.words) session.now }
+        requires made { (old : SessionView) × (events : List Event) × IsMade old events side told session.now }
+        ensures text { OnOk result ((added : List ℕ)
+            × IsToldWith (form (words_of head.now.words)) side told session.now added
+            × Appends (all_of W.contents output.old) (all_of W.contents output.new) added) }
+        ensures refused { IfErr result (IsCauseIn (form (words_of head.now.words))) }
+        ensures same_writer { IsSameWriter output.old output.new };
+
+    /// Writes what a line itself has in the report, of which no session learns anything.
+    fn quote<W: Write>(
+        &mut self,
+        head: &Preamble,
+        line: &[u8],
+        output: &mut Output<'_, W>,
+    ) -> Result<(), Unreported>
+        ensures text { OnOk result ((text : List ℕ)
+            × IsQuietWith (form (words_of head.now.words)) line.now text
+            × Appends (all_of W.contents output.old) (all_of W.contents output.new) text) }
+        ensures refused { IfErr result (IsCauseIn (form (words_of head.now.words))) }
+        ensures same_writer { IsSameWriter output.old output.new };
+
+    /// Writes what precedes the counts, and answers.
+    fn close<A: Allocator, W: Write>(
+        &mut self,
+        head: &Preamble,
+        sessions: &[Session<A>],
+        summary: Summary,
+        output: &mut Output<'_, W>,
+    ) -> Result<Self::Answer, Unreported>
+        requires few { length sessions.now ≤ most_sessions }
+        requires ready { All (IsReady head.now.limits.config (words_of head.now.words)) sessions.now }
+        ensures text { IfOk result (λ answer.
+            (answer ≡ (form (words_of head.now.words)).answer summary head.now.version (states_of sessions.now))
+            × Appends (all_of W.contents output.old) (all_of W.contents output.new)
+            ((form (words_of head.now.words)).closing head.now.version (states_of sessions.now))) }
+        ensures refused { IfErr result (IsCauseIn (form (words_of head.now.words))) }
+        ensures same_writer { IsSameWriter output.old output.new };
+
+    ghost lawful: { (words : List Word) → IsLawful words (form words) };
+}
+
+/// The plain report: the lines of moves and of the counts, and nothing else.
+#[derive(Drop)]
+pub struct PlainStyle;
+
+impl Style for PlainStyle {
+    type Answer = Summary;
+
+    ghost form = { λ words. plain };
+
+    #[inline(always)]
+    fn explain<A: Allocator, W: Write>(
+        &mut self,
+        _head: &Preamble,
+        _session: &Session<A>,
+        _side: Side,
+        _told: Note,
+        _output: &mut Output<'_, W>,
+    ) -> Result<(), Unreported> {
+        Ok(())
+    }
+
+    #[inline(always)]
+    fn quote<W: Write>(
+        &mut self,
+        _head: &Preamble,
+        _line: &[u8],
+        _output: &mut Output<'_, W>,
+    ) -> Result<(), Unreported> {
+        Ok(())
+    }
+
+    #[inline(always)]
+    fn close<A: Allocator, W: Write>(
+        &mut self,
+        _head: &Preamble,
+        _sessions: &[Session<A>],
+        summary: Summary,
+        _output: &mut Output<'_, W>,
+    ) -> Result<Summary, Unreported> {
+        Ok(summary)
+    }
+
+    ghost lawful = { plain_lawful };
+}

@@ -1,0 +1,5 @@
+pub mod TextLines
+pub mod AddedLines
+pub mod ShownParts
+pub mod MoveLines
+pub mod OnlyAdds

@@ -1,0 +1,42 @@
+-- What the report of a log with its explanations has more than the plain one: lines that begin with four spaces or `#`. (own)
+use Rattle.std.specs.Prelude.{ℕ, ◌==◌, ◌||◌, Bool, not, if◌then◌else◌, List, [], ◌∷◌, take, filter, codes, Result, Ok, Err}
+use Rattle.std.specs.List.{concat}
+use Rattle.std.specs.Str.{bytes_eq}
+use Rattle.daide_words.specs.declared.word.Word.{Word}
+use Rattle.daide_machine.specs.declared.summary.Summary.{Summary}
+use Rattle.daide_lines.specs.declared.fault.LogFault.{LogFault}
+use Rattle.daide_log.specs.declared.explained.Explained.{Explained}
+use Rattle.daide_log.specs.Log.{IsReportBy, IsReport}
+use Rattle.daide_log.specs.Explained.{explained}
+
+-- ---- the lines of a text
+
+abbrev pub before_first : ℕ → List (List ℕ) → List (List ℕ)
+before_first byte [] = (byte ∷ []) ∷ []
+before_first byte (line ∷ lines) = (byte ∷ line) ∷ lines
+
+-- each with its line feed, which the last may lack
+abbrev pub lines_in : List ℕ → List (List ℕ)
+lines_in [] = []
+lines_in (byte ∷ text) = if byte == 10 then (10 ∷ []) ∷ lines_in text else before_first byte (lines_in text)
+
+-- a line of an explanation, or a comment of the log
+abbrev pub is_added : List ℕ → Bool
+is_added line = bytes_eq (take 4 line) (codes "    ") || bytes_eq (take 1 line) (codes "#")
+
+-- the text without those lines
+abbrev pub without_added : List ℕ → List ℕ
+without_added text = concat (filter (λ line. not (is_added line)) (lines_in text))
+
+-- ---- the law
+
+-- an answer without the number of frames that are not whole
+abbrev pub counts_of : Result Explained LogFault → Result Summary LogFault
+counts_of (Ok answer) = Ok answer.counts
+counts_of (Err fault) = Err fault
+
+-- The explained report of a log, without the lines that it adds, is the plain report of that log.
+abbrev pub ExplanationOnlyAdds : Type 0
+ExplanationOnlyAdds =
+    (words : List Word) (log text : List ℕ) (answer : Result Explained LogFault) →
+    IsReportBy (explained words) log text answer → IsReport log (without_added text) (counts_of answer)

@@ -1,0 +1,9 @@
+//! Laws of reports: functions with no parameters and an empty body, whose contracts are the laws.
+
+ghost use Rattle.daide_log_laws.specs.Added.{ExplanationOnlyAdds};
+
+/// The explained report of a log, without the lines that begin with four spaces or `#`, is the plain report of that log.
+/// Its answer has the counts or the fault of the plain one.
+pub fn explanation_only_adds()
+    ensures { ExplanationOnlyAdds }
+{}

@@ -1,0 +1,30 @@
+-- The fronts of tokens that no place was found in.
+use Rattle.std.proofs.Common.{◌≡◌, ℕ, zero, suc, ◌+◌, ◌≤◌, ◌<◌, List, [], ◌∷◌, ◌++◌, length, take, Option, None, Some}
+use Rattle.std.proofs.Common.{MatchOption, refl, sym, ap, subst, arith, inl, inr}
+use Rattle.daide_token.specs.Token.{prn, bra, ket}
+use Rattle.daide_grammar.specs.declared.symbol.Sym.{Sym}
+use Rattle.daide_reader.specs.ViablePrefix.{IsMessageOf}
+use Rattle.daide_reader.specs.ErrorPlace.{IsAllowedPrefix, AreAllowed}
+use Rattle.daide_reader.specs.Reading.{Expects, HasPlace, StackOrPlace}
+
+-- a report of unpaired brackets is a message of every language
+pub nothing_allowed : (language : List ℕ → Type 0) (max_depth : ℕ) → IsAllowedPrefix (IsMessageOf language) max_depth []
+nothing_allowed language max_depth = record {
+  viable = (prn ∷ bra ∷ ket ∷ [], inl ([], refl));
+  shallow = omega arith;
+}
+
+pub fronts_allowed : (language : List ℕ → Type 0) (max_depth : ℕ) (p : List ℕ)
+    → ((j : ℕ) → j < length p → IsAllowedPrefix (IsMessageOf language) max_depth (take (j + 1) p))
+    → AreAllowed (IsMessageOf language) max_depth p
+fronts_allowed language max_depth p h zero le = nothing_allowed language max_depth
+fronts_allowed language max_depth p h (suc j) le =
+    subst (λ (k : ℕ). IsAllowedPrefix (IsMessageOf language) max_depth (take k p)) (let e : j + 1 ≡ suc j = omega arith in e)
+    (h j (omega arith))
+
+-- what a stack or a place says of a place alone
+pub place_said : (language : Sym → List ℕ → Type 0) (first : Sym) (max_depth : ℕ) (stack : List Sym) (place : Option ℕ)
+    (p : List ℕ) → StackOrPlace language first max_depth stack place p
+    → MatchOption place (AreAllowed (IsMessageOf (language first)) max_depth p) (HasPlace (language first) max_depth p)
+place_said language first max_depth stack None p h = fronts_allowed (language first) max_depth p h.allowed
+place_said language first max_depth stack (Some i) p h = h

@@ -1,0 +1,104 @@
+-- An explanation only adds lines to what is shown without it.
+use Rattle.std.proofs.Common.{◌≡◌, ℕ, Bool, true, false, ltb, List, [], ◌++◌, length, Result, Ok, Err, ap, sym, subst, refl}
+use Rattle.std.proofs.Common.{◌∙◌, append-nil}
+use Rattle.std.specs.Bool.{MatchBool}
+use Rattle.hex.specs.declared.error.FromHexError.{FromHexError}
+use Rattle.daide_token.specs.Token.{tokens_of}
+use Rattle.daide_frame.specs.declared.side.Side.{Side}
+use Rattle.daide_frame.specs.declared.head.Kind.{Kind}
+use Rattle.daide_frame.specs.declared.head.Kind.TheVariants.{Im, Rm, Dm, Fm, Em}
+use Rattle.daide_frame.specs.InitialMessage.{im_of}
+use Rattle.daide_grammar.specs.declared.level.Level.{Level}
+use Rattle.daide_grammar.specs.SideMessages.{IsMessageOver}
+use Rattle.daide_words.specs.declared.word.Word.{Word}
+use Rattle.daide_words.specs.Word.{grammar_words}
+use Rattle.daide_reader.specs.declared.verdict.Verdict.{Verdict}
+use Rattle.daide_reader.specs.declared.verdict.Verdict.TheVariants.{Relay, Prn, Huh}
+use Rattle.daide_reader.proofs.VerdictLemmas.{verdict_is_one}
+use Rattle.daide_machine.specs.Bounds.{longest_body, greatest_depth}
+use Rattle.daide_machine.specs.Machine.{side2_of}
+use Rattle.daide_explain.specs.Explained.{IsExplained}
+use Rattle.daide_show.specs.declared.frame_view.ShowFault.{ShowFault}
+use Rattle.daide_show.specs.declared.frame_view.ShowFault.TheVariants.{TooLong, NotHex, NotOneFrame}
+use Rattle.daide_show.specs.Input.{limit, bytes_of}
+use Rattle.daide_show.specs.Shown.{Asked, Shown, OneFrame, faulty, whole, not_one, found_in}
+use Rattle.daide_show.specs.Shown.{kind_line, line, printed, verdict_lines, is_relay, message_shown, im_shown}
+use Rattle.daide_show.specs.Shown.{relayed_shown, fault_shown, OnlyAdds, IsMessageShownAs, IsFrameShownAs}
+use Rattle.daide_show.specs.Shown.{IsOneShownAs, IsShownAs}
+use Rattle.daide_show.proofs.OneWay.{Decoded}
+
+adds_nothing : (r s t : Shown) → s ≡ r → t ≡ r → OnlyAdds (Ok s) (Ok t)
+adds_nothing r s t x y =
+    let same : t ≡ s = y ∙ sym x in
+    ([], ap (λ (v : Shown). v.text) same ∙ sym (append-nil s.text), ap (λ (v : Shown). v.relayed) same, λ _. refl)
+
+moved : (one other a b : Result Shown ShowFault) → one ≡ a → other ≡ b → OnlyAdds a b → OnlyAdds one other
+moved one other a b x y adds =
+    subst (λ (o : Result Shown ShowFault). OnlyAdds o other) (sym x)
+    (subst (λ (o : Result Shown ShowFault). OnlyAdds a o) (sym y) adds)
+
+module _ (words : List Word) (side : Side) (level : Level) where
+  abbrev pub plainly : Asked
+  plainly = record { words = words; side = side; level = level; explained = false }
+
+  abbrev pub explaining : Asked
+  explaining = record { words = words; side = side; level = level; explained = true }
+
+  -- a message that is relayed has no lines
+  none_if_relayed : (m : List ℕ) (verdict : Verdict) (lines : List ℕ) →
+      IsExplained words (side2_of side) level greatest_depth m verdict lines → is_relay verdict ≡ true → lines ≡ []
+  none_if_relayed m Relay lines explained relayed = explained
+  none_if_relayed m Prn lines explained relayed = absurd cc
+  none_if_relayed m (Huh place) lines explained relayed = absurd cc
+
+  adds_lines : (len : ℕ) (body : List ℕ) (s t : Shown) → IsMessageShownAs plainly len body s →
+      IsMessageShownAs explaining len body t → OnlyAdds (Ok s) (Ok t)
+  adds_lines len body s t x y =
+      let m = tokens_of body in
+      let same : y.0 ≡ x.0 =
+      verdict_is_one (IsMessageOver (grammar_words words) (side2_of side) level) greatest_depth m y.0 x.0 y.2 x.2 in
+      let front = λ (v : Verdict).
+      (kind_line Dm len ++ line (printed words (tokens_of body))) ++ verdict_lines words v body in
+      let is_t : t ≡ message_shown words len body x.0 y.1 =
+      y.4 ∙ ap (λ (v : Verdict). message_shown words len body v y.1) same in
+      let is_s : s ≡ message_shown words len body x.0 [] =
+      x.4 ∙ ap (λ (l : List ℕ). message_shown words len body x.0 l) x.3 in
+      let plain_text : front x.0 ≡ s.text = sym (append-nil (front x.0)) ∙ ap (λ (v : Shown). v.text) (sym is_s) in (
+        y.1,
+        ap (λ (v : Shown). v.text) is_t ∙ ap (λ (l : List ℕ). l ++ y.1) plain_text,
+        ap (λ (v : Shown). v.relayed) is_t ∙ ap (λ (v : Shown). v.relayed) (sym is_s),
+        λ relayed.
+            none_if_relayed m y.0 y.1 y.3
+            (ap is_relay same ∙ (ap (λ (v : Shown). v.relayed) (sym is_s) ∙ relayed)),
+      )
+
+  frame_adds : (kind : Kind) (len : ℕ) (body : List ℕ) (s t : Shown) → IsFrameShownAs plainly kind len body s →
+      IsFrameShownAs explaining kind len body t → OnlyAdds (Ok s) (Ok t)
+  frame_adds Im len body s t x y = adds_nothing (im_shown len (im_of body)) s t x y
+  frame_adds Rm len body s t x y = adds_nothing (relayed_shown Rm len) s t x y
+  frame_adds Dm len body s t x y = adds_lines len body s t x y
+  frame_adds Fm len body s t x y = adds_nothing (relayed_shown Fm len) s t x y
+  frame_adds Em len body s t x y = adds_nothing (relayed_shown Em len) s t x y
+
+  one_adds : (frame : OneFrame) (one other : Result Shown ShowFault) → IsOneShownAs plainly frame one →
+      IsOneShownAs explaining frame other → OnlyAdds one other
+  one_adds (faulty code) one other x y =
+      moved one other (Ok (fault_shown code)) (Ok (fault_shown code)) x y
+      (adds_nothing (fault_shown code) (fault_shown code) (fault_shown code) refl refl)
+  one_adds not_one one other x y = moved one other (Err NotOneFrame) (Err NotOneFrame) x y refl
+  one_adds (whole head body) one other x y =
+      moved one other (Ok x.0) (Ok y.0) x.1 y.1 (frame_adds head.kind head.len body x.0 y.0 x.2 y.2)
+
+  bytes_add : (bytes : Result (List ℕ) FromHexError) (one other : Result Shown ShowFault) →
+      Decoded plainly bytes one → Decoded explaining bytes other → OnlyAdds one other
+  bytes_add (Ok bytes) one other x y = one_adds (found_in longest_body bytes) one other x y
+  bytes_add (Err e) one other x y = moved one other (Err NotHex) (Err NotHex) x y refl
+
+  pub only_adds : (input : List ℕ) (one other : Result Shown ShowFault) → IsShownAs plainly input one →
+      IsShownAs explaining input other → OnlyAdds one other
+  only_adds input one other x y = by_length (ltb limit (length input)) x y
+    where
+      by_length : (long : Bool) → MatchBool long (one ≡ Err TooLong) (Decoded plainly (bytes_of input) one) →
+          MatchBool long (other ≡ Err TooLong) (Decoded explaining (bytes_of input) other) → OnlyAdds one other
+      by_length true x y = moved one other (Err TooLong) (Err TooLong) x y refl
+      by_length false x y = bytes_add (bytes_of input) one other x y

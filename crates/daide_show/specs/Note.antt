@@ -1,0 +1,89 @@
+-- Why an input is not hexadecimal, or not one frame. (own)
+use Rattle.std.specs.Prelude.{ℕ, ◌+◌, ◌-◌, ◌/◌, ◌%◌, ◌||◌, ◌&&◌, nat_le, nat_lt, Bool, not, if◌then◌else◌}
+use Rattle.std.specs.Prelude.{List, [], ◌∷◌, ◌++◌, length, codes, slice_index, position, count_by, Option}
+use Rattle.std.specs.Prelude.{Some, None, Result, Ok, Err}
+use Rattle.std.specs.Fmt.{decimal}
+use Rattle.std.specs.Int.{w16, from_be_bytes}
+use Rattle.hex.specs.Hex.{is_hex_digit, upper_digits}
+use Rattle.hex.specs.declared.error.FromHexError.{FromHexError}
+use Rattle.daide_machine.specs.Bounds.{longest_body}
+use Rattle.daide_show.specs.Input.{limit, is_blank, bytes_of}
+use Rattle.daide_show.specs.Shown.{Shown, OneFrame, faulty, whole, not_one, found_in}
+use Rattle.daide_show.specs.declared.frame_view.ShowFault.{ShowFault}
+use Rattle.daide_show.specs.declared.frame_view.ShowFault.TheVariants.{Read, TooLong, NotHex, NotOneFrame}
+use Rattle.daide_show.specs.declared.frame_view.ShowFault.TheVariants.{Memory, Write}
+use Rattle.daide_show.specs.declared.notes.InputNote.{InputNote}
+use Rattle.daide_show.specs.declared.notes.InputNote.TheVariants.{BadByte, OddDigits, ShortHeader, ShortBody}
+use Rattle.daide_show.specs.declared.notes.InputNote.TheVariants.{AnotherFrame}
+
+-- neither a digit nor a blank
+abbrev pub is_bad : ℕ → Bool
+is_bad b = not (is_hex_digit b || is_blank b)
+
+-- the first bad byte, its place being counted from 1; if there is none, how many digits there are
+abbrev pub digits_note_at : List ℕ → Option ℕ → InputNote
+digits_note_at input (Some i) = BadByte (i + 1) (slice_index input i)
+digits_note_at input None = OddDigits (count_by (λ b. not (is_blank b)) input)
+
+-- why an input is not hexadecimal
+abbrev pub digits_note : List ℕ → InputNote
+digits_note input = digits_note_at input (position is_bad input)
+
+-- the length of the body that a header announces: its last two bytes, the high one first
+abbrev pub announced_length : List ℕ → ℕ
+announced_length bytes = from_be_bytes w16 (slice_index bytes 2 ∷ slice_index bytes 3 ∷ [])
+
+-- why some bytes are not one frame: the header is not whole, or the body is not, or a whole frame is followed by more
+abbrev pub frame_note : List ℕ → InputNote
+frame_note bytes =
+    if nat_lt (length bytes) 4 then ShortHeader (length bytes)
+    else if nat_lt (length bytes) (4 + announced_length bytes) then ShortBody (announced_length bytes) (length bytes - 4)
+    else AnotherFrame (4 + announced_length bytes)
+
+-- only bytes that are not one frame have a note
+abbrev pub note_of_frame : OneFrame → List ℕ → Option InputNote
+note_of_frame (faulty code) bytes = None
+note_of_frame (whole head body) bytes = None
+note_of_frame not_one bytes = Some (frame_note bytes)
+
+-- the note of an input by its decoded bytes, or by the error of decoding it
+abbrev pub note_of_bytes : List ℕ → Result (List ℕ) FromHexError → Option InputNote
+note_of_bytes input (Ok bytes) = note_of_frame (found_in longest_body bytes) bytes
+note_of_bytes input (Err error) = Some (digits_note input)
+
+-- the note of an input; one that is too long has none
+abbrev pub input_note_of : List ℕ → Option InputNote
+input_note_of input = if nat_lt limit (length input) then None else note_of_bytes input (bytes_of input)
+
+-- the fault that a note is of
+abbrev pub fault_of_note : InputNote → ShowFault
+fault_of_note (BadByte place b) = NotHex
+fault_of_note (OddDigits count) = NotHex
+fault_of_note (ShortHeader count) = NotOneFrame
+fault_of_note (ShortBody announced count) = NotOneFrame
+fault_of_note (AnotherFrame place) = NotOneFrame
+
+-- the fault of an input, if it is one that has a note
+abbrev pub noted_fault : Result Shown ShowFault → Option ShowFault
+noted_fault (Err NotHex) = Some NotHex
+noted_fault (Err NotOneFrame) = Some NotOneFrame
+noted_fault (Err Read) = None
+noted_fault (Err TooLong) = None
+noted_fault (Err Memory) = None
+noted_fault (Err Write) = None
+noted_fault (Ok shown) = None
+
+-- a byte as it is printed: quoted if it is a printable ASCII byte and no space, else by its value
+abbrev pub byte_text : ℕ → List ℕ
+byte_text b =
+    if nat_le 0x21 b && nat_le b 0x7E then 39 ∷ b ∷ 39 ∷ []
+    else codes "0x" ++ slice_index upper_digits (b / 16) ∷ slice_index upper_digits (b % 16) ∷ []
+
+-- a note as it is printed
+abbrev pub note_text : InputNote → List ℕ
+note_text (BadByte place b) = codes "byte " ++ decimal place ++ codes " is " ++ byte_text b
+note_text (OddDigits count) = codes "the number of digits is odd: " ++ decimal count
+note_text (ShortHeader count) = codes "a header has 4 bytes, the input has " ++ decimal count
+note_text (ShortBody announced count) =
+    codes "the header announces " ++ decimal announced ++ codes " bytes, " ++ decimal count ++ codes " follow"
+note_text (AnotherFrame place) = codes "another frame begins after byte " ++ decimal place

@@ -1,0 +1,3 @@
+mod PairingLemmas
+mod ClosingLemmas
+mod OnceLemmas

@@ -1,0 +1,85 @@
+-- Arrivals are looked at one by one.
+use Rattle.std.proofs.Common.{◌≡◌, ℕ, suc, ◌+◌, ◌<◌, List, [], ◌∷◌, ◌++◌, length, refl, sym, ap, ◌∙◌, arith}
+use Rattle.std.proofs.Common.{append_assoc, append-nil}
+use Rattle.daide_sockets.specs.Pairing.{Arriving, GoesOn, AllGoOn, LooksAt, TakesOut}
+
+module _ {S : Type 0} where
+  pub nothing_looked_at : (old : List (Arriving S)) → LooksAt 0 old old
+  nothing_looked_at old = record {
+    seen = [];
+    rest = old;
+    moved = [];
+    split = refl;
+    now = sym (append-nil old);
+    goes = refl;
+    len = refl;
+  }
+
+  go_on_snoc : (xs ys : List (Arriving S)) (x y : Arriving S) → AllGoOn xs ys → GoesOn x y →
+      AllGoOn (xs ++ x ∷ []) (ys ++ y ∷ [])
+  go_on_snoc [] ys x y h k = (y, [], ap (λ (l : List (Arriving S)). l ++ y ∷ []) h, k, refl)
+  go_on_snoc (z ∷ xs) ys x y h k = (
+    h.0,
+    h.1 ++ y ∷ [],
+    ap (λ (l : List (Arriving S)). l ++ y ∷ []) h.2,
+    h.3,
+    go_on_snoc xs h.1 x y h.4 k,
+  )
+
+  length_snoc : (xs : List (Arriving S)) (x : Arriving S) → length (xs ++ x ∷ []) ≡ suc (length xs)
+  length_snoc [] x = refl
+  length_snoc (y ∷ xs) x = ap suc (length_snoc xs x)
+
+  abbrev head_of : Arriving S → List (Arriving S) → Arriving S
+  head_of d [] = d
+  head_of d (x ∷ xs) = x
+
+  abbrev tail_of : List (Arriving S) → List (Arriving S)
+  tail_of [] = []
+  tail_of (x ∷ xs) = xs
+
+  next_split : (n : ℕ) (old now new : List (Arriving S)) (first : Arriving S) → LooksAt n old now → n < length old →
+      now ≡ first ∷ new → (out : TakesOut old first new) × (length out.seen ≡ n)
+  next_split n old now new first h lt e = by h.rest h.split h.now
+    where
+      by : (rest : List (Arriving S)) → old ≡ h.seen ++ rest → now ≡ rest ++ h.moved →
+          (out : TakesOut old first new) × (length out.seen ≡ n)
+      by [] s m =
+          let same : length old ≡ n = ap length (s ∙ append-nil h.seen) ∙ h.len in
+          absurd (omega (arith, lt, same))
+      by (x ∷ xs) s m =
+          let both : x ∷ (xs ++ h.moved) ≡ first ∷ new = sym m ∙ e in
+          let front : x ≡ first = ap (head_of x) both in (
+            record {
+              seen = h.seen;
+              rest = xs;
+              moved = h.moved;
+              split = s ∙ ap (λ (y : Arriving S). h.seen ++ y ∷ xs) front;
+              now = sym (ap tail_of both);
+              goes = h.goes;
+            },
+            h.len,
+          )
+
+  -- the first of what is left stands at the front
+  pub next_out : (n : ℕ) (old now new : List (Arriving S)) (first : Arriving S) → LooksAt n old now → n < length old →
+      now ≡ first ∷ new → TakesOut old first new
+  next_out n old now new first h lt e = (next_split n old now new first h lt e).0
+
+  -- one more was looked at
+  pub one_more : (n : ℕ) (old now rest new : List (Arriving S)) (first moved : Arriving S) → LooksAt n old now →
+      n < length old → now ≡ first ∷ rest → new ≡ rest ++ moved ∷ [] → GoesOn first moved → LooksAt (n + 1) old new
+  one_more n old now rest new first moved h lt e f k =
+      let split = next_split n old now rest first h lt e in
+      let out = split.0 in
+      let longer = length_snoc out.seen first in
+      let had = split.1 in
+      record {
+        seen = out.seen ++ first ∷ [];
+        rest = out.rest;
+        moved = out.moved ++ moved ∷ [];
+        split = out.split ∙ sym (append_assoc out.seen (first ∷ []) out.rest);
+        now = f ∙ ap (λ (l : List (Arriving S)). l ++ moved ∷ []) out.now ∙ append_assoc out.rest out.moved (moved ∷ []);
+        goes = go_on_snoc out.seen out.moved first moved out.goes k;
+        len = omega (arith, longer, had);
+      }

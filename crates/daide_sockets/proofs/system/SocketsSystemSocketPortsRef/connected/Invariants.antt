@@ -1,0 +1,11 @@
+use Rattle.std.proofs.Common.{◌≡◌}
+use Rattle.daide_sockets.specs.Pairing.{LooksAt}
+use Rattle.daide_sockets.proofs.system.SocketsSystemSocketPortsRef.connected.Given as goal
+
+-- so many were looked at
+abbrev pub invariant-loop-look : goal.invariant-loop-look
+invariant-loop-look g l = record {
+  looks : LooksAt l._look l.initial.self.arrivals.items l.self.arrivals.items;
+  came : l.self.came ≡ l.initial.self.came;
+  closing : l.self.closings ≡ l.initial.self.closings;
+}

@@ -1,0 +1,146 @@
+-- The sockets of a run beside those of its sessions, and what each answer to the loop does to them. (own)
+use Rattle.std.specs.Prelude.{◌≡◌, ◌⊎◌, ℕ, ◌+◌, nat_lt, true, false, List, [], ◌∷◌, ◌++◌, length, remove}
+use Rattle.std.specs.Prelude.{Option, Some, None, if◌then◌else◌}
+use Rattle.daide_machine.specs.System.{SystemAnswer, Begins, Accepts, Connects, Retires, Notifies, Waits}
+use Rattle.daide_machine.specs.declared.system.Connect.{Connect}
+use Rattle.daide_machine.specs.declared.system.Connect.TheVariants.{Ready, Failed, Pending}
+use Rattle.daide_streams.specs.Buffers.{Buffer, Passes, IsUnread}
+
+-- ---- values
+
+-- a bot whose connect to the server is under way: its session's number, its stream, and that of the connect, if one is made
+pub record Arriving (S : Type 0) : Type 0 where
+  pub number : ℕ
+  pub bot : Buffer S
+  pub server : Option (Buffer S)
+
+-- the number of a session, and the streams of its bot and of the server
+pub record Paired (S : Type 0) : Type 0 where
+  pub number : ℕ
+  pub bot : Buffer S
+  pub server : Buffer S
+
+-- how many bots came, those whose connects are under way, and the streams that close, in the order in which they began
+pub record RunSockets (S : Type 0) : Type 0 where
+  pub came : ℕ
+  pub arrivals : List (Arriving S)
+  pub closing : List (Buffer S)
+
+-- ---- bots and their connects
+
+-- a stream of which nothing is held, and no write failed
+abbrev pub IsFresh : {S : Type 0} → Buffer S → Type 0
+IsFresh stream = (stream.ahead ≡ []) × (stream.behind ≡ []) × (stream.has_failed ≡ false)
+
+-- a connect that was just begun, if one is
+abbrev pub IsBegun : {S : Type 0} → Option (Buffer S) → Type 0
+IsBegun None = Unit {0}
+IsBegun (Some stream) = IsFresh stream
+
+-- ports are those of this bot and of the server that its own connect reached, by its number
+pub record IsJoined {S : Type 0} (arrival : Arriving S) (pair : Paired S) : Type 0 where
+  pub number : pair.number ≡ arrival.number
+  pub bot : pair.bot ≡ arrival.bot
+  pub server : arrival.server ≡ Some pair.server
+
+-- the same bot, whose connect is as it was, or was begun again
+pub record GoesOn {S : Type 0} (old new : Arriving S) : Type 0 where
+  pub number : new.number ≡ old.number
+  pub bot : new.bot ≡ old.bot
+  pub server : (new.server ≡ old.server) ⊎ IsBegun new.server
+
+-- each of them goes on
+abbrev pub AllGoOn : {S : Type 0} → List (Arriving S) → List (Arriving S) → Type 0
+AllGoOn [] new = new ≡ []
+AllGoOn {S} (arrival ∷ arrivals) new = (one : Arriving S) × (others : List (Arriving S))
+    × (new ≡ one ∷ others) × GoesOn arrival one × AllGoOn arrivals others
+
+-- So many, from the first on, were looked at and go on; they stand behind the rest now, in their order.
+pub record LooksAt {S : Type 0} (count : ℕ) (old new : List (Arriving S)) : Type 0 where
+  pub seen : List (Arriving S)
+  pub rest : List (Arriving S)
+  pub moved : List (Arriving S)
+  pub split : old ≡ seen ++ rest
+  pub now : new ≡ rest ++ moved
+  pub goes : AllGoOn seen moved
+  pub len : length seen ≡ count
+
+-- Some were looked at and go on; the next is taken out, as it was.
+pub record TakesOut {S : Type 0} (old : List (Arriving S)) (arrival : Arriving S) (new : List (Arriving S)) : Type 0 where
+  pub seen : List (Arriving S)
+  pub rest : List (Arriving S)
+  pub moved : List (Arriving S)
+  pub split : old ≡ seen ++ arrival ∷ rest
+  pub now : new ≡ rest ++ moved
+  pub goes : AllGoOn seen moved
+
+-- ---- streams that close
+
+-- nothing was read of a stream or handed to it, and what it took is the front of what was held for it
+abbrev pub Flushes : {S : Type 0} → (S → Option (List ℕ)) → (S → Option (List ℕ)) → Buffer S → Buffer S → Type 0
+Flushes to_give taken old new = Passes to_give taken old [] [] new × IsUnread to_give old new
+
+-- at most so many close at once: where one more comes, the one that began first is closed
+abbrev pub with_room : {S : Type 0} → List (Buffer S) → List (Buffer S)
+with_room closing = if nat_lt (length closing) 256 then closing else remove closing 0
+
+-- one more stream closes, as the last: what was held for it is held further, but for what it took
+pub record Closes {S : Type 0} (to_give taken : S → Option (List ℕ)) (old : List (Buffer S)) (stream : Buffer S)
+    (new : List (Buffer S)) : Type 0 where
+  pub last : Buffer S
+  pub flushes : Flushes to_give taken stream last
+  pub now : new ≡ with_room old ++ last ∷ []
+
+-- the bot's stream closes, and then the server's
+abbrev pub ClosesBoth : {S : Type 0} → (S → Option (List ℕ)) → (S → Option (List ℕ)) → List (Buffer S) → Paired S →
+    List (Buffer S) → Type 0
+ClosesBoth {S} to_give taken old pair new = (mid : List (Buffer S))
+    × Closes to_give taken old pair.bot mid × Closes to_give taken mid pair.server new
+
+-- ---- one look
+
+-- What became of the first of the arrivals: ports of that bot and of the server that its connect reached; or its bot closes;
+-- or it goes on, behind the others.
+abbrev pub FirstBecomes : {P S : Type 0} → (S → Option (List ℕ)) → (S → Option (List ℕ)) → (P → Paired S) →
+    RunSockets S → Connect P → RunSockets S → Type 0
+FirstBecomes {S = S} to_give taken pair old (Ready ports) new = (arrival : Arriving S)
+    × (old.arrivals ≡ arrival ∷ new.arrivals) × IsJoined arrival (pair ports) × (new.came ≡ old.came)
+    × (new.closing ≡ old.closing)
+FirstBecomes {S = S} to_give taken pair old Failed new = (arrival : Arriving S)
+    × (old.arrivals ≡ arrival ∷ new.arrivals) × Closes to_give taken old.closing arrival.bot new.closing
+    × (new.came ≡ old.came)
+FirstBecomes {S = S} to_give taken pair old Pending new = (arrival moved : Arriving S) × (rest : List (Arriving S))
+    × (old.arrivals ≡ arrival ∷ rest) × (new.arrivals ≡ rest ++ moved ∷ []) × GoesOn arrival moved
+    × (new.came ≡ old.came) × (new.closing ≡ old.closing)
+
+-- ---- the answers to the loop
+
+-- one more bot came: it has the next number and stands behind the others, and its connect begins
+pub record Comes {S : Type 0} (old new : RunSockets S) : Type 0 where
+  pub arrival : Arriving S
+  pub came : new.came ≡ old.came + 1
+  pub arrivals : new.arrivals ≡ old.arrivals ++ arrival ∷ []
+  pub number : arrival.number ≡ new.came
+  pub bot : IsFresh arrival.bot
+  pub server : IsBegun arrival.server
+  pub closing : new.closing ≡ old.closing
+
+-- What a call with this answer does to the sockets; `pair` is what ports hold. Where a round begins, the streams that close
+-- go on.
+abbrev pub Transits : {P S : Type 0} → (S → Option (List ℕ)) → (S → Option (List ℕ)) → (P → Paired S) →
+    RunSockets S → SystemAnswer P → RunSockets S → Type 0
+Transits to_give taken pair old Begins new = (new.came ≡ old.came) × (new.arrivals ≡ old.arrivals)
+Transits to_give taken pair old (Accepts true) new = Comes old new
+Transits to_give taken pair old (Accepts false) new = new ≡ old
+Transits {S = S} to_give taken pair old (Connects (Ready ports)) new = (arrival : Arriving S)
+    × TakesOut old.arrivals arrival new.arrivals × IsJoined arrival (pair ports) × (new.came ≡ old.came)
+    × (new.closing ≡ old.closing)
+Transits {S = S} to_give taken pair old (Connects Failed) new = (arrival : Arriving S)
+    × TakesOut old.arrivals arrival new.arrivals × Closes to_give taken old.closing arrival.bot new.closing
+    × (new.came ≡ old.came)
+Transits to_give taken pair old (Connects Pending) new =
+    (count : ℕ) × LooksAt count old.arrivals new.arrivals × (new.came ≡ old.came) × (new.closing ≡ old.closing)
+Transits to_give taken pair old (Retires ports end) new = ClosesBoth to_give taken old.closing (pair ports) new.closing
+    × (new.came ≡ old.came) × (new.arrivals ≡ old.arrivals)
+Transits to_give taken pair old (Notifies notice) new = new ≡ old
+Transits to_give taken pair old (Waits more) new = new ≡ old

@@ -1,0 +1,5 @@
+pub mod Line
+pub mod Word
+pub mod Pieces
+pub mod Frames
+pub mod Lines

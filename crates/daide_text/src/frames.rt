@@ -1,0 +1,174 @@
+//! Lines of text, each written as the frame of its message.
+
+ghost use Rattle.std.specs.Prelude.{◌≡◌, ◌+◌, ◌≤◌, ◌<◌, ◌*◌, ◌++◌, ◌∷◌, ℕ, List, length, IfOk, IfErr, OnOk, Err};
+ghost use Rattle.daide_token.specs.Token.{bytes_of_tokens};
+ghost use Rattle.daide_words.specs.Word.{names_of};
+ghost use Rattle.daide_words.specs.Words.{words_of};
+ghost use Rattle.daide_text.specs.Frames.{IsFaultOfNext, IsFrameLine, Writes, WritesUpTo, upper_digit_of};
+ghost use Rattle.daide_text.specs.Frames.{frame_line, longest_text_line, more_pairs, most_frame_tokens, pair_of, trimmed};
+
+use crate::input::read_line;
+use crate::line::{LineFault, read_tokens};
+use daide_token::Token;
+use daide_words::Words;
+use std::alloc::{AllocError, Allocator};
+use std::io::{Read, Write};
+use thiserror::Error;
+
+/// The most tokens of a message.
+const MOST_TOKENS: usize = 32_763;
+
+/// The most lines of an input.
+const MOST_LINES: u32 = 1_000_000;
+
+/// The type of a frame that has a message.
+const DM: u8 = 2;
+
+/// The digits, with upper-case letters.
+const DIGITS: &[u8; 16] = b"0123456789ABCDEF";
+
+/// Why lines have no further frames. Lines are numbered from 1.
+#[derive(Clone, Copy, Debug, PartialEq, Eq, Error)]
+pub enum TextFault {
+    /// The reader failed.
+    #[error("input could not be read")]
+    Read,
+    /// What begins at this column of this line, counted from 1 in bytes, is no item.
+    #[error("line {0}: not a message: {1}")]
+    NotMessage(u32, usize),
+    /// This line has more than 400,000 bytes, or more than 32,763 tokens.
+    #[error("line {0}: too long")]
+    TooLong(u32),
+    /// There are more than 1,000,000 lines.
+    #[error("too many lines")]
+    TooManyLines,
+    /// A growth was refused.
+    #[error("out of memory")]
+    Memory,
+    /// The writer failed.
+    #[error("output could not be written")]
+    Write,
+}
+
+/// Reads each line of text, and writes the frame of its message as a line of hexadecimal digits, before the next line
+/// is read.
+///
+/// # Errors
+///
+/// At the first line that has a fault: `Read`; `TooLong` for its bytes; `NotMessage`; `TooLong` for its tokens;
+/// `Write`. `Memory` comes at the growth that was refused, and `TooManyLines` once line 1,000,001 was read. The frames
+/// of the lines before are written.
+pub fn write_frames<A: Allocator + Copy, R: Read, W: Write>(
+    alloc: A,
+    words: &Words,
+    reader: &mut R,
+    writer: &mut W,
+) -> Result<(), TextFault>
+    ensures written { OnOk result (Writes (names_of (words_of words.now)) (R.remaining reader.old)
+        (W.contents writer.old) (W.contents writer.new)) }
+    ensures refused { IfErr result (WritesUpTo (names_of (words_of words.now)) (R.remaining reader.old)
+        (W.contents writer.old) (W.contents writer.new)) }
+{
+    for count in 0..MOST_LINES {
+        let Some(line) = read_line(alloc, count + 1, reader)? else {
+            return Ok(());
+        };
+        let text = frame_text(alloc, words, count + 1, line.as_slice())?;
+        if writer.write_all(text.as_slice()).is_err() {
+            return Err(TextFault::Write);
+        }
+    }
+    match read_line(alloc, MOST_LINES + 1, reader)? {
+        Some(_line) => Err(TextFault::TooManyLines),
+        None => Ok(()),
+    }
+}
+
+/// Returns the line that is written for a line of this number.
+fn frame_text<A: Allocator + Copy>(
+    alloc: A,
+    words: &Words,
+    number: u32,
+    line: &[u8],
+) -> Result<Vec<u8, A>, TextFault>
+    requires { length line.now ≤ longest_text_line }
+    ensures text { IfOk result (λ text. IsFrameLine (names_of (words_of words.now)) line.now text.items) }
+    ensures refused { IfErr result (λ fault. (count : ℕ) (more : List (List ℕ)) → number ≡ count + 1
+        → IsFaultOfNext (names_of (words_of words.now)) count (line.now ∷ more) fault) }
+    ensures written { result ≡ Err TextFault.Write → ⊥ }
+{
+    let tokens = match read_tokens(alloc, words, trimmed(line)) {
+        Ok(tokens) => tokens,
+        Err(LineFault::NotItem(column)) => return Err(TextFault::NotMessage(number, column)),
+        Err(LineFault::Memory) => return Err(TextFault::Memory),
+    };
+    if tokens.len() > MOST_TOKENS {
+        return Err(TextFault::TooLong(number));
+    }
+    match frame_line(alloc, tokens.as_slice()) {
+        Ok(text) => Ok(text),
+        Err(_) => Err(TextFault::Memory),
+    }
+}
+
+/// Returns a line without the carriage return at its end.
+fn trimmed(line: &[u8]) -> &[u8]
+    ensures { result.now ≡ trimmed line.now }
+{
+    match line.strip_suffix(b"\r") {
+        Some(front) => front,
+        None => line,
+    }
+}
+
+/// Returns the frame of a message in digits, as a line.
+fn frame_line<A: Allocator>(alloc: A, tokens: &[Token]) -> Result<Vec<u8, A>, AllocError>
+    requires { length tokens.now ≤ most_frame_tokens }
+    ensures { IfOk result (λ text. text.items ≡ frame_line tokens.now) }
+{
+    let [high, low] = ((tokens.len() * 2) as u16).to_be_bytes();
+    let mut text = Vec::new(alloc);
+    push_first(DM, &mut text)?;
+    push_byte(0, &mut text)?;
+    push_byte(high, &mut text)?;
+    push_byte(low, &mut text)?;
+    push_tokens(tokens, &mut text)?;
+    text.extend_from_slice(b"\n")?;
+    Ok(text)
+}
+
+/// Appends the bytes of tokens, each after a space.
+fn push_tokens<A: Allocator>(tokens: &[Token], text: &mut Vec<u8, A>) -> Result<(), AllocError>
+    ensures { OnOk result (text.new.items ≡ text.old.items ++ more_pairs (bytes_of_tokens tokens.now)) }
+{
+    let mut rest = tokens;
+    while let [token, others @ ..] = rest {
+        let [high, low] = token.to_be();
+        push_byte(high, text)?;
+        push_byte(low, text)?;
+        rest = others;
+    }
+    Ok(())
+}
+
+/// Appends the two digits of a byte.
+fn push_first<A: Allocator>(byte: u8, text: &mut Vec<u8, A>) -> Result<(), AllocError>
+    ensures { OnOk result (text.new.items ≡ text.old.items ++ pair_of byte) }
+{
+    text.extend_from_slice(&[digit(byte / 16), digit(byte % 16)])
+}
+
+/// Appends a space and the two digits of a byte.
+fn push_byte<A: Allocator>(byte: u8, text: &mut Vec<u8, A>) -> Result<(), AllocError>
+    ensures { OnOk result (text.new.items ≡ text.old.items ++ 32 ∷ pair_of byte) }
+{
+    text.extend_from_slice(&[b' ', digit(byte / 16), digit(byte % 16)])
+}
+
+/// Returns one digit.
+fn digit(value: u8) -> u8
+    requires { value < 16 }
+    ensures { result ≡ upper_digit_of value }
+{
+    DIGITS[value as usize]
+}

@@ -1,0 +1,40 @@
+//! The lines of an input, one by one.
+
+ghost use Rattle.std.specs.Prelude.{◌≡◌, ◌+◌, ◌≤◌, length, IfErr, MatchOption, IfOk};
+ghost use Rattle.daide_text.specs.Frames.{longest_text_line};
+ghost use Rattle.daide_text.specs.Lines.{IsLineFrom, IsNoLine, IsInputFault};
+
+use crate::frames::TextFault;
+use std::alloc::Allocator;
+use std::io::Read;
+
+/// The most bytes of a line before its line feed.
+const LONGEST_LINE: usize = 400_000;
+
+/// Reads the next line, whose number this is, without its line feed. A failed read is a fault whatever its kind.
+pub(crate) fn read_line<A: Allocator, R: Read>(
+    alloc: A,
+    number: u32,
+    reader: &mut R,
+) -> Result<Option<Vec<u8, A>>, TextFault>
+    ensures line { IfOk result (λ found. MatchOption found (IsNoLine (R.remaining reader.old))
+        (λ line. IsLineFrom (R.remaining reader.old) (R.remaining reader.new) line.items)) }
+    ensures refused { IfErr result (IsInputFault (R.remaining reader.old) number) }
+{
+    let mut line = Vec::new(alloc);
+    let mut piece = [0u8; 1];
+    for _count in 0..=LONGEST_LINE {
+        match reader.read(&mut piece) {
+            Ok(0) => return Ok(if line.is_empty() { None } else { Some(line) }),
+            Ok(_) => {}
+            Err(_) => return Err(TextFault::Read),
+        }
+        if piece[0] == b'\n' {
+            return Ok(Some(line));
+        }
+        if line.push(piece[0]).is_err() {
+            return Err(TextFault::Memory);
+        }
+    }
+    Err(TextFault::TooLong(number))
+}

@@ -1,0 +1,13 @@
+//! The printed text of messages, read back: each line of text is a message, and its frame is written in hexadecimal
+//! digits.
+#![tactic(auto)]
+
+pub mod frames;
+mod input;
+pub mod laws;
+pub mod line;
+mod pieces;
+mod word;
+
+pub use frames::{TextFault, write_frames};
+pub use line::{LineFault, read_tokens};

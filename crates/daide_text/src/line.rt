@@ -1,0 +1,47 @@
+//! One line of text, read as the tokens of a message.
+
+ghost use Rattle.std.specs.Prelude.{◌≡◌, ℕ, IfOk, IfErr};
+ghost use Rattle.daide_words.specs.Word.{names_of};
+ghost use Rattle.daide_words.specs.Words.{words_of};
+ghost use Rattle.daide_text.specs.Line.{IsText};
+ghost use Rattle.daide_text.specs.Pieces.{IsLineFault};
+
+use crate::pieces::{PieceFault, take_piece};
+use daide_token::Token;
+use daide_words::Words;
+use std::alloc::Allocator;
+
+/// Why a line has no tokens.
+#[derive(Clone, Copy, Debug, PartialEq, Eq)]
+pub enum LineFault {
+    /// What begins at this column, counted from 1 in bytes, is no item.
+    NotItem(usize),
+    /// A growth was refused.
+    Memory,
+}
+
+/// Reads a line, without its end, as the tokens of a message: the inverse of `write_text_with` of `daide_token`.
+///
+/// # Errors
+///
+/// `NotItem` with the first byte of the first item that is none, of a quote that is not closed the quote itself;
+/// `Memory` at the growth that was refused.
+pub fn read_tokens<A: Allocator>(
+    alloc: A,
+    words: &Words,
+    line: &[u8],
+) -> Result<Vec<Token, A>, LineFault>
+    ensures text { IfOk result (λ tokens. IsText (names_of (words_of words.now)) line.now tokens.items) }
+    ensures refused { IfErr result (IsLineFault (names_of (words_of words.now)) line.now) }
+{
+    let mut tokens = Vec::new(alloc);
+    let mut rest = line;
+    while !rest.is_empty() {
+        rest = match take_piece(words, rest, &mut tokens) {
+            Ok(after) => after,
+            Err(PieceFault::NotItem) => return Err(LineFault::NotItem(line.len() - rest.len() + 1)),
+            Err(PieceFault::Memory) => return Err(LineFault::Memory),
+        };
+    }
+    Ok(tokens)
+}

@@ -1,0 +1,59 @@
+"""Runs with `--explain`: rows of messages and of logs, with texts that were worked out apart from the program.
+
+The rows of messages are printed by `scripts/second-explanation --table`, which reads docs/PROTOCOL.md; those of logs were
+worked out by hand from docs/FORMATS.md.
+"""
+
+from held import Wrong
+from runs import Folder, check_ran, rows_of
+
+
+def judged_by(text):
+    """The sides and levels of a text as `bot 0, server 10 to 40 60`, in pairs."""
+    for part in text.split(","):
+        side, *words = part.replace(" to ", "-").split()
+        for low, _, high in (word.partition("-") for word in words):
+            for level in range(int(low), int(high or low) + 1, 10):
+                yield side, str(level)
+
+
+def explained_frames(program):
+    """What `show --explain` prints of the worked examples and their neighbours, of each side and at each level."""
+    with Folder(program) as folder:
+        frame = ""
+        for row in rows_of("explained"):
+            digits, judged, output, status = row.split("|")
+            frame = digits.strip() or frame
+            for side, level in judged_by(judged):
+                words = ["show", "--explain", "--side", side, "--level", level]
+                check_ran(folder.run(words, frame.encode()), (output, "", status), f"{frame} | {side} {level}")
+
+
+def one_bracket_too_deep_is_explained(program):
+    """A BRA beyond 254 open brackets is too deep; so is a message that goes on with nothing but such a BRA."""
+    chain = "481740004102400140004A134000" + "4A014000480140014000" * 252 + "4A014801" + "4001" * 254
+    with Folder(program) as folder:
+        for body, line in (
+            ("4806" + "4000" * 255 + "4001" * 255, "too deep: ( at 255"),
+            (chain, "too deep: 254 brackets are open"),
+        ):
+            digits = f"0200{len(body) // 2:04X}{body}"
+            printed, _, _ = folder.run(["show", "--explain", "--level", "60"], digits.encode())
+            if printed.decode().splitlines()[4:] != [line]:
+                raise Wrong(f"saw {printed.decode().splitlines()[4:]!r}, wanted {line!r}")
+
+
+def explained_logs(program):
+    """Reports of logs with explanations; without them, the lines at the margin that are no comments."""
+    with Folder(program) as folder:
+        for row in rows_of("explained-logs"):
+            log, output, fault, status = row.split("|")
+            given = log.strip().replace("/", "\n").encode()
+            check_ran(folder.run(["check", "--explain"], given), (output, fault, status), row)
+            plain = [line for line in output.strip().split("/") if not line.startswith(("    ", "#"))]
+            printed, _, _ = folder.run(["check"], given)
+            if printed.decode().split("\n") != plain:
+                raise Wrong(f"without explanations: saw {printed.decode()!r}, wanted {plain!r}")
+
+
+TESTS = [explained_frames, one_bracket_too_deep_is_explained, explained_logs]

@@ -1,0 +1,68 @@
+"""Scenes of peers that read nothing of what waits for them."""
+
+from acts import Bot, Ends, Hears, HearsEnd, Leave, Passes, Pours, Rests, Says, Server
+from frames import FM, LONGER_NAME, MISNAMED
+from gateway import joins, opens
+from stage import Scene
+
+# Frames of 20 KB: more than a connection holds at both its ends.
+MORE_THAN_FITS = 1_500
+
+# A bot sends messages that are answered with HUH and reads no answer; its server says FM and is gone. The session is over,
+# and the bot takes nothing of what waits for it.
+STOPS_READING = [
+    *joins(),
+    *opens(0),
+    Pours(Bot(0), MISNAMED, MORE_THAN_FITS),
+    Passes(1_000),
+    Says(Server(0), FM),
+    Ends(Server(0)),
+    HearsEnd(Server(0)),
+    Rests(),
+    Leave(),
+]
+
+# The server stays: it hears the end of the session.
+STOPS_READING_ALONE = [
+    *joins(),
+    *opens(0),
+    Pours(Bot(0), MISNAMED, MORE_THAN_FITS),
+    Hears(Server(0), FM),
+    HearsEnd(Server(0)),
+    Ends(Server(0)),
+    Rests(),
+    Leave(),
+]
+
+# A server takes nothing of what its bot says.
+SERVER_STOPS_READING = [
+    *joins(),
+    *opens(0),
+    Pours(Bot(0), LONGER_NAME, MORE_THAN_FITS),
+    Hears(Bot(0), FM),
+    HearsEnd(Bot(0)),
+    Rests(),
+    Leave(),
+]
+
+BOT_STALLED = """\
+daide-gate: session 1 began: bot at 127.0.0.1:{0}
+daide-gate: session 1 ended: bot took nothing for 1 s; relayed 2 prn 0 huh * faults 0
+"""
+
+SERVER_STALLED = """\
+daide-gate: session 1 began: bot at 127.0.0.1:{0}
+daide-gate: session 1 ended: server took nothing for 1 s; relayed * prn 0 huh 0 faults 0
+"""
+
+SCENES = [
+    Scene("bot_that_reads_nothing_holds_no_run_open", STOPS_READING, "stall_seconds = 1"),
+    Scene(
+        "bot_that_reads_nothing_is_given_up", STOPS_READING_ALONE, "stall_seconds = 1", told=BOT_STALLED,
+        verbose=True,
+    ),
+    Scene(
+        "server_that_reads_nothing_is_given_up", SERVER_STOPS_READING, "stall_seconds = 1", told=SERVER_STALLED,
+        verbose=True,
+    ),
+]
