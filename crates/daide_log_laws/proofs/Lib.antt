@@ -1,4 +1,5 @@
 pub mod TextLines
+pub mod AddedFacts
 pub mod AddedLines
 pub mod ShownParts
 pub mod MoveLines

@@ -1,6 +1,6 @@
 -- The lines that stay: those of moves, which begin with a digit, and the last one.
-use Rattle.std.proofs.Common.{◌≡◌, ℕ, zero, suc, ◌+◌, ◌/◌, ◌%◌, ◌≤◌, ◌==◌, ◌&&◌, ◌||◌, cond, nat_lt, leb, Bool, true, false}
-use Rattle.std.proofs.Common.{List, [], ◌∷◌, ◌++◌, codes, Option, Some, None, refl, sym, ap, ◌∙◌, subst, arith, append_assoc}
+use Rattle.std.proofs.Common.{◌≡◌, ℕ, zero, suc, ◌+◌, ◌/◌, ◌%◌, ◌≤◌, ◌==◌, ◌&&◌, cond, nat_lt, Bool, true, false}
+use Rattle.std.proofs.Common.{List, [], ◌∷◌, ◌++◌, codes, Option, Some, None, refl, sym, ap, ◌∙◌, arith, append_assoc}
 use Rattle.std.specs.Prelude.{if◌then◌else◌}
 use Rattle.std.specs.List.{list_all}
 use Rattle.std.specs.Fmt.{decimal, digits, digits_onto, digit_glyph}
@@ -18,7 +18,6 @@ use Rattle.daide_machine.specs.declared.note.Deed.TheVariants.{Relayed, Dropped,
 use Rattle.daide_machine.specs.declared.note.Note.{Note}
 use Rattle.daide_machine.specs.declared.note.Note.TheVariants.{Nothing, Frame, Fault}
 use Rattle.daide_machine.specs.declared.summary.Summary.{Summary}
-use Rattle.daide_lines.specs.LogLine.{IsUnbroken}
 use Rattle.daide_log.specs.declared.report.Source.{Source}
 use Rattle.daide_log.specs.Report.{name_of_side, deed_text, move_text, session_text, source_text, told_text, move_line}
 use Rattle.daide_log.specs.Report.{size_text, part_line, summary_line}

@@ -1,6 +1,6 @@
 -- The plain report of a log is its explained report without the lines that this adds.
-use Rattle.std.proofs.Common.{◌≡◌, ℕ, zero, suc, ◌+◌, ◌-◌, ◌<◌, ◌≤◌, ◌&&◌, ◌||◌, ◌⊎◌, inl, inr, cond, eqb, Bool, true, false}
-use Rattle.std.proofs.Common.{List, [], ◌∷◌, ◌++◌, length, take, drop, Option, Some, None, Result, Ok, Err, refl, sym, ap, ◌∙◌}
+use Rattle.std.proofs.Common.{◌≡◌, ℕ, zero, suc, ◌+◌, ◌-◌, ◌⊎◌, inl, inr, cond, eqb, Bool, true, false}
+use Rattle.std.proofs.Common.{List, [], ◌∷◌, ◌++◌, length, take, drop, Result, Ok, Err, refl, sym, ap, ◌∙◌}
 use Rattle.std.proofs.Common.{subst, append_assoc, append-nil}
 use Rattle.std.specs.List.{AllByRecursion}
 use Rattle.std.specs.Str.{bytes_eq}
@@ -9,22 +9,24 @@ use Rattle.daide_frame.specs.declared.side.Side.{Side}
 use Rattle.daide_words.specs.declared.word.Word.{Word}
 use Rattle.daide_machine.specs.declared.summary.Summary.{Summary}
 use Rattle.daide_machine.specs.Events.{Event}
-use Rattle.daide_machine.specs.Machine.{SessionState, Effect, Transition, Runs}
+use Rattle.daide_machine.specs.Machine.{SessionState, Effect}
 use Rattle.daide_machine.specs.Summary.{counted, nothing_counted}
 use Rattle.daide_lines.specs.declared.fault.LogFault.{LogFault}
 use Rattle.daide_lines.specs.declared.fault.LogFault.TheVariants.{BadLine, LineTooLong, TooManyLines}
-use Rattle.daide_lines.specs.LogLine.{IsUnbroken, without_cr, LogEvent}
+use Rattle.daide_lines.specs.LogLine.{IsUnbroken, without_cr}
 use Rattle.daide_lines.specs.MatchLine.{MatchEvent, Of, Quiet}
 use Rattle.daide_log.specs.declared.explained.Explained.{Explained}
 use Rattle.daide_log.specs.declared.heading.Version.{Version}
 use Rattle.daide_log.specs.declared.report.Source.{Source}
-use Rattle.daide_log.specs.Report.{Entry, entries_of, events_of, side_of, lines_of, move_line, texts_of, counted_by, counted_all, summary_line}
-use Rattle.daide_log.specs.Log.{LogState, Opening, Playing, GoesOn, GoesOnBy, IsPlayedAs, IsPlayed, Reports, ReportsBy, ReportsAll, ReportsAllBy}
+use Rattle.daide_log.specs.Report.{Entry, entries_of, events_of, side_of, lines_of, move_line, texts_of, counted_by}
+use Rattle.daide_log.specs.Report.{counted_all, summary_line}
+use Rattle.daide_log.specs.Log.{LogState, Opening, Playing, GoesOn, GoesOnBy, IsPlayedAs, Reports, ReportsBy}
+use Rattle.daide_log.specs.Log.{ReportsAll, ReportsAllBy}
 use Rattle.daide_log.specs.Log.{IsReport, IsReportBy, plain, source_in}
-use Rattle.daide_log.specs.Explained.{Shown, Moved, Remark, shown_text, shown_counted, AreLines, AreShown, AreShownBy, explained}
+use Rattle.daide_log.specs.Explained.{Shown, Moved, Remark, shown_text, shown_counted, AreShown, AreShownBy, explained}
 use Rattle.daide_log.specs.Explained.{indented, is_remark, remarks, Part, part_text, parts_from}
 use Rattle.daide_log.specs.Lawful.{entries_of-append}
-use Rattle.daide_log_laws.specs.Added.{without_added, is_added, counts_of, ExplanationOnlyAdds}
+use Rattle.daide_log_laws.specs.Added.{without_added, is_added, counts_of, ExplanationOnlyAdds, PlainAddsNothing}
 use Rattle.daide_log_laws.proofs.TextLines.{added_line}
 use Rattle.daide_log_laws.proofs.AddedLines.{IsWhole, indented_goes}
 use Rattle.daide_log_laws.proofs.ShownParts.{lines_whole}
@@ -282,3 +284,32 @@ module _ (words : List Word) where
 
 pub explanation_adds : ExplanationOnlyAdds
 explanation_adds words log text answer report = only_adds words log text answer report
+
+-- ---- the plain report
+
+plain_stays : (told : List Entry) (tail : List ℕ) →
+    without_added (lines_of told ++ tail) ≡ lines_of told ++ without_added tail
+plain_stays [] tail = refl
+plain_stays (entry ∷ told) tail =
+    let text = move_text_of entry in
+    ap without_added (append_assoc text (lines_of told) tail)
+    ∙ move_stays entry.source entry.side entry.told (lines_of told ++ tail)
+    ∙ ap (λ (l : List ℕ). text ++ l) (plain_stays told tail)
+    ∙ sym (append_assoc text (lines_of told) (without_added tail))
+
+plain_alone : (told : List Entry) → without_added (lines_of told) ≡ lines_of told
+plain_alone told =
+    ap without_added (sym (append-nil (lines_of told))) ∙ plain_stays told [] ∙ append-nil (lines_of told)
+
+pub plain_adds_nothing : PlainAddsNothing
+plain_adds_nothing log text answer (IsReportBy.whole bytes number told version sessions all) =
+    let last = summary_line (counted_all told nothing_counted) in
+    plain_stays told last ∙ ap (λ (l : List ℕ). lines_of told ++ l) (summary_stays (counted_all told nothing_counted))
+plain_adds_nothing log text answer (IsReportBy.cut_short bytes number told stage all opening) = plain_alone told
+plain_adds_nothing log text answer (IsReportBy.bad bytes number told stage reports line after few whole short bad) =
+    plain_alone told
+plain_adds_nothing log text answer (IsReportBy.bad_last bytes number told stage reports line few some whole short bad) =
+    plain_alone told
+plain_adds_nothing log text answer (IsReportBy.too_long bytes number told stage reports line after few whole long) =
+    plain_alone told
+plain_adds_nothing log text answer (IsReportBy.too_many bytes told stage reports after some) = plain_alone told

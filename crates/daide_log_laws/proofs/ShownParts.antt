@@ -1,6 +1,7 @@
 -- The lines that explain a move are whole.
-use Rattle.std.proofs.Common.{◌≡◌, ℕ, ◌-◌, ◌/◌, ◌==◌, ◌&&◌, not, Bool, true, false, cond, List, [], ◌∷◌, ◌++◌, length, drop, codes}
-use Rattle.std.proofs.Common.{Option, Some, None, refl, sym, ap, ◌∙◌, subst, append_assoc, inl, inr}
+use Rattle.std.proofs.Common.{◌≡◌, ℕ, ◌-◌, ◌/◌, ◌==◌, ◌&&◌, not, Bool, true, false, List, [], ◌∷◌, ◌++◌, length, drop}
+use Rattle.std.proofs.Common.{codes}
+use Rattle.std.proofs.Common.{Option, Some, None, refl, sym, subst, inl, inr}
 use Rattle.std.specs.Prelude.{if◌then◌else◌}
 use Rattle.std.specs.Bool.{MatchBool}
 use Rattle.std.specs.Fmt.{decimal}
@@ -22,13 +23,15 @@ use Rattle.daide_reader.specs.declared.verdict.Verdict.TheVariants.{Relay, Prn, 
 use Rattle.daide_explain.specs.declared.brackets.Unpaired.{Unpaired}
 use Rattle.daide_explain.specs.declared.brackets.Unpaired.TheVariants.{Ket, Bra, Nothing}
 use Rattle.daide_explain.specs.Unpaired.{IsUnpairedIn}
-use Rattle.daide_explain.specs.Explained.{IsExplained, IsExpectedLine, expected_line, class_items, end_item, level_line, side_line, unpaired_line, IsUnpairedExplained, IsPlaceCause}
+use Rattle.daide_explain.specs.Explained.{IsExplained, IsExpectedLine, expected_line, class_items, end_item, level_line}
+use Rattle.daide_explain.specs.Explained.{side_line, unpaired_line}
 use Rattle.daide_machine.specs.declared.note.Deed.{Deed}
 use Rattle.daide_machine.specs.declared.note.Note.{Note}
 use Rattle.daide_machine.specs.declared.note.Note.TheVariants as Notes
 use Rattle.daide_machine.specs.Events.{Event}
 use Rattle.daide_machine.specs.Machine.{SessionState, Question, question, side2_of}
-use Rattle.daide_log.specs.Explained.{AreRefusedLines, AreMessageLines, AreFrameLines, AreLines, line, printed, verdict_by, bytes_at}
+use Rattle.daide_log.specs.Explained.{AreRefusedLines, AreMessageLines, AreFrameLines, AreLines, line, printed}
+use Rattle.daide_log.specs.Explained.{verdict_by, bytes_at}
 use Rattle.daide_log.specs.Explained.{token_line, bytes_line, fault_lines, pairs}
 use Rattle.daide_machine.specs.Answers.{answer_body}
 use Rattle.daide_log_laws.proofs.AddedLines.{IsEnded, IsWhole, ended_behind, both_whole}

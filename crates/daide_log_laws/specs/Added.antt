@@ -1,5 +1,6 @@
--- What the report of a log with its explanations has more than the plain one: lines that begin with four spaces or `#`. (own)
-use Rattle.std.specs.Prelude.{ℕ, ◌==◌, ◌||◌, Bool, not, if◌then◌else◌, List, [], ◌∷◌, take, filter, codes, Result, Ok, Err}
+-- What the explained report of a log has more than the plain one: lines that begin with four spaces or `#`. (own)
+use Rattle.std.specs.Prelude.{◌≡◌, ℕ, ◌==◌, ◌||◌, Bool, not, if◌then◌else◌, List, [], ◌∷◌, take}
+use Rattle.std.specs.Prelude.{filter, codes, Result, Ok, Err}
 use Rattle.std.specs.List.{concat}
 use Rattle.std.specs.Str.{bytes_eq}
 use Rattle.daide_words.specs.declared.word.Word.{Word}
@@ -28,7 +29,7 @@ is_added line = bytes_eq (take 4 line) (codes "    ") || bytes_eq (take 1 line) 
 abbrev pub without_added : List ℕ → List ℕ
 without_added text = concat (filter (λ line. not (is_added line)) (lines_in text))
 
--- ---- the law
+-- ---- the laws
 
 -- an answer without the number of frames that are not whole
 abbrev pub counts_of : Result Explained LogFault → Result Summary LogFault
@@ -40,3 +41,8 @@ abbrev pub ExplanationOnlyAdds : Type 0
 ExplanationOnlyAdds =
     (words : List Word) (log text : List ℕ) (answer : Result Explained LogFault) →
     IsReportBy (explained words) log text answer → IsReport log (without_added text) (counts_of answer)
+
+-- The plain report of a log has no such line.
+abbrev pub PlainAddsNothing : Type 0
+PlainAddsNothing =
+    (log text : List ℕ) (answer : Result Summary LogFault) → IsReport log text answer → without_added text ≡ text
