@@ -285,6 +285,19 @@ class Leave(Act):
 
 
 @dataclass(frozen=True)
+class Goes(Act):
+    """Closes its connection, and leaves unread what was sent to it."""
+
+    who: object
+
+    def play(self, stage):
+        peer = stage.peer(self.who)
+        peer.stream.close()
+        peer.is_gone = True
+        return True
+
+
+@dataclass(frozen=True)
 class Rests(Act):
     """The run is left alone until it ends."""
 

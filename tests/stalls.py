@@ -1,6 +1,6 @@
 """Scenes of peers that read nothing of what waits for them."""
 
-from acts import Bot, Ends, Hears, HearsEnd, Leave, Passes, Pours, Rests, Says, Server
+from acts import Bot, Ends, Goes, Hears, HearsEnd, Leave, Passes, Pours, Rests, Says, Server
 from frames import FM, LONGER_NAME, MISNAMED
 from gateway import joins, opens
 from stage import Scene
@@ -42,6 +42,7 @@ SERVER_STOPS_READING = [
     Hears(Bot(0), FM),
     HearsEnd(Bot(0)),
     Rests(),
+    Goes(Server(0)),
     Leave(),
 ]
 
