@@ -8,7 +8,7 @@ from acts import (
 )
 from frames import FM, IM
 from gateway import asks, joins
-from held import Wrong
+from held import NotPlayed, Wrong
 from stage import Scene, begun
 
 # How many sessions end. With four descriptors each they are fewer than 1,024.
@@ -55,16 +55,16 @@ class Many(Scene):
     that comes. The program's clock can't be stopped, so where the machine was too slow it is played again."""
 
     def play(self, program):
-        """Plays it until the machine was quick enough; a line says so where it never was."""
+        """Plays it until the machine was quick enough; if it never was, nothing is seen."""
         plays = []
         for _ in range(TIMES):
             with begun(program, self.settings, self.server) as stage:
                 plays.append(self.play_once(stage))
             if plays[-1][0] < QUICK:
-                return None
+                return
         if all(longest > KEPT_OUT and seconds - longest < QUICK for seconds, longest in plays):
             raise Wrong(f"each time a bot waited for more than {KEPT_OUT} s, wanted none that waits")
-        return f"not seen: all took {min(plays)[0]:.1f} s and more, and a silent peer's socket is closed after one"
+        raise NotPlayed(f"all took {min(plays)[0]:.1f} s and more, and a silent peer's socket is closed after one")
 
     def play_once(self, stage):
         """Plays it once, and tells how many seconds all took, and the longest act; what is found of the sockets counts

@@ -35,5 +35,26 @@ LONGER_NAME = b"\x02\x00\x4e\x2c\x48\x0c\x40\x00" + b"Ka" * 10_000 + b"\x40\x01\
 # That with `GOF` behind it, which no message has there: 20,018 bytes.
 MISNAMED = b"\x02\x00\x4e\x2e" + LONGER_NAME[4:] + b"\x48\x03"
 
+# `OBS GOF`, and `HUH ( OBS ERR GOF )`.
+OBS_GOF = b"\x02\x00\x00\x04\x48\x0f\x48\x03"
+ITS_ERR = b"\x02\x00\x00\x0c\x48\x06\x40\x00\x48\x0f\x49\x02\x48\x03\x40\x01"
+
 # Bytes of a type that there is none of, which nobody reads behind the first four.
 UNKNOWN = b"\x05" * 1024
+
+
+def message(body):
+    """The frame of a message with this body."""
+    return b"\x02\x00" + len(body).to_bytes(2, "big") + body
+
+
+def unclosed_name(letters):
+    """`NME ( 'a..'` with this number of letters, and `PRN ( NME ( 'a..' )`: 14 bytes and two a letter."""
+    name = b"\x48\x0c\x40\x00" + b"Ka" * letters
+    return message(name), message(b"\x48\x13\x40\x00" + name + b"\x40\x01")
+
+
+def misnamed(letters):
+    """`NME ( 'a..' ) ( 'a' ) GOF`, and `HUH ( NME ( 'a..' ) ( 'a' ) ERR GOF )`: 26 bytes and two a letter."""
+    name = b"\x48\x0c\x40\x00" + b"Ka" * letters + b"\x40\x01\x40\x00Ka\x40\x01"
+    return message(name + b"\x48\x03"), message(b"\x48\x06\x40\x00" + name + b"\x49\x02\x48\x03\x40\x01")

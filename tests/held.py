@@ -7,6 +7,10 @@ class Wrong(Exception):
     """Something else was seen than was wanted."""
 
 
+class NotPlayed(Exception):
+    """This machine doesn't show what is wanted, so the test has neither passed nor failed."""
+
+
 MOST = 160
 
 

@@ -33,16 +33,16 @@ HOST = "127.0.0.1"
 
 class Run:
     """A run of the program in this folder at a port that was free, towards this address, with these lines of settings
-    behind both, and with these words before the settings."""
+    after both, and with these words before the settings; a watcher's words come before the program."""
 
-    def __init__(self, program, room, settings, server, words):
+    def __init__(self, program, room, settings, server, words, watcher=()):
         self.port, self.room = free_port(), pathlib.Path(room)
         self.printed, self.status, self.seconds = b"", None, 0.0
         file = self.room / "settings.toml"
         file.write_text(f"listen = '{HOST}:{self.port}'\nserver = '{HOST}:{server}'\n{settings}\n", encoding="utf-8")
         self.errors = tempfile.TemporaryFile()
         self.process = subprocess.Popen(
-            [str(program), "run", *words, str(file)], cwd=room,
+            [*watcher, str(program), "run", *words, str(file)], cwd=room,
             stdin=subprocess.DEVNULL, stdout=subprocess.PIPE, stderr=self.errors, bufsize=0,
         )
         os.set_blocking(self.process.stdout.fileno(), False)
@@ -248,14 +248,14 @@ def silent_door():
 
 
 @contextlib.contextmanager
-def begun(program, settings, server, words=(), files=()):
-    """A stage beside a run that listens, towards this server, in a folder with these empty files; all are let go of
-    behind it."""
+def begun(program, settings, server, words=(), files=(), watcher=()):
+    """A stage beside a run that listens, towards this server, in a folder with these empty files; all are released
+    after it."""
     listener = server()
     with tempfile.TemporaryDirectory() as room:
         for name in files:
             (pathlib.Path(room) / name).touch()
-        run = Run(program, room, settings, listener.getsockname()[1], words)
+        run = Run(program, room, settings, listener.getsockname()[1], words, watcher)
         stage = Stage(run, listener)
         try:
             stage.play_beside(Listens(), "before all acts")

@@ -1,0 +1,117 @@
+"""Runs whose growths of memory are refused one after the other, by a library that is preloaded to the program.
+
+`read_settings` takes the one global allocator, so no test of a crate can refuse its growths. What is wanted comes from
+docs/FORMATS.md.
+"""
+
+import os
+import pathlib
+import shutil
+import subprocess
+import tempfile
+
+from held import NotPlayed, Wrong, same
+from runs import SECONDS
+
+SOURCE = pathlib.Path(__file__).resolve().parent / "refusing.c"
+COMPILERS = ("cc", "gcc", "clang")
+
+# No run has as many growths.
+MOST_GROWTHS = 1_000
+
+# Settings with a value for each key, and two words; nothing can listen at an address without a port.
+SETTINGS = """\
+listen = 'a host without a port'
+server = '127.0.0.1:16714'
+top_level = 60
+max_body = 1024
+max_depth = 13
+im_seconds = 4
+max_sessions = 5
+sessions = 6
+turns = 7
+idle_seconds = 8
+stall_seconds = 9
+words = [
+    { name = "XYZ", code = 0x4A40, slot = "press", level = 20, operand = "power" },
+    { name = "XYY", code = 0x4A41, slot = "press", level = 30, operand = "provinces" },
+]
+"""
+
+# `SND ( FRA ) ( XYZ ( ENG ) )`, as `show` prints it with its verdict.
+SHOWN = b"DM 20\nSND ( FRA ) ( XYZ ( ENG ) )\nrelay\n"
+
+# The words of a run that reads the file `settings`, that file, and what is printed and told of it, and the status.
+RUNS = [
+    (
+        ["show", "--level", "60", "--words", "settings", "02000014481740004102400140004A40400041014001", "4001"],
+        SETTINGS, (SHOWN, b"", 0),
+    ),
+    (["run", "settings"], SETTINGS, (b"", b"daide-gate: cannot listen\n", 1)),
+    (["run", "settings"], SETTINGS + "depth = 5\n", (b"", b"daide-gate: unknown key\n", 1)),
+    (["run", "settings"], SETTINGS + "depth =\n", (b"", b"daide-gate: settings are not TOML\n", 1)),
+    (["run", "settings"], SETTINGS.replace("0x4A41", "0x4A40"), (b"", b"daide-gate: words out of range\n", 1)),
+]
+
+REFUSED = (b"", b"daide-gate: out of memory\n", 1)
+
+# The growths of a run are more than this: its settings alone have as many members.
+FEWEST_GROWTHS = 20
+
+
+def compiled(room):
+    """The path of the library, compiled into this folder."""
+    compiler = next(filter(None, map(shutil.which, COMPILERS)), None)
+    if not compiler:
+        raise NotPlayed("there is no compiler of C")
+    library = pathlib.Path(room) / "refusing.so"
+    words = [compiler, "-shared", "-fPIC", "-O1", "-nostdlib", "-fno-builtin", "-o", str(library), str(SOURCE)]
+    ran = subprocess.run(words, capture_output=True, timeout=SECONDS, check=False)
+    if ran.returncode:
+        raise NotPlayed(f"{compiler} can't compile it, and says {ran.stderr.decode(errors='replace')!r}")
+    return library
+
+
+def run_refusing(program, room, words, growth):
+    """What a run prints and tells, and its status, with this growth refused; and whether it was."""
+    reader, writer = os.pipe()
+    names = {"LD_PRELOAD": f"{room}/refusing.so", "REFUSED": str(growth), "REFUSED_TO": str(writer)}
+    try:
+        ran = subprocess.run(
+            [str(program), *words], cwd=room, stdin=subprocess.DEVNULL, capture_output=True, timeout=SECONDS,
+            check=False, env={**os.environ, **names}, pass_fds=[writer],
+        )
+    finally:
+        os.close(writer)
+    with open(reader, "rb") as refused:
+        was_refused = refused.read() != b""
+    return (ran.stdout, ran.stderr, ran.returncode), was_refused
+
+
+def play(program, room, words, wanted):
+    """Refuses each growth of a run in turn: nothing is printed and want of memory is reported, or the run can do without
+    that growth and is as wanted. All of them were refused once none is, and the run is as wanted."""
+    fatal = 0
+    for growth in range(1, MOST_GROWTHS):
+        seen, was_refused = run_refusing(program, room, words, growth)
+        if not was_refused:
+            same(seen, wanted, f"{words}, nothing refused")
+            if fatal <= FEWEST_GROWTHS:
+                raise Wrong(f"{words}: saw {fatal} growths without which it ends, wanted more than {FEWEST_GROWTHS}")
+            return
+        if seen != wanted:
+            same(seen, REFUSED, f"{words}, growth {growth} refused")
+            fatal += 1
+    raise Wrong(f"{words}: saw {MOST_GROWTHS} growths and more")
+
+
+def each_growth_of_settings_is_refused_in_turn(program):
+    """Runs that read settings, right ones and wrong ones."""
+    with tempfile.TemporaryDirectory() as room:
+        compiled(room)
+        for words, settings, wanted in RUNS:
+            (pathlib.Path(room) / "settings").write_text(settings, encoding="utf-8")
+            play(program, room, words, wanted)
+
+
+TESTS = [each_growth_of_settings_is_refused_in_turn]
