@@ -2,10 +2,10 @@
 //!
 //! The expected lines were worked out by hand from docs/FORMATS.md, "Settings".
 
-use daide_gate::settings::{Settings, SettingsError, read_settings};
+use daide_gate::settings::{Settings, read_settings};
 use daide_grammar::level::Level;
 use daide_machine::config::Config;
-use daide_tests::rows::{holds, same};
+use daide_tests::rows::same;
 use daide_token::token::Token;
 use daide_words::{Operand, Slot, Word};
 use std::alloc::Global;
@@ -293,25 +293,4 @@ fn each_key_sets_its_own_field(rt: HostRuntime) -> Result<(), Fail> {
         operand: Operand::Power,
     };
     same(&settings.words.get(0), &Some(word), &"the word")
-}
-
-/// Texts, and why they are refused, if they are.
-const READ: &[(&str, Option<SettingsError>)] = &[
-    (ADDRESSES, None),
-    ("listen = \"a\"\ndepth = 5\n", Some(SettingsError::Unknown)),
-    ("listen =", Some(SettingsError::NotToml)),
-];
-
-/// Under `rt try --test --fail-alloc N` the Nth growth is refused: the answer is want of memory, or the
-/// right one where the growth was another's. `scripts/refused-memory` runs it so.
-#[test]
-fn settings_right_or_want_of_memory(rt: HostRuntime) -> Result<(), Fail> {
-    for (text, want) in READ {
-        let refused = read_settings(rt.alloc(), text).err();
-        holds(
-            refused == *want || refused == Some(SettingsError::Memory),
-            text,
-        )?;
-    }
-    Ok(())
 }

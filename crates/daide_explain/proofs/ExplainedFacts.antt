@@ -1,7 +1,5 @@
--- The laws of explanations at messages of docs/PROTOCOL.md, computed from the definitions, so that a wrong row of theirs
--- does not check.
-use Rattle.std.proofs.Common.{◌≡◌, ℕ, ◌<◌, Bool, false, get_or, List, [], ◌∷◌, ◌++◌, codes, refl, sym, ◌∙◌, ap, subst}
-use Rattle.std.proofs.Common.{arith}
+-- What some messages of docs/PROTOCOL.md are by the definitions, computed, so that a wrong row of theirs does not check.
+use Rattle.std.proofs.Common.{◌≡◌, ℕ, ◌<◌, get_or, List, [], ◌∷◌, ◌++◌, codes, refl, sym, ◌∙◌, ap, subst, arith}
 use Rattle.std.specs.Fmt.{digits}
 use Rattle.daide_token.specs.Token.{bra, ket}
 use Rattle.daide_token.specs.Class.{class_of}
@@ -11,41 +9,37 @@ use Rattle.daide_grammar.specs.SideMessages.{IsMessage}
 use Rattle.daide_grammar.specs.Table.Symbols.{entries, may_end_of, table_answer}
 use Rattle.daide_reader.specs.declared.verdict.Verdict.TheVariants.{Relay, Prn, Huh}
 use Rattle.daide_reader.specs.ErrorPlace.{IsErrorPlace}
-use Rattle.daide_reader.specs.Verdict.{HasVerdict}
+use Rattle.daide_reader.specs.Verdict.{HasVerdict, IsRelayed}
 use Rattle.daide_reader.proofs.SomeVerdict.{plain_verdict, plain_verdict_right}
 use Rattle.daide_explain.specs.declared.brackets.Unpaired.TheVariants.{Bra}
-use Rattle.daide_explain.specs.Expected.{IsExpected}
-use Rattle.daide_explain.specs.Explained.{IsExplained, IsPrinted}
-use Rattle.daide_explain.specs.Listed.{AreExpected, IsListed}
+use Rattle.daide_explain.specs.Expected.{IsExpected, IsEndExpected}
+use Rattle.daide_explain.specs.Explained.{IsExplained}
 use Rattle.daide_explain.specs.Unpaired.{IsNeverClosed}
-use Rattle.daide_explain.proofs.OneExplanation.{one_explanation}
-use Rattle.daide_explain.proofs.OnlyDepth.{nothing_at}
-use Rattle.daide_explain.proofs.Printed.{any_expected, never_listed, printed, refused_there}
 use Rattle.daide_explain.proofs.Relayed.{relay_is}
 
-abbrev fra : ℕ
+abbrev pub fra : ℕ
 fra = 0x4102
 
-abbrev gof : ℕ
+abbrev pub gof : ℕ
 gof = 0x4803
 
-abbrev obs : ℕ
+abbrev pub obs : ℕ
 obs = 0x480F
 
-abbrev snd : ℕ
+abbrev pub snd : ℕ
 snd = 0x4817
 
-abbrev try : ℕ
+abbrev pub try : ℕ
 try = 0x4A1A
 
 -- a bot's messages without press, and with press of level 10
-abbrev At0 : List ℕ → Type 0
+abbrev pub At0 : List ℕ → Type 0
 At0 = IsMessage Client L0
 
-abbrev At10 : List ℕ → Type 0
+abbrev pub At10 : List ℕ → Type 0
 At10 = IsMessage Client L10
 
--- ---- `GOF (` has one explanation
+-- ---- what explains `GOF (`
 
 not_before : (m : List ℕ) (j : ℕ) → m ≡ gof ∷ bra ∷ [] → j < 1 → ¬ IsNeverClosed m j
 not_before m j e less ([], after, at, open_still) =
@@ -54,19 +48,17 @@ not_before m j e less ([], after, at, open_still) =
     absurd (omega arith)
 not_before m j e less (x ∷ before, after, at, open_still) = absurd (let place = at.place in omega arith)
 
-gof_open : (text : List ℕ) → IsExplained [] Client L0 254 (gof ∷ bra ∷ []) Prn text →
-    text ≡ codes "unpaired: ( at 1" ++ 10 ∷ []
+pub gof_open : IsExplained [] Client L0 254 (gof ∷ bra ∷ []) Prn (codes "unpaired: ( at 1" ++ 10 ∷ [])
 unfolding digits
-gof_open text h =
-    one_explanation [] Client L0 254 (gof ∷ bra ∷ []) Prn text (codes "unpaired: ( at 1" ++ 10 ∷ []) h (
-      Bra 1,
-      (
-        refl,
-        (gof ∷ [], [], record { whole = refl; place = refl }, refl),
-        λ j less. not_before (gof ∷ bra ∷ []) j refl less,
-      ),
-      refl,
-    )
+gof_open = (
+  Bra 1,
+  (
+    refl,
+    (gof ∷ [], [], record { whole = refl; place = refl }, refl),
+    λ j less. not_before (gof ∷ bra ∷ []) j refl less,
+  ),
+  refl,
+)
 
 -- ---- `OBS GOF` is refused at 1
 
@@ -82,44 +74,57 @@ place_of : HasVerdict At0 254 (obs ∷ gof ∷ []) (Huh 1) → IsErrorPlace At0 
 unfolding HasVerdict
 place_of h = h.2
 
--- so GOF is neither listed nor printed there
-gof_not_listed : (kept : List ℕ) (ends : Bool) → AreExpected [] At0 254 (obs ∷ []) kept ends →
-    (¬ IsListed [] kept gof) × (¬ IsPrinted [] kept gof)
-gof_not_listed kept ends h =
-    never_listed [] Client L0 254 (obs ∷ []) refl kept h.tokens gof
-    (refused_there At0 254 (obs ∷ gof ∷ []) [] 1 gof (place_of refused_at_1) refl)
+pub obs_gof_place : IsErrorPlace At0 254 (obs ∷ gof ∷ []) 1
+obs_gof_place = place_of refused_at_1
 
--- and something is expected there: no bracket is open
-something_expected : AreExpected [] At0 254 (obs ∷ []) [] false → ⊥
-something_expected h =
-    let only = nothing_at [] Client L0 254 refl (obs ∷ gof ∷ []) 1 (place_of refused_at_1) h in
-    let full : ◌≡◌ {A = ℕ} 0 254 = only.full in
-    absurd (omega arith)
+-- ---- the empty message is refused at its end
 
--- ---- OBS is printed of what is expected at the start
+nothing_refused : plain_verdict Client L0 254 [] ≡ Huh 0
+unfolding entries may_end_of table_answer class_of
+nothing_refused = refl
+
+nothing_at_0 : HasVerdict At0 254 [] (Huh 0)
+nothing_at_0 = subst (HasVerdict At0 254 []) nothing_refused (plain_verdict_right Client L0 254 [])
+
+end_of : HasVerdict At0 254 [] (Huh 0) → IsErrorPlace At0 254 [] 0
+unfolding HasVerdict
+end_of h = h.2
+
+pub nothing_place : IsErrorPlace At0 254 [] 0
+nothing_place = end_of nothing_at_0
+
+not_relayed : HasVerdict At0 254 [] (Huh 0) → ¬ IsRelayed At0 254 []
+unfolding HasVerdict
+not_relayed h = h.1
+
+pub nothing_is_no_message : ¬ IsRelayed At0 254 []
+nothing_is_no_message = not_relayed nothing_at_0
+
+-- ---- OBS is expected at the start, and the end after it
 
 obs_relayed : plain_verdict Client L0 254 (obs ∷ []) ≡ Relay
 unfolding entries may_end_of table_answer class_of
 obs_relayed = refl
 
-obs_printed : (kept : List ℕ) (ends : Bool) → AreExpected [] At0 254 [] kept ends → IsPrinted [] kept obs
-obs_printed kept ends h =
+pub obs_expected : IsExpected At0 254 [] obs
+obs_expected =
     let relayed = relay_is At0 254 (obs ∷ []) _ (plain_verdict_right Client L0 254 (obs ∷ [])) obs_relayed in
-    (printed [] Client L0 254 [] refl kept h.tokens obs).0
-    (record { viable = ([], relayed.is_message); shallow = relayed.shallow })
+    record { viable = ([], relayed.is_message); shallow = relayed.shallow }
 
--- ---- after `SND ( FRA ) ( TRY (` each token but the brackets is expected, GOF among them
+pub obs_ends : IsEndExpected At0 254 (obs ∷ [])
+obs_ends = relay_is At0 254 (obs ∷ []) _ (plain_verdict_right Client L0 254 (obs ∷ [])) obs_relayed
 
-abbrev try_open : List ℕ
+-- ---- after `SND ( FRA ) ( TRY (` a token of an unknown category is expected
+
+abbrev pub try_open : List ℕ
 try_open = snd ∷ bra ∷ fra ∷ ket ∷ bra ∷ try ∷ bra ∷ []
 
 unknown_relayed : plain_verdict Client L10 254 (try_open ++ 0x5800 ∷ ket ∷ ket ∷ []) ≡ Relay
 unfolding entries may_end_of table_answer class_of
 unknown_relayed = refl
 
-gof_tried : IsExpected At10 254 try_open gof
-gof_tried =
+pub unknown_tried : IsExpected At10 254 try_open 0x5800
+unknown_tried =
     let whole = try_open ++ 0x5800 ∷ ket ∷ ket ∷ [] in
     let relayed = relay_is At10 254 whole _ (plain_verdict_right Client L10 254 whole) unknown_relayed in
-    any_expected [] Client L10 254 try_open refl
-    (record { viable = (ket ∷ ket ∷ [], relayed.is_message); shallow = omega arith }) gof (omega arith) (omega arith)
+    record { viable = (ket ∷ ket ∷ [], relayed.is_message); shallow = omega arith }

@@ -6,6 +6,7 @@
 
 pub mod brackets;
 pub mod expected;
+mod law_facts;
 pub mod laws;
 pub mod levels;
 pub mod listed;

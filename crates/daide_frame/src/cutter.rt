@@ -3,7 +3,7 @@
 //! A cutter holds one frame at a time, and never more of it than its cap allows: it says at each moment
 //! how many bytes it takes. Its memory is taken once, in `new`; no later call can want for any.
 
-ghost use Rattle.std.specs.Prelude.{◌≡◌, ◌+◌, ◌*◌, ◌<◌, ◌≤◌, [], ◌∷◌, ◌++◌, length, take, drop, slice_index, ◌⊎◌, IfOk, None, true};
+ghost use Rattle.std.specs.Prelude.{◌≡◌, ◌+◌, ◌*◌, ◌<◌, ◌≤◌, [], ◌∷◌, ◌++◌, length, take, drop, slice_index, ◌⊎◌, IfOk, OnErr, None, true};
 ghost use Rattle.daide_token.specs.Token.{token_of_bytes};
 ghost use Rattle.daide_frame.specs.Frames.{alien_in, first_alien, further, last_items, fed, fed_items, answer_to, told, IsFault, IsEnd, IsWholeBody, head_in, missing, announced};
 ghost use Rattle.daide_frame.specs.Cutter.{AreKnown, IsFed};
@@ -11,6 +11,7 @@ ghost use Rattle.daide_frame.specs.declared.cutter.Step.TheVariants.{More, Bodie
 
 use crate::code::Code;
 use crate::head::{Head, Kind, read_head};
+use crate::memory::Memory;
 use daide_token::token::Token;
 use std::alloc::{AllocError, Allocator, Global};
 use std::marker::Model;
@@ -139,11 +140,13 @@ fn alien_end(head: Head, body: &[u8], known: usize) -> Option<usize>
     None
 }
 
-impl<A: Allocator> Cutter<A> {
-    /// A cutter for frames whose bodies have at most `cap` bytes. Room for the longest is taken here.
+impl<A: Memory> Cutter<A> {
+    /// A cutter for frames whose bodies have at most `cap` bytes. Room for the longest is taken here, and there is no
+    /// cutter only if that was refused.
     pub fn new(alloc: A, cap: u16) -> Result<Cutter<A>, AllocError>
         ensures cap { IfOk result (λ cutter. cutter.cap ≡ cap) }
         ensures empty { IfOk result (λ cutter. cutter.bytes ≡ []) }
+        ensures refused { OnErr result (A.Refuses cap) }
     {
         Ok(Cutter {
             cap,
@@ -151,10 +154,12 @@ impl<A: Allocator> Cutter<A> {
             have: 0,
             head: None,
             is_faulty: false,
-            body: Vec::with_capacity(alloc, usize::from(cap))?,
+            body: alloc.with_capacity(usize::from(cap))?,
         })
     }
+}
 
+impl<A: Allocator> Cutter<A> {
     /// How many bytes are missing of the header or, once that is whole, of the body. None are after
     /// `Bodied` or a fault.
     pub fn room(&self) -> usize

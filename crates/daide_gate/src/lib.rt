@@ -10,7 +10,9 @@
 pub use daide_token::{Class, Token, write_text, write_text_with};
 
 // Frames.
-pub use daide_frame::{Code, Cutter, Head, Kind, Side, Step, check_im, read_head, write_head};
+pub use daide_frame::{
+    Code, Cutter, Head, Kind, Memory, Side, Step, check_im, read_head, write_head,
+};
 
 // The grammar, the tables that predict with it, and an operator's words.
 pub use daide_grammar::{Dense, Level, Move, Plain, Predict, Side2, Sym};

@@ -19,11 +19,11 @@ use std::time::Duration;
 /// After an accept that fails none is made for a while; then the bot that came is taken, and no moment is waited for.
 fn check_acceptor(
     poller: &Poller<&HostRuntime>,
-    acceptor: &Acceptor<'_>,
+    acceptor: &mut Acceptor<'_>,
     flags: &Flags,
 ) -> Result<(), Fail> {
     poller.wait();
-    acceptor.refused(poller, ErrorKind::Other);
+    acceptor.pause(poller.after(Duration::ZERO), ErrorKind::Other);
     holds(acceptor.accept(poller).is_none(), "none is made")?;
     poller.wait();
     holds(acceptor.accept(poller).is_some(), "the bot that came")?;
@@ -45,7 +45,7 @@ fn check_listener(rt: &HostRuntime, listener: daide_sockets::TcpListener) -> Res
     let mut other = daide_sockets::TcpListener::bind(rt, any_port())?;
     let row = first_row(&poller, &mut other);
     match (Acceptor::new(&poller, listener), row) {
-        (Some(acceptor), Some(flags)) => check_acceptor(&poller, &acceptor, flags),
+        (Some(mut acceptor), Some(flags)) => check_acceptor(&poller, &mut acceptor, flags),
         _ => Err(Fail::new("no row")),
     }
 }

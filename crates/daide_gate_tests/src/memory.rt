@@ -156,6 +156,7 @@ fn relay_to_the_end<'w, A: Allocator>(
     for _ in 0..MOST_TURNS {
         bot.note(true, true);
         server.note(true, true);
+        ports.begin_turn();
         if relay(session, ports, 1) == RelayEnd::Closed {
             return true;
         }

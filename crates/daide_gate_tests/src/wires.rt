@@ -343,7 +343,7 @@ fn does(ports: &mut WirePorts<'_>, step: Step) -> bool {
         Idles(side) => ports.pull(side, &mut [0; 8]) == Pull::Idle,
         Turns(count) => {
             for _ in 0..count {
-                ports.clock_popped();
+                ports.begin_turn();
             }
             true
         }

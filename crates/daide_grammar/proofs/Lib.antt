@@ -26,3 +26,4 @@ pub mod PlainRules
 pub mod OtherClasses
 pub mod OneEntry
 pub mod BracketSteps
+mod Apart

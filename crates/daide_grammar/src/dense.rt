@@ -135,8 +135,8 @@ impl Predict for Dense {
         move_of(sym, known)
     }
 
-    fn predict_word(&self, sym: Symbol, _token: Token, known: Column) -> Move {
-        move_of(sym, known)
+    fn predict_word(&mut self, sym: Symbol, _token: Token, known: Column) -> Move {
+        self.predict(sym, known)
     }
 
     fn may_end(&mut self, sym: Symbol) -> bool {

@@ -132,11 +132,11 @@ pub fn stack_is_bounded()
         table_answer sym class ≡ Take rest → length rest ≤ 12 }
 {}
 
-/// On a lawful stack a token meets at most three symbols that are empty before one takes or stops
-/// it; where no bracket is open, at most four answers decide whether all that is left may be empty.
+/// On a lawful stack a token meets at most two symbols that are empty before one takes or stops it;
+/// where no bracket is open, at most four answers decide whether all that is left may be empty.
 pub fn lookups_are_bounded()
     ensures skips { (stack : List Sym) (open_brackets : ℕ) (class : Class) → IsLawful table_answer stack open_brackets →
-        skips_before table_answer class stack ≤ 3 }
+        skips_before table_answer class stack ≤ 2 }
     ensures ends { (stack : List Sym) → IsLawful table_answer stack 0 → ends_asked may_end_of stack ≤ 4 }
 {}
 

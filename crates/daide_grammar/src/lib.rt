@@ -7,6 +7,7 @@
 
 pub mod column;
 pub mod dense;
+mod law_facts;
 pub mod laws;
 pub mod level;
 pub mod meaning;

@@ -90,8 +90,8 @@ impl Predict for Plain {
         self.predict(sym, known)
     }
 
-    fn predict_word(&self, sym: Symbol, _token: Token, known: Column) -> Move {
-        move_of(sym, known)
+    fn predict_word(&mut self, sym: Symbol, _token: Token, known: Column) -> Move {
+        self.predict(sym, known)
     }
 
     fn may_end(&mut self, sym: Symbol) -> bool {

@@ -190,11 +190,13 @@ pub trait Predict {
         ensures words_stay { words self.new ≡ words self.old }
         ensures counts_each_answer { asked self.new ≡ (asked self.old + 1) % 2 ^ 64 };
 
-    /// The answer where `predict_token` stopped: what the token means to the symbol as an operator's word too. It is
-    /// the second half of the same answer, so it isn't counted.
-    fn predict_word(&self, sym: Symbol, token: Token, known: Column) -> Move
+    /// What a token means to the symbol as an operator's word too: the answer where `predict_token` stopped. It is an
+    /// answer of its own, and counted as one.
+    fn predict_word(&mut self, sym: Symbol, token: Token, known: Column) -> Move
         requires { known ≡ known_class token }
-        ensures { result ≡ moves (words self.now) sym (class_of (words self.now) token) };
+        ensures answer { result ≡ moves (words self.old) sym (class_of (words self.old) token) }
+        ensures words_stay { words self.new ≡ words self.old }
+        ensures counts_each_answer { asked self.new ≡ (asked self.old + 1) % 2 ^ 64 };
 
     /// Whether the symbol may be empty.
     fn may_end(&mut self, sym: Symbol) -> bool
@@ -210,7 +212,7 @@ pub trait Predict {
     fn start(&self, side: Side2, level: Level) -> Symbol
         ensures { result ≡ opening side level };
 
-    /// How many answers `predict` and `may_end` gave so far, modulo 2^64.
+    /// How many answers `predict`, `predict_token`, `predict_word` and `may_end` gave so far, modulo 2^64.
     fn asked(&self) -> u64
         ensures { result ≡ asked self.now };
 

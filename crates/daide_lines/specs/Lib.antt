@@ -6,5 +6,6 @@ pub mod Lines
 pub mod Input
 pub mod Reader
 pub mod Output
+pub mod Page
 pub mod Told
 pub mod MatchTold

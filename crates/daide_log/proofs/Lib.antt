@@ -5,6 +5,7 @@ pub mod StandardFacts
 pub mod MatchFacts
 pub mod AnswerParts
 pub mod PageTexts
+pub mod PageLines
 pub mod TextLemmas
 pub mod PartLemmas
 pub mod PlayLemmas

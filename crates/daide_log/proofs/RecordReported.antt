@@ -25,7 +25,7 @@ use Rattle.daide_machine.proofs.PieceRuns.{over_stays}
 use Rattle.daide_reader.specs.declared.verdict.Verdict.{Verdict}
 use Rattle.daide_machine.specs.declared.ports.Pull.TheVariants.{Got, Idle, Ended}
 use Rattle.daide_machine.specs.declared.ports.Put.TheVariants.{Took, Failed}
-use Rattle.daide_machine.specs.Ports.{PortAnswer, Clock, Pulled, Offered, event_of, events_of}
+use Rattle.daide_machine.specs.Ports.{PortAnswer, TurnBegins, Clock, Pulled, Offered, event_of, events_of}
 use Rattle.daide_lines.specs.LogLine.{most_lines}
 use Rattle.daide_lines.specs.LogLine.{LogEvent, Traffic, EndOf, TimeOver}
 use Rattle.daide_lines.specs.MatchLine.{Of}
@@ -128,6 +128,7 @@ record GoesAsLogged (old : SessionState) (answer : PortAnswer) (moves : List Eff
 
 same_goes : (answer : PortAnswer) (old new : SessionState) (moves : List Effect) → Runs old (event_of answer) moves new →
     GoesAsLogged old answer moves new
+same_goes TurnBegins old new moves r = record { logged = new; runs = r; alike = inl refl }
 same_goes (Clock true) old new moves r = record { logged = new; runs = r; alike = inl refl }
 same_goes (Clock false) old new moves r = record { logged = new; runs = r; alike = inl refl }
 same_goes (Pulled side buffer (Got n) []) old new moves r = record { logged = new; runs = r; alike = inl refl }
@@ -230,6 +231,8 @@ answer_reported : (answer : PortAnswer) (bytes : List ℕ) (number : ℕ) (told 
     Reports bytes number told (Playing Match (old ∷ [])) → Runs old (events_logged (told_by answer)) moves new →
     Reports (bytes ++ line_of_answer answer) (number + count_of_answer answer)
     (told ++ entries_of (source_in Match (number + 1) 1) (side_of_answer answer) moves) (Playing Match (new ∷ []))
+answer_reported TurnBegins bytes number told old new moves piece fits h r =
+    quiet_reported bytes number told Bot old new moves h r
 answer_reported (Clock true) bytes number told old new moves piece fits h r =
     event_reported TimeOver bytes number told old new moves tt fits h r
 answer_reported (Clock false) bytes number told old new moves piece fits h r =

@@ -72,10 +72,10 @@ kept None new text e h = absurd (cc)
 kept (Some xs) None text e h = absurd h
 kept (Some xs) (Some ys) text e h = ap Some h ∙ e
 
-lined : (config : Config) (words : List Word) (answers : List PortAnswer) (answer : PortAnswer) (event : LogEvent)
+lined : (failure : Type 0) (config : Config) (words : List Word) (answers : List PortAnswer) (answer : PortAnswer) (event : LogEvent)
     (old new : Written) → IsOf config words answers old → IsPiece answer → told_by answer ≡ Some event → (ending : RecordEnd) →
-    new.ending ≡ ending → TakesLine ending old event new → Outcome config words answers answer new
-lined config words answers answer event old new h piece told Whole e t =
+    new.ending ≡ ending → TakesLine failure ending old event new → Outcome config words answers answer new
+lined failure config words answers answer event old new h piece told Whole e t =
     let line : line_of_answer answer ≡ event_line event = ap line_told told in
     let count : count_of_answer answer ≡ 1 = ap count_told told in
     let lines = h.lines in
@@ -88,19 +88,20 @@ lined config words answers answer event old new h piece told Whole e t =
       pieces = pieces_more answers answer h.pieces piece;
       ending = e;
     })
-lined config words answers answer event old new h piece told Full e t =
+lined failure config words answers answer event old new h piece told Full e t =
     let lines = h.lines in
     full (record {
       text = kept old.text new.text (record_text config words answers) h.text t.2;
       ending = e;
       most = omega (arith, t.0);
     })
-lined config words answers answer event old new h piece told Failed e t = failed e
+lined failure config words answers answer event old new h piece told Failed e t = failed e
 
-taken : (config : Config) (words : List Word) (answers : List PortAnswer) (answer : PortAnswer) (old new : Written) →
-    IsOf config words answers old → IsPiece answer → (told : Option LogEvent) → told_by answer ≡ told → Takes old told new →
+taken : (failure : Type 0) (config : Config) (words : List Word) (answers : List PortAnswer) (answer : PortAnswer)
+    (old new : Written) → IsOf config words answers old → IsPiece answer → (told : Option LogEvent) →
+    told_by answer ≡ told → Takes failure old told new →
     Outcome config words answers answer new
-taken config words answers answer old new h piece None e t =
+taken failure config words answers answer old new h piece None e t =
     let line : line_of_answer answer ≡ [] = ap line_told e in
     let count : count_of_answer answer ≡ 0 = ap count_told e in
     let same = ap (λ (w : Written). w.lines) t in
@@ -116,9 +117,9 @@ taken config words answers answer old new h piece None e t =
       pieces = pieces_more answers answer h.pieces piece;
       ending = ap (λ (w : Written). w.ending) t ∙ h.ending;
     })
-taken config words answers answer old new h piece (Some event) e t =
-    lined config words answers answer event old new h piece e new.ending refl
-    (subst (λ (x : RecordEnd). TakesEvent x old event new) h.ending t)
+taken failure config words answers answer old new h piece (Some event) e t =
+    lined failure config words answers answer event old new h piece e new.ending refl
+    (subst (λ (x : RecordEnd). TakesEvent failure x old event new) h.ending t)
 
 -- a record that is whole is not full
 never : Whole ≡ Full → ⊥
@@ -126,23 +127,39 @@ never e = absurd (cc)
 
 -- ---- a record that ended
 
-untaken : (ending : RecordEnd) (old new : Written) (told : Option LogEvent) → ending ≢ Whole → old.ending ≡ ending →
-    Takes old told new → new ≡ old
-untaken ending old new None other e t = t
-untaken Whole old new (Some event) other e t = absurd (other refl)
-untaken Failed old new (Some event) other e t = subst (λ (x : RecordEnd). TakesEvent x old event new) e t
-untaken Full old new (Some event) other e t = subst (λ (x : RecordEnd). TakesEvent x old event new) e t
+untaken : (failure : Type 0) (ending : RecordEnd) (old new : Written) (told : Option LogEvent) → ending ≢ Whole →
+    old.ending ≡ ending → Takes failure old told new → new ≡ old
+untaken failure ending old new None other e t = t
+untaken failure Whole old new (Some event) other e t = absurd (other refl)
+untaken failure Failed old new (Some event) other e t =
+    subst (λ (x : RecordEnd). TakesEvent failure x old event new) e t
+untaken failure Full old new (Some event) other e t =
+    subst (λ (x : RecordEnd). TakesEvent failure x old event new) e t
 
-module _ {P : Type 0} (becomes : P → PortAnswer → P → Type 0) where
+-- ---- a record that failed
+
+-- by one event a record that had not failed fails only where a write failed
+fails_by : (failure : Type 0) (ending : RecordEnd) (old new : Written) (told : Option LogEvent) → old.ending ≡ ending →
+    old.ending ≢ Failed → Takes failure old told new → new.ending ≡ Failed → failure
+fails_by failure ending old new None e other t f = absurd (other (sym (ap (λ (w : Written). w.ending) t) ∙ f))
+fails_by failure Whole old new (Some event) e other t f =
+    (subst (λ (x : RecordEnd). TakesLine failure x old event new) f
+    (subst (λ (x : RecordEnd). TakesEvent failure x old event new) e t)).1
+fails_by failure Failed old new (Some event) e other t f = absurd (other e)
+fails_by failure Full old new (Some event) e other t f =
+    let same : new ≡ old = subst (λ (x : RecordEnd). TakesEvent failure x old event new) e t in
+    absurd (other (sym (ap (λ (w : Written). w.ending) same) ∙ f))
+
+module _ {P : Type 0} (becomes : P → PortAnswer → P → Type 0) (failed_write : Type 0) where
   stays : (ending : RecordEnd) (answers : List PortAnswer) (old new : Recorded P) → ending ≢ Whole →
-      old.record_of.ending ≡ ending → BecomesBy (Records becomes) old answers new → new.record_of ≡ old.record_of
+      old.record_of.ending ≡ ending → BecomesBy (Records becomes failed_write) old answers new → new.record_of ≡ old.record_of
   stays ending [] old new other e b = ap (λ (r : Recorded P). r.record_of) b
   stays ending (answer ∷ answers) old new other e b =
-      let same = untaken ending old.record_of b.0.record_of (told_by answer) other e b.1.taken in
+      let same = untaken failed_write ending old.record_of b.0.record_of (told_by answer) other e b.1.taken in
       stays ending answers b.0 new other (ap (λ (w : Written). w.ending) same ∙ e) b.2 ∙ same
 
   fronts : (config : Config) (words : List Word) (answers done : List PortAnswer) (old new : Recorded P) →
-      IsOf config words done old.record_of → BecomesBy (Records becomes) old answers new →
+      IsOf config words done old.record_of → BecomesBy (Records becomes failed_write) old answers new →
       new.record_of.ending ≢ Failed → HasFront config words (done ++ answers) new.record_of
   fronts config words [] done old new h b other =
       let same : new.record_of ≡ old.record_of = ap (λ (r : Recorded P). r.record_of) b in
@@ -157,7 +174,7 @@ module _ {P : Type 0} (becomes : P → PortAnswer → P → Type 0) where
         full = λ e. absurd (never (sym h.ending ∙ sym (ap (λ (w : Written). w.ending) same) ∙ e));
       }
   fronts config words (answer ∷ answers) done old new h b other =
-      go (taken config words done answer old.record_of b.0.record_of h b.1.piece (told_by answer) refl b.1.taken)
+      go (taken failed_write config words done answer old.record_of b.0.record_of h b.1.piece (told_by answer) refl b.1.taken)
       (λ k. fronts config words answers (done ++ answer ∷ []) b.0 new k b.2 other)
     where
       go : Outcome config words done answer b.0.record_of →
@@ -184,12 +201,28 @@ module _ {P : Type 0} (becomes : P → PortAnswer → P → Type 0) where
           let same = stays Failed answers b.0 new (λ e. absurd (cc)) k b.2 in
           absurd (other (ap (λ (w : Written). w.ending) same ∙ k))
 
-  pub ports_recorded : PortsAreRecorded becomes
-  ports_recorded config words answers old new fits begun b other =
-      fronts config words answers [] old new (record {
-        text = ap (λ (w : Written). w.text) begun ∙ ap Some (sym (append-nil (head_text config words)));
-        lines = ap (λ (w : Written). w.lines) begun ∙ omega arith;
-        few = omega arith;
-        pieces = tt;
-        ending = ap (λ (w : Written). w.ending) begun;
-      }) b other
+  fails : (answers : List PortAnswer) (old new : Recorded P) → old.record_of.ending ≢ Failed →
+      BecomesBy (Records becomes failed_write) old answers new → new.record_of.ending ≡ Failed → failed_write
+  fails [] old new other b f =
+      absurd (other (sym (ap (λ (r : Recorded P). r.record_of.ending) b) ∙ f))
+  fails (answer ∷ answers) old new other b f =
+      go b.0.record_of.ending refl (λ other. fails answers b.0 new other b.2 f)
+    where
+      go : (ending : RecordEnd) → b.0.record_of.ending ≡ ending → (b.0.record_of.ending ≢ Failed → failed_write) → failed_write
+      go Whole e later = later (λ g. absurd (cc))
+      go Full e later = later (λ g. absurd (cc))
+      go Failed e later =
+          fails_by failed_write old.record_of.ending old.record_of b.0.record_of (told_by answer) refl other b.1.taken e
+
+  pub ports_recorded : PortsAreRecorded becomes failed_write
+  ports_recorded config words answers old new fits begun b =
+      let whole : old.record_of.ending ≡ Whole = ap (λ (w : Written). w.ending) begun in (
+        fails answers old new (λ f. absurd (cc)) b,
+        λ other. fronts config words answers [] old new (record {
+          text = ap (λ (w : Written). w.text) begun ∙ ap Some (sym (append-nil (head_text config words)));
+          lines = ap (λ (w : Written). w.lines) begun ∙ omega arith;
+          few = omega arith;
+          pieces = tt;
+          ending = ap (λ (w : Written). w.ending) begun;
+        }) b other,
+      )

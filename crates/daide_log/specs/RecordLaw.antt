@@ -10,7 +10,7 @@ use Rattle.daide_machine.specs.declared.config.Config.{Config}
 use Rattle.daide_machine.specs.declared.note.Note.{Note}
 use Rattle.daide_machine.specs.Config.{config_fault, limits_with}
 use Rattle.daide_machine.specs.Machine.{SessionState, Effect, Runs, opening}
-use Rattle.daide_machine.specs.Ports.{PortAnswer, Clock, Pulled, Offered, event_of, events_of, BecomesBy}
+use Rattle.daide_machine.specs.Ports.{PortAnswer, TurnBegins, Clock, Pulled, Offered, event_of, events_of, BecomesBy}
 use Rattle.daide_lines.specs.LogLine.{most_lines}
 use Rattle.daide_log.specs.declared.heading.Version.TheVariants.{Match}
 use Rattle.daide_log.specs.declared.record.RecordEnd.TheVariants.{Whole, Failed, Full}
@@ -24,6 +24,7 @@ use Rattle.daide_log.specs.Recording.{Written, Recorded, Records, IsPiece}
 
 -- whose an answer is; the timer is that of the bot's first message
 abbrev pub side_of_answer : PortAnswer → Side
+side_of_answer TurnBegins = Bot
 side_of_answer (Clock popped) = Bot
 side_of_answer (Pulled side buffer pull bytes) = side
 side_of_answer (Offered side bytes put) = side
@@ -90,11 +91,12 @@ pub record HasFront (config : Config) (words : List Word) (answers : List PortAn
   pub all : written.ending ≡ Whole → rest ≡ []
   pub full : written.ending ≡ Full → most_lines ≤ record_count words front
 
--- Ports with a record, however they were asked: unless its writer failed, the record has a front of their answers, and all
--- of them unless it is full.
-abbrev pub PortsAreRecorded : {P : Type 0} → (P → PortAnswer → P → Type 0) → Type 0
-PortsAreRecorded {P} becomes =
+-- Ports with a record, however they were asked: the record has a front of their answers, and all of them unless it is full;
+-- or a write of its writer failed.
+abbrev pub PortsAreRecorded : {P : Type 0} → (P → PortAnswer → P → Type 0) → Type 0 → Type 0
+PortsAreRecorded {P} becomes failed =
     (config : Config) (words : List Word) (answers : List PortAnswer) (old new : Recorded P) →
     head_count words ≤ most_lines → old.record_of ≡ begun_record config words →
-    BecomesBy (Records becomes) old answers new → new.record_of.ending ≢ Failed →
-    HasFront config words answers new.record_of
+    BecomesBy (Records becomes failed) old answers new →
+    (new.record_of.ending ≡ Failed → failed)
+    × (new.record_of.ending ≢ Failed → HasFront config words answers new.record_of)

@@ -14,7 +14,7 @@ use Rattle.daide_words.specs.declared.word.Word.{Word}
 use Rattle.daide_machine.specs.declared.config.Config.{Config}
 use Rattle.daide_machine.specs.declared.ports.Pull.TheVariants.{Got, Idle, Ended}
 use Rattle.daide_machine.specs.declared.ports.Put.TheVariants.{Took, Failed}
-use Rattle.daide_machine.specs.Ports.{PortAnswer, Clock, Pulled, Offered}
+use Rattle.daide_machine.specs.Ports.{PortAnswer, TurnBegins, Clock, Pulled, Offered}
 use Rattle.daide_lines.specs.LogLine.{LogEvent, Traffic, EndOf, TimeOver, Silence}
 use Rattle.daide_log.specs.Report.{name_of_side}
 
@@ -25,8 +25,10 @@ abbrev pub piece_of : Side → List ℕ → Option LogEvent
 piece_of side [] = None
 piece_of side (byte ∷ bytes) = Some (Traffic side (byte ∷ bytes))
 
--- a clock that popped, bytes that came, and an end; a wire that failed is the end of its side
+-- a clock that popped, bytes that came, and an end; a wire that failed is the end of its side; that a turn begins is
+-- nothing that a log has
 abbrev pub told_by : PortAnswer → Option LogEvent
+told_by TurnBegins = None
 told_by (Clock true) = Some TimeOver
 told_by (Clock false) = None
 told_by (Pulled side buffer (Got n) bytes) = piece_of side bytes

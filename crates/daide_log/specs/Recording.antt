@@ -2,7 +2,7 @@
 use Rattle.std.specs.Prelude.{◌≡◌, ⊤, ℕ, ◌+◌, ◌-◌, ◌<◌, ◌≤◌, min, List, length, Option, Some, None}
 use Rattle.std.specs.Io.KnownBytes.{Appends, Keeps}
 use Rattle.hex.specs.Hex.{IsBytes}
-use Rattle.daide_machine.specs.Ports.{PortAnswer, Clock, Pulled, Offered}
+use Rattle.daide_machine.specs.Ports.{PortAnswer, TurnBegins, Clock, Pulled, Offered}
 use Rattle.daide_lines.specs.LogLine.{LogEvent, most_lines, longest_line, longest_piece}
 use Rattle.daide_lines.specs.Output.{page_size}
 use Rattle.daide_log.specs.declared.record.RecordEnd.{RecordEnd}
@@ -22,24 +22,28 @@ pub record Written : Type 0 where
   pub lines : ℕ
   pub ending : RecordEnd
 
--- A whole record gets the line of an event, unless it has as many lines as a log may have: then it keeps what it has.
--- What a writer that failed has is not said.
-abbrev pub TakesLine : RecordEnd → Written → LogEvent → Written → Type 0
-TakesLine Whole old event new =
+-- a write of a writer returned an error; what `fails` is, nobody knows who writes to any writer
+abbrev pub HasFailed : {W : Type 0} → (W → W → Type 0) → Type 0
+HasFailed {W} fails = (old new : W) × fails old new
+
+-- A whole record gets the line of an event, unless it has as many lines as a log may have: then it keeps what it has; or
+-- unless a write failed. What a writer that failed has is not said.
+abbrev pub TakesLine : Type 0 → RecordEnd → Written → LogEvent → Written → Type 0
+TakesLine failed Whole old event new =
     (old.lines < most_lines) × (new.lines ≡ old.lines + 1) × Appends old.text new.text (event_line event)
-TakesLine Full old event new = (most_lines ≤ old.lines) × (new.lines ≡ old.lines) × Keeps old.text new.text
-TakesLine Failed old event new = new.lines ≡ old.lines
+TakesLine failed Full old event new = (most_lines ≤ old.lines) × (new.lines ≡ old.lines) × Keeps old.text new.text
+TakesLine failed Failed old event new = (new.lines ≡ old.lines) × failed
 
 -- one that ended is as it was
-abbrev pub TakesEvent : RecordEnd → Written → LogEvent → Written → Type 0
-TakesEvent Whole old event new = TakesLine new.ending old event new
-TakesEvent Failed old event new = new ≡ old
-TakesEvent Full old event new = new ≡ old
+abbrev pub TakesEvent : Type 0 → RecordEnd → Written → LogEvent → Written → Type 0
+TakesEvent failed Whole old event new = TakesLine failed new.ending old event new
+TakesEvent failed Failed old event new = new ≡ old
+TakesEvent failed Full old event new = new ≡ old
 
--- what is told, if anything is
-abbrev pub Takes : Written → Option LogEvent → Written → Type 0
-Takes old None new = new ≡ old
-Takes old (Some event) new = TakesEvent old.ending old event new
+-- what is told, if anything is; `failed` says that a write failed
+abbrev pub Takes : Type 0 → Written → Option LogEvent → Written → Type 0
+Takes failed old None new = new ≡ old
+Takes failed old (Some event) new = TakesEvent failed old.ending old event new
 
 -- ---- ports
 
@@ -50,19 +54,21 @@ pub record Recorded (P : Type 0) : Type 0 where
 
 -- the same answer of the ports within, which are lent no more of a buffer than a line has bytes
 abbrev pub asked_within : PortAnswer → PortAnswer
+asked_within TurnBegins = TurnBegins
 asked_within (Clock popped) = Clock popped
 asked_within (Pulled side buffer pull bytes) = Pulled side (min buffer longest_piece) pull bytes
 asked_within (Offered side bytes put) = Offered side bytes put
 
 -- what came fits a line
 abbrev pub IsPiece : PortAnswer → Type 0
+IsPiece TurnBegins = ⊤
 IsPiece (Clock popped) = ⊤
 IsPiece (Pulled side buffer pull bytes) = IsBytes bytes × (length bytes ≤ longest_piece)
 IsPiece (Offered side bytes put) = ⊤
 
--- what an answer does to ports and record
-pub record Records {P : Type 0} (becomes : P → PortAnswer → P → Type 0) (old : Recorded P) (answer : PortAnswer)
-    (new : Recorded P) : Type 0 where
+-- what an answer does to ports and record; `failed` says that a write of the record's writer failed
+pub record Records {P : Type 0} (becomes : P → PortAnswer → P → Type 0) (failed : Type 0) (old : Recorded P)
+    (answer : PortAnswer) (new : Recorded P) : Type 0 where
   pub ports : becomes old.ports (asked_within answer) new.ports
   pub piece : IsPiece answer
-  pub taken : Takes old.record_of (told_by answer) new.record_of
+  pub taken : Takes failed old.record_of (told_by answer) new.record_of

@@ -1,6 +1,6 @@
 //! The report of a log with its explanations.
 
-ghost use Rattle.std.specs.Prelude.{◌≡◌, ◌*◌, ◌≤◌, ℕ, ◌++◌, ◌%◌, false, All, List, Option, drop, length, IfOk, OnOk};
+ghost use Rattle.std.specs.Prelude.{◌≡◌, ◌*◌, ◌≤◌, ℕ, ◌++◌, ◌%◌, false, All, List, Option, drop, length, IfOk, IfSome, OnOk};
 ghost use Rattle.std.specs.Io.KnownBytes.{Appends};
 ghost use Rattle.daide_token.specs.Token.{tokens_of};
 ghost use Rattle.daide_grammar.specs.SideMessages.{IsMessageOver};
@@ -18,6 +18,7 @@ ghost use Rattle.daide_log.specs.Explaining.{part_by, part_with, HasPut};
 ghost use Rattle.daide_frame.specs.Frames.{announced_by};
 ghost use Rattle.daide_machine.specs.Bounds.{longest_body, most_sessions};
 ghost use Rattle.daide_machine.specs.Machine.{coming, is_dm, side2_of};
+ghost use Rattle.daide_machine.specs.declared.config.Config.{Config};
 ghost use Rattle.daide_machine.specs.Wires.{holding, is_awaited, waiting};
 ghost use Rattle.daide_log.specs.Explaining.{IsRuled, IsRightFate, IsRightlyTold, AreLinesBy};
 ghost use Rattle.daide_log.specs.Progress.{IsAnswered, states_of};
@@ -27,7 +28,7 @@ ghost use Rattle.daide_log.specs.Lawful.{explained_lawful};
 use crate::account::Account;
 use crate::check::report_whole;
 use crate::heading::{Preamble, Version};
-use crate::page::{Unreported, put_byte, put_indented, put_part, put_text};
+use crate::page::{Unreported, put_byte, put_indented, put_message, put_part, put_text};
 use crate::record_text::DIGITS;
 use crate::report::Part;
 use crate::style::Style;
@@ -317,6 +318,25 @@ fn write_lines<A: Allocator, B: Allocator + Copy>(
     }
 }
 
+/// Returns the message of a side's move that the session holds, if nothing is written of it but its text.
+fn message_alone<A: Allocator>(session: &Session<A>, side: Side, told: Note) -> Option<&[u8]>
+    ensures alone { IfSome result (λ body. (words : List Word) → (max_depth : ℕ) →
+        AreLinesBy words max_depth side told session.now (line (printed words (tokens_of body.now)))) }
+    ensures even { IfSome result (λ body. (words : List Word) → (config : Config) →
+        IsRightlyTold words config side told session.now → length body.now % 2 ≡ 0) }
+{
+    let Note::Frame(frame, deed) = told else {
+        return None;
+    };
+    if !is_message(frame.kind) {
+        return None;
+    }
+    match verdict_by(deed) {
+        Verdict::Relay => Some(session.body(side)),
+        Verdict::Prn | Verdict::Huh(_) => None,
+    }
+}
+
 /// Whether a session ended by a fault of the side.
 fn is_at_fault(ending: Option<Ending>, side: Side) -> bool
     ensures { result ≡ is_at_fault side ending }
@@ -473,6 +493,9 @@ impl<B: Allocator + Copy> Style for Explaining<B> {
         told: Note,
         output: &mut Output<'_, W>,
     ) -> Result<(), Unreported> {
+        if let Some(body) = message_alone(session, side, told) {
+            return put_message(&head.words, body, output);
+        }
         self.text.clear();
         let Ok(()) = write_lines(self.alloc, head, session, (side, told), &mut self.text) else {
             return Err(Unreported::Memory);

@@ -7,7 +7,9 @@ ghost use Rattle.daide_log.specs.Laws.{SessionsAreAlone};
 ghost use Rattle.daide_log.specs.Log.{IsReport, plain};
 ghost use Rattle.daide_log.specs.Progress.{HasFault, IsInTime};
 ghost use Rattle.daide_log.specs.RecordLaw.{RecordsAreReported, PortsAreRecorded};
+ghost use Rattle.daide_log.specs.Recording.{HasFailed};
 
+use crate::sink::Sink;
 use daide_machine::ports::Ports;
 
 /// What the log of a match without words tells of a session is what the session's own log tells, but for its number.
@@ -37,8 +39,8 @@ pub fn records_are_reported()
     ensures { RecordsAreReported }
 {}
 
-/// Ports with a record, however they were asked: unless its writer failed, the record has a front of their answers, and
-/// all of them unless it is full.
-pub fn ports_are_recorded<P: Ports>()
-    ensures { PortsAreRecorded P.becomes }
+/// Ports with a record, however they were asked: the record has a front of their answers, and all of them unless it is full;
+/// or a write of its writer failed.
+pub fn ports_are_recorded<P: Ports, W: Sink>()
+    ensures { PortsAreRecorded P.becomes (HasFailed W.Fails) }
 {}

@@ -19,6 +19,7 @@ pub mod record;
 mod record_text;
 pub mod recording;
 pub mod report;
+pub mod sink;
 pub mod style;
 
 pub use check::{check_log, check_stream};
@@ -27,3 +28,4 @@ pub use daide_lines::reader::LogReader;
 pub use explained::{Explained, explain_log, explain_stream};
 pub use record::{Record, RecordEnd};
 pub use recording::Recording;
+pub use sink::Sink;

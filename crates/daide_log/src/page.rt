@@ -1,16 +1,26 @@
 //! Lines of a report, put behind what is held back of it.
 
-ghost use Rattle.std.specs.Prelude.{◌≡◌, ◌+◌, ◌≤◌, [], ◌∷◌, length, OnOk, IfErr};
+ghost use Rattle.std.specs.Prelude.{◌≡◌, ◌+◌, ◌%◌, ◌≤◌, [], ◌∷◌, codes, length, OnOk, IfOk, IfErr};
 ghost use Rattle.std.specs.Io.KnownBytes.{Appends, Keeps};
 ghost use Rattle.daide_lines.specs.Output.{IsSameWriter, all_of, page_size};
-ghost use Rattle.daide_log.specs.Explained.{indented, indented_byte};
+ghost use Rattle.daide_token.specs.TextSteps.{end_text, place_past, some_text};
+ghost use Rattle.daide_token.specs.Token.{tokens_of};
+ghost use Rattle.daide_token.specs.declared.text.PrinterState.TheVariants.{Start};
+ghost use Rattle.daide_words.specs.Word.{names_of};
+ghost use Rattle.daide_words.specs.Words.{words_of};
+ghost use Rattle.daide_log.specs.Explained.{indented, indented_byte, line, printed};
 ghost use Rattle.daide_log.specs.Report.{line_room, move_line, part_line, summary_line};
 
-use crate::report::{LINE, Part, Source, write_move, write_part, write_summary};
+use crate::report::{LINE, Part, Source, put, write_move, write_part, write_summary};
 use daide_frame::Side;
 use daide_lines::output::Output;
 use daide_machine::{Note, Summary};
+use daide_token::{PrinterState, end_of};
+use daide_words::Words;
 use std::io::Write;
+
+/// How many bytes of a message are printed together, of which each two have eight bytes of text at most.
+const TOGETHER: usize = 256;
 
 /// Why a line of a report was not written.
 #[derive(Clone, Copy)]
@@ -21,6 +31,24 @@ pub enum Unreported {
     Memory,
 }
 
+/// Hands what is held to the writer where so many bytes more might not find room.
+#[inline(always)]
+fn make_room_for<W: Write>(room: usize, output: &mut Output<'_, W>) -> Result<(), Unreported>
+    requires { room ≤ page_size }
+    ensures kept { OnOk result (Keeps (all_of W.contents output.old) (all_of W.contents output.new)) }
+    ensures room { OnOk result (length output.new.page.items + room ≤ page_size) }
+    ensures refused { IfErr result (λ fault. fault ≡ Unreported.Write) }
+    ensures same_writer { IsSameWriter output.old output.new }
+{
+    if output.page.remaining_capacity() >= room {
+        return Ok(());
+    }
+    match output.hand_over() {
+        Ok(()) => Ok(()),
+        Err(_) => Err(Unreported::Write),
+    }
+}
+
 /// Hands what is held to the writer where a line more might not find room.
 #[inline(always)]
 fn make_room<W: Write>(output: &mut Output<'_, W>) -> Result<(), Unreported>
@@ -29,13 +57,7 @@ fn make_room<W: Write>(output: &mut Output<'_, W>) -> Result<(), Unreported>
     ensures refused { IfErr result (λ fault. fault ≡ Unreported.Write) }
     ensures same_writer { IsSameWriter output.old output.new }
 {
-    if output.page.remaining_capacity() >= LINE {
-        return Ok(());
-    }
-    match output.hand_over() {
-        Ok(()) => Ok(()),
-        Err(_) => Err(Unreported::Write),
-    }
+    make_room_for(LINE, output)
 }
 
 /// Writes a byte behind what is held.
@@ -98,6 +120,94 @@ pub(crate) fn put_indented<W: Write>(
         rest = more;
     }
     Ok(())
+}
+
+/// Writes four spaces behind what is held.
+#[inline(always)]
+fn put_margin<W: Write>(output: &mut Output<'_, W>) -> Result<(), Unreported>
+    ensures text { OnOk result (Appends (all_of W.contents output.old) (all_of W.contents output.new) (codes "    ")) }
+    ensures refused { IfErr result (λ fault. fault ≡ Unreported.Write) }
+    ensures same_writer { IsSameWriter output.old output.new }
+{
+    make_room(output)?;
+    put(b"    ", &mut output.page);
+    Ok(())
+}
+
+/// Writes the text of some tokens of a message, of which so much was written before, behind what is held.
+fn put_some<W: Write>(
+    words: &Words,
+    tokens: &[u8],
+    place: PrinterState,
+    output: &mut Output<'_, W>,
+) -> Result<PrinterState, Unreported>
+    requires { length tokens.now ≤ 256 }
+    ensures text { OnOk result (Appends (all_of W.contents output.old) (all_of W.contents output.new)
+        (some_text (names_of (words_of words.now)) place (tokens_of tokens.now))) }
+    ensures place { IfOk result (λ next. next ≡ place_past place (tokens_of tokens.now)) }
+    ensures refused { IfErr result (λ fault. fault ≡ Unreported.Write) }
+    ensures same_writer { IsSameWriter output.old output.new }
+{
+    make_room_for(4 * TOGETHER, output)?;
+    let next = output.page.put_tokens(words.names(), tokens, place);
+    Ok(next)
+}
+
+/// Writes the text of a message's tokens but for its end behind what is held.
+fn put_tokens<W: Write>(
+    words: &Words,
+    tokens: &[u8],
+    output: &mut Output<'_, W>,
+) -> Result<PrinterState, Unreported>
+    requires { length tokens.now % 2 ≡ 0 }
+    ensures text { OnOk result (Appends (all_of W.contents output.old) (all_of W.contents output.new)
+        (some_text (names_of (words_of words.now)) Start (tokens_of tokens.now))) }
+    ensures place { IfOk result (λ next. next ≡ place_past Start (tokens_of tokens.now)) }
+    ensures refused { IfErr result (λ fault. fault ≡ Unreported.Write) }
+    ensures same_writer { IsSameWriter output.old output.new }
+{
+    let mut place = PrinterState::Start;
+    let mut rest = tokens;
+    'tokens: while !rest.is_empty() {
+        let (some, more) = rest.split_at(rest.len().min(TOGETHER));
+        place = put_some(words, some, place, output)?;
+        rest = more;
+    }
+    Ok(place)
+}
+
+/// Writes the end of a message's text and of its line behind what is held.
+#[inline(always)]
+fn put_end<W: Write>(place: PrinterState, output: &mut Output<'_, W>) -> Result<(), Unreported>
+    ensures text { OnOk result (Appends (all_of W.contents output.old) (all_of W.contents output.new)
+        (line (end_text place))) }
+    ensures refused { IfErr result (λ fault. fault ≡ Unreported.Write) }
+    ensures same_writer { IsSameWriter output.old output.new }
+{
+    make_room(output)?;
+    put(end_of(place), &mut output.page);
+    output.page.push(b'\n');
+    Ok(())
+}
+
+/// Writes the text of a message on a line of its own behind what is held, with four spaces before it, the operator's
+/// words by their names. It is put straight there.
+pub(crate) fn put_message<W: Write>(
+    words: &Words,
+    tokens: &[u8],
+    output: &mut Output<'_, W>,
+) -> Result<(), Unreported>
+    requires { length tokens.now % 2 ≡ 0 }
+    ensures text { OnOk result (Appends (all_of W.contents output.old) (all_of W.contents output.new)
+        (indented (line (printed (words_of words.now) (tokens_of tokens.now))))) }
+    ensures refused { IfErr result (λ fault. fault ≡ Unreported.Write) }
+    ensures same_writer { IsSameWriter output.old output.new }
+{
+    // The names have capital letters, so that the text has no line feed: this contract says it.
+    words.are_accepted();
+    put_margin(output)?;
+    let place = put_tokens(words, tokens, output)?;
+    put_end(place, output)
 }
 
 /// Writes the line of a side's move behind what is held.

@@ -2,22 +2,22 @@
 //!
 //! Lines are held back, and handed to the writer in blocks of whole lines.
 
-ghost use Rattle.std.specs.Prelude.{◌≡◌, ◌≢◌, ◌<◌, ◌≤◌, Some, OnOk, OnErr, length};
+ghost use Rattle.std.specs.Prelude.{◌≡◌, ◌≢◌, ◌<◌, ◌≤◌, [], Some, OnOk, OnErr, length};
 ghost use Rattle.std.specs.Io.KnownBytes.{Keeps, append_known};
 ghost use Rattle.daide_words.specs.Words.{words_of};
 ghost use Rattle.daide_lines.specs.LogLine.{most_lines, longest_piece, EndOf, TimeOver};
 ghost use Rattle.daide_log.specs.RecordText.{piece_of, head_text, head_count};
-ghost use Rattle.daide_log.specs.Recording.{Takes, most_held};
+ghost use Rattle.daide_log.specs.Recording.{Takes, HasFailed, most_held};
 
 use crate::record_text::{put_end, put_head, put_piece, put_timer};
+use crate::sink::Sink;
 use daide_frame::Side;
 pub use daide_lines::lines::MOST_LINES;
-use daide_lines::page::{PAGE, Page, hand_over};
+use daide_lines::page::{PAGE, Page};
 use daide_lines::text::LONGEST_LINE;
 use daide_machine::Config;
 use daide_words::Words;
 use std::io;
-use std::io::Write;
 use std::marker::Model;
 
 /// How many bytes may be held where the longest line still finds room.
@@ -28,7 +28,7 @@ const FRONT: usize = PAGE - LONGEST_LINE;
 pub enum RecordEnd {
     /// It has a line for each answer that tells something.
     Whole,
-    /// Its writer failed, and nothing was written since.
+    /// A write of its writer failed, and nothing was written since.
     Failed,
     /// It has as many lines as a log may have, and a further one was to come.
     Full,
@@ -36,14 +36,14 @@ pub enum RecordEnd {
 
 /// The record of one session over a writer: a log of version 2.
 #[derive(Drop)]
-pub struct Record<W: Write + Drop> {
+pub struct Record<W: Sink + Drop> {
     writer: W,
     held: Page,
     lines: u32,
     ending: RecordEnd,
 }
 
-impl<W: Write + Drop> Model for Record<W> {
+impl<W: Sink + Drop> Model for Record<W> {
     ghost use Rattle.std.specs.Io.KnownBytes.{append_known};
     ghost use Rattle.daide_log.specs.Recording.{Written};
 
@@ -56,12 +56,27 @@ impl<W: Write + Drop> Model for Record<W> {
     } };
 }
 
-/// How a record of so many lines stands once what it held was handed over, or could not be: only a writer that failed
-/// makes it a failed one.
+/// Hands all that is held to the writer.
+#[cold]
+#[inline(never)]
+fn hand_over<W: Sink>(held: &mut Page, writer: &mut W) -> io::Result<()>
+    ensures emptied { OnOk result (held.new.items ≡ []) }
+    ensures written { OnOk result (Keeps (append_known (W.contents writer.old) held.old.items)
+        (append_known (W.contents writer.new) held.new.items)) }
+    ensures failed { OnErr result (W.Fails writer.old writer.new) }
+{
+    writer.write_whole(held.as_slice())?;
+    held.clear();
+    Ok(())
+}
+
+/// Returns how a record of `lines` lines ends, or would end now, after what it held was handed over, or could not be. Only
+/// a write that failed makes it a failed one.
 fn ending_after(handed_over: io::Result<()>, lines: u32) -> RecordEnd
     ensures whole { OnOk handed_over (lines < most_lines → result ≡ RecordEnd.Whole) }
     ensures full { OnOk handed_over (most_lines ≤ lines → result ≡ RecordEnd.Full) }
     ensures failed { OnErr handed_over (result ≡ RecordEnd.Failed) }
+    ensures only_failed { OnOk handed_over (result ≢ RecordEnd.Failed) }
 {
     match handed_over {
         Ok(()) if lines < MOST_LINES => RecordEnd::Whole,
@@ -72,11 +87,12 @@ fn ending_after(handed_over: io::Result<()>, lines: u32) -> RecordEnd
 
 /// Makes room for a line behind what is held, of so many lines with those that were handed over; what can take none is
 /// handed over.
-fn make_room<W: Write>(held: &mut Page, lines: u32, writer: &mut W) -> RecordEnd
+fn make_room<W: Sink>(held: &mut Page, lines: u32, writer: &mut W) -> RecordEnd
     ensures kept { result ≢ RecordEnd.Failed → Keeps (append_known (W.contents writer.old) held.old.items)
         (append_known (W.contents writer.new) held.new.items) }
     ensures whole { result ≡ RecordEnd.Whole → (lines < most_lines) × (length held.new.items ≤ most_held) }
     ensures full { result ≡ RecordEnd.Full → most_lines ≤ lines }
+    ensures failed { result ≡ RecordEnd.Failed → W.Fails writer.old writer.new }
 {
     if lines < MOST_LINES && held.len() <= FRONT {
         return RecordEnd::Whole;
@@ -86,10 +102,11 @@ fn make_room<W: Write>(held: &mut Page, lines: u32, writer: &mut W) -> RecordEnd
 
 /// Hands over what is held of a record that did not fail, and answers how the record ended. A writer that failed is
 /// asked for nothing more.
-fn hand_over_rest<W: Write>(ending: RecordEnd, held: &mut Page, writer: &mut W) -> RecordEnd
+fn hand_over_rest<W: Sink>(ending: RecordEnd, held: &mut Page, writer: &mut W) -> RecordEnd
     ensures failed { ending ≡ RecordEnd.Failed → (result ≡ RecordEnd.Failed) × (writer.new ≡ writer.old) }
     ensures whole { result ≢ RecordEnd.Failed → (result ≡ ending)
         × Keeps (append_known (W.contents writer.old) held.old.items) (W.contents writer.new) }
+    ensures fails { ending ≢ RecordEnd.Failed → result ≡ RecordEnd.Failed → W.Fails writer.old writer.new }
 {
     if ending == RecordEnd::Failed {
         return ending;
@@ -100,7 +117,7 @@ fn hand_over_rest<W: Write>(ending: RecordEnd, held: &mut Page, writer: &mut W) 
     }
 }
 
-impl<W: Write + Drop> Record<W> {
+impl<W: Sink + Drop> Record<W> {
     /// A record of a session with these limits and words, over a writer. Its head is held, and nothing is written yet.
     pub fn new(writer: W, config: Config, words: Words) -> Record<W>
         ensures { result ≡ record {
@@ -129,7 +146,7 @@ impl<W: Write + Drop> Record<W> {
     /// Bytes of a side came, no more than a line has.
     pub fn came(&mut self, side: Side, bytes: &[u8])
         requires { length bytes.now ≤ longest_piece }
-        ensures { Takes self.old (piece_of side bytes.now) self.new }
+        ensures { Takes (HasFailed W.Fails) self.old (piece_of side bytes.now) self.new }
     {
         if bytes.is_empty() || self.ending != RecordEnd::Whole {
             return;
@@ -143,7 +160,7 @@ impl<W: Write + Drop> Record<W> {
 
     /// A side ended, or the wire toward it failed.
     pub fn ended(&mut self, side: Side)
-        ensures { Takes self.old (Some (EndOf side)) self.new }
+        ensures { Takes (HasFailed W.Fails) self.old (Some (EndOf side)) self.new }
     {
         if self.ending != RecordEnd::Whole {
             return;
@@ -157,7 +174,7 @@ impl<W: Write + Drop> Record<W> {
 
     /// The time for the initial message is over.
     pub fn timed_out(&mut self)
-        ensures { Takes self.old (Some TimeOver) self.new }
+        ensures { Takes (HasFailed W.Fails) self.old (Some TimeOver) self.new }
     {
         if self.ending != RecordEnd::Whole {
             return;
@@ -173,6 +190,7 @@ impl<W: Write + Drop> Record<W> {
     pub fn finish(self) -> (W, RecordEnd)
         ensures failed { self.ending ≡ RecordEnd.Failed → result.1 ≡ RecordEnd.Failed }
         ensures whole { result.1 ≢ RecordEnd.Failed → (result.1 ≡ self.ending) × Keeps self.text (W.contents result.0) }
+        ensures fails { self.ending ≢ RecordEnd.Failed → result.1 ≡ RecordEnd.Failed → HasFailed W.Fails }
     {
         let Record {
             mut writer,

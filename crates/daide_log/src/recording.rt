@@ -1,25 +1,28 @@
 //! Ports that keep a record of their answers.
 
 ghost use Rattle.std.specs.Prelude.{◌≡◌};
+ghost use Rattle.daide_machine.specs.Ports.{TurnBegins};
+ghost use Rattle.daide_machine.specs.System.{BeginsTurn};
 ghost use Rattle.std.specs.Io.KnownBytes.{Keeps};
 
 use crate::record::{Record, RecordEnd};
+use crate::sink::Sink;
 use daide_frame::Side;
 use daide_lines::event_line::MOST;
 use daide_machine::ports::{Ports, Pull, Put};
-use std::io::Write;
+use daide_machine::system::System;
 use std::marker::Model;
 
 /// Ports that record what they tell a session: bytes that came, ends, a clock that popped, and a wire that failed, as the
 /// end of its side. The answers are those of the ports within, whatever becomes of the record; they are lent no more of
 /// a buffer than a line has bytes.
 #[derive(Drop)]
-pub struct Recording<P: Ports, W: Write + Drop> {
+pub struct Recording<P: Ports, W: Sink + Drop> {
     ports: P,
     log: Record<W>,
 }
 
-impl<P: Ports, W: Write + Drop> Model for Recording<P, W> {
+impl<P: Ports, W: Sink + Drop> Model for Recording<P, W> {
     ghost use Rattle.daide_log.specs.Recording.{Recorded};
 
     ghost Value = { Recorded P };
@@ -27,12 +30,22 @@ impl<P: Ports, W: Write + Drop> Model for Recording<P, W> {
     ghost view = { λ r. record { ports = r.ports; record_of = r.log } };
 }
 
-impl<P: Ports, W: Write + Drop> Recording<P, W> {
+impl<P: Ports, W: Sink + Drop> Recording<P, W> {
+    ghost use Rattle.daide_log.specs.Recording.{Records, HasFailed};
+
     /// Ports with a record of what they answer from now on.
     pub fn new(ports: P, log: Record<W>) -> Recording<P, W>
         ensures { result ≡ record { ports = ports; record_of = log } }
     {
         Recording { ports, log }
+    }
+
+    /// Begins a turn: the system begins it with the ports within, and the record stays as it is.
+    pub fn begin_turn<S: System<P>>(&mut self, system: &mut S)
+        ensures begins { Records P.becomes (HasFailed W.Fails) self.old TurnBegins self.new }
+        ensures asked { S.transition system.old (BeginsTurn self.old.ports self.new.ports) system.new }
+    {
+        system.begin_turn(&mut self.ports);
     }
 
     /// The record, as it is now.
@@ -51,10 +64,10 @@ impl<P: Ports, W: Write + Drop> Recording<P, W> {
     }
 }
 
-impl<P: Ports, W: Write + Drop> Ports for Recording<P, W> {
-    ghost use Rattle.daide_log.specs.Recording.{Records};
+impl<P: Ports, W: Sink + Drop> Ports for Recording<P, W> {
+    ghost use Rattle.daide_log.specs.Recording.{Records, HasFailed};
 
-    ghost becomes = { Records P.becomes };
+    ghost becomes = { Records P.becomes (HasFailed W.Fails) };
 
     fn pull(&mut self, side: Side, buffer: &mut [u8]) -> Pull {
         let most = buffer.len().min(MOST);

@@ -25,3 +25,4 @@ mod LevelRangeFacts
 pub mod WordedVerdicts
 pub mod WordedRuns
 mod LimitFacts
+mod LawFacts

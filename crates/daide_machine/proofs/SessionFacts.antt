@@ -57,27 +57,27 @@ abbrev UNO : ℕ
 UNO = 0x490B
 
 -- the frame of a message
-abbrev message : List ℕ → List ℕ
+abbrev pub message : List ℕ → List ℕ
 message tokens = 0x02 ∷ 0x00 ∷ 0x00 ∷ 2 * length tokens ∷ bytes_of_tokens tokens
 
-abbrev fm : List ℕ
+abbrev pub fm : List ℕ
 fm = 0x03 ∷ 0x00 ∷ 0x00 ∷ 0x00 ∷ []
 
 abbrev em : ℕ → List ℕ
 em code = 0x04 ∷ 0x00 ∷ 0x00 ∷ 0x02 ∷ 0x00 ∷ code ∷ []
 
 -- the operator's limits: by default, and with a body of 512 and a depth of 4
-abbrev usual : Limits
+abbrev pub usual : Limits
 usual = record { cap = 65526; top_level = L60; max_depth = 62; words = [] }
 
 abbrev narrow : Limits
 narrow = record { cap = 512; top_level = L60; max_depth = 4; words = [] }
 
 -- a session in a phase at a level, of which nothing is held
-abbrev standing : Limits → Phase → Level → SessionState
+abbrev pub standing : Limits → Phase → Level → SessionState
 standing limits phase level = in_phase phase level (opening limits)
 
-abbrev open_at_0 : SessionState
+abbrev pub open_at_0 : SessionState
 open_at_0 = standing usual Open L0
 
 abbrev open_at_30 : SessionState
@@ -96,15 +96,15 @@ abbrev narrow_at_0 : SessionState
 narrow_at_0 = standing narrow Open L0
 
 -- These events make these bytes for the bot's wire and for the server's, and leave the session in this phase and level.
-record Plays (old : SessionState) (events : List Event) (to_bot to_server : List ℕ) (phase : Phase) (level : Level) :
+pub record Plays (old : SessionState) (events : List Event) (to_bot to_server : List ℕ) (phase : Phase) (level : Level) :
     Type 0 where
-  effects : List Effect
-  new : SessionState
-  run : Runs old events effects new
-  bot : bytes_of (sent_to Bot effects) ≡ to_bot
-  server : bytes_of (sent_to Server effects) ≡ to_server
-  its_phase : new.phase ≡ phase
-  its_level : new.level ≡ level
+  pub effects : List Effect
+  pub new : SessionState
+  pub run : Runs old events effects new
+  pub bot : bytes_of (sent_to Bot effects) ≡ to_bot
+  pub server : bytes_of (sent_to Server effects) ≡ to_server
+  pub its_phase : new.phase ≡ phase
+  pub its_level : new.level ≡ level
 
 -- the same of a side's bytes
 abbrev Hears : SessionState → Side → List ℕ → List ℕ → List ℕ → Phase → Level → Type 0
@@ -376,19 +376,21 @@ told_of_the_server = (refl, refl, refl, refl, refl, refl, refl, refl, refl, refl
 
 -- ---- whole sessions
 
-abbrev im : List ℕ
+abbrev pub im : List ℕ
 im = 0x00 ∷ 0x00 ∷ 0x00 ∷ 0x04 ∷ 0x00 ∷ 0x01 ∷ 0xDA ∷ 0x10 ∷ []
 
-abbrev rm : List ℕ
+abbrev pub rm : List ℕ
 rm = 0x01 ∷ 0x00 ∷ 0x00 ∷ 0x00 ∷ []
 
 -- IM and RM, the bot's GOF ( and its OBS with a pad, the server's OFF and FM, and then bytes of both, an end and the
 -- timer, which do nothing
-one_session :
-    Plays (opening usual)
-    (bytes_come Bot im ++ bytes_come Server rm ++ bytes_come Bot (message (0x4803 ∷ BRA ∷ []))
+abbrev pub session_events : List Event
+session_events =
+    bytes_come Bot im ++ bytes_come Server rm ++ bytes_come Bot (message (0x4803 ∷ BRA ∷ []))
     ++ bytes_come Bot (0x02 ∷ 0xFF ∷ 0x00 ∷ 0x02 ∷ 0x48 ∷ 0x0F ∷ []) ++ bytes_come Server (message (0x4810 ∷ []) ++ fm)
-    ++ bytes_come Bot fm ++ bytes_come Server rm ++ Ends Bot ∷ TimerExpires ∷ [])
+    ++ bytes_come Bot fm ++ bytes_come Server rm ++ Ends Bot ∷ TimerExpires ∷ []
+
+pub one_session : Plays (opening usual) session_events
     (rm ++ message (PRN ∷ BRA ∷ 0x4803 ∷ BRA ∷ KET ∷ []) ++ message (0x4810 ∷ []) ++ fm)
     (im ++ message (0x480F ∷ [])) Over L0
 unfolding last_items first_items head_of is_alien im_of entries may_end_of table_answer class_of answer_bytes head_bytes

@@ -12,9 +12,10 @@ use Rattle.daide_machine.specs.declared.ports.Put.TheVariants.{Took, Failed}
 
 -- ---- the record
 
--- one answer of the ports: of the clock; of a pull, with the length of its buffer and the bytes that came;
--- of a put, with the bytes handed in
+-- one step of the ports: a turn of their session begins, of which nothing is asked of them; or one answer of theirs: of
+-- the clock; of a pull, with the length of its buffer and the bytes that came; of a put, with the bytes handed in
 pub data PortAnswer : Type 0 where
+  TurnBegins : PortAnswer
   Clock : (popped : Bool) → PortAnswer
   Pulled : (side : Side) → (buffer : ℕ) → (pull : Pull) → (bytes : List ℕ) → PortAnswer
   Offered : (side : Side) → (bytes : List ℕ) → (put : Put) → PortAnswer
@@ -50,8 +51,10 @@ Tells {A} old answers new = IfSome new (λ after. (before : List A) × (old ≡ 
 
 -- ---- the events
 
--- what an answer tells the session: the timer, bytes of a side, its end, or a wire that failed
+-- what an answer tells the session: the timer, bytes of a side, its end, or a wire that failed; that a turn begins tells
+-- it nothing
 abbrev pub event_of : PortAnswer → List Event
+event_of TurnBegins = []
 event_of (Clock true) = TimerExpires ∷ []
 event_of (Clock false) = []
 event_of (Pulled side buffer (Got n) bytes) = bytes_come side bytes
@@ -68,6 +71,7 @@ events_of (answer ∷ answers) = event_of answer ++ events_of answers
 -- ---- the wires
 
 abbrev pub took : Side → PortAnswer → List ℕ
+took side TurnBegins = []
 took side (Clock popped) = []
 took side (Pulled from buffer pull bytes) = []
 took side (Offered to bytes (Took n)) = if same_side to side then take n bytes else []
@@ -79,6 +83,7 @@ taken side [] = []
 taken side (answer ∷ answers) = took side answer ++ taken side answers
 
 abbrev pub fails : Side → PortAnswer → Bool
+fails side TurnBegins = false
 fails side (Clock popped) = false
 fails side (Pulled from buffer pull bytes) = false
 fails side (Offered to bytes (Took n)) = false

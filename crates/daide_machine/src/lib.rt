@@ -14,6 +14,7 @@ pub mod bounds;
 pub mod config;
 pub mod ending;
 pub mod hlo;
+mod law_facts;
 pub mod laws;
 pub mod note;
 pub mod phase;

@@ -30,9 +30,9 @@ pub enum Put {
 ///
 /// Each call answers, and contracts of what drives ports speak of the answers of its calls. What an answer says of the
 /// ports is theirs to say: those that keep a record say that the answer came to it, and those over two streams which of
-/// them gave or took its bytes.
+/// them gave or took its bytes. A turn of a session with ports of a run begins in a call of the run's system.
 pub trait Ports: Drop {
-    /// What a call with this answer does to the ports.
+    /// What a call with this answer does to the ports, and what the system does to them where a turn begins.
     ghost becomes: { Self → PortAnswer → Self → Type 0 };
 
     /// Reads what a side sent, into the front of the buffer.
@@ -46,7 +46,7 @@ pub trait Ports: Drop {
         ensures within { IsPutWithin result (length bytes.now) }
         ensures becomes { becomes self.old (Offered side bytes.now result) self.new };
 
-    /// Whether the time for the initial message is over.
+    /// Returns whether the time for the initial message is over. A question: by itself it counts, reads and writes nothing.
     fn clock_popped(&mut self) -> bool
         ensures { becomes self.old (Clock result) self.new };
 }

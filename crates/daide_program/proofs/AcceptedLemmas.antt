@@ -1,14 +1,17 @@
 -- Each accept is counted by the sockets.
 use Rattle.std.proofs.Common.{◌≡◌, ℕ, ◌+◌, true, false, List, [], ◌∷◌, Option, ap, arith}
-use Rattle.daide_machine.specs.System.{SystemAnswer, Begins, Accepts, Connects, Retires, Notifies, Waits, TransitsBy}
+use Rattle.daide_machine.specs.System.{SystemAnswer, Begins, BeginsTurn, Accepts, Connects, Retires, Notifies, Waits}
+use Rattle.daide_machine.specs.System.{TransitsBy}
 use Rattle.daide_machine.specs.declared.system.Connect.TheVariants.{Ready, Failed, Pending}
 use Rattle.daide_service.specs.Served.{counted, comes}
+use Rattle.daide_streams.specs.Calls.{StreamCall}
 use Rattle.daide_sockets.specs.Pairing.{Paired, RunSockets, Transits}
 
-module _ {P S : Type 0} (to_give taken : S → Option (List ℕ)) (pair : P → Paired S) where
-  one : (answer : SystemAnswer P) (old new : RunSockets S) → Transits to_give taken pair old answer new →
+module _ {P S : Type 0} (to_give taken : S → Option (List ℕ)) (calls : S → Option (List StreamCall)) (pair : P → Paired S) where
+  one : (answer : SystemAnswer P) (old new : RunSockets S) → Transits to_give taken calls pair old answer new →
       new.came ≡ old.came + comes answer
   one Begins old new h = let e = h.0 in omega (arith, e)
+  one (BeginsTurn before after) old new h = let e = ap (λ (s : RunSockets S). s.came) h in omega (arith, e)
   one (Accepts true) old new h = h.came
   one (Accepts false) old new h = let e = ap (λ (s : RunSockets S). s.came) h in omega (arith, e)
   one (Connects (Ready ports)) old new h = let e = h.3 in omega (arith, e)
@@ -19,7 +22,7 @@ module _ {P S : Type 0} (to_give taken : S → Option (List ℕ)) (pair : P → 
   one (Waits more) old new h = let e = ap (λ (s : RunSockets S). s.came) h in omega (arith, e)
 
   pub all_counted : (answers : List (SystemAnswer P)) (old new : RunSockets S) →
-      TransitsBy (Transits to_give taken pair) old answers new → new.came ≡ old.came + counted comes answers
+      TransitsBy (Transits to_give taken calls pair) old answers new → new.came ≡ old.came + counted comes answers
   all_counted [] old new h = let e = ap (λ (s : RunSockets S). s.came) h in omega (arith, e)
   all_counted (answer ∷ answers) old new h =
       let a = one answer old h.0 h.1 in

@@ -2,7 +2,7 @@
 use Rattle.std.proofs.Common.{◌≡◌, ℕ, List, [], ◌∷◌, Option, Some, None, refl, ap, subst, sym}
 use Rattle.std.specs.Prelude.{Contains}
 use Rattle.daide_machine.specs.Wires.{SessionView}
-use Rattle.daide_machine.specs.Ports.{PortAnswer, Clock, Pulled, Offered, BecomesBy}
+use Rattle.daide_machine.specs.Ports.{PortAnswer, TurnBegins, Clock, Pulled, Offered, BecomesBy}
 use Rattle.daide_machine.specs.declared.ports.Pull.{Pull}
 use Rattle.daide_machine.specs.declared.ports.Put.{Put}
 use Rattle.daide_settings.specs.declared.settings.Settings.{Settings}
@@ -25,6 +25,7 @@ module _ {P S : Type 0} (streams : P → Buffer S × Buffer S) (to_give taken : 
   -- spent ports are asked nothing, and say that nothing came and nothing went
   spent_moves : (answer : PortAnswer) (old new : Buffer S × Buffer S) → IsSpentAnswer answer → new ≡ old →
       Moves to_give taken old answer new
+  spent_moves TurnBegins old new h e = still_moves to_give taken old new _ (λ one. refl) (λ one. refl) e
   spent_moves (Clock popped) old new h e = still_moves to_give taken old new _ (λ one. refl) (λ one. refl) e
   spent_moves (Pulled side buffer pull bytes) old new h e =
       subst (λ (p : Pull). Moves to_give taken old (Pulled side buffer p bytes) new) (sym h)

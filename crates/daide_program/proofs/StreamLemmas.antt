@@ -9,7 +9,8 @@ use Rattle.daide_machine.specs.Heard.{bytes_from}
 use Rattle.daide_machine.specs.Machine.{Limits}
 use Rattle.daide_machine.specs.Wires.{SessionView, same_side, bytes_of, waiting}
 use Rattle.daide_turns.specs.Headline.{IsBoundedAndExact, untouched}
-use Rattle.daide_machine.specs.Ports.{PortAnswer, Clock, Pulled, Offered, BecomesBy, event_of, events_of, took}
+use Rattle.daide_machine.specs.Ports.{PortAnswer, TurnBegins, Clock, Pulled, Offered, BecomesBy, event_of}
+use Rattle.daide_machine.specs.Ports.{events_of, took}
 use Rattle.daide_turns.specs.Record.{Moved}
 use Rattle.daide_machine.specs.Ports.{taken}
 use Rattle.daide_machine.specs.declared.ports.Pull.TheVariants.{Got, Idle, Ended}
@@ -51,6 +52,7 @@ none_of_other side from [] e = refl
 none_of_other side from (byte ∷ bytes) e = rw e (none_of_other side from bytes e)
 
 bytes_of_event : (side : Side) (answer : PortAnswer) → bytes_from side (event_of answer) ≡ gave side answer
+bytes_of_event side TurnBegins = refl
 bytes_of_event side (Clock true) = refl
 bytes_of_event side (Clock false) = refl
 bytes_of_event side (Pulled from buffer (Got n) bytes) = go (same_side from side) refl

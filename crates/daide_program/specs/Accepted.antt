@@ -2,10 +2,12 @@
 use Rattle.std.specs.Prelude.{◌≡◌, ℕ, ◌+◌, List, Option}
 use Rattle.daide_machine.specs.System.{SystemAnswer, TransitsBy}
 use Rattle.daide_service.specs.Served.{counted, comes}
+use Rattle.daide_streams.specs.Calls.{StreamCall}
 use Rattle.daide_sockets.specs.Pairing.{Paired, RunSockets, Transits}
 
 -- By whatever answers the sockets of a run go on, they count each bot that these say came. So after a whole run of the
 -- settings they counted as many as the settings say.
-abbrev pub BotsAreCounted : (P : Type 0) → {S : Type 0} → (S → Option (List ℕ)) → (S → Option (List ℕ)) → Type 0
-BotsAreCounted P {S} to_give taken = (pair : P → Paired S) (old new : RunSockets S) (answers : List (SystemAnswer P)) →
-    TransitsBy (Transits to_give taken pair) old answers new → new.came ≡ old.came + counted comes answers
+abbrev pub BotsAreCounted : (P : Type 0) → {S : Type 0} → (S → Option (List ℕ)) → (S → Option (List ℕ)) →
+    (S → Option (List StreamCall)) → Type 0
+BotsAreCounted P {S} to_give taken calls = (pair : P → Paired S) (old new : RunSockets S) (answers : List (SystemAnswer P)) →
+    TransitsBy (Transits to_give taken calls pair) old answers new → new.came ≡ old.came + counted comes answers

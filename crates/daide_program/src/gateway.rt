@@ -6,11 +6,11 @@ ghost use Rattle.daide_service.specs.Served.{IsWholeRun};
 ghost use Rattle.daide_service.specs.Serving.{IsServeCause, IsOfSettings, GivesUp};
 ghost use Rattle.daide_program.specs.Gateway.{IsBeforeServing, fault_by};
 
+use daide_frame::Memory;
 use daide_machine::{Ports, System};
 use daide_service::{ServeFault, serve};
 use daide_settings::Settings;
 use daide_sockets::ground::{Ground, GroundError, ground_of};
-use std::alloc::Global;
 use std::io::Write;
 use std::net::Net;
 use std::rt::Clock;
@@ -53,17 +53,18 @@ pub fn bind<'r, R: AllocGlobal + Clock + Net>(
 
 /// Says that it listens, and serves until all bots were served. By its answers the system went from what it was to what it
 /// is, and they are those of a whole run of the settings, or of one that is given up for its fault.
-pub fn serve_on<P: Ports, S: System<P>, O: Write>(
-    alloc: Global,
+pub fn serve_on<A: Memory + Copy, P: Ports, S: System<P>, O: Write>(
+    alloc: A,
     settings: &Settings,
     system: &mut S,
     output: &mut O,
 ) -> Result<(), ServeFault>
-    ensures refused { IfErr result (IsServeCause settings.now) }
+    ensures refused { IfErr result (IsServeCause A.Refuses settings.now) }
     ensures served { OnOk result ((answers : List (SystemAnswer P))
         × TransitsBy S.transition system.old answers system.new × IsWholeRun P.becomes settings.now answers) }
     ensures given_up { IfErr result (λ fault. (answers : List (SystemAnswer P))
-        × TransitsBy S.transition system.old answers system.new × GivesUp P.becomes settings.now fault answers) }
+        × TransitsBy S.transition system.old answers system.new
+        × GivesUp A.Refuses P.becomes settings.now fault answers) }
     ensures unasked { IfErr result (λ fault. IsOfSettings fault → system.new ≡ system.old) }
 {
     // Where nobody reads it the run goes on.

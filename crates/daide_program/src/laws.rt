@@ -26,5 +26,5 @@ pub fn served_sessions_exchange<R: Clock, S: Duplex + Drop>()
 
 /// The sockets of a run count each bot of which their answers say that it came.
 pub fn bots_are_counted<P: Ports, S: Duplex>()
-    ensures { BotsAreCounted P S.to_give S.taken }
+    ensures { BotsAreCounted P S.to_give S.taken S.calls }
 {}

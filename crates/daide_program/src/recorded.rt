@@ -1,6 +1,8 @@
 //! A run of which each session is recorded in a folder: the system of its sockets, with a record round each session's
 //! ports. A run without one has the sockets' own system and nothing of this.
 
+ghost use Rattle.std.specs.Prelude.{◌≡◌, ◌⊎◌, ℕ, []};
+ghost use Rattle.daide_sockets.specs.Lingering.{GoOnFor};
 ghost use Rattle.daide_sockets.specs.Pairing.{Transits};
 
 use crate::folder::{Folder, SessionFile, end};
@@ -22,8 +24,12 @@ pub(crate) struct RecordedSockets<'w, 'f, R: AllocGlobal + Clock + Net + Files, 
 }
 
 impl<R: AllocGlobal + Clock + Net + Files, E: Write + Drop> RecordedSockets<'_, '_, R, E> {
-    /// Waits until the last sockets are closed.
-    pub(crate) fn finish(&mut self) {
+    /// Waits until the last sockets are closed: what closes goes on by rounds.
+    pub(crate) fn finish(&mut self)
+        ensures { (rounds : ℕ) × GoOnFor ⟦<Connection as Duplex>⟧.to_give ⟦<Connection as Duplex>⟧.taken
+            ⟦<Connection as Duplex>⟧.calls rounds self.old.sockets.closings self.new.sockets.closings
+            × ((self.new.sockets.closings ≡ []) ⊎ (rounds ≡ u64.MAX)) }
+    {
         self.sockets.finish();
     }
 }
@@ -32,24 +38,28 @@ impl<'w, R: AllocGlobal + Clock + Net + Files, E: Write + Drop> System<
     Recording<SocketPorts<'w, &'w R>, SessionFile<R::File>>,
 > for RecordedSockets<'w, '_, R, E> {
     ghost transition = { λ old answer new. Transits ⟦<Connection as Duplex>⟧.to_give ⟦<Connection as Duplex>⟧.taken
-        (λ ports. record {
+        ⟦<Connection as Duplex>⟧.calls (λ ports. record {
           number = ports.ports.number;
           bot = ports.ports.bot.stream;
           server = ports.ports.server.stream;
         })
         (record {
-          came = old.sockets.came;
+          came = old.sockets.acceptor.came;
           arrivals = old.sockets.arrivals.items;
           closing = old.sockets.closings;
         }) answer
         (record {
-          came = new.sockets.came;
+          came = new.sockets.acceptor.came;
           arrivals = new.sockets.arrivals.items;
           closing = new.sockets.closings;
         }) };
 
     fn begin_round(&mut self) {
         self.sockets.begin_round();
+    }
+
+    fn begin_turn(&mut self, ports: &mut Recording<SocketPorts<'w, &'w R>, SessionFile<R::File>>) {
+        ports.begin_turn(&mut self.sockets);
     }
 
     fn accept(&mut self) -> bool {

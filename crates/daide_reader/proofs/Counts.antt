@@ -110,11 +110,21 @@ module _ (left size : ℕ) (some : left ≢ 0) (inside : left ≤ size) where
 pub none_due : (asked due : ℕ) → due ≡ 0 → asked % 2 ^ 64 ≡ (asked + due) % 2 ^ 64
 none_due asked due none = omega arith
 
-pub one_asked : (old mid new due due_then : ℕ) → due_then ≡ due → mid ≡ (old + 1) % 2 ^ 64
-    → (new + 1) % 2 ^ 64 ≡ (mid + due_then) % 2 ^ 64 → new % 2 ^ 64 ≡ (old + due) % 2 ^ 64
-one_asked old mid new due due_then same once steps = omega arith
+pub none_more : (asked due : ℕ) → due ≡ 0 → asked % 2 ^ 64 ≡ (asked + (due + 0)) % 2 ^ 64
+none_more asked due none = omega arith
 
--- the word's own answer is counted by the one before it
-pub word_asked : (old new due left here : ℕ) → new % 2 ^ 64 ≡ (old + here) % 2 ^ 64 → due ≡ 1 + left → here ≡ left
-    → (new + 1) % 2 ^ 64 ≡ (old + due) % 2 ^ 64
-word_asked old new due left here sum more same = omega arith
+pub or_one_more : (n due : ℕ) → n ≤ due → n ≤ due + 1
+or_one_more n due few = omega arith
+
+-- a symbol that stopped a token is asked once more
+pub once_more : (old mid new due due_then : ℕ) → due_then ≡ due → mid ≡ (old + 1) % 2 ^ 64
+    → new % 2 ^ 64 ≡ (mid + due_then) % 2 ^ 64 → new % 2 ^ 64 ≡ (old + (due + 1)) % 2 ^ 64
+once_more old mid new due due_then same once steps = omega arith
+
+pub word_stopped : (old new due : ℕ) → new ≡ (old + 1) % 2 ^ 64 → due ≡ 1 → new % 2 ^ 64 ≡ (old + due) % 2 ^ 64
+word_stopped old new due counts one = omega arith
+
+-- the word's own answer, and those below it
+pub word_asked : (old mid new due left here : ℕ) → mid ≡ (old + 1) % 2 ^ 64 → new % 2 ^ 64 ≡ (mid + here) % 2 ^ 64
+    → due ≡ 1 + left → here ≡ left → new % 2 ^ 64 ≡ (old + due) % 2 ^ 64
+word_asked old mid new due left here counts sum more same = omega arith

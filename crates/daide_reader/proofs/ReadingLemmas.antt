@@ -18,7 +18,7 @@ use Rattle.daide_reader.specs.Stack.{steps_at}
 use Rattle.daide_reader.specs.Outline.{IsOutlineOf, with_token}
 use Rattle.daide_reader.specs.Reading.{Reading, IsRaised, StandsAfter, StackOrPlace, HasPlace, IsSteady, IsSettled}
 use Rattle.daide_reader.specs.Reading.{steps_since, brackets_open}
-use Rattle.daide_reader.proofs.StackLemmas.{lawful_more, four_steps}
+use Rattle.daide_reader.proofs.StackLemmas.{lawful_more, three_steps}
 use Rattle.daide_grammar.proofs.Counting.{counted-snoc}
 use Rattle.daide_reader.proofs.OutlineLemmas.{outline-snoc}
 use Rattle.daide_reader.proofs.ErrorPlaceLemmas.{expects_start, expects_taken, wrong_here}
@@ -69,10 +69,10 @@ module _ {T : Type 0} (table : Ghosts T)
           let below = next.2 in
           omega arith
 
-  -- the answers for one token are four at most
+  -- the answers for one token are four at most: one for each symbol that is asked, and one more as a word
   pub few_steps : (c : Class) (stack : List Sym) (n asked : ℕ) → table.lawful words stack n →
-      asked ≤ steps_at (table.moves words) c stack → asked ≤ 4
-  few_steps c stack n asked ok few = omega (arith, few, four_steps _ _ _ _ _ (laws words) c stack n ok)
+      asked ≤ steps_at (table.moves words) c stack + 1 → asked ≤ 4
+  few_steps c stack n asked ok few = omega (arith, few, three_steps _ _ _ _ _ (laws words) c stack n ok)
 
 -- nothing is open in a message that begins with PRN
 report_count : (u : Option ℕ) (p q : List ℕ) → begins_with_prn (p ++ q) ≡ true

@@ -59,6 +59,10 @@ one_more false true zero j e = absurd cc
 one_more false true (suc n) j e = let same : n ≡ j = cc in omega (arith, same)
 one_more false false n j e = let same : n ≡ j = cc in omega (arith, same)
 
+-- one answer more at most
+most_once : (n more : ℕ) → more ≤ 1 → n + more ≤ n + 1
+most_once n more few = omega arith
+
 module _ {T : Type 0} (table : Ghosts T)
     (laws : (w : Words) →
     PredictLaws (table.class_of w) (table.language w) (table.moves w) (table.ends w) (table.lawful w))
@@ -101,13 +105,18 @@ module _ {T : Type 0} (table : Ghosts T)
   abbrev due_at : Standing T → ℕ → List Sym → ℕ
   due_at now t stack = steps_at (table.moves (table.words now.table)) (table.class_of (table.words now.table) t) stack
 
+  -- a token has the answers that are due, and at most one more, where a symbol that stopped it is asked again
+  abbrev AsksFor : ℕ → Standing T → Standing T → Type 0
+  AsksFor t now new = (more : ℕ) × (more ≤ 1)
+      × (table.asked new.table % 2 ^ 64 ≡ (table.asked now.table + (due_at now t now.stack + more)) % 2 ^ 64)
+
   -- what a token that is taken makes of a reader
   pub record TakesToken (t opened after : ℕ) (now new : Standing T) : Type 0 where
     pub words : table.words new.table ≡ table.words now.table
     pub fits : is_bra t ≡ true → opened ≢ max_depth
     pub taken : after_at now t now.stack ≡ Some new.stack
     pub counted : count_one (is_bra t) (is_ket t) (Some opened) ≡ open_count after
-    pub steps : (n : ℕ) × (n ≤ due_at now t now.stack)
+    pub steps : (n : ℕ) × (n ≤ due_at now t now.stack + 1)
         × (table.asked new.table % 2 ^ 64 ≡ (table.asked now.table + n) % 2 ^ 64)
 
   pub at_next : (i t opened after : ℕ) (now new : Standing T) → AtToken i opened now
@@ -169,7 +178,7 @@ module _ {T : Type 0} (table : Ghosts T)
     pub words : table.words new.table ≡ table.words now.table
     pub why : ((is_bra t ≡ true) × (opened ≡ max_depth)) ⊎ (after_at now t now.stack ≡ None)
     pub counted : after ≡ count_one (is_bra t) (is_ket t) (Some opened)
-    pub steps : (n : ℕ) × (n ≤ due_at now t now.stack)
+    pub steps : (n : ℕ) × (n ≤ due_at now t now.stack + 1)
         × (table.asked new.table % 2 ^ 64 ≡ (table.asked now.table + n) % 2 ^ 64)
 
   pub reads_refused : (i t opened : ℕ) (after : Option ℕ) (now new : Standing T) → AtToken i opened now
@@ -327,7 +336,7 @@ module _ {T : Type 0} (table : Ghosts T)
       → drop i (tokens_of body) ≡ t ∷ drop (i + 1) (tokens_of body)
       → after_at now t now.stack ≡ Some new.stack
       → table.words new.table ≡ table.words now.table
-      → table.asked new.table % 2 ^ 64 ≡ (table.asked now.table + due_at now t now.stack) % 2 ^ 64
+      → AsksFor t now new
       → (is_bra t ≡ true → opened ≢ max_depth)
       → count_one (is_bra t) (is_ket t) (Some opened) ≡ open_count after
       → TakesToken t opened after mid.start new
@@ -338,19 +347,20 @@ module _ {T : Type 0} (table : Ghosts T)
       let due : due_at now t now.stack ≡ due_at start t now.stack =
       ap (λ (w : Words). steps_at (table.moves w) (table.class_of w t) now.stack) mid.words in
       let sum = before.1 in
+      let asked = counts.2 in
       record {
         words = same ∙ mid.words;
         fits = fits;
         taken = before.0 ∙ by_words ∙ taken;
         counted = counted;
-        steps = (due_at start t start.stack, omega arith, omega (arith, counts, due, sum));
+        steps = (due_at start t start.stack + counts.0, most_once _ _ counts.1, omega (arith, asked, due, sum));
       }
 
   pub refuses_token : (i opened end t : ℕ) (after : Option ℕ) (now new : Standing T) → (mid : MidToken i opened end now)
       → drop i (tokens_of body) ≡ t ∷ drop (i + 1) (tokens_of body)
       → after_at now t now.stack ≡ None
       → table.words new.table ≡ table.words now.table
-      → table.asked new.table % 2 ^ 64 ≡ (table.asked now.table + due_at now t now.stack) % 2 ^ 64
+      → AsksFor t now new
       → after ≡ count_one (is_bra t) (is_ket t) (Some opened)
       → RefusesToken t opened after mid.start new
   refuses_token i opened end t after now new mid here refused same counts counted =
@@ -360,11 +370,12 @@ module _ {T : Type 0} (table : Ghosts T)
       let due : due_at now t now.stack ≡ due_at start t now.stack =
       ap (λ (w : Words). steps_at (table.moves w) (table.class_of w t) now.stack) mid.words in
       let sum = before.1 in
+      let asked = counts.2 in
       record {
         words = same ∙ mid.words;
         why = inr (before.0 ∙ by_words ∙ refused);
         counted = counted;
-        steps = (due_at start t start.stack, omega arith, omega (arith, counts, due, sum));
+        steps = (due_at start t start.stack + counts.0, most_once _ _ counts.1, omega (arith, asked, due, sum));
       }
 
   -- in the midst of a token there is room, as there was at its start
@@ -396,7 +407,7 @@ module _ {T : Type 0} (table : Ghosts T)
       → drop i (tokens_of body) ≡ t ∷ drop (i + 1) (tokens_of body)
       → after_at now t now.stack ≡ None
       → table.words new.table ≡ table.words now.table
-      → table.asked new.table % 2 ^ 64 ≡ (table.asked now.table + due_at now t now.stack) % 2 ^ 64
+      → AsksFor t now new
       → after ≡ count_one (is_bra t) (is_ket t) (Some opened) → new.stack ≡ []
       → tokens ≡ i + 1 → place ≡ Some i
       → ReadsTo table max_depth body read unclosed old tokens after place new
@@ -412,7 +423,7 @@ module _ {T : Type 0} (table : Ghosts T)
       → drop i (tokens_of body) ≡ t ∷ drop (i + 1) (tokens_of body)
       → after_at now t now.stack ≡ Some new.stack
       → table.words new.table ≡ table.words now.table
-      → table.asked new.table % 2 ^ 64 ≡ (table.asked now.table + due_at now t now.stack) % 2 ^ 64
+      → AsksFor t now new
       → opened < max_depth
       → count_one (is_bra t) (is_ket t) (Some opened) ≡ open_count after
       → MidToken (i + 1) after end new × (after ≤ opened + 1)
@@ -455,7 +466,8 @@ module _ {T : Type 0} (table : Ghosts T)
       ∙ ap (λ (x : List Sym). Some x) (sym put) in
       let due : due_at now t now.stack ≡ 1 =
       ap (steps_at moves class) top ∙ steps_taken moves class s below a is takes in
-      goes_on i opened end t after now new mid front here taken same (omega (arith, counts, due)) less counted
+      goes_on i opened end t after now new mid front here taken same (0, omega arith, omega (arith, counts, due)) less
+      counted
 
   -- what is said of the same stack by a table that was asked once more
   pub said_same : (t : ℕ) (now : Standing T) (asked : T) (stack : List Sym) → table.words asked ≡ table.words now.table

@@ -76,7 +76,8 @@ pub(crate) fn follow<T: Predict, const N: usize>(
     None
 }
 
-/// The same where the protocol's own table stopped the token at the top, whose answer is counted.
+/// The same where the protocol's own table stopped the token at the top: it is asked there once more, as an operator's
+/// word.
 #[cold]
 #[inline(never)]
 pub(crate) fn follow_word<T: Predict, const N: usize>(
@@ -99,7 +100,7 @@ pub(crate) fn follow_word<T: Predict, const N: usize>(
         (stack_after (T.moves (T.words table.old)) (T.class_of (T.words table.old) token)
         (reverse (take (top + 1) cells.old)) ≡ None) }
     ensures words { T.words table.new ≡ T.words table.old }
-    ensures steps { (T.asked table.new + 1) % 2 ^ 64
+    ensures steps { T.asked table.new % 2 ^ 64
         ≡ (T.asked table.old + steps_at (T.moves (T.words table.old)) (T.class_of (T.words table.old) token)
         (reverse (take (top + 1) cells.old))) % 2 ^ 64 }
 {

@@ -9,6 +9,7 @@
 mod body;
 mod brackets;
 mod cells;
+mod law_facts;
 pub mod laws;
 mod outline;
 pub mod reader;

@@ -12,25 +12,26 @@ use Rattle.daide_machine.specs.declared.ports.Pull.TheVariants.{Got, Idle, Ended
 use Rattle.daide_machine.specs.declared.ports.Put.TheVariants.{Took, Failed}
 use Rattle.daide_machine.specs.Events.{Event, Ends, Loses}
 use Rattle.daide_machine.specs.Machine.{SessionState, Effect, Limits, Outcome, Runs, Transition, is_over}
-use Rattle.daide_machine.specs.Ports.{PortAnswer, Clock, Pulled, Offered, BecomesBy, events_of}
+use Rattle.daide_machine.specs.Ports.{PortAnswer, TurnBegins, Clock, Pulled, Offered, BecomesBy, events_of}
 use Rattle.daide_machine.specs.Wires.{SessionView, same_side, front_of, room_of}
 use Rattle.daide_machine.proofs.EndingLemmas.{runs_told}
 use Rattle.daide_machine.proofs.OneRun.{one_run}
 use Rattle.daide_machine.proofs.PieceRuns.{over_stays}
 use Rattle.daide_turns.specs.Headline.{Stands, untouched}
-use Rattle.daide_turns.specs.Hub.{IsTurned}
+use Rattle.daide_turns.specs.Hub.{IsBegun, IsTurned}
 use Rattle.daide_turns.specs.Turn.{Then, Hears, Puts, Pulls, Turn}
 use Rattle.daide_turns.proofs.Stretches.{becomes_then}
 use Rattle.daide_service.specs.Metered.{MeteredView, Meters, BecomesWhile, IsSpentAnswer, one_less, told_where}
-use Rattle.daide_service.specs.Served.{while_left, cause_of, looks_in}
+use Rattle.daide_service.specs.Served.{while_left, cause_of, turns_in}
 use Rattle.daide_service.specs.Serving.{fresh, is_told, cause_by}
-use Rattle.daide_service.proofs.LookLemmas.{turn_looks, counted_from, below_alike, none_below_zero}
+use Rattle.daide_service.proofs.TurnCounts.{turn_begins_none, counted_from, none_below_zero}
 use Rattle.daide_service.proofs.LostWires.{is_lost, lost_waits}
 
 -- ---- the first end or failure that is told
 
 abbrev pub first_of : List PortAnswer → Option Ending
 first_of [] = None
+first_of (TurnBegins ∷ answers) = first_of answers
 first_of (Clock popped ∷ answers) = first_of answers
 first_of (Pulled side buffer pull bytes ∷ answers) = Some (Endings.Ended side)
 first_of (Offered side bytes put ∷ answers) = Some (Endings.Lost side)
@@ -71,8 +72,15 @@ module _ {P : Type 0} (becomes : P → PortAnswer → P → Type 0) where
     told = ap (λ (m : MeteredView P). m.told) h ∙ sym (or_none old.told);
     left = ap (λ (m : MeteredView P). m.left) h ∙ e;
   }
+  tells (TurnBegins ∷ answers) old new e h =
+      let rest = tells answers h.0 new (h.1.left ∙ ap one_less e) h.2 in
+      record {
+        spent = (tt, rest.spent);
+        told = rest.told ∙ ap (λ (o : Option Ending). option_or o (first_of answers)) h.1.told;
+        left = rest.left;
+      }
   tells (Clock popped ∷ answers) old new e h =
-      let left : h.0.left ≡ None = h.1.left ∙ ap one_less e in
+      let left : h.0.left ≡ None = h.1.left ∙ e in
       let rest = tells answers h.0 new left h.2 in
       record {
         spent = (asked_not h.0.left old.ports (Clock popped) h.0.ports left h.1.ports, rest.spent);
@@ -121,9 +129,12 @@ module _ {P : Type 0} (becomes : P → PortAnswer → P → Type 0) where
       new.left ≡ Some turns → (new.told ≡ old.told) × ((more : ℕ) × (old.left ≡ Some more))
   untold [] turns old new h e =
       (ap (λ (m : MeteredView P). m.told) h, (turns, sym (ap (λ (m : MeteredView P). m.left) h) ∙ e))
-  untold (Clock popped ∷ answers) turns old new h e =
+  untold (TurnBegins ∷ answers) turns old new h e =
       let rest = untold answers turns h.0 new h.2 e in
       (rest.0 ∙ h.1.told, (suc rest.1.0, some_left old.left rest.1.0 (sym h.1.left ∙ rest.1.1)))
+  untold (Clock popped ∷ answers) turns old new h e =
+      let rest = untold answers turns h.0 new h.2 e in
+      (rest.0 ∙ h.1.told, (rest.1.0, sym h.1.left ∙ rest.1.1))
   untold (Pulled side buffer pull bytes ∷ answers) turns old new h e =
       let rest = untold answers turns h.0 new h.2 e in (
         rest.0 ∙ (h.1.told ∙ where_left h.0.left rest.1.0 (Endings.Ended side) old.told rest.1.1),
@@ -140,12 +151,13 @@ module _ {P : Type 0} (becomes : P → PortAnswer → P → Type 0) where
   all_left : (answers : List PortAnswer) (turns more : ℕ) (old new : MeteredView P) → old.left ≡ Some turns →
       BecomesBy (Meters becomes) old answers new → new.left ≡ Some more → while_left turns answers ≡ answers
   all_left [] turns more old new e h k = refl
-  all_left (Clock popped ∷ answers) zero more old new e h k =
+  all_left (TurnBegins ∷ answers) zero more old new e h k =
       let spent = tells answers h.0 new (h.1.left ∙ ap one_less e) h.2 in
       let none = spent.left in absurd (cc)
-  all_left (Clock popped ∷ answers) (suc turns) more old new e h k =
-      ap (λ (l : List PortAnswer). Clock popped ∷ l)
-      (all_left answers turns more h.0 new (h.1.left ∙ ap one_less e) h.2 k)
+  all_left (TurnBegins ∷ answers) (suc turns) more old new e h k =
+      ap (λ (l : List PortAnswer). TurnBegins ∷ l) (all_left answers turns more h.0 new (h.1.left ∙ ap one_less e) h.2 k)
+  all_left (Clock popped ∷ answers) turns more old new e h k =
+      ap (λ (l : List PortAnswer). Clock popped ∷ l) (all_left answers turns more h.0 new (h.1.left ∙ e) h.2 k)
   all_left (Pulled side buffer pull bytes ∷ answers) turns more old new e h k =
       ap (λ (l : List PortAnswer). Pulled side buffer pull bytes ∷ l)
       (all_left answers turns more h.0 new (h.1.left ∙ e) h.2 k)
@@ -159,10 +171,12 @@ module _ {P : Type 0} (becomes : P → PortAnswer → P → Type 0) where
       while_left turns (answers ++ more) ≡ while_left turns answers
   spent_adds [] more turns old new e h k =
       let same = ap (λ (m : MeteredView P). m.left) h in absurd (cc)
-  spent_adds (Clock popped ∷ answers) more zero old new e h k = refl
-  spent_adds (Clock popped ∷ answers) more (suc turns) old new e h k =
-      ap (λ (l : List PortAnswer). Clock popped ∷ l)
+  spent_adds (TurnBegins ∷ answers) more zero old new e h k = refl
+  spent_adds (TurnBegins ∷ answers) more (suc turns) old new e h k =
+      ap (λ (l : List PortAnswer). TurnBegins ∷ l)
       (spent_adds answers more turns h.0 new (h.1.left ∙ ap one_less e) h.2 k)
+  spent_adds (Clock popped ∷ answers) more turns old new e h k =
+      ap (λ (l : List PortAnswer). Clock popped ∷ l) (spent_adds answers more turns h.0 new (h.1.left ∙ e) h.2 k)
   spent_adds (Pulled side buffer pull bytes ∷ answers) more turns old new e h k =
       ap (λ (l : List PortAnswer). Pulled side buffer pull bytes ∷ l)
       (spent_adds answers more turns h.0 new (h.1.left ∙ e) h.2 k)
@@ -170,37 +184,27 @@ module _ {P : Type 0} (becomes : P → PortAnswer → P → Type 0) where
       ap (λ (l : List PortAnswer). Offered side bytes put ∷ l)
       (spent_adds answers more turns h.0 new (h.1.left ∙ e) h.2 k)
 
-  -- a look at the clock with no turn left is the first of them
-  last_adds : (answers : List PortAnswer) (popped : Bool) (more : List PortAnswer) (turns : ℕ) (old new : MeteredView P) →
+  -- a turn that begins with none left is the first of them
+  last_adds : (answers more : List PortAnswer) (turns : ℕ) (old new : MeteredView P) →
       old.left ≡ Some turns → BecomesBy (Meters becomes) old answers new → new.left ≡ Some 0 →
-      while_left turns (answers ++ Clock popped ∷ more) ≡ answers
-  last_adds [] popped more zero old new e h k = refl
-  last_adds [] popped more (suc turns) old new e h k =
+      while_left turns (answers ++ TurnBegins ∷ more) ≡ answers
+  last_adds [] more zero old new e h k = refl
+  last_adds [] more (suc turns) old new e h k =
       let same = ap (λ (m : MeteredView P). m.left) h in absurd (cc)
-  last_adds (Clock seen ∷ answers) popped more zero old new e h k =
+  last_adds (TurnBegins ∷ answers) more zero old new e h k =
       let spent = tells answers h.0 new (h.1.left ∙ ap one_less e) h.2 in
       let none = spent.left in absurd (cc)
-  last_adds (Clock seen ∷ answers) popped more (suc turns) old new e h k =
-      ap (λ (l : List PortAnswer). Clock seen ∷ l)
-      (last_adds answers popped more turns h.0 new (h.1.left ∙ ap one_less e) h.2 k)
-  last_adds (Pulled side buffer pull bytes ∷ answers) popped more turns old new e h k =
+  last_adds (TurnBegins ∷ answers) more (suc turns) old new e h k =
+      ap (λ (l : List PortAnswer). TurnBegins ∷ l)
+      (last_adds answers more turns h.0 new (h.1.left ∙ ap one_less e) h.2 k)
+  last_adds (Clock popped ∷ answers) more turns old new e h k =
+      ap (λ (l : List PortAnswer). Clock popped ∷ l) (last_adds answers more turns h.0 new (h.1.left ∙ e) h.2 k)
+  last_adds (Pulled side buffer pull bytes ∷ answers) more turns old new e h k =
       ap (λ (l : List PortAnswer). Pulled side buffer pull bytes ∷ l)
-      (last_adds answers popped more turns h.0 new (h.1.left ∙ e) h.2 k)
-  last_adds (Offered side bytes put ∷ answers) popped more turns old new e h k =
+      (last_adds answers more turns h.0 new (h.1.left ∙ e) h.2 k)
+  last_adds (Offered side bytes put ∷ answers) more turns old new e h k =
       ap (λ (l : List PortAnswer). Offered side bytes put ∷ l)
-      (last_adds answers popped more turns h.0 new (h.1.left ∙ e) h.2 k)
-
-  -- the look that is one too many pops no clock, and from it on the ports are asked nothing more
-  from_look : (popped : Bool) (answers : List PortAnswer) (old new : MeteredView P) → old.left ≡ Some 0 →
-      BecomesBy (Meters becomes) old (Clock popped ∷ answers) new → Tells (Clock popped ∷ answers) old new
-  from_look popped answers old new e h =
-      let left : h.0.left ≡ None = h.1.left ∙ ap one_less e in
-      let rest = tells answers h.0 new left h.2 in
-      record {
-        spent = (asked_not h.0.left old.ports (Clock popped) h.0.ports left h.1.ports, rest.spent);
-        told = rest.told ∙ ap (λ (o : Option Ending). option_or o (first_of answers)) h.1.told;
-        left = rest.left;
-      }
+      (last_adds answers more turns h.0 new (h.1.left ∙ e) h.2 k)
 
 -- ---- a session by what it is told first
 
@@ -253,6 +257,7 @@ self (Some one) = is_told (Some one) one
 
 first_itself : (answers : List PortAnswer) (e : Ending) → first_of answers ≡ Some e → is_told (Some e) e ≡ true
 first_itself [] e f = absurd (cc)
+first_itself (TurnBegins ∷ answers) e f = first_itself answers e f
 first_itself (Clock popped ∷ answers) e f = first_itself answers e f
 first_itself (Pulled side buffer pull bytes ∷ answers) e f =
     subst (λ (o : Option Ending). self o ≡ true) f (side_itself side)
@@ -288,6 +293,7 @@ goes_by : (answers : List PortAnswer) (old : SessionState) (effects : List Effec
     AreSpent answers → is_over old.phase ≡ false → Runs old (events_of answers) effects new →
     GoesBy (first_of answers) old new
 goes_by [] old effects new spent live run = run.1
+goes_by (TurnBegins ∷ answers) old effects new spent live run = goes_by answers old effects new spent.1 live run
 goes_by (Clock true ∷ answers) old effects new spent live run = let f = spent.0 in absurd (cc)
 goes_by (Clock false ∷ answers) old effects new spent live run = goes_by answers old effects new spent.1 live run
 goes_by (Pulled side buffer (Got n) bytes ∷ answers) old effects new spent live run =
@@ -487,6 +493,67 @@ module _ {P : Type 0} (becomes : P → PortAnswer → P → Type 0) (limits : Li
     quiet = λ n e. refl;
   }
 
+  -- ---- a turn begins
+
+  module _ (history : List PortAnswer) (ports : P) (a b : SessionView × MeteredView P) (t : IsBegun (Meters becomes) a b)
+      (answered : BecomesBy (Meters becomes) (fresh ports turns) history a.1) (stands : Stands limits history a.0)
+      (later : Stands limits (history ++ TurnBegins ∷ []) b.0) (c : IsCut history a) where
+    abbrev longer : List PortAnswer
+    longer = history ++ TurnBegins ∷ []
+
+    still_cut : (state : SessionState) → Cut state a.0.state a.1.told → Cut state b.0.state b.1.told
+    still_cut state h =
+        subst (λ (o : Option Ending). Cut state b.0.state o) (sym t.1.told)
+        (subst (λ (g : SessionView). Cut state g.state a.1.told) (sym t.0) h)
+
+    -- they were spent before
+    begun_spent : a.1.left ≡ None → IsCut longer b
+    begun_spent e = record {
+      effects = c.effects;
+      state = c.state;
+      run = subst (λ (l : List PortAnswer). Runs (untouched limits).state (events_of l) c.effects c.state)
+          (sym (spent_adds becomes history (TurnBegins ∷ []) turns (fresh ports turns) a.1 refl answered e)) c.run;
+      cut = still_cut c.state c.cut;
+      quiet = λ n k. let none = t.1.left ∙ ap one_less e in absurd (cc);
+    }
+
+    -- they are spent now
+    begun_last : a.1.left ≡ Some 0 → IsCut longer b
+    begun_last e = record {
+      effects = stands.effects;
+      state = a.0.state;
+      run = subst (λ (l : List PortAnswer). Runs (untouched limits).state (events_of l) stands.effects a.0.state)
+          (sym (last_adds becomes history [] turns (fresh ports turns) a.1 refl answered e)) stands.run;
+      cut = still_cut a.0.state (cut_open a.0.state a.1.told (c.quiet 0 e));
+      quiet = λ n k. let none = t.1.left ∙ ap one_less e in absurd (cc);
+    }
+
+    -- some are left
+    begun_more : (n : ℕ) → a.1.left ≡ Some (suc n) → IsCut longer b
+    begun_more n e =
+        let left : b.1.left ≡ Some n = t.1.left ∙ ap one_less e in
+        let none : b.1.told ≡ None = t.1.told ∙ c.quiet (suc n) e in
+        let along = becomes_then (Meters becomes) history (TurnBegins ∷ []) (fresh ports turns) a.1 b.1 answered
+        (b.1, t.1, refl) in
+        record {
+          effects = later.effects;
+          state = b.0.state;
+          run = subst (λ (l : List PortAnswer). Runs (untouched limits).state (events_of l) later.effects b.0.state)
+              (sym (all_left becomes longer turns n (fresh ports turns) b.1 refl along left)) later.run;
+          cut = cut_open b.0.state b.1.told none;
+          quiet = λ j f. none;
+        }
+
+    begun_by : (o : Option ℕ) → a.1.left ≡ o → IsCut longer b
+    begun_by None e = begun_spent e
+    begun_by (Some zero) e = begun_last e
+    begun_by (Some (suc n)) e = begun_more n e
+
+    pub cut_begun : IsCut (history ++ TurnBegins ∷ []) b
+    cut_begun = begun_by a.1.left refl
+
+  -- ---- a turn is made
+
   module _ (history : List PortAnswer) (ports : P) (a b : SessionView × MeteredView P) (t : IsTurned (Meters becomes) a b)
       (answered : BecomesBy (Meters becomes) (fresh ports turns) history a.1) (stands : Stands limits history a.0)
       (later : Stands limits (history ++ t.exchange.call) b.0) (c : IsCut history a) where
@@ -510,29 +577,6 @@ module _ {P : Type 0} (becomes : P → PortAnswer → P → Type 0) (limits : Li
           quiet = λ n k. let none = s.left in absurd (cc);
         }
 
-    -- they are spent by its look at the clock
-    spent_now : a.1.left ≡ Some 0 → IsCut (history ++ call) b
-    spent_now e =
-        let order = t.exchange.session.in_order in
-        let is : call ≡ Clock order.4.0 ∷ order.2 =
-        order.3 ∙ ap (λ (l : List PortAnswer). l ++ order.2) order.4.1 in
-        let s = subst (λ (l : List PortAnswer). Tells becomes l a.1 b.1) (sym is)
-        (from_look becomes order.4.0 order.2 a.1 b.1 e
-        (subst (λ (l : List PortAnswer). BecomesBy (Meters becomes) a.1 l b.1) is t.exchange.ports)) in
-        let front : while_left turns (history ++ call) ≡ history =
-        ap (λ (l : List PortAnswer). while_left turns (history ++ l)) is
-        ∙ last_adds becomes history order.4.0 order.2 turns (fresh ports turns) a.1 refl answered e in
-        record {
-          effects = stands.effects;
-          state = a.0.state;
-          run = subst (λ (l : List PortAnswer). Runs (untouched limits).state (events_of l) stands.effects a.0.state)
-              (sym front) stands.run;
-          cut = spent_turn limits history call a.0 b.0 t.exchange.session.delivered.effects a.0.state a.1.told b.1.told
-              stands order s.spent t.exchange.session.delivered.run s.told
-              (cut_open a.0.state a.1.told (c.quiet 0 e));
-          quiet = λ n k. let none = s.left in absurd (cc);
-        }
-
     -- some are left behind it, and so nothing was told
     left_still : (n m : ℕ) → a.1.left ≡ Some n → b.1.left ≡ Some m → IsCut (history ++ call) b
     left_still n m e k =
@@ -546,20 +590,19 @@ module _ {P : Type 0} (becomes : P → PortAnswer → P → Type 0) (limits : Li
           quiet = λ j f. none;
         }
 
-    one_left : (n : ℕ) (o : Option ℕ) → a.1.left ≡ Some (suc n) → b.1.left ≡ o → IsCut (history ++ call) b
-    one_left n (Some m) e k = left_still (suc n) m e k
+    -- a turn takes none of them
+    one_left : (n : ℕ) (o : Option ℕ) → a.1.left ≡ Some n → b.1.left ≡ o → IsCut (history ++ call) b
+    one_left n (Some m) e k = left_still n m e k
     one_left n None e k =
-        let one = turn_looks a.0 call b.0 t.exchange.session.in_order in
-        let counted = counted_from becomes call (suc n) a.1 b.1 e t.exchange.ports in
-        let few : nat_lt (suc n) (looks_in call) ≡ false =
-        ap (nat_lt (suc n)) one ∙ (sym (below_alike n 0) ∙ none_below_zero n) in
+        let none = turn_begins_none a.0 call b.0 t.exchange.session.in_order in
+        let counted = counted_from becomes call n a.1 b.1 e t.exchange.ports in
+        let few : nat_lt n (turns_in call) ≡ false = ap (nat_lt n) none ∙ none_below_zero n in
         let f : true ≡ false = sym (ap is_none k) ∙ (counted ∙ few) in
         absurd (cc)
 
     by_left : (o : Option ℕ) → a.1.left ≡ o → IsCut (history ++ call) b
     by_left None e = spent_before e
-    by_left (Some zero) e = spent_now e
-    by_left (Some (suc n)) e = one_left n b.1.left e refl
+    by_left (Some n) e = one_left n b.1.left e refl
 
     pub cut_turn : IsCut (history ++ t.exchange.call) b
     cut_turn = by_left a.1.left refl

@@ -13,6 +13,7 @@ use Rattle.daide_machine.specs.System.{SystemAnswer, Begins, Accepts, Connects, 
 use Rattle.daide_service.specs.Serving.{arrived, come, AdmitsWhere, MeetsWhere, MeetsBy, last_words, retirement_where}
 use Rattle.daide_service.specs.Serving.{end_of, retirement, retirements, wait_where}
 use Rattle.daide_service.specs.Served.{comes, connects, unreached, counted}
+use Rattle.daide_service.proofs.BeginningLemmas.{OnlyBegin, none_counted}
 
 -- one that is not none is one more than another
 one_fewer : (n : ℕ) → (n == 0) ≡ false → (m : ℕ) × (n ≡ suc m)
@@ -77,6 +78,15 @@ module _ {P : Type 0} where
   pub beginning_counts : (tally : Tally) → Counts (Begins ∷ []) tally tally
   beginning_counts tally =
       silent_counts (Begins ∷ []) tally (record { came = refl; joined = refl; failed = refl })
+
+  -- turns begin with no bot that came
+  pub turns_count : (answers : List (SystemAnswer P)) (tally : Tally) → OnlyBegin answers → Counts answers tally tally
+  turns_count answers tally h =
+      silent_counts answers tally (record {
+        came = none_counted comes answers (λ before after. refl) h;
+        joined = none_counted connects answers (λ before after. refl) h;
+        failed = none_counted unreached answers (λ before after. refl) h;
+      })
 
   pub admission_counts : (b : Bool) (old : Tally) (answers : List (SystemAnswer P)) (new : Tally) →
       AdmitsWhere b old answers new → Counts answers old new

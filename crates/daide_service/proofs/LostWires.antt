@@ -21,7 +21,8 @@ use Rattle.daide_machine.specs.Events.{Event, Comes, Ends, Loses, TimerExpires, 
 use Rattle.daide_machine.specs.Machine.{SessionState, Effect, Limits, Outcome, Runs, Sent, coming, with_pending, is_over}
 use Rattle.daide_machine.specs.Machine.{begun, untimely, answered, im_answered, item_outcome, items_outcome, popped}
 use Rattle.daide_machine.specs.Machine.{event_outcome}
-use Rattle.daide_machine.specs.Ports.{PortAnswer, Clock, Pulled, Offered, events_of, has_failed, taken}
+use Rattle.daide_machine.specs.Ports.{PortAnswer, TurnBegins, Clock, Pulled, Offered, events_of}
+use Rattle.daide_machine.specs.Ports.{has_failed, taken}
 use Rattle.daide_machine.specs.Wires.{SessionView, same_side, waiting, bytes_of, sent_to, IsFrontOf}
 use Rattle.daide_turns.specs.Headline.{Stands, untouched}
 use Rattle.daide_turns.specs.Record.{Moved}
@@ -167,6 +168,7 @@ module _ (to : Side) where
   history_not : (history : List PortAnswer) (old : SessionState) (effects : List Effect) (new : SessionState) →
       has_failed to history ≡ false → Not old → Runs old (events_of history) effects new → Not new
   history_not [] old effects new kept h run = subst Not (sym run.1) h
+  history_not (TurnBegins ∷ history) old effects new kept h run = history_not history old effects new kept h run
   history_not (Clock true ∷ history) old effects new kept h run =
       let one = one_not old TimerExpires (events_of history) effects new tt h run in
       history_not history one.0 one.1 new kept one.2 one.3

@@ -15,12 +15,13 @@ use Rattle.daide_machine.specs.Wires.{SessionView, bytes_of}
 use Rattle.daide_machine.specs.declared.ports.Pull.TheVariants.{Got, Idle, Ended}
 use Rattle.daide_machine.specs.declared.ports.Put.TheVariants.{Took, Failed}
 use Rattle.daide_turns.specs.Headline.{nothing_held}
-use Rattle.daide_machine.specs.Ports.{Clock, Pulled, Offered}
+use Rattle.daide_machine.specs.Ports.{TurnBegins, Clock, Pulled, Offered}
 use Rattle.daide_machine.specs.declared.system.Notice.TheVariants.{TurnsSpent}
 use Rattle.daide_machine.specs.declared.system.Cause.TheVariants as Causes
-use Rattle.daide_service.specs.Metered.{MeteredView, left_after, moved_after, moved_by, told_after}
+use Rattle.daide_service.specs.Metered.{MeteredView, left_after, moved_after, moved_by, told_after, beginning}
+use Rattle.daide_service.specs.Served.{turns_in, while_left}
 use Rattle.daide_service.specs.Serving.{cause_by, retirements, remaining}
-use Rattle.daide_machine.specs.System.{Retires, Notifies}
+use Rattle.daide_machine.specs.System.{BeginsTurn, Retires, Notifies}
 
 -- ---- what moved
 
@@ -36,21 +37,24 @@ moves : (side : Side) → (moved_after (Pulled side 512 Ended []) false ≡ true
     × (map (λ n. moved_after (Offered side [] (Took n)) false) (range_with_len 0 513) ≡ false ∷ replicate 512 true)
 moves side = (refl, refl, refl, refl, refl)
 
--- what moved has moved until the clock is looked at again
+-- what moved has moved until the next turn begins
 moves_stay : (side : Side) → (moved_after (Pulled side 512 Idle []) true ≡ true)
     × (moved_after (Pulled side 512 (Got 0) []) true ≡ true)
-    × (moved_after (Offered side (0x02 ∷ []) (Took 0)) true ≡ true) × (moved_after (Clock false) true ≡ false)
-    × (moved_by (Clock false ∷ Offered side (0x02 ∷ []) (Took 0) ∷ Pulled side 4 Idle [] ∷ []) true ≡ false)
-    × (moved_by (Clock false ∷ Offered side (0x02 ∷ []) (Took 1) ∷ Pulled side 4 Idle [] ∷ []) false ≡ true)
-moves_stay side = (refl, refl, refl, refl, refl, refl)
+    × (moved_after (Offered side (0x02 ∷ []) (Took 0)) true ≡ true) × (moved_after (Clock false) true ≡ true)
+    × (moved_after TurnBegins true ≡ false)
+    × (moved_by (TurnBegins ∷ Clock false ∷ Offered side (0x02 ∷ []) (Took 0) ∷ Pulled side 4 Idle [] ∷ []) true ≡ false)
+    × (moved_by (TurnBegins ∷ Clock false ∷ Offered side (0x02 ∷ []) (Took 1) ∷ Pulled side 4 Idle [] ∷ []) false ≡ true)
+    × (moved_by (TurnBegins ∷ Clock true ∷ Offered side (0x02 ∷ []) (Took 0) ∷ Pulled side 4 Idle [] ∷ []) false ≡ true)
+moves_stay side = (refl, refl, refl, refl, refl, refl, refl, refl)
 
 -- ---- turns
 
--- only a look at the clock takes a turn
-turns_taken : (side : Side) → (left_after (Clock false) (Some 2) ≡ Some 1) × (left_after (Clock true) (Some 1) ≡ Some 0)
-    × (left_after (Clock false) (Some 0) ≡ None) × (left_after (Clock false) None ≡ None)
+-- only a turn that begins takes one, and no question does
+turns_taken : (side : Side) → (left_after TurnBegins (Some 2) ≡ Some 1) × (left_after TurnBegins (Some 1) ≡ Some 0)
+    × (left_after TurnBegins (Some 0) ≡ None) × (left_after TurnBegins None ≡ None)
+    × (left_after (Clock false) (Some 0) ≡ Some 0) × (left_after (Clock true) (Some 1) ≡ Some 1)
     × (left_after (Pulled side 4 (Got 4) []) (Some 1) ≡ Some 1) × (left_after (Offered side [] Failed) (Some 1) ≡ Some 1)
-turns_taken side = (refl, refl, refl, refl, refl, refl)
+turns_taken side = (refl, refl, refl, refl, refl, refl, refl, refl)
 
 -- ---- why a session ended
 
@@ -127,3 +131,14 @@ parted_from_the_last limits = refl
 others_stay : (limits : Limits) →
     remaining (six limits) ≡ (waiting limits, ports 2 (Some 9)) ∷ (session limits Open None 30 [], ports 3 (Some 9)) ∷ []
 others_stay limits = refl
+
+-- ---- turns that begin
+
+-- of three turns that began the third was one too many of two; with ports that are lent the system is asked, and not with
+-- spent ones
+turns_counted : (turns_in (TurnBegins ∷ Clock false ∷ TurnBegins ∷ Clock false ∷ TurnBegins ∷ Clock false ∷ []) ≡ 3)
+    × (while_left 2 (TurnBegins ∷ Clock true ∷ TurnBegins ∷ Clock false ∷ TurnBegins ∷ Clock false ∷ [])
+    ≡ TurnBegins ∷ Clock true ∷ TurnBegins ∷ Clock false ∷ [])
+    × (beginning (ports 4 (Some 1)) (ports 5 (Some 0)) ≡ BeginsTurn 4 5 ∷ [])
+    × (beginning (ports 4 (Some 0)) (spent 4 (Lost Bot)) ≡ [])
+turns_counted = (refl, refl, refl, refl)

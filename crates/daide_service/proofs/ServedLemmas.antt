@@ -14,14 +14,13 @@ use Rattle.daide_machine.specs.declared.ending.Ending.{Ending}
 use Rattle.daide_machine.proofs.EndingLemmas.{runs_told}
 use Rattle.daide_machine.specs.Machine.{Limits, is_over}
 use Rattle.daide_machine.specs.Wires.{SessionView, IsNew, is_closed}
-use Rattle.daide_machine.specs.Ports.{PortAnswer, Clock, BecomesBy, events_of}
+use Rattle.daide_machine.specs.Ports.{PortAnswer, TurnBegins, BecomesBy, events_of}
 use Rattle.daide_turns.specs.Headline.{untouched, Stands, IsBoundedAndExact}
-use Rattle.daide_turns.specs.Hub.{HubView, IsHubSize, IsTurned, Changes}
+use Rattle.daide_turns.specs.Hub.{HubView, IsHubSize, IsBegun, IsTurned, Changes}
 use Rattle.daide_machine.specs.Config.{config_fault}
-use Rattle.daide_turns.specs.HubRuns.{Turned, HubRuns}
-use Rattle.daide_turns.proofs.Stretches.{becomes_then}
+use Rattle.daide_turns.proofs.PortAnswers.{turn_begins}
+use Rattle.daide_turns.proofs.Stretches.{becomes_then, relays_append}
 use Rattle.daide_turns.proofs.Standing.{new_stands}
-use Rattle.daide_turns.proofs.ApartLemmas.{runs_split}
 use Rattle.daide_turns.proofs.HubLemmas.{closed_over}
 use Rattle.daide_settings.specs.declared.settings.Settings.{Settings}
 use Rattle.daide_machine.specs.declared.system.Connect.{Connect}
@@ -29,16 +28,17 @@ use Rattle.daide_machine.specs.declared.system.Connect.TheVariants.{Ready, Faile
 use Rattle.daide_machine.specs.declared.system.Notice.TheVariants.{CannotReach, TurnsSpent}
 use Rattle.daide_service.specs.declared.tally.Tally.{Tally}
 use Rattle.daide_service.specs.Metered.{MeteredView, Meters, moved_by}
-use Rattle.daide_machine.specs.System.{SystemAnswer, Begins, Accepts, Connects, Retires, Notifies, Waits}
-use Rattle.daide_service.specs.Serving.{ServiceView, fresh, opening, accepts, come, AdmitsWhere, MeetsWhere, turns_below}
-use Rattle.daide_service.specs.Serving.{TurnsAll, last_words, retirement, retirement_where, retirements, remaining, parting}
+use Rattle.daide_machine.specs.System.{SystemAnswer, Begins, BeginsTurn, Accepts, Connects, Retires, Notifies, Waits}
+use Rattle.daide_service.specs.Serving.{ServiceView, fresh, opening, accepts, come, AdmitsWhere, MeetsWhere, OpensTurn}
+use Rattle.daide_service.specs.Serving.{TurnsBelow, TurnsAll, last_words, retirement, retirement_where, retirements, remaining, parting}
 use Rattle.daide_service.specs.Serving.{cause_by, end_of}
 use Rattle.daide_service.specs.Serving.{MeetsBy, wait_where, any_progress, any_moved, Round, Rounds, is_done}
 use Rattle.daide_service.specs.Served.{run_limits, IsSessionOfRun, IsServed, IsEndOf, LetsGo, connects, retires, counted}
 use Rattle.daide_service.specs.Served.{IsWholeRun}
-use Rattle.daide_service.proofs.CauseLemmas.{IsCut, cut_begins, cut_turn, cut_cause}
+use Rattle.daide_service.proofs.BeginningLemmas.{OnlyBegin, none_counted, all_begin, turns_only}
+use Rattle.daide_service.proofs.CauseLemmas.{IsCut, cut_begins, cut_begun, cut_turn, cut_cause}
 use Rattle.daide_service.proofs.CountLemmas.{counted_append, Counts, counts_then, admission_counts, meeting_counts}
-use Rattle.daide_service.proofs.CountLemmas.{beginning_counts, removal_counts, wait_counts}
+use Rattle.daide_service.proofs.CountLemmas.{beginning_counts, turns_count, removal_counts, wait_counts}
 
 -- ---- what moved
 
@@ -47,20 +47,11 @@ module _ {P : Type 0} (becomes : P → PortAnswer → P → Type 0) where
   answers_moved [] a b h = ap (λ (m : MeteredView P). m.moved) h
   answers_moved (x ∷ xs) a b h = answers_moved xs h.0 b h.2 ∙ ap (moved_by xs) h.1.moved
 
-  -- a turn begins with a look at the clock, so what moved before it is forgotten
-  forgotten : (call first second : List PortAnswer) (popped moved : Bool) → call ≡ first ++ second →
-      first ≡ Clock popped ∷ [] → moved_by call moved ≡ moved_by call false
-  forgotten call first second popped moved e f =
-      let same : call ≡ Clock popped ∷ second = e ∙ ap (λ (l : List PortAnswer). l ++ second) f in
-      ap (λ (l : List PortAnswer). moved_by l moved) same
-      ∙ sym (ap (λ (l : List PortAnswer). moved_by l false) same)
-
-  pub turn_moved : (a b : SessionView × MeteredView P) (t : IsTurned (Meters becomes) a b) →
+  -- what moved before a turn began is forgotten
+  pub turn_moved : (a m b : SessionView × MeteredView P) → IsBegun (Meters becomes) a m → (t : IsTurned (Meters becomes) m b) →
       b.1.moved ≡ moved_by t.exchange.call false
-  turn_moved a b t =
-      let order = t.exchange.session.in_order in
-      answers_moved t.exchange.call a.1 b.1 t.exchange.ports
-      ∙ forgotten t.exchange.call order.1 order.2 order.4.0 a.1.moved order.3 order.4.1
+  turn_moved a m b begun t =
+      answers_moved t.exchange.call m.1 b.1 t.exchange.ports ∙ ap (moved_by t.exchange.call) begun.1.moved
 
 -- ---- how many ports came and went
 
@@ -85,6 +76,12 @@ module _ {P : Type 0} where
 
   beginning_passes : Passes (Begins ∷ []) 0 0
   beginning_passes = record { came = refl; went = refl }
+
+  turns_pass : (answers : List (SystemAnswer P)) → OnlyBegin answers → Passes answers 0 0
+  turns_pass answers h = record {
+    came = none_counted connects answers (λ before after. refl) h;
+    went = none_counted retires answers (λ before after. refl) h;
+  }
 
   admission_passes : (b : Bool) (old : Tally) (answers : List (SystemAnswer P)) (new : Tally) →
       AdmitsWhere b old answers new → Passes answers 0 0
@@ -186,6 +183,7 @@ module _ {P : Type 0} (becomes : P → PortAnswer → P → Type 0) (settings : 
       LetsGo becomes settings (xs ++ ys) answer
   gone_later xs ys (Retires ports end) h = (h.0, h.1, h.2, (later IsBoundedAndExact xs ys h.0 h.3.0, h.3.1))
   gone_later xs ys Begins h = tt
+  gone_later xs ys (BeginsTurn before after) h = tt
   gone_later xs ys (Accepts came) h = tt
   gone_later xs ys (Connects connect) h = tt
   gone_later xs ys (Notifies notice) h = tt
@@ -216,6 +214,26 @@ module _ {P : Type 0} (becomes : P → PortAnswer → P → Type 0) (settings : 
       },
       h.1,
     )
+
+    begun : (a b : SessionView × MeteredView P) → IsBegun (Meters becomes) a b → Held a → Held b
+    begun a b t h =
+        let own = h.0 in
+        let longer = own.history ++ TurnBegins ∷ [] in
+        let stands : Stands (run_limits settings) longer b.0 =
+        subst (λ (g : SessionView). Stands (run_limits settings) longer g) (sym t.0)
+        (relays_append (untouched (run_limits settings)) own.history a.0 (TurnBegins ∷ []) a.0 own.stands
+        (turn_begins a.0)) in (
+          record {
+            ports = own.ports;
+            came = own.came;
+            history = longer;
+            answered = becomes_then (Meters becomes) own.history (TurnBegins ∷ []) (fresh own.ports settings.turns) a.1 b.1
+                own.answered (b.1, t.1, refl);
+            stands = stands;
+          },
+          cut_begun becomes (run_limits settings) settings.turns own.history own.ports a b t own.answered own.stands stands
+              h.1,
+        )
 
     turned : (a b : SessionView × MeteredView P) → IsTurned (Meters becomes) a b → Held a → Served b
     turned a b t h =
@@ -248,6 +266,30 @@ module _ {P : Type 0} (becomes : P → PortAnswer → P → Type 0) (settings : 
       limits = ap (λ (k : HubView (MeteredView P)). k.limits) e;
     }
 
+    take_set : (n : ℕ) (xs : List (SessionView × MeteredView P)) (x : SessionView × MeteredView P) →
+        take n (set xs n x) ≡ take n xs
+    take_set zero xs x = refl
+    take_set (suc n) [] x = refl
+    take_set (suc n) (y ∷ xs) x = ap (λ (l : List (SessionView × MeteredView P)). y ∷ l) (take_set n xs x)
+
+    -- the turn of the next one begins
+    begun_below : (n : ℕ) (old mid new : HubView (MeteredView P)) (answers : List (SystemAnswer P)) → Below n old mid →
+        Changes (OpensTurn becomes answers) mid n new → Below n old new
+    begun_below n old mid new answers h c =
+        let places : new.places ≡ set mid.places n c.1 = ap (λ (k : HubView (MeteredView P)). k.places) c.3 in
+        let inside : n < length mid.places = slice_get_within mid.places n c.0 c.2 in
+        let was : Held c.0 =
+        subst Held (get_or_from_slice_get mid.places n c.0 c.0 c.2) (h.held n c.0 inside) in
+        record {
+          held = All-same Held new.places (set mid.places n c.1) places
+              (All-set Held mid.places n c.1 (begun c.0 c.1 c.4.0 was) h.held);
+          served = All-same Served (take n new.places) (take n mid.places)
+              (ap (take n) places ∙ take_set n mid.places c.1) h.served;
+          count = ap length places ∙ length-set mid.places n c.1 ∙ h.count;
+          limits = ap (λ (k : HubView (MeteredView P)). k.limits) c.3 ∙ h.limits;
+        }
+
+    -- it is made
     one_below : (n : ℕ) (old mid new : HubView (MeteredView P)) → Below n old mid →
         Changes (IsTurned (Meters becomes)) mid n new → Below (suc n) old new
     one_below n old mid new h c =
@@ -266,19 +308,18 @@ module _ {P : Type 0} (becomes : P → PortAnswer → P → Type 0) (settings : 
           limits = ap (λ (k : HubView (MeteredView P)). k.limits) c.3 ∙ h.limits;
         }
 
-    below : (n : ℕ) (old new : HubView (MeteredView P)) → HubRuns (Meters becomes) old (turns_below n) new →
-        All Held old.places → Below n old new
-    below zero old new run h = none_below old new run h
-    below (suc n) old new run h =
-        let parts = runs_split (Meters becomes) (turns_below n) (Turned n ∷ []) old new run in
-        let before = below n old parts.0 parts.1 h in
-        subst (λ (k : HubView (MeteredView P)). Below (suc n) old k) (sym parts.2.2)
-        (one_below n old parts.0 parts.2.0 before parts.2.1)
+    below : (n : ℕ) (old : HubView (MeteredView P)) (answers : List (SystemAnswer P)) (new : HubView (MeteredView P)) →
+        TurnsBelow becomes n old answers new → All Held old.places → Below n old new
+    below zero old answers new run h = none_below old new run.1 h
+    below (suc n) old answers new run h =
+        one_below n old run.5.0 new
+        (begun_below n old run.0 run.5.0 run.2 (below n old run.1 run.0 run.4 h) run.5.1) run.5.2
 
-    all_turned : (old new : HubView (MeteredView P)) → TurnsAll becomes old new → All Held old.places →
+    all_turned : (old : HubView (MeteredView P)) (answers : List (SystemAnswer P)) (new : HubView (MeteredView P)) →
+        TurnsAll becomes old answers new → All Held old.places →
         All Served new.places × (new.limits ≡ old.limits) × (length new.places ≡ length old.places)
-    all_turned old new run h =
-        let b = below (length old.places) old new run h in
+    all_turned old answers new run h =
+        let b = below (length old.places) old answers new run h in
         let short : length new.places ≤ length old.places = let same = b.count in omega (arith, same) in (
           All-same Served new.places (take (length old.places) new.places)
               (sym (take_all (length old.places) new.places short)) b.served,
@@ -434,12 +475,14 @@ module _ {P : Type 0} (becomes : P → PortAnswer → P → Type 0) (settings : 
       subst (λ (l : List (SystemAnswer P)). Counts l new.tally new.tally) (sym r.removes.0)
       (removal_counts r.turned.places new.tally) in
       subst (λ (l : List (SystemAnswer P)). Counts l old.tally new.tally) (sym r.asked)
-      (counts_then (Begins ∷ r.admission ++ r.meeting ++ r.removal) last old.tally new.tally new.tally
-      (counts_then (Begins ∷ r.admission ++ r.meeting) r.removal old.tally new.tally new.tally
+      (counts_then (Begins ∷ r.admission ++ r.meeting ++ r.beginnings ++ r.removal) last old.tally new.tally new.tally
+      (counts_then (Begins ∷ r.admission ++ r.meeting ++ r.beginnings) r.removal old.tally new.tally new.tally
+      (counts_then (Begins ∷ r.admission ++ r.meeting) r.beginnings old.tally new.tally new.tally
       (counts_then (Begins ∷ r.admission) r.meeting old.tally r.came new.tally
       (counts_then (Begins ∷ []) r.admission old.tally old.tally r.came (beginning_counts old.tally)
       (admission_counts (accepts old.tally (length old.hub.places)) old.tally r.admission r.came r.admits))
       (meeting_counts (r.came.connecting == 0) old.hub r.came r.meeting r.met new.tally refl r.finishes))
+      (turns_count r.beginnings new.tally (turns_only becomes (length r.met.places) r.met r.beginnings r.turned r.turns)))
       removes)
       (wait_counts moved more new.tally))
 
@@ -457,12 +500,14 @@ module _ {P : Type 0} (becomes : P → PortAnswer → P → Type 0) (settings : 
       let within : (ports : P) → Contains r.meeting (Connects (Ready ports)) → Contains all (Connects (Ready ports)) =
       λ ports c. Contains-append_right xs ys (Connects (Ready ports))
       (subst (λ (l : List (SystemAnswer P)). Contains l (Connects (Ready ports))) (sym r.asked)
-      (Contains-append_left (Begins ∷ r.admission ++ r.meeting ++ r.removal) last (Connects (Ready ports))
-      (Contains-append_left (Begins ∷ r.admission ++ r.meeting) r.removal (Connects (Ready ports))
-      (Contains-append_right (Begins ∷ r.admission) r.meeting (Connects (Ready ports)) c)))) in
+      (Contains-append_left (Begins ∷ r.admission ++ r.meeting ++ r.beginnings ++ r.removal) last (Connects (Ready ports))
+      (Contains-append_left (Begins ∷ r.admission ++ r.meeting ++ r.beginnings) r.removal (Connects (Ready ports))
+      (Contains-append_left (Begins ∷ r.admission ++ r.meeting) r.beginnings (Connects (Ready ports))
+      (Contains-append_right (Begins ∷ r.admission) r.meeting (Connects (Ready ports)) c))))) in
       let met = met all (r.came.connecting == 0) old.hub r.came r.meeting r.met new.tally within h.limits
       (come.1 ∙ h.turns) still_held r.finishes in
-      let turned = all_turned all r.met r.turned r.turns met.held in
+      let turned = all_turned all r.met r.beginnings r.turned r.turns met.held in
+      let only = turns_only becomes (length r.met.places) r.met r.beginnings r.turned r.turns in
       let hub = r.removes.1 in
       record {
         counts = counts_then xs ys (opening {P = P} settings).tally old.tally new.tally h.counts
@@ -473,24 +518,29 @@ module _ {P : Type 0} (becomes : P → PortAnswer → P → Type 0) (settings : 
             (All-filter (λ place. not (is_closed place.0)) (Served all) r.turned.places turned.0);
         gone = All-append (Gone all) xs ys
             (All-weaker (LetsGo becomes settings xs) (Gone all) (gone_later xs ys) xs h.gone)
-            (All-same (Gone all) ys (Begins ∷ r.admission ++ r.meeting ++ r.removal ++ last) r.asked
-            (All-append (Gone all) (Begins ∷ r.admission ++ r.meeting ++ r.removal) last
-            (All-append (Gone all) (Begins ∷ r.admission ++ r.meeting) r.removal
+            (All-same (Gone all) ys (Begins ∷ r.admission ++ r.meeting ++ r.beginnings ++ r.removal ++ last) r.asked
+            (All-append (Gone all) (Begins ∷ r.admission ++ r.meeting ++ r.beginnings ++ r.removal) last
+            (All-append (Gone all) (Begins ∷ r.admission ++ r.meeting ++ r.beginnings) r.removal
+            (All-append (Gone all) (Begins ∷ r.admission ++ r.meeting) r.beginnings
             (All-append (Gone all) (Begins ∷ r.admission) r.meeting (All-cons (Gone all) Begins r.admission tt come.0)
-            met.gone)
+            met.gone) (all_begin (Gone all) r.beginnings (λ before after. tt) only))
             (All-same (Gone all) r.removal (retirements r.turned.places) r.removes.0
             (all_parted all r.turned.places turned.0)))
             (waited all moved more)));
         balance =
             let finishes = meeting_passes (r.came.connecting == 0) old.hub r.came r.meeting r.met new.tally r.finishes in
             let leaves = removal_passes r.turned.places in
-            let passes = passes_as ys (Begins ∷ r.admission ++ r.meeting ++ r.removal ++ last) (0 + finishes.0 + 0 + 0)
-            (0 + 0 + leaves.0 + 0) r.asked
-            (passes_then (Begins ∷ r.admission ++ r.meeting ++ r.removal) last (0 + finishes.0 + 0) (0 + 0 + leaves.0) 0 0
-            (passes_then (Begins ∷ r.admission ++ r.meeting) r.removal (0 + finishes.0) (0 + 0) 0 leaves.0
+            let passes = passes_as ys (Begins ∷ r.admission ++ r.meeting ++ r.beginnings ++ r.removal ++ last)
+            (0 + finishes.0 + 0 + 0 + 0) (0 + 0 + 0 + leaves.0 + 0) r.asked
+            (passes_then (Begins ∷ r.admission ++ r.meeting ++ r.beginnings ++ r.removal) last (0 + finishes.0 + 0 + 0)
+            (0 + 0 + 0 + leaves.0) 0 0
+            (passes_then (Begins ∷ r.admission ++ r.meeting ++ r.beginnings) r.removal (0 + finishes.0 + 0) (0 + 0 + 0) 0
+            leaves.0
+            (passes_then (Begins ∷ r.admission ++ r.meeting) r.beginnings (0 + finishes.0) (0 + 0) 0 0
             (passes_then (Begins ∷ r.admission) r.meeting 0 0 finishes.0 0
             (passes_then (Begins ∷ []) r.admission 0 0 0 0 beginning_passes
             (admission_passes (accepts old.tally (length old.hub.places)) old.tally r.admission r.came r.admits)) finishes.1)
+            (turns_pass r.beginnings only))
             (passes_as r.removal (retirements r.turned.places) 0 leaves.0 r.removes.0 leaves.1))
             (wait_passes moved more)) in
             let came = passes.came in
@@ -520,6 +570,12 @@ module _ {P : Type 0} (becomes : P → PortAnswer → P → Type 0) (settings : 
   rounds_serve (suc n) answers run h =
       subst (λ (l : List (SystemAnswer P)). Keeps l run) (sym h.3)
       (round_serves h.1 h.2 h.0 run (rounds_serve n h.1 h.0 h.4) h.6)
+
+  -- the body that a session wanted after these rounds is the longest of the settings
+  pub body_refused : (Refuses : ℕ → Type 0) (n : ℕ) (answers : List (SystemAnswer P)) (run : ServiceView P) →
+      Rounds becomes n (opening settings) answers run → Refuses run.hub.limits.cap → Refuses settings.config.max_body
+  body_refused Refuses n answers run rounds refused =
+      subst (λ (l : Limits). Refuses l.cap) (rounds_serve n answers run rounds).limits refused
 
   nobody_left : (all none : Bool) (count : ℕ) → (all && (none && (count == 0))) ≡ true → count ≡ 0
   nobody_left true true zero e = refl

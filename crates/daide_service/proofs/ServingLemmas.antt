@@ -1,47 +1,27 @@
--- The turns of a round, and a run's rounds.
+-- What moved in a round, and a run's rounds.
 use Rattle.std.proofs.Common.{◌≡◌, ℕ, zero, suc, ◌+◌, Bool, true, false, List, [], ◌∷◌, ◌++◌}
-use Rattle.std.proofs.Common.{refl, ap, ◌∙◌, subst, add-one, take, arith, ◌<◌, inr, sym, Result, Ok, Err}
+use Rattle.std.proofs.Common.{refl, ap, ◌∙◌, subst, add-one, take, arith, ◌<◌, inl, inr, sym, Result, Ok, Err}
 use Rattle.std.specs.Prelude.{◌||◌, ◌==◌, length, slice_get, IfSome, IfErr}
 use Rattle.std.specs.Result.{IsErrAnd}
-use Rattle.std.proofs.lemmas.List.{length-set}
 use Rattle.std.proofs.Math.Dec.{eqb-suc-zero}
 use Rattle.daide_machine.specs.Wires.{SessionView}
 use Rattle.daide_machine.specs.Ports.{PortAnswer}
 use Rattle.daide_turns.proofs.Stretches.{or_assoc}
-use Rattle.daide_turns.specs.Hub.{HubView, Changes, IsTurned}
-use Rattle.daide_turns.specs.HubRuns.{HubCall, Turned, HubStep, HubRuns}
-use Rattle.daide_service.specs.Metered.{MeteredView, Meters}
+use Rattle.daide_service.specs.Metered.{MeteredView}
 use Rattle.daide_machine.specs.System.{SystemAnswer, TransitsBy}
 use Rattle.daide_settings.specs.declared.settings.Settings.{Settings}
 use Rattle.daide_service.specs.declared.serving.ServeFault.{ServeFault}
 use Rattle.daide_service.specs.declared.serving.ServeFault.TheVariants as Faults
-use Rattle.daide_service.specs.Serving.{ServiceView, any_moved, wait_where, turns_below, Round, Rounds, is_done, opening}
+use Rattle.daide_service.specs.Serving.{ServiceView, any_moved, wait_where, Round, Rounds, is_done, opening}
 use Rattle.daide_service.specs.Serving.{BreaksOff, GivesUp}
 use Rattle.daide_service.proofs.TransitLemmas.{transits_then}
+use Rattle.daide_service.specs.Serving.{IsOpeningCause, IsServeCause}
 
 pub not_none : (n : ℕ) → (n ≡ 0 → ⊥) → (n == 0) ≡ false
 not_none zero h = absurd (h refl)
 not_none (suc n) h = eqb-suc-zero n
 
--- ---- calls of a hub
-
-pub runs_snoc : {P : Type 0} (becomes : P → PortAnswer → P → Type 0) (calls : List (HubCall P)) (call : HubCall P)
-    (old mid new : HubView P) → HubRuns becomes old calls mid → HubStep becomes mid call new →
-    HubRuns becomes old (calls ++ call ∷ []) new
-runs_snoc {P} becomes [] call old mid new h k = (new, subst (λ (x : HubView P). HubStep becomes x call new) h k, refl)
-runs_snoc becomes (c ∷ cs) call old mid new h k = (h.0, h.1, runs_snoc becomes cs call h.0 mid new h.2 k)
-
--- one more place had its turn
-pub another_turn : {P : Type 0} (becomes : P → PortAnswer → P → Type 0) (n : ℕ) (old mid new : HubView (MeteredView P)) →
-    HubRuns (Meters becomes) old (turns_below n) mid → length mid.places ≡ length old.places →
-    mid.max ≡ old.max → Changes (IsTurned (Meters becomes)) mid n new →
-    HubRuns (Meters becomes) old (turns_below (n + 1)) new
-    × (new.max ≡ old.max) × (length new.places ≡ length old.places)
-another_turn {P} becomes n old mid new h count max turned = (
-  rw add-one (runs_snoc (Meters becomes) (turns_below n) (Turned n) old mid new h turned),
-  ap (λ (k : HubView (MeteredView P)). k.max) turned.3 ∙ max,
-  ap (λ (k : HubView (MeteredView P)). length k.places) turned.3 ∙ length-set mid.places n turned.1 ∙ count,
-)
+-- ---- what moved
 
 or_false : (b : Bool) → (b || false) ≡ b
 or_false true = refl
@@ -82,14 +62,14 @@ module _ {P S : Type 0} (becomes : P → PortAnswer → P → Type 0) (transitio
 
 -- ---- a run that gives up
 
-module _ {P S : Type 0} (becomes : P → PortAnswer → P → Type 0) (transition : S → SystemAnswer P → S → Type 0)
-    (settings : Settings) where
+module _ {P S : Type 0} (Refuses : ℕ → Type 0) (becomes : P → PortAnswer → P → Type 0)
+    (transition : S → SystemAnswer P → S → Type 0) (settings : Settings) where
   -- a round of it was broken off
   pub runs_out : (n : ℕ) (mid end : ServiceView P) (s t u : S) →
       Ran becomes transition n (opening settings) s mid t → is_done mid ≡ false → (last : List (SystemAnswer P)) →
-      TransitsBy transition t last u → BreaksOff mid last end →
+      TransitsBy transition t last u → BreaksOff Refuses mid last end →
       (answers : List (SystemAnswer P)) × TransitsBy transition s answers u
-      × GivesUp becomes settings Faults.Memory answers
+      × GivesUp Refuses becomes settings Faults.Memory answers
   runs_out n mid end s t u ran going_on last goes breaks = (
     ran.0 ++ last,
     transits_then transition ran.0 last s t u ran.1 goes,
@@ -105,6 +85,29 @@ module _ {P S : Type 0} (becomes : P → PortAnswer → P → Type 0) (transitio
       asked = refl;
     }),
   )
+
+module _ {P : Type 0} (Refuses : ℕ → Type 0) (becomes : P → PortAnswer → P → Type 0) (settings : Settings) where
+  -- a run that was not begun asked the system nothing
+  pub not_begun : (fault : ServeFault) → IsOpeningCause Refuses settings fault →
+      GivesUp Refuses becomes settings fault []
+  not_begun (Faults.Config wrong) cause = refl
+  not_begun Faults.Sessions cause = refl
+  not_begun Faults.Memory cause = inl (refl, cause.2)
+  not_begun Faults.RoundsSpent cause = absurd cause
+
+-- why a run was not begun is why it gave up
+pub opening_cause : (Refuses : ℕ → Type 0) (settings : Settings) (fault : ServeFault) →
+    IsOpeningCause Refuses settings fault → IsServeCause Refuses settings fault
+opening_cause Refuses settings (Faults.Config wrong) cause = cause
+opening_cause Refuses settings Faults.Sessions cause = cause
+opening_cause Refuses settings Faults.Memory cause = ((cause.0, cause.1), inl cause.2)
+opening_cause Refuses settings Faults.RoundsSpent cause = absurd cause
+
+-- what holds of a fault holds at an error that is this fault
+pub at_fault : {A : Type 0} (r : Result A ServeFault) (fault : ServeFault) (Holds : ServeFault → Type 0) →
+    IsErrAnd r (λ told. told ≡ fault) → Holds fault → IfErr r Holds
+at_fault (Ok x) fault Holds told h = tt
+at_fault (Err other) fault Holds told h = subst Holds (sym told) h
 
 -- what holds at want of memory holds where that is the only fault
 pub at_memory : {A : Type 0} (r : Result A ServeFault) (fault : ServeFault) (Holds : ServeFault → Type 0) →

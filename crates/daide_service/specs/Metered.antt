@@ -3,7 +3,8 @@ use Rattle.std.specs.Prelude.{◌≡◌, ℕ, suc, zero, nat_lt, Bool, true, fal
 use Rattle.std.specs.Option.{option_or}
 use Rattle.daide_machine.specs.declared.ending.Ending.{Ending}
 use Rattle.daide_machine.specs.declared.ending.Ending.TheVariants as Endings
-use Rattle.daide_machine.specs.Ports.{PortAnswer, Clock, Pulled, Offered}
+use Rattle.daide_machine.specs.Ports.{PortAnswer, TurnBegins, Clock, Pulled, Offered}
+use Rattle.daide_machine.specs.System.{SystemAnswer, BeginsTurn}
 use Rattle.daide_machine.specs.declared.ports.Pull.{Pull}
 use Rattle.daide_machine.specs.declared.ports.Pull.TheVariants.{Got, Idle, Ended}
 use Rattle.daide_machine.specs.declared.ports.Put.{Put}
@@ -17,14 +18,15 @@ pub record MeteredView (P : Type 0) : Type 0 where
   pub moved : Bool
   pub told : Option Ending
 
--- a look at the clock takes a turn; the one that finds none left is one too many
+-- a turn that begins is one of those that are left; where none is left it is one too many, and the turns are spent
 abbrev pub one_less : Option ℕ → Option ℕ
 one_less None = None
 one_less (Some zero) = None
 one_less (Some (suc turns)) = Some turns
 
 abbrev pub left_after : PortAnswer → Option ℕ → Option ℕ
-left_after (Clock popped) left = one_less left
+left_after TurnBegins left = one_less left
+left_after (Clock popped) left = left
 left_after (Pulled side buffer pull bytes) left = left
 left_after (Offered side bytes put) left = left
 
@@ -39,9 +41,10 @@ abbrev pub is_loss : Put → Bool
 is_loss (Took count) = nat_lt 0 count
 is_loss Failed = true
 
--- whether anything moved since the last look at the clock: it had popped, or there was a gain or a loss
+-- whether anything moved since the turn began: the clock had popped, or there was a gain or a loss
 abbrev pub moved_after : PortAnswer → Bool → Bool
-moved_after (Clock popped) moved = popped
+moved_after TurnBegins moved = false
+moved_after (Clock popped) moved = moved || popped
 moved_after (Pulled side buffer pull bytes) moved = moved || is_gain pull
 moved_after (Offered side bytes put) moved = moved || is_loss put
 
@@ -52,6 +55,7 @@ moved_by (answer ∷ answers) moved = moved_by answers (moved_after answer moved
 
 -- what is answered once the turns are spent: no clock pops, both sides have ended, and both wires fail
 abbrev pub IsSpentAnswer : PortAnswer → Type 0
+IsSpentAnswer TurnBegins = Unit {0}
 IsSpentAnswer (Clock popped) = popped ≡ false
 IsSpentAnswer (Pulled side buffer pull bytes) = pull ≡ Ended
 IsSpentAnswer (Offered side bytes put) = put ≡ Failed
@@ -62,6 +66,7 @@ told_where (Some turns) ending told = told
 told_where None ending told = option_or told (Some ending)
 
 abbrev pub told_after : PortAnswer → Option ℕ → Option Ending → Option Ending
+told_after TurnBegins left told = told
 told_after (Clock popped) left told = told
 told_after (Pulled side buffer pull bytes) left told = told_where left (Endings.Ended side) told
 told_after (Offered side bytes put) left told = told_where left (Endings.Lost side) told
@@ -78,3 +83,13 @@ pub record Meters {P : Type 0} (becomes : P → PortAnswer → P → Type 0) (ol
   pub moved : new.moved ≡ moved_after answer old.moved
   pub told : new.told ≡ told_after answer new.left old.told
   pub ports : BecomesWhile becomes new.left old.ports answer new.ports
+
+-- ---- the system at a turn's beginning
+
+-- it is asked to begin a turn with ports of which turns are left, and is lent no others
+abbrev pub beginning_where : {P : Type 0} → Option ℕ → P → P → List (SystemAnswer P)
+beginning_where (Some turns) before after = BeginsTurn before after ∷ []
+beginning_where None before after = []
+
+abbrev pub beginning : {P : Type 0} → MeteredView P → MeteredView P → List (SystemAnswer P)
+beginning old new = beginning_where new.left old.ports new.ports

@@ -6,16 +6,16 @@ use Rattle.daide_machine.specs.Machine.{Limits, SessionState, Effect, Runs}
 use Rattle.daide_machine.specs.Wires.{SessionView, is_closed}
 use Rattle.daide_words.specs.Words.{words_of}
 use Rattle.daide_machine.specs.Config.{config_fault, limits_with}
-use Rattle.daide_machine.specs.Ports.{PortAnswer, Clock, Pulled, Offered, BecomesBy, events_of}
+use Rattle.daide_machine.specs.Ports.{PortAnswer, TurnBegins, Clock, Pulled, Offered, BecomesBy, events_of}
 use Rattle.daide_turns.specs.Headline.{untouched, IsBoundedAndExact}
-use Rattle.daide_turns.specs.Hub.{IsTurned, IsHubSize}
+use Rattle.daide_turns.specs.Hub.{IsBegun, IsTurned, IsHubSize}
 use Rattle.daide_settings.specs.declared.settings.Settings.{Settings}
 use Rattle.daide_machine.specs.declared.system.Connect.TheVariants.{Ready, Failed, Pending}
 use Rattle.daide_machine.specs.declared.system.Cause.{Cause}
 use Rattle.daide_machine.specs.declared.system.Cause.TheVariants as Causes
 use Rattle.daide_machine.specs.declared.system.SessionEnd.{SessionEnd}
 use Rattle.daide_service.specs.Metered.{MeteredView, Meters, moved_by}
-use Rattle.daide_machine.specs.System.{SystemAnswer, Begins, Accepts, Connects, Retires, Notifies, Waits}
+use Rattle.daide_machine.specs.System.{SystemAnswer, Begins, BeginsTurn, Accepts, Connects, Retires, Notifies, Waits}
 use Rattle.daide_service.specs.Serving.{ServiceView, fresh, opening, Rounds, Serves}
 
 -- the limits of a run's sessions
@@ -38,11 +38,12 @@ abbrev pub IsServed : {P : Type 0} → (P → PortAnswer → P → Type 0) → S
     SessionView × MeteredView P → Type 0
 IsServed becomes = IsSessionOfRun becomes IsBoundedAndExact
 
--- the answers while turns were left: those before the look at the clock that was one too many
+-- the answers while turns were left: those before the turn that was one too many began
 abbrev pub while_left : ℕ → List PortAnswer → List PortAnswer
 while_left turns [] = []
-while_left zero (Clock popped ∷ answers) = []
-while_left (suc turns) (Clock popped ∷ answers) = Clock popped ∷ while_left turns answers
+while_left zero (TurnBegins ∷ answers) = []
+while_left (suc turns) (TurnBegins ∷ answers) = TurnBegins ∷ while_left turns answers
+while_left turns (Clock popped ∷ answers) = Clock popped ∷ while_left turns answers
 while_left turns (Pulled side buffer pull bytes ∷ answers) = Pulled side buffer pull bytes ∷ while_left turns answers
 while_left turns (Offered side bytes put ∷ answers) = Offered side bytes put ∷ while_left turns answers
 
@@ -67,6 +68,7 @@ LetsGo {P} becomes settings answers (Retires ports end) =
     × ((served : IsServed becomes settings answers now)
     × IsEndOf (run_limits settings) settings.turns served.history now.0 end)
 LetsGo becomes settings answers Begins = Unit {0}
+LetsGo becomes settings answers (BeginsTurn before after) = Unit {0}
 LetsGo becomes settings answers (Accepts came) = Unit {0}
 LetsGo becomes settings answers (Connects connect) = Unit {0}
 LetsGo becomes settings answers (Notifies notice) = Unit {0}
@@ -78,6 +80,7 @@ connects (Connects (Ready ports)) = 1
 connects (Connects Failed) = 0
 connects (Connects Pending) = 0
 connects Begins = 0
+connects (BeginsTurn before after) = 0
 connects (Accepts came) = 0
 connects (Retires ports end) = 0
 connects (Notifies notice) = 0
@@ -86,6 +89,7 @@ connects (Waits more) = 0
 abbrev pub retires : {P : Type 0} → SystemAnswer P → ℕ
 retires (Retires ports end) = 1
 retires Begins = 0
+retires (BeginsTurn before after) = 0
 retires (Accepts came) = 0
 retires (Connects connect) = 0
 retires (Notifies notice) = 0
@@ -96,6 +100,7 @@ abbrev pub comes : {P : Type 0} → SystemAnswer P → ℕ
 comes (Accepts true) = 1
 comes (Accepts false) = 0
 comes Begins = 0
+comes (BeginsTurn before after) = 0
 comes (Connects connect) = 0
 comes (Retires ports end) = 0
 comes (Notifies notice) = 0
@@ -106,6 +111,7 @@ unreached (Connects Failed) = 1
 unreached (Connects (Ready ports)) = 0
 unreached (Connects Pending) = 0
 unreached Begins = 0
+unreached (BeginsTurn before after) = 0
 unreached (Accepts came) = 0
 unreached (Retires ports end) = 0
 unreached (Notifies notice) = 0
@@ -138,24 +144,20 @@ pub record IsWholeRun {P : Type 0} (becomes : P → PortAnswer → P → Type 0)
   pub all_came : counted comes answers ≡ settings.sessions
   pub all_served : counted comes answers ≡ counted retires answers + counted unreached answers
 
--- Whether anything moved in a turn, by which a round waits or doesn't, is told by the turn's answers.
+-- Whether anything moved in a turn that began, by which a round waits or doesn't, is told by the turn's answers.
 abbrev pub MovesAreAnswered : {P : Type 0} → (P → PortAnswer → P → Type 0) → Type 0
-MovesAreAnswered {P} becomes = (old new : SessionView × MeteredView P) (turn : IsTurned (Meters becomes) old new) →
-    new.1.moved ≡ moved_by turn.exchange.call false
+MovesAreAnswered {P} becomes = (old mid new : SessionView × MeteredView P) → IsBegun (Meters becomes) old mid →
+    (turn : IsTurned (Meters becomes) mid new) → new.1.moved ≡ moved_by turn.exchange.call false
 
--- how many of these answers are looks at the clock: with one look each turn begins
-abbrev pub looks_in : List PortAnswer → ℕ
-looks_in [] = 0
-looks_in (Clock popped ∷ answers) = suc (looks_in answers)
-looks_in (Pulled side buffer pull bytes ∷ answers) = looks_in answers
-looks_in (Offered side bytes put ∷ answers) = looks_in answers
+-- how many turns began in a history
+abbrev pub turns_in : List PortAnswer → ℕ
+turns_in [] = 0
+turns_in (TurnBegins ∷ answers) = suc (turns_in answers)
+turns_in (Clock popped ∷ answers) = turns_in answers
+turns_in (Pulled side buffer pull bytes ∷ answers) = turns_in answers
+turns_in (Offered side bytes put ∷ answers) = turns_in answers
 
--- A turn looks at the clock once.
-abbrev pub TurnsLookOnce : {P : Type 0} → (P → PortAnswer → P → Type 0) → Type 0
-TurnsLookOnce {P} becomes = (old new : SessionView × MeteredView P) (turn : IsTurned (Meters becomes) old new) →
-    looks_in turn.exchange.call ≡ 1
-
--- Ports that had so many turns to come are spent exactly where there were more looks at the clock than that.
+-- Ports that had so many turns to come are spent exactly where more turns began than that.
 abbrev pub TurnsAreCounted : {P : Type 0} → (P → PortAnswer → P → Type 0) → Type 0
 TurnsAreCounted {P} becomes = (ports : P) (turns : ℕ) (history : List PortAnswer) (now : MeteredView P) →
-    BecomesBy (Meters becomes) (fresh ports turns) history now → is_none now.left ≡ nat_lt turns (looks_in history)
+    BecomesBy (Meters becomes) (fresh ports turns) history now → is_none now.left ≡ nat_lt turns (turns_in history)

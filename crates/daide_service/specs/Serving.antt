@@ -1,7 +1,7 @@
 -- The loop of a run: what each step of a round asks of the system and does to the sessions, what a round is, and
 -- what a whole run is, to its end or broken off. A step is stated with what the system answered in it, told or not.
 use Rattle.std.specs.Prelude.{◌≡◌, ℕ, zero, suc, ◌+◌, ◌-◌, ◌≤◌, nat_lt, Bool, true, false, not, ◌&&◌, ◌||◌, ◌==◌, ◌⊎◌}
-use Rattle.std.specs.Prelude.{List, [], ◌∷◌, ◌++◌, length, filter, Option, Some, None, is_none, if◌then◌else◌}
+use Rattle.std.specs.Prelude.{List, [], ◌∷◌, ◌++◌, length, filter, Option, Some, None, Ok, is_none, if◌then◌else◌}
 use Rattle.std.specs.List.{list_any}
 use Rattle.daide_machine.specs.declared.ending.Ending.{Ending}
 use Rattle.daide_machine.specs.declared.ending.Ending.TheVariants.{Ended, Lost}
@@ -10,10 +10,10 @@ use Rattle.daide_machine.specs.Wires.{SessionView, is_closed, same_side}
 use Rattle.daide_turns.specs.declared.hub.HubError.{HubError}
 use Rattle.daide_turns.specs.declared.hub.HubError.TheVariants as HubErrors
 use Rattle.daide_words.specs.Words.{words_of}
-use Rattle.daide_machine.specs.Config.{limits_with}
+use Rattle.daide_machine.specs.Config.{config_fault, limits_with}
+use Rattle.daide_turns.specs.Hub.{IsHubSize}
 use Rattle.daide_machine.specs.Ports.{PortAnswer}
-use Rattle.daide_turns.specs.Hub.{HubView, with_places, Adds, IsHubCause}
-use Rattle.daide_turns.specs.HubRuns.{HubCall, Turned, HubRuns}
+use Rattle.daide_turns.specs.Hub.{HubView, with_places, Adds, Changes, IsBegun, IsTurned, IsHubCause}
 use Rattle.daide_settings.specs.declared.settings.Settings.{Settings}
 use Rattle.daide_service.specs.declared.serving.ServeFault.{ServeFault}
 use Rattle.daide_service.specs.declared.serving.ServeFault.TheVariants as Faults
@@ -24,8 +24,8 @@ use Rattle.daide_machine.specs.declared.system.Notice.TheVariants.{CannotReach, 
 use Rattle.daide_machine.specs.declared.system.Cause.{Cause}
 use Rattle.daide_machine.specs.declared.system.Cause.TheVariants as Causes
 use Rattle.daide_machine.specs.declared.system.SessionEnd.{SessionEnd}
-use Rattle.daide_service.specs.Metered.{MeteredView, Meters}
-use Rattle.daide_machine.specs.System.{SystemAnswer, Begins, Accepts, Connects, Retires, Notifies, Waits}
+use Rattle.daide_service.specs.Metered.{MeteredView, Meters, beginning}
+use Rattle.daide_machine.specs.System.{SystemAnswer, Begins, BeginsTurn, Accepts, Connects, Retires, Notifies, Waits}
 
 -- a run at work: the sessions, and the counts of bots
 pub record ServiceView (P : Type 0) : Type 0 where
@@ -106,13 +106,29 @@ FinishesConnect hub tally = MeetsWhere (tally.connecting == 0) hub tally
 
 -- ---- each session has a turn
 
--- the turns of the first n places, each once, in their order
-abbrev pub turns_below : {P : Type 0} → ℕ → List (HubCall P)
-turns_below zero = []
-turns_below (suc n) = turns_below n ++ Turned n ∷ []
+-- a turn of a session begins with its own ports, and the system is asked to begin it with these, while turns are left
+abbrev pub OpensTurn : {P : Type 0} → (P → PortAnswer → P → Type 0) → List (SystemAnswer P) →
+    SessionView × MeteredView P → SessionView × MeteredView P → Type 0
+OpensTurn becomes answers old new = IsBegun (Meters becomes) old new × (answers ≡ beginning old.1 new.1)
 
-abbrev pub TurnsAll : {P : Type 0} → (P → PortAnswer → P → Type 0) → HubView (MeteredView P) → HubView (MeteredView P) → Type 0
-TurnsAll becomes old new = HubRuns (Meters becomes) old (turns_below (length old.places)) new
+-- the session at this place has one turn: it begins, and is made
+abbrev pub TakesTurn : {P : Type 0} → (P → PortAnswer → P → Type 0) → HubView (MeteredView P) → ℕ →
+    List (SystemAnswer P) → HubView (MeteredView P) → Type 0
+TakesTurn {P} becomes old i answers new =
+    (mid : HubView (MeteredView P)) × Changes (OpensTurn becomes answers) old i mid
+    × Changes (IsTurned (Meters becomes)) mid i new
+
+-- those at the first n places have one turn each, in their order
+abbrev pub TurnsBelow : {P : Type 0} → (P → PortAnswer → P → Type 0) → ℕ → HubView (MeteredView P) →
+    List (SystemAnswer P) → HubView (MeteredView P) → Type 0
+TurnsBelow becomes zero old answers new = (answers ≡ []) × (new ≡ old)
+TurnsBelow {P} becomes (suc n) old answers new =
+    (mid : HubView (MeteredView P)) × (first : List (SystemAnswer P)) × (second : List (SystemAnswer P))
+    × (answers ≡ first ++ second) × TurnsBelow becomes n old first mid × TakesTurn becomes mid n second new
+
+abbrev pub TurnsAll : {P : Type 0} → (P → PortAnswer → P → Type 0) → HubView (MeteredView P) → List (SystemAnswer P) →
+    HubView (MeteredView P) → Type 0
+TurnsAll becomes old answers new = TurnsBelow becomes (length old.places) old answers new
 
 abbrev pub any_moved : {P : Type 0} → List (SessionView × MeteredView P) → Bool
 any_moved places = list_any (λ place. place.1.moved) places
@@ -173,6 +189,7 @@ RemovesClosed old answers new = (answers ≡ retirements old.places) × (new ≡
 -- whether the system gave the run something: a bot, a connect that came about or failed, or ports to take
 abbrev pub is_progress : {P : Type 0} → SystemAnswer P → Bool
 is_progress Begins = false
+is_progress (BeginsTurn before after) = false
 is_progress (Accepts came) = came
 is_progress (Connects (Ready ports)) = true
 is_progress (Connects Failed) = true
@@ -190,22 +207,24 @@ wait_where true more = []
 wait_where false more = Waits more ∷ []
 
 -- The system is told that a round begins; at most one bot is admitted; at most one connect is taken up; each session has
--- one turn; those that are over are taken out; and there is one wait, exactly where nothing moved in all this.
+-- one turn, which the system is asked to begin; those that are over are taken out; and there is one wait, exactly where
+-- nothing moved in all this.
 pub record Round {P : Type 0} (becomes : P → PortAnswer → P → Type 0) (old : ServiceView P)
     (answers : List (SystemAnswer P)) (new : ServiceView P) : Type 0 where
   pub admission : List (SystemAnswer P)
   pub meeting : List (SystemAnswer P)
+  pub beginnings : List (SystemAnswer P)
   pub removal : List (SystemAnswer P)
   pub came : Tally
   pub met : HubView (MeteredView P)
   pub turned : HubView (MeteredView P)
   pub admits : Admits (length old.hub.places) old.tally admission came
   pub finishes : FinishesConnect old.hub came meeting met new.tally
-  pub turns : TurnsAll becomes met turned
+  pub turns : TurnsAll becomes met beginnings turned
   pub removes : RemovesClosed turned removal new.hub
   -- whatever came, no more are held than there may be at once, and no more came than there may be in all
   pub within : IsWithin new.hub new.tally
-  pub asked : answers ≡ Begins ∷ admission ++ meeting ++ removal ++ wait_where
+  pub asked : answers ≡ Begins ∷ admission ++ meeting ++ beginnings ++ removal ++ wait_where
       (any_progress admission || any_progress meeting || any_moved turned.places || any_progress removal)
       (accepts new.tally (length new.hub.places))
 
@@ -250,18 +269,21 @@ Serves {P} becomes settings answers =
 
 -- A round whose new session was refused its memory: it was begun, and at most one bot admitted, as in any round; a connect
 -- was under way and came about, and with it the round ends. Its ports are dropped; no session had a turn, and none is
--- taken out.
-pub record BreaksOff {P : Type 0} (old : ServiceView P) (answers : List (SystemAnswer P)) (new : ServiceView P) : Type 0 where
+-- taken out. `Refuses` is the allocator's relation of that name.
+pub record BreaksOff {P : Type 0} (Refuses : ℕ → Type 0) (old : ServiceView P) (answers : List (SystemAnswer P))
+    (new : ServiceView P) : Type 0 where
   pub admission : List (SystemAnswer P)
   pub came : Tally
   pub ports : P
   pub admits : Admits (length old.hub.places) old.tally admission came
   pub under_way : (came.connecting == 0) ≡ false
   pub asked : answers ≡ Begins ∷ admission ++ Connects (Ready ports) ∷ []
+  -- room for a body of the longest length
+  pub refused : Refuses old.hub.limits.cap
   pub leaves : new ≡ record { hub = old.hub; tally = arrived came }
 
 -- rounds from the opening, and one that is broken off, of a run that isn't done
-pub record RunsOut {P : Type 0} (becomes : P → PortAnswer → P → Type 0) (settings : Settings)
+pub record RunsOut {P : Type 0} (Refuses : ℕ → Type 0) (becomes : P → PortAnswer → P → Type 0) (settings : Settings)
     (answers : List (SystemAnswer P)) : Type 0 where
   pub n : ℕ
   pub before : List (SystemAnswer P)
@@ -270,7 +292,7 @@ pub record RunsOut {P : Type 0} (becomes : P → PortAnswer → P → Type 0) (s
   pub end : ServiceView P
   pub rounds : Rounds becomes n (opening settings) before mid
   pub going_on : is_done mid ≡ false
-  pub breaks : BreaksOff mid last end
+  pub breaks : BreaksOff Refuses mid last end
   pub asked : answers ≡ before ++ last
 
 -- all rounds from the opening that a run may make
@@ -281,15 +303,17 @@ pub record RunsLong {P : Type 0} (becomes : P → PortAnswer → P → Type 0) (
   pub all : n + 1 ≡ 18446744073709551616
   pub rounds : Rounds becomes n (opening settings) answers end
 
--- What a run did that ends with this fault, before all its bots were served. Of wrong settings, and where the memory of
--- the places was refused, the system was asked nothing; a later want of memory comes in a round that is broken off; and
--- rounds are spent where all of them were made.
-abbrev pub GivesUp : {P : Type 0} → (P → PortAnswer → P → Type 0) → Settings → ServeFault → List (SystemAnswer P) →
-    Type 0
-GivesUp becomes settings (Faults.Config fault) answers = answers ≡ []
-GivesUp becomes settings Faults.Sessions answers = answers ≡ []
-GivesUp becomes settings Faults.Memory answers = (answers ≡ []) ⊎ RunsOut becomes settings answers
-GivesUp becomes settings Faults.RoundsSpent answers = RunsLong becomes settings answers
+-- What a run did that ends with this fault, before all its bots were served. With wrong settings the system was asked
+-- nothing. `Memory` has two causes, each a refusal of the allocator, whose relation `Refuses` is: room for the places was
+-- refused, and the system was asked nothing; or room for a body was, in a round that is broken off. Rounds are spent only
+-- after all of them were made.
+abbrev pub GivesUp : {P : Type 0} → (ℕ → Type 0) → (P → PortAnswer → P → Type 0) → Settings → ServeFault →
+    List (SystemAnswer P) → Type 0
+GivesUp Refuses becomes settings (Faults.Config fault) answers = answers ≡ []
+GivesUp Refuses becomes settings Faults.Sessions answers = answers ≡ []
+GivesUp Refuses becomes settings Faults.Memory answers =
+    ((answers ≡ []) × Refuses settings.max_sessions) ⊎ RunsOut Refuses becomes settings answers
+GivesUp Refuses becomes settings Faults.RoundsSpent answers = RunsLong becomes settings answers
 
 -- ---- refusals
 
@@ -299,19 +323,27 @@ fault_of (HubErrors.Config fault) = Faults.Config fault
 fault_of HubErrors.Sessions = Faults.Sessions
 fault_of HubErrors.Memory = Faults.Memory
 
--- limits first, then the number of sessions; memory is wanted only where both are right
-abbrev pub IsServeCause : Settings → ServeFault → Type 0
-IsServeCause settings (Faults.Config fault) = IsHubCause settings.config settings.max_sessions (HubErrors.Config fault)
-IsServeCause settings Faults.Sessions = IsHubCause settings.config settings.max_sessions HubErrors.Sessions
-IsServeCause settings Faults.Memory = IsHubCause settings.config settings.max_sessions HubErrors.Memory
-IsServeCause settings Faults.RoundsSpent = IsHubCause settings.config settings.max_sessions HubErrors.Memory
+-- why a run was not begun: limits first, then the number of sessions, then the memory of the places
+abbrev pub IsOpeningCause : (ℕ → Type 0) → Settings → ServeFault → Type 0
+IsOpeningCause Refuses settings (Faults.Config fault) =
+    IsHubCause Refuses settings.config settings.max_sessions (HubErrors.Config fault)
+IsOpeningCause Refuses settings Faults.Sessions =
+    IsHubCause Refuses settings.config settings.max_sessions HubErrors.Sessions
+IsOpeningCause Refuses settings Faults.Memory = IsHubCause Refuses settings.config settings.max_sessions HubErrors.Memory
+IsOpeningCause Refuses settings Faults.RoundsSpent = ⊥
 
--- why a run was not begun: as above, and no rounds are spent then
-abbrev pub IsOpeningCause : Settings → ServeFault → Type 0
-IsOpeningCause settings (Faults.Config fault) = IsServeCause settings (Faults.Config fault)
-IsOpeningCause settings Faults.Sessions = IsServeCause settings Faults.Sessions
-IsOpeningCause settings Faults.Memory = IsServeCause settings Faults.Memory
-IsOpeningCause settings Faults.RoundsSpent = ⊥
+-- the limits and the number of sessions are right
+abbrev pub AreAccepted : Settings → Type 0
+AreAccepted settings = (config_fault settings.config ≡ Ok tt) × IsHubSize settings.max_sessions
+
+-- Why a run gave up: as above, but later a body is refused as the places are. Memory is requested, and rounds are made,
+-- only if the settings are right.
+abbrev pub IsServeCause : (ℕ → Type 0) → Settings → ServeFault → Type 0
+IsServeCause Refuses settings (Faults.Config fault) = IsOpeningCause Refuses settings (Faults.Config fault)
+IsServeCause Refuses settings Faults.Sessions = IsOpeningCause Refuses settings Faults.Sessions
+IsServeCause Refuses settings Faults.Memory =
+    AreAccepted settings × (Refuses settings.max_sessions ⊎ Refuses settings.config.max_body)
+IsServeCause Refuses settings Faults.RoundsSpent = AreAccepted settings
 
 -- a fault of the settings, told before the system is asked anything
 abbrev pub IsOfSettings : ServeFault → Type 0

@@ -1,6 +1,6 @@
 //! Laws of runs: functions with no parameters and an empty body, whose contracts are the laws.
 
-ghost use Rattle.daide_service.specs.Served.{SessionsAreServed, MovesAreAnswered, TurnsAreCounted, TurnsLookOnce};
+ghost use Rattle.daide_service.specs.Served.{SessionsAreServed, MovesAreAnswered, TurnsAreCounted};
 
 use daide_machine::ports::Ports;
 
@@ -17,13 +17,8 @@ pub fn moves_are_answered<P: Ports>()
     ensures { MovesAreAnswered P.becomes }
 {}
 
-/// A session's ports are spent exactly where its turns looked at the clock more often than there were turns: no session
-/// is ended as spent before, and until then its ports are asked and answer for themselves.
+/// A session's ports are spent exactly where more turns began with them than there were: no session is ended as spent
+/// before, and until then its ports are asked and answer for themselves.
 pub fn turns_are_counted<P: Ports>()
     ensures { TurnsAreCounted P.becomes }
-{}
-
-/// A turn looks at the clock once, so a session's looks are its turns.
-pub fn turns_look_once<P: Ports>()
-    ensures { TurnsLookOnce P.becomes }
 {}

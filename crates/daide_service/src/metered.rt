@@ -1,14 +1,17 @@
 //! Ports with so many turns, which remember whether their last turn moved anything.
 
 ghost use Rattle.std.specs.Prelude.{◌≡◌, false, Some, None, is_none};
+ghost use Rattle.daide_machine.specs.Ports.{TurnBegins};
+ghost use Rattle.daide_machine.specs.System.{TransitsBy};
 
 use daide_frame::side::Side;
 use daide_machine::ending::Ending;
 use daide_machine::ports::{Ports, Pull, Put};
+use daide_machine::system::System;
 use std::marker::Model;
 
-/// Ports that may be asked so many turns. Each turn begins with a look at the clock; from the look on that is
-/// one too many, the ports are asked no more: both wires fail, and both sides have ended.
+/// Ports that may be asked so many turns. From the turn on that is one too many, they are asked no more: no clock pops,
+/// both wires fail, and both sides have ended.
 #[derive(Drop)]
 pub struct Metered<P: Ports> {
     ports: P,
@@ -28,6 +31,8 @@ impl<P: Ports> Model for Metered<P> {
 }
 
 impl<P: Ports> Metered<P> {
+    ghost use Rattle.daide_service.specs.Metered.{Meters, beginning};
+
     /// Ports with so many turns to come.
     pub fn new(ports: P, turns: u64) -> Metered<P>
         ensures { result ≡ record { ports = ports; left = Some turns; moved = false; told = None } }
@@ -40,6 +45,19 @@ impl<P: Ports> Metered<P> {
         }
     }
 
+    /// Begins a turn: it is one of those that are left, and nothing moved in it yet. The system begins it with the ports
+    /// themselves, unless they are spent.
+    pub fn begin_turn<S: System<P>>(&mut self, system: &mut S)
+        ensures begins { Meters P.becomes self.old TurnBegins self.new }
+        ensures asked { TransitsBy S.transition system.old (beginning self.old self.new) system.new }
+    {
+        self.left = self.left.and_then(|turns| turns.checked_sub(1));
+        self.moved = false;
+        if self.left.is_some() {
+            system.begin_turn(&mut self.ports);
+        }
+    }
+
     /// Whether more turns were begun than there are.
     pub fn is_spent(&self) -> bool
         ensures { result ≡ is_none self.now.left }
@@ -47,8 +65,8 @@ impl<P: Ports> Metered<P> {
         self.left.is_none()
     }
 
-    /// Whether anything moved since the clock was last asked: it had popped, bytes came or went, a side ended,
-    /// or a wire failed.
+    /// Whether anything moved since the turn began: the clock had popped, bytes came or went, a side ended, or a wire
+    /// failed.
     pub fn has_moved(&self) -> bool
         ensures { result ≡ self.now.moved }
     {
@@ -115,8 +133,8 @@ impl<P: Ports> Ports for Metered<P> {
     }
 
     fn clock_popped(&mut self) -> bool {
-        self.left = self.left.and_then(|turns| turns.checked_sub(1));
-        self.moved = self.left.is_some() && self.ports.clock_popped();
-        self.moved
+        let popped = self.left.is_some() && self.ports.clock_popped();
+        self.moved = self.moved || popped;
+        popped
     }
 }

@@ -2,12 +2,13 @@
 //!
 //! It knows no socket. What the system gives is a parameter, so that whole runs can be driven in memory.
 
-ghost use Rattle.std.specs.Prelude.{◌≡◌, ◌+◌, ◌≤◌, ◌==◌, false, List, [], ◌∷◌, length, Some};
+ghost use Rattle.std.specs.Prelude.{◌≡◌, ◌+◌, ◌<◌, ◌≤◌, ◌==◌, false, List, [], ◌∷◌, length, Some};
 ghost use Rattle.std.specs.Prelude.{Ok, OnOk, OnErr, IfOk, IfErr};
 ghost use Rattle.daide_machine.specs.Config.{config_fault};
 ghost use Rattle.daide_turns.specs.Hub.{IsHubSize};
 ghost use Rattle.daide_machine.specs.System.{SystemAnswer, Connects, TransitsBy};
-ghost use Rattle.daide_service.specs.Serving.{IsWithin, Admits, FinishesConnect, TurnsAll, any_moved, RemovesClosed, parting};
+ghost use Rattle.daide_service.specs.Serving.{IsWithin, Admits, FinishesConnect, TakesTurn, TurnsAll, any_moved};
+ghost use Rattle.daide_service.specs.Serving.{RemovesClosed, parting};
 ghost use Rattle.daide_service.specs.Serving.{is_told, cause_by, end_by};
 ghost use Rattle.daide_service.specs.Serving.{wait_where, any_progress, Round, is_done, opening, fault_of};
 ghost use Rattle.daide_service.specs.Served.{IsWholeRun};
@@ -15,6 +16,7 @@ ghost use Rattle.daide_service.specs.Serving.{IsServeCause, IsOpeningCause, IsOf
 
 use crate::metered::Metered;
 use crate::tally::Tally;
+use daide_frame::memory::Memory;
 use daide_machine::config::ConfigError;
 use daide_machine::ending::Ending;
 use daide_machine::ports::Ports;
@@ -92,8 +94,8 @@ fn admit<P: Ports, S: System<P>>(count: usize, tally: &mut Tally, system: &mut S
 }
 
 /// Makes a session of a bot whose connect to the server came about, or lets it go where that failed. Answers
-/// whether it was either.
-fn finish_connect<P: Ports, A: Allocator + Copy, S: System<P>>(
+/// whether it was either. `Memory` comes only after room for a body was refused.
+fn finish_connect<P: Ports, A: Memory + Copy, S: System<P>>(
     hub: &mut Hub<Metered<P>, A>,
     tally: &mut Tally,
     system: &mut S,
@@ -107,6 +109,7 @@ fn finish_connect<P: Ports, A: Allocator + Copy, S: System<P>>(
     ensures broken_off { OnErr result ((ports : P)
         × TransitsBy S.transition system.old (Connects (Connect.Ready ports) ∷ []) system.new
         × ((tally.old.connecting == 0) ≡ false)) }
+    ensures out_of_memory { OnErr result (A.Refuses hub.old.limits.cap) }
     ensures left { OnErr result ((hub.new ≡ hub.old) × (tally.new ≡ arrived tally.old)) }
 {
     if tally.connecting == 0 {
@@ -130,14 +133,32 @@ fn finish_connect<P: Ports, A: Allocator + Copy, S: System<P>>(
     }
 }
 
+/// One turn of the session at a place: the system begins it with that session's ports, and then it is made.
+fn take_turn<P: Ports, A: Allocator + Copy, S: System<P>>(
+    hub: &mut Hub<Metered<P>, A>,
+    i: usize,
+    system: &mut S,
+)
+    requires { i < length hub.old.places }
+    ensures { (answers : List (SystemAnswer P)) × TransitsBy S.transition system.old answers system.new
+        × TakesTurn P.becomes hub.old i answers hub.new }
+{
+    hub.ports_mut(i).begin_turn(system);
+    hub.turn(i);
+}
+
 /// One turn of each session, in order of place.
-fn turn_all<P: Ports, A: Allocator + Copy>(hub: &mut Hub<Metered<P>, A>)
-    ensures turns { TurnsAll P.becomes hub.old hub.new }
+fn turn_all<P: Ports, A: Allocator + Copy, S: System<P>>(
+    hub: &mut Hub<Metered<P>, A>,
+    system: &mut S,
+)
+    ensures turns { (answers : List (SystemAnswer P)) × TransitsBy S.transition system.old answers system.new
+        × TurnsAll P.becomes hub.old answers hub.new }
     ensures max { hub.new.max ≡ hub.old.max }
     ensures count { length hub.new.places ≡ length hub.old.places }
 {
     for i in 0..hub.count() {
-        hub.turn(i);
+        take_turn(hub, i, system);
     }
 }
 
@@ -224,13 +245,13 @@ fn rest<P: Ports, S: System<P>>(moved: bool, more: bool, system: &mut S)
     }
 }
 
-impl<P: Ports, A: Allocator + Copy> Service<P, A> {
+impl<P: Ports, A: Memory + Copy> Service<P, A> {
     /// A run that no bot came to yet.
     pub fn new(alloc: A, settings: &Settings) -> Result<Service<P, A>, ServeFault>
         ensures opening { IfOk result (λ service. service ≡ opening settings.now) }
         ensures accepted { IfOk result (λ service. (config_fault settings.now.config ≡ Ok tt)
             × IsHubSize settings.now.max_sessions) }
-        ensures refused { IfErr result (IsOpeningCause settings.now) }
+        ensures refused { IfErr result (IsOpeningCause A.Refuses settings.now) }
     {
         match Hub::with_words(
             alloc,
@@ -260,21 +281,21 @@ impl<P: Ports, A: Allocator + Copy> Service<P, A> {
     }
 
     /// One round: the system is told that it begins; at most one bot is admitted, and at most one connect taken up;
-    /// each session has one turn, in order of place; those that are over and of which nothing waits are taken out,
-    /// from the last place to the first; and where nothing moved in all this, there is one wait. Want of memory for a
-    /// session is its only fault; its ports are dropped then, and the round broken off behind the connect that gave
-    /// them.
+    /// each session has one turn, in order of place, which the system begins with its ports; those that are over and of
+    /// which nothing waits are taken out, from the last place to the first; and where nothing moved in all this, there is
+    /// one wait. Want of memory for a session is its only fault; its ports are dropped then, and the round broken off
+    /// behind the connect that gave them.
     pub fn round<S: System<P>>(&mut self, system: &mut S) -> Result<(), ServeFault>
         ensures round { OnOk result ((answers : List (SystemAnswer P))
             × TransitsBy S.transition system.old answers system.new × Round P.becomes self.old answers self.new) }
         ensures refused { IfErr result (λ fault. fault ≡ ServeFault.Memory) }
         ensures broken_off { OnErr result ((answers : List (SystemAnswer P))
-            × TransitsBy S.transition system.old answers system.new × BreaksOff self.old answers self.new) }
+            × TransitsBy S.transition system.old answers system.new × BreaksOff A.Refuses self.old answers self.new) }
     {
         system.begin_round();
         let came = admit::<P, S>(self.hub.count(), &mut self.tally, system);
         let met = finish_connect(&mut self.hub, &mut self.tally, system)?;
-        turn_all(&mut self.hub);
+        turn_all(&mut self.hub, system);
         let moved = has_moved(&self.hub);
         let removed = remove_closed(&mut self.hub, system);
         let more = self.tally.accepts(self.hub.count());
@@ -285,9 +306,9 @@ impl<P: Ports, A: Allocator + Copy> Service<P, A> {
 
 /// Serves so many bots as the settings say, and returns when all were served. A run waits for its peers, so no
 /// bound on its time is known: the bound on its rounds, 2^64 - 1, is one that no run comes to. It gives up for
-/// nothing else than wrong settings and want of memory, of the places or of a session, and says what was done till
-/// then.
-pub fn serve<P: Ports, A: Allocator + Copy, S: System<P>>(
+/// nothing else than wrong settings and memory that was refused, of the places or of a session, and says what was done
+/// till then.
+pub fn serve<P: Ports, A: Memory + Copy, S: System<P>>(
     alloc: A,
     settings: &Settings,
     system: &mut S,
@@ -295,8 +316,9 @@ pub fn serve<P: Ports, A: Allocator + Copy, S: System<P>>(
     ensures served { OnOk result ((answers : List (SystemAnswer P))
         × TransitsBy S.transition system.old answers system.new × IsWholeRun P.becomes settings.now answers) }
     ensures given_up { IfErr result (λ fault. (answers : List (SystemAnswer P))
-        × TransitsBy S.transition system.old answers system.new × GivesUp P.becomes settings.now fault answers) }
-    ensures refused { IfErr result (IsServeCause settings.now) }
+        × TransitsBy S.transition system.old answers system.new
+        × GivesUp A.Refuses P.becomes settings.now fault answers) }
+    ensures refused { IfErr result (IsServeCause A.Refuses settings.now) }
     ensures unasked { IfErr result (λ fault. IsOfSettings fault → system.new ≡ system.old) }
 {
     let mut service = Service::<P, A>::new(alloc, settings)?;

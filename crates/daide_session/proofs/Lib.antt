@@ -12,3 +12,4 @@ pub mod InARowLemmas
 pub mod JoinedRuns
 pub mod LevelRuns
 pub mod LevelsAgree
+mod LawFacts

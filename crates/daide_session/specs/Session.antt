@@ -1,5 +1,5 @@
 -- How a session's parts stand for its value, and what holds of it between calls.
-use Rattle.std.specs.Prelude.{◌≡◌, ◌<◌, [], false, is_some, Ok, Err}
+use Rattle.std.specs.Prelude.{◌≡◌, ℕ, ◌<◌, [], false, is_some, Ok, Err}
 use Rattle.daide_frame.specs.declared.side.Side.{Side}
 use Rattle.daide_frame.specs.Frames.{missing}
 use Rattle.daide_grammar.specs.declared.level.Level.{Level}
@@ -81,7 +81,8 @@ pub record Dropped (old : SessionView) (side : Side) (new : SessionView) : Type 
 
 -- ---- refusals
 
--- the limits are looked at first; memory is wanted only where they are right
-abbrev pub IsCause : Config → SessionError → Type 0
-IsCause config (Errors.Config fault) = config_fault config ≡ Err fault
-IsCause config Errors.Memory = config_fault config ≡ Ok tt
+-- The limits are checked first. Memory is requested only if they are right, and the error is then that room for a body of
+-- the longest length was refused; `Refuses` is the allocator's relation of that name.
+abbrev pub IsCause : (ℕ → Type 0) → Config → SessionError → Type 0
+IsCause Refuses config (Errors.Config fault) = config_fault config ≡ Err fault
+IsCause Refuses config Errors.Memory = (config_fault config ≡ Ok tt) × Refuses config.max_body

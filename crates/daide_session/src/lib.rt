@@ -5,6 +5,7 @@
 //! in `daide_turns`.
 #![tactic(auto)]
 
+mod law_facts;
 pub mod laws;
 mod reaction;
 pub mod session;

@@ -57,6 +57,7 @@ enum Asks {
 /// Whether a call is the one that is wanted.
 fn is_wanted(call: &Call, want: Asks) -> bool {
     match call {
+        Call::TurnBegins => false,
         Call::Clock(popped) => matches!(want, Asks::Clock(pops) if pops == *popped),
         Call::Pulled(from, buffer, came, _) => {
             matches!(want, Asks::Pull(side, len, pull) if side == *from && len == *buffer && pull == *came)

@@ -32,6 +32,7 @@ enum Fate {
 #[derive(Clone, Copy, PartialEq, Eq)]
 enum Event {
     Begun,
+    TurnBegun,
     Came,
     NoneCame,
     Ready,
@@ -95,6 +96,11 @@ impl System<MemoryPorts<'static>> for Harness {
 
     fn begin_round(&mut self) {
         self.note(Event::Begun);
+    }
+
+    fn begin_turn(&mut self, ports: &mut MemoryPorts<'static>) {
+        self.note(Event::TurnBegun);
+        ports.begin_turn();
     }
 
     fn accept(&mut self) -> bool {
@@ -210,6 +216,7 @@ const RUNS: &[(Scene, Limits, &[Event])] = &[
             Event::Waited(false),
             Event::Begun,
             Event::Ready,
+            Event::TurnBegun,
             Event::Retired,
         ],
     ),
@@ -240,12 +247,16 @@ const RUNS: &[(Scene, Limits, &[Event])] = &[
             Event::Begun,
             Event::Came,
             Event::Ready,
+            Event::TurnBegun,
             Event::Begun,
+            Event::TurnBegun,
             Event::Retired,
             Event::Begun,
             Event::Came,
             Event::Ready,
+            Event::TurnBegun,
             Event::Begun,
+            Event::TurnBegun,
             Event::Retired,
         ],
     ),
@@ -270,6 +281,7 @@ const RUNS: &[(Scene, Limits, &[Event])] = &[
             Event::Begun,
             Event::Came,
             Event::Ready,
+            Event::TurnBegun,
             Event::Retired,
         ],
     ),
@@ -288,14 +300,18 @@ const RUNS: &[(Scene, Limits, &[Event])] = &[
             Event::Begun,
             Event::Came,
             Event::Ready,
+            Event::TurnBegun,
             Event::Begun,
             Event::Ready,
+            Event::TurnBegun,
+            Event::TurnBegun,
             Event::Retired,
             Event::Begun,
+            Event::TurnBegun,
             Event::Retired,
         ],
     ),
-    // a silent bot: its fourth turn is one too many
+    // a silent bot: its fourth turn is one too many, and the system isn't asked to begin it
     (
         Scene {
             accepts: &[],
@@ -307,9 +323,12 @@ const RUNS: &[(Scene, Limits, &[Event])] = &[
             Event::Begun,
             Event::Came,
             Event::Ready,
+            Event::TurnBegun,
             Event::Begun,
+            Event::TurnBegun,
             Event::Waited(false),
             Event::Begun,
+            Event::TurnBegun,
             Event::Waited(false),
             Event::Begun,
             Event::Told(Notice::TurnsSpent),
@@ -345,10 +364,15 @@ const SPENT: &[Event] = &[
     Event::Begun,
     Event::Came,
     Event::Ready,
+    Event::TurnBegun,
     Event::Begun,
+    Event::TurnBegun,
     Event::Begun,
+    Event::TurnBegun,
     Event::Begun,
+    Event::TurnBegun,
     Event::Begun,
+    Event::TurnBegun,
     Event::Waited(false),
     Event::Begun,
     Event::Begun,

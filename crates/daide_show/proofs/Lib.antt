@@ -8,3 +8,4 @@ pub mod OddGroups
 pub mod NoteLemmas
 mod InputFacts
 mod NoteFacts
+mod FrameFacts

@@ -6,6 +6,7 @@
 
 pub mod frame_view;
 pub mod groups;
+mod law_facts;
 pub mod laws;
 pub mod notes;
 

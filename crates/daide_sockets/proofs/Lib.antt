@@ -1,3 +1,4 @@
 mod PairingLemmas
-mod ClosingLemmas
 mod OnceLemmas
+mod LingeringLemmas
+mod LawFacts

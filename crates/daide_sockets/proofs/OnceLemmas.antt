@@ -1,8 +1,9 @@
 -- Each session's number is given once.
 use Rattle.std.proofs.Common.{◌≡◌, ◌≤◌, ℕ, ◌+◌, Bool, true, false, List, [], ◌∷◌, ◌++◌, Option, ap, ◌∙◌, arith}
 use Rattle.std.specs.Prelude.{nat_lt, if◌then◌else◌}
-use Rattle.daide_machine.specs.System.{SystemAnswer, Begins, Accepts, Connects, Retires, Notifies, Waits, TransitsBy}
+use Rattle.daide_machine.specs.System.{SystemAnswer, Begins, BeginsTurn, Accepts, Connects, Retires, Notifies, Waits, TransitsBy}
 use Rattle.daide_machine.specs.declared.system.Connect.TheVariants.{Ready, Failed, Pending}
+use Rattle.daide_streams.specs.Calls.{StreamCall}
 use Rattle.daide_sockets.specs.Pairing.{Arriving, Paired, RunSockets, AllGoOn, LooksAt, TakesOut, Transits}
 use Rattle.daide_sockets.specs.PairedOnce.{is_same, handed}
 
@@ -62,16 +63,18 @@ module _ {S : Type 0} (n : ℕ) where
       let e = numbered_goes h.seen h.moved h.goes in
       omega (arith, a, b, c, d, e)
 
-  module _ {P : Type 0} (to_give taken : S → Option (List ℕ)) (pair : P → Paired S) where
+  module _ {P : Type 0} (to_give taken : S → Option (List ℕ))
+      (calls : S → Option (List StreamCall)) (pair : P → Paired S) where
     kept : (old new : RunSockets S) → new.came ≡ old.came → new.arrivals ≡ old.arrivals → left new ≡ left old
     kept old new came arrivals =
         let a : numbered new.arrivals ≡ numbered old.arrivals = ap numbered arrivals in
         let b : to_come n new.came ≡ to_come n old.came = ap (to_come n) came in
         omega (arith, a, b)
 
-    one : (answer : SystemAnswer P) (old new : RunSockets S) → Transits to_give taken pair old answer new →
+    one : (answer : SystemAnswer P) (old new : RunSockets S) → Transits to_give taken calls pair old answer new →
         handed pair n (answer ∷ []) + left new ≤ left old
     one Begins old new h = let e = kept old new h.0 h.1 in omega (arith, e)
+    one (BeginsTurn before after) old new h = let e : left new ≡ left old = ap left h in omega (arith, e)
     one (Accepts true) old new h =
         let a : numbered new.arrivals ≡ numbered (old.arrivals ++ h.arrival ∷ []) = ap numbered h.arrivals in
         let b = numbered_append old.arrivals (h.arrival ∷ []) in
@@ -101,6 +104,7 @@ module _ {S : Type 0} (n : ℕ) where
     handed_first : (answer : SystemAnswer P) (answers : List (SystemAnswer P)) →
         handed pair n (answer ∷ answers) ≡ handed pair n (answer ∷ []) + handed pair n answers
     handed_first Begins answers = omega (arith)
+    handed_first (BeginsTurn before after) answers = omega (arith)
     handed_first (Accepts came) answers = omega (arith)
     handed_first (Connects (Ready ports)) answers = omega (arith)
     handed_first (Connects Failed) answers = omega (arith)
@@ -110,7 +114,7 @@ module _ {S : Type 0} (n : ℕ) where
     handed_first (Waits more) answers = omega (arith)
 
     all : (answers : List (SystemAnswer P)) (old new : RunSockets S) →
-        TransitsBy (Transits to_give taken pair) old answers new → handed pair n answers ≤ left old
+        TransitsBy (Transits to_give taken calls pair) old answers new → handed pair n answers ≤ left old
     all [] old new h = omega (arith)
     all (answer ∷ answers) old new h =
         let a = one answer old h.0 h.1 in
@@ -119,7 +123,7 @@ module _ {S : Type 0} (n : ℕ) where
         omega (arith, a, b, c)
 
     pub come_once : (old new : RunSockets S) (answers : List (SystemAnswer P)) → old.came ≡ 0 → old.arrivals ≡ [] →
-        TransitsBy (Transits to_give taken pair) old answers new → handed pair n answers ≤ 1
+        TransitsBy (Transits to_give taken calls pair) old answers new → handed pair n answers ≤ 1
     come_once old new answers came arrivals h =
         let a = all answers old new h in
         let b : numbered old.arrivals ≡ 0 = ap numbered arrivals in

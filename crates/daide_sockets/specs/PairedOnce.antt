@@ -1,7 +1,9 @@
 -- That each bot's session comes once. (own)
 use Rattle.std.specs.Prelude.{◌≡◌, ◌≤◌, ℕ, ◌+◌, nat_eq, List, [], ◌∷◌, Option, if◌then◌else◌}
-use Rattle.daide_machine.specs.System.{SystemAnswer, Begins, Accepts, Connects, Retires, Notifies, Waits, TransitsBy}
+use Rattle.daide_machine.specs.System.{SystemAnswer, Begins, BeginsTurn, Accepts, Connects, Retires, Notifies, Waits}
+use Rattle.daide_machine.specs.System.{TransitsBy}
 use Rattle.daide_machine.specs.declared.system.Connect.TheVariants.{Ready, Failed, Pending}
+use Rattle.daide_streams.specs.Calls.{StreamCall}
 use Rattle.daide_sockets.specs.Pairing.{Paired, RunSockets, Transits}
 
 -- 1 where two numbers are the same, else 0
@@ -15,13 +17,15 @@ handed pair n (Connects (Ready ports) ∷ answers) = is_same (pair ports).number
 handed pair n (Connects Failed ∷ answers) = handed pair n answers
 handed pair n (Connects Pending ∷ answers) = handed pair n answers
 handed pair n (Begins ∷ answers) = handed pair n answers
+handed pair n (BeginsTurn before after ∷ answers) = handed pair n answers
 handed pair n (Accepts came ∷ answers) = handed pair n answers
 handed pair n (Retires ports end ∷ answers) = handed pair n answers
 handed pair n (Notifies notice ∷ answers) = handed pair n answers
 handed pair n (Waits more ∷ answers) = handed pair n answers
 
 -- Of sockets to which no bot came yet: by whatever answers they go on, of no session ports come twice.
-abbrev pub SessionsComeOnce : (P : Type 0) → {S : Type 0} → (S → Option (List ℕ)) → (S → Option (List ℕ)) → Type 0
-SessionsComeOnce P {S} to_give taken = (pair : P → Paired S) (old new : RunSockets S) (answers : List (SystemAnswer P))
-    (n : ℕ) → old.came ≡ 0 → old.arrivals ≡ [] → TransitsBy (Transits to_give taken pair) old answers new →
+abbrev pub SessionsComeOnce : (P : Type 0) → {S : Type 0} → (S → Option (List ℕ)) → (S → Option (List ℕ)) →
+    (S → Option (List StreamCall)) → Type 0
+SessionsComeOnce P {S} to_give taken calls = (pair : P → Paired S) (old new : RunSockets S) (answers : List (SystemAnswer P))
+    (n : ℕ) → old.came ≡ 0 → old.arrivals ≡ [] → TransitsBy (Transits to_give taken calls pair) old answers new →
     handed pair n answers ≤ 1

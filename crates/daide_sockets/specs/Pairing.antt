@@ -1,10 +1,13 @@
 -- The sockets of a run beside those of its sessions, and what each answer to the loop does to them. (own)
 use Rattle.std.specs.Prelude.{◌≡◌, ◌⊎◌, ℕ, ◌+◌, nat_lt, true, false, List, [], ◌∷◌, ◌++◌, length, remove}
 use Rattle.std.specs.Prelude.{Option, Some, None, if◌then◌else◌}
-use Rattle.daide_machine.specs.System.{SystemAnswer, Begins, Accepts, Connects, Retires, Notifies, Waits}
+use Rattle.daide_machine.specs.System.{SystemAnswer, Begins, BeginsTurn, Accepts, Connects, Retires, Notifies, Waits}
 use Rattle.daide_machine.specs.declared.system.Connect.{Connect}
 use Rattle.daide_machine.specs.declared.system.Connect.TheVariants.{Ready, Failed, Pending}
-use Rattle.daide_streams.specs.Buffers.{Buffer, Passes, IsUnread}
+use Rattle.daide_streams.specs.Buffers.{Buffer}
+use Rattle.daide_streams.specs.Calls.{StreamCall}
+use Rattle.std.specs.declared.time.Instant.{Instant}
+use Rattle.daide_sockets.specs.Lingering.{ClosingStream, begins_closing, WritesOut, ClosingsGoOn}
 
 -- ---- values
 
@@ -24,7 +27,7 @@ pub record Paired (S : Type 0) : Type 0 where
 pub record RunSockets (S : Type 0) : Type 0 where
   pub came : ℕ
   pub arrivals : List (Arriving S)
-  pub closing : List (Buffer S)
+  pub closing : List (ClosingStream S)
 
 -- ---- bots and their connects
 
@@ -76,25 +79,22 @@ pub record TakesOut {S : Type 0} (old : List (Arriving S)) (arrival : Arriving S
 
 -- ---- streams that close
 
--- nothing was read of a stream or handed to it, and what it took is the front of what was held for it
-abbrev pub Flushes : {S : Type 0} → (S → Option (List ℕ)) → (S → Option (List ℕ)) → Buffer S → Buffer S → Type 0
-Flushes to_give taken old new = Passes to_give taken old [] [] new × IsUnread to_give old new
-
 -- at most so many close at once: where one more comes, the one that began first is closed
-abbrev pub with_room : {S : Type 0} → List (Buffer S) → List (Buffer S)
+abbrev pub with_room : {S : Type 0} → List (ClosingStream S) → List (ClosingStream S)
 with_room closing = if nat_lt (length closing) 256 then closing else remove closing 0
 
 -- one more stream closes, as the last: what was held for it is held further, but for what it took
-pub record Closes {S : Type 0} (to_give taken : S → Option (List ℕ)) (old : List (Buffer S)) (stream : Buffer S)
-    (new : List (Buffer S)) : Type 0 where
-  pub last : Buffer S
-  pub flushes : Flushes to_give taken stream last
+pub record Closes {S : Type 0} (to_give taken : S → Option (List ℕ)) (old : List (ClosingStream S)) (stream : Buffer S)
+    (new : List (ClosingStream S)) : Type 0 where
+  pub clock : Option Instant
+  pub last : ClosingStream S
+  pub writes : WritesOut to_give taken clock (begins_closing stream) last
   pub now : new ≡ with_room old ++ last ∷ []
 
 -- the bot's stream closes, and then the server's
-abbrev pub ClosesBoth : {S : Type 0} → (S → Option (List ℕ)) → (S → Option (List ℕ)) → List (Buffer S) → Paired S →
-    List (Buffer S) → Type 0
-ClosesBoth {S} to_give taken old pair new = (mid : List (Buffer S))
+abbrev pub ClosesBoth : {S : Type 0} → (S → Option (List ℕ)) → (S → Option (List ℕ)) → List (ClosingStream S) → Paired S →
+    List (ClosingStream S) → Type 0
+ClosesBoth {S} to_give taken old pair new = (mid : List (ClosingStream S))
     × Closes to_give taken old pair.bot mid × Closes to_give taken mid pair.server new
 
 -- ---- one look
@@ -126,21 +126,23 @@ pub record Comes {S : Type 0} (old new : RunSockets S) : Type 0 where
   pub closing : new.closing ≡ old.closing
 
 -- What a call with this answer does to the sockets; `pair` is what ports hold. Where a round begins, the streams that close
--- go on.
-abbrev pub Transits : {P S : Type 0} → (S → Option (List ℕ)) → (S → Option (List ℕ)) → (P → Paired S) →
-    RunSockets S → SystemAnswer P → RunSockets S → Type 0
-Transits to_give taken pair old Begins new = (new.came ≡ old.came) × (new.arrivals ≡ old.arrivals)
-Transits to_give taken pair old (Accepts true) new = Comes old new
-Transits to_give taken pair old (Accepts false) new = new ≡ old
-Transits {S = S} to_give taken pair old (Connects (Ready ports)) new = (arrival : Arriving S)
+-- go on; where a turn begins, it is with the streams of one session, and these here stay as they are.
+abbrev pub Transits : {P S : Type 0} → (S → Option (List ℕ)) → (S → Option (List ℕ)) →
+    (S → Option (List StreamCall)) → (P → Paired S) → RunSockets S → SystemAnswer P → RunSockets S → Type 0
+Transits to_give taken calls pair old Begins new = (new.came ≡ old.came) × (new.arrivals ≡ old.arrivals)
+    × ClosingsGoOn to_give taken calls old.closing new.closing
+Transits to_give taken calls pair old (BeginsTurn before after) new = new ≡ old
+Transits to_give taken calls pair old (Accepts true) new = Comes old new
+Transits to_give taken calls pair old (Accepts false) new = new ≡ old
+Transits {S = S} to_give taken calls pair old (Connects (Ready ports)) new = (arrival : Arriving S)
     × TakesOut old.arrivals arrival new.arrivals × IsJoined arrival (pair ports) × (new.came ≡ old.came)
     × (new.closing ≡ old.closing)
-Transits {S = S} to_give taken pair old (Connects Failed) new = (arrival : Arriving S)
+Transits {S = S} to_give taken calls pair old (Connects Failed) new = (arrival : Arriving S)
     × TakesOut old.arrivals arrival new.arrivals × Closes to_give taken old.closing arrival.bot new.closing
     × (new.came ≡ old.came)
-Transits to_give taken pair old (Connects Pending) new =
+Transits to_give taken calls pair old (Connects Pending) new =
     (count : ℕ) × LooksAt count old.arrivals new.arrivals × (new.came ≡ old.came) × (new.closing ≡ old.closing)
-Transits to_give taken pair old (Retires ports end) new = ClosesBoth to_give taken old.closing (pair ports) new.closing
+Transits to_give taken calls pair old (Retires ports end) new = ClosesBoth to_give taken old.closing (pair ports) new.closing
     × (new.came ≡ old.came) × (new.arrivals ≡ old.arrivals)
-Transits to_give taken pair old (Notifies notice) new = new ≡ old
-Transits to_give taken pair old (Waits more) new = new ≡ old
+Transits to_give taken calls pair old (Notifies notice) new = new ≡ old
+Transits to_give taken calls pair old (Waits more) new = new ≡ old

@@ -3,12 +3,14 @@
 //! Neither an accept nor a connect is waited for. The server's name was resolved at the start; where it has several
 //! addresses they are tried in turn, within one time for all.
 
-ghost use Rattle.std.specs.Prelude.{◌≡◌, Some, None, false, IfOk, IfErr, IfSome, IsSome};
+ghost use Rattle.std.specs.Prelude.{◌≡◌, ◌≢◌, ◌+◌, Some, None, Err, true, false, IfOk, IfErr, IfSome, IfNone, IsSome};
+ghost use Rattle.daide_sockets.specs.Accepting.{is_accept_made, Pauses};
 ghost use Rattle.daide_sockets.specs.Pairing.{GoesOn, IsBegun, IsFresh, IsJoined};
 
 use crate::connection::Connection;
-use crate::poller::{Poller, Registration};
+use crate::poller::{Poller, Registration, after, is_past};
 use crate::ports::{Socket, SocketPorts};
+use daide_streams::readiness::Readiness;
 use mio::Interest;
 use mio::net::{TcpListener, TcpStream};
 use std::io;
@@ -21,42 +23,108 @@ use std::time::{Duration, Instant};
 /// How many milliseconds no bot is taken after an accept that failed, as for want of descriptors.
 const ACCEPT_PAUSE: u64 = 100;
 
+/// Why no bot was accepted.
+#[derive(Clone, Copy, Debug, PartialEq, Eq)]
+pub(crate) enum Declined {
+    /// No accept was made: the pause after one that failed isn't over, or none may give a connection.
+    NotMade,
+    /// One was made, and gave none for this reason.
+    Failed(ErrorKind),
+}
+
 /// Where bots come.
 #[derive(Drop)]
 pub struct Acceptor<'w> {
     listener: TcpListener,
     place: Registration<'w>,
+    /// When the pause after an accept that failed is over; none if there is no pause.
+    resumes_at: Option<Instant>,
+    /// How many bots came.
+    came: u32,
 }
 
 impl<'w> Acceptor<'w> {
-    /// Follows a listener; none where the table has no row for it, or the system refuses.
-    pub fn new<R: Clock>(poller: &'w Poller<R>, listener: TcpListener) -> Option<Acceptor<'w>> {
+    /// Follows a listener to which no bot came yet; none where the table has no row for it, or the system refuses.
+    pub fn new<R: Clock>(poller: &'w Poller<R>, listener: TcpListener) -> Option<Acceptor<'w>>
+        ensures { IfSome result (λ acceptor. (acceptor.came ≡ 0) × (acceptor.resumes_at ≡ None)) }
+    {
         let mut listener = listener;
         let place = poller.follow(&mut listener, Interest::READABLE)?;
-        Some(Acceptor { listener, place })
+        Some(Acceptor {
+            listener,
+            place,
+            resumes_at: None,
+            came: 0,
+        })
     }
 
     /// Ends the pause after an accept that failed, where it is over.
-    pub(crate) fn reopen<R: Clock>(&self, poller: &Poller<R>) {
-        let flags = self.place.flags;
-        if poller.is_over(flags.due.get()) {
-            flags.due.set(None);
-            flags.note(true, false);
+    pub(crate) fn reopen<R: Clock>(&mut self, poller: &Poller<R>)
+        ensures { self.new.came ≡ self.old.came }
+    {
+        if is_past(poller.now().get(), self.resumes_at) {
+            self.resumes_at = None;
+            self.place.flags.due.set(None);
+            self.place.flags.note(true, false);
         }
+    }
+
+    /// Ends the pause, if there is one: no bot is waited for any more.
+    pub(crate) fn stop(&mut self)
+        ensures { self.new.came ≡ self.old.came }
+    {
+        self.resumes_at = None;
+        self.place.flags.due.set(None);
     }
 
     /// The connection of a bot that came, and its address, if the system has one; it isn't asked during the pause after an
     /// accept that failed.
-    pub fn accept<R: Clock>(&self, poller: &Poller<R>) -> Option<(TcpStream, SocketAddr)> {
-        self.reopen(poller);
-        if !self.place.flags.readiness.get().may_read {
-            return None;
+    pub fn accept<R: Clock>(&mut self, poller: &Poller<R>) -> Option<(TcpStream, SocketAddr)>
+        ensures { self.new.came ≡ self.old.came }
+    {
+        let flags = self.place.flags;
+        let mut readiness = flags.readiness.get();
+        let accepted = self.accept_at(poller, poller.now().get(), &mut readiness);
+        flags.readiness.set(readiness);
+        flags.due.set(self.resumes_at);
+        accepted.ok()
+    }
+
+    /// The same at this reading of the clock. It is made where a connection may have come and no pause is under way, and where
+    /// the pause is over. After one that gave none the next is made once a bot comes, or after a pause where it failed.
+    fn accept_at<R: Clock>(
+        &mut self,
+        poller: &Poller<R>,
+        now: Option<Instant>,
+        readiness: &mut Readiness,
+    ) -> Result<(TcpStream, SocketAddr), Declined>
+        ensures not_made { is_accept_made now readiness.old.may_read self.old.resumes_at ≡ false →
+            (result ≡ Err Declined.NotMade) × (self.new.resumes_at ≡ self.old.resumes_at)
+            × (readiness.new ≡ readiness.old) }
+        ensures made { is_accept_made now readiness.old.may_read self.old.resumes_at ≡ true →
+            IfErr result (λ declined. declined ≢ Declined.NotMade) }
+        ensures accepted { IfOk result (λ _. (self.new.resumes_at ≡ None) × (readiness.new.may_read ≡ true)) }
+        ensures failed { (kind : ErrorKind) → result ≡ Err (Declined.Failed kind) →
+            Pauses now kind self.new.resumes_at × (readiness.new.may_read ≡ false) }
+        ensures came { self.new.came ≡ self.old.came }
+    {
+        let is_made = match self.resumes_at {
+            None => readiness.may_read,
+            Some(_) => is_past(now, self.resumes_at),
+        };
+        if !is_made {
+            return Err(Declined::NotMade);
         }
         match self.take(poller) {
-            Ok(came) => Some(came),
+            Ok(accepted) => {
+                readiness.may_read = true;
+                self.resumes_at = None;
+                Ok(accepted)
+            }
             Err(error) => {
-                self.refused(poller, error.kind());
-                None
+                readiness.may_read = false;
+                self.pause(now, error.kind());
+                Err(Declined::Failed(error.kind()))
             }
         }
     }
@@ -67,15 +135,32 @@ impl<'w> Acceptor<'w> {
         self.listener.accept()
     }
 
-    /// Notes that an accept gave none: another is made once a bot comes, or after a pause where it failed.
-    pub fn refused<R: Clock>(&self, poller: &Poller<R>, why: ErrorKind) {
-        let flags = self.place.flags;
-        flags.found_nothing();
-        if why != ErrorKind::WouldBlock {
-            flags
-                .due
-                .set(poller.after(Duration::from_millis(ACCEPT_PAUSE)));
-        }
+    /// Begins the pause after an accept that gave none for this reason, where it failed.
+    pub fn pause(&mut self, now: Option<Instant>, why: ErrorKind)
+        ensures pauses { Pauses now why self.new.resumes_at }
+        ensures came { self.new.came ≡ self.old.came }
+    {
+        self.resumes_at = match why {
+            ErrorKind::WouldBlock => None,
+            _ => after(now, Duration::from_millis(ACCEPT_PAUSE)),
+        };
+    }
+
+    /// The next bot that came: its session's number, its socket and its address; none if none came, if the system doesn't
+    /// follow it, or if all numbers are given.
+    pub(crate) fn next_bot<R: Clock>(
+        &mut self,
+        poller: &'w Poller<R>,
+    ) -> Option<(u32, Socket<'w>, SocketAddr)>
+        ensures one { IfSome result (λ bot. (self.new.came ≡ self.old.came + 1) × (bot.0 ≡ self.new.came)
+            × IsFresh bot.1.stream) }
+        ensures none { IfNone result (self.new.came ≡ self.old.came) }
+    {
+        let number = self.came.checked_add(1)?;
+        let (stream, address) = self.accept(poller)?;
+        let bot = Socket::new(poller, stream)?;
+        self.came = number;
+        Some((number, bot, address))
     }
 }
 

@@ -4,21 +4,25 @@
 //! never arrive. So what is held is written, and writing is shut down; what still comes is read and dropped, within bounds;
 //! then the socket is closed. Where the peer doesn't read, what is held is written once it does.
 
-ghost use Rattle.std.specs.Prelude.{◌≡◌, ◌+◌, ◌<◌, List, [], ◌∷◌, ℕ, length, true, false, IfOk};
+ghost use Rattle.std.specs.Prelude.{◌≡◌, ◌⊎◌, ℕ, ◌+◌, ◌<◌, ◌≤◌, List, Option, [], ◌∷◌, length, min, true, false, IfOk};
+ghost use Rattle.daide_machine.specs.declared.ports.Pull.{Pull};
 ghost use Rattle.daide_machine.specs.Ports.{Tells};
 ghost use Rattle.daide_streams.specs.Buffers.{Passes, IsUnread, IsUnwritten};
-ghost use Rattle.daide_streams.specs.Calls.{WritingEnded};
+ghost use Rattle.daide_streams.specs.Calls.{StreamCall, WritingEnded};
+ghost use Rattle.daide_sockets.specs.Lingering.{ClosingStream, begins_closing, WritesOut, Discards, is_released};
+ghost use Rattle.daide_sockets.specs.Lingering.{Lingers, Leaves, LooksAtOne, LingerOrLeave, LooksAlong, ClosingsGoOn};
+ghost use Rattle.daide_sockets.specs.Lingering.{GoOnFor};
 ghost use Rattle.daide_sockets.specs.Pairing.{Closes, ClosesBoth, with_room};
 
 use crate::connection::Connection;
-use crate::poller::Poller;
+use crate::poller::{Poller, after, is_time_over};
 use crate::ports::{Socket, SocketPorts};
 use daide_streams::dropping::Dropping;
 use daide_streams::duplex::Duplex;
 use std::alloc::{AllocError, Global};
 use std::marker::Model;
 use std::rt::Clock;
-use std::time::Duration;
+use std::time::{Duration, Instant};
 
 /// The most bytes that are read and dropped of a socket.
 const MOST_DROPPED: usize = 1 << 20;
@@ -32,22 +36,28 @@ const MOST_LOOKS: usize = 8;
 /// How many sockets close at once; where one more comes, the one that began first is closed.
 pub const MOST_CLOSING: usize = 256;
 
-/// A socket that closes.
+/// A socket that closes. Its writing is over once nothing is held that may still be written.
 #[derive(Drop)]
 struct Closing<'w, S: Duplex + Drop = Connection> {
     socket: Socket<'w, S>,
     /// What may still be dropped of it.
     rest: Dropping,
-    /// Whether its writing is over.
-    is_ended: bool,
+    /// When it is released at the latest, by the reading of the clock at which its writing was over.
+    released_at: Option<Instant>,
+}
+
+impl<'w, S: Duplex + Drop> Model for Closing<'w, S> {
+    ghost use Rattle.daide_sockets.specs.Lingering.{ClosingStream};
+
+    ghost Value = { ClosingStream S };
+
+    ghost view = { λ c. record { stream = c.socket.stream; quota = c.rest; released_at = c.released_at } };
 }
 
 impl<'w, S: Duplex + Drop> Closing<'w, S> {
     /// A socket of which nothing is to be read any more.
     fn new(socket: Socket<'w, S>) -> Closing<'w, S>
-        ensures rest { result.rest ≡ MOST_DROPPED }
-        ensures stream { result.socket.stream ≡ socket.entry.stream }
-        ensures writes { result.is_ended ≡ false }
+        ensures { result ≡ begins_closing socket.entry.stream }
     {
         // Until all that it holds is written, no moment is waited for.
         socket.place.flags.due.set(None);
@@ -55,20 +65,19 @@ impl<'w, S: Duplex + Drop> Closing<'w, S> {
         Closing {
             socket,
             rest: Dropping::new(MOST_DROPPED),
-            is_ended: false,
+            released_at: None,
         }
     }
 
     /// Shuts down writing, where all that was held is written. One whose writing failed has nothing to shut down.
     fn shut_down(&mut self)
-        ensures rest { self.new.rest ≡ self.old.rest }
-        ensures passes { Passes S.to_give S.taken self.old.socket.stream [] [] self.new.socket.stream }
-        ensures unread { IsUnread S.to_give self.old.socket.stream self.new.socket.stream }
-        ensures unwritten { IsUnwritten S.taken self.old.socket.stream self.new.socket.stream }
-        ensures failed { self.new.socket.stream.has_failed ≡ self.old.socket.stream.has_failed }
-        ensures stays { self.new.is_ended ≡ self.old.is_ended }
-        ensures told { self.old.socket.stream.behind ≡ [] → Tells (S.calls self.old.socket.stream.stream)
-            (WritingEnded ∷ []) (S.calls self.new.socket.stream.stream) }
+        ensures passes { Passes S.to_give S.taken self.old.stream [] [] self.new.stream }
+        ensures unread { IsUnread S.to_give self.old.stream self.new.stream }
+        ensures unwritten { IsUnwritten S.taken self.old.stream self.new.stream }
+        ensures failed { self.new.stream.has_failed ≡ self.old.stream.has_failed }
+        ensures stays { (self.new.quota ≡ self.old.quota) × (self.new.released_at ≡ self.old.released_at) }
+        ensures told { self.old.stream.behind ≡ [] → Tells (S.calls self.old.stream.stream) (WritingEnded ∷ [])
+            (S.calls self.new.stream.stream) }
     {
         if !self.socket.stream.is_written() {
             return;
@@ -76,34 +85,39 @@ impl<'w, S: Duplex + Drop> Closing<'w, S> {
         self.socket.stream.end_writing();
     }
 
-    /// Writes what is held, and shuts down writing once that is all, or once the peer is stalled. Of its bytes none is read,
-    /// and none is lost before that.
+    /// Writes what is held, as far as that is without waiting, and gives it up if the peer is stalled. Of its bytes none is
+    /// read, and none is lost before that.
     #[tactic(auto, using(daide_streams::proofs::BufferLemmas::flush_then))]
-    fn end_writing<R: Clock>(&mut self, poller: &Poller<R>)
-        ensures rest { self.new.rest ≡ self.old.rest }
-        ensures passes { Passes S.to_give S.taken self.old.socket.stream [] [] self.new.socket.stream }
-        ensures unread { IsUnread S.to_give self.old.socket.stream self.new.socket.stream }
-        ensures waits { self.new.is_ended ≡ false → 0 < length self.new.socket.stream.behind }
-        ensures ended { self.old.is_ended ≡ false → self.new.is_ended ≡ true →
-            self.new.socket.stream.has_failed ≡ false → self.new.socket.stream.behind ≡ [] }
+    fn write_on(&mut self)
+        ensures passes { Passes S.to_give S.taken self.old.stream [] [] self.new.stream }
+        ensures unread { IsUnread S.to_give self.old.stream self.new.stream }
+        ensures stays { (self.new.quota ≡ self.old.quota) × (self.new.released_at ≡ self.old.released_at) }
     {
         self.socket.give_up_stalled();
         self.socket.flush();
+    }
+
+    /// Writes what is held. Once that is all, or once a write failed or the peer is stalled, shuts down writing, and waits for
+    /// the peer's end from this reading of the clock on.
+    fn end_writing(&mut self, now: Option<Instant>)
+        ensures writes { WritesOut S.to_give S.taken now self.old self.new }
+        ensures told { self.new.stream.behind ≡ [] → (before : Option (List StreamCall))
+            × Tells before (WritingEnded ∷ []) (S.calls self.new.stream.stream) }
+    {
+        self.write_on();
         if self.socket.stream.is_behind() {
             return;
         }
-        self.is_ended = true;
-        let due = poller.after(Duration::from_secs(SECONDS));
-        self.socket.place.flags.due.set(due);
+        self.released_at = after(now, Duration::from_secs(SECONDS));
+        self.socket.place.flags.due.set(self.released_at);
         self.shut_down();
     }
 
-    /// Drops a piece of what came, and answers whether the socket is to be closed now. What it drops is what the stream
+    /// Drops a piece of what came, and returns whether the socket is to be closed now. What it drops is what the stream
     /// gives next, behind all that its session read, and the stream takes nothing more.
-    fn drops_last<R: Clock>(&mut self, poller: &Poller<R>) -> bool
-        ensures dropped { (bytes : List ℕ) × (self.old.rest ≡ self.new.rest + length bytes)
-            × Passes S.to_give S.taken self.old.socket.stream bytes [] self.new.socket.stream }
-        ensures unwritten { IsUnwritten S.taken self.old.socket.stream self.new.socket.stream }
+    fn drops_last(&mut self, now: Option<Instant>) -> bool
+        ensures { (pull : Pull) × Discards S.to_give S.taken S.calls pull self.old self.new
+            × (result ≡ is_released now pull self.new) }
     {
         let Socket {
             stream,
@@ -115,28 +129,31 @@ impl<'w, S: Duplex + Drop> Closing<'w, S> {
         let mut readiness = flags.readiness.get();
         let is_last = self.rest.drop_piece(stream, *pool, &mut readiness);
         flags.readiness.set(readiness);
-        let due = flags.due.get();
-        is_last || due.is_none() || poller.is_over(due)
+        if is_last {
+            return true;
+        }
+        is_time_over(now, self.released_at)
     }
 
-    /// Goes on, and answers whether the socket is to be closed now: not before its writing is over.
-    fn advances<R: Clock>(&mut self, poller: &Poller<R>) -> bool
-        ensures { self.old.is_ended ≡ false → result ≡ false }
+    /// Goes on, and returns whether it closes on. It is not to be closed before its writing is over.
+    fn lingers(&mut self, now: Option<Instant>) -> bool
+        ensures lingers { result ≡ true → Lingers S.to_give S.taken S.calls now self.old self.new }
+        ensures leaves { result ≡ false → Leaves S.to_give S.taken S.calls now self.old }
     {
-        if self.is_ended {
-            return self.drops_last(poller);
+        if self.socket.stream.is_behind() {
+            self.end_writing(now);
+            return true;
         }
-        self.end_writing(poller);
-        false
+        !self.drops_last(now)
     }
 
     /// Whether a call may do something.
     fn is_ready(&self) -> bool {
         let readiness = self.socket.place.flags.readiness.get();
-        if self.is_ended {
-            readiness.may_read || self.socket.stream.is_ahead()
-        } else {
+        if self.socket.stream.is_behind() {
             readiness.may_write
+        } else {
+            readiness.may_read || self.socket.stream.is_ahead()
         }
     }
 }
@@ -151,12 +168,12 @@ pub struct Closings<'w, S: Duplex + Drop = Connection> {
 }
 
 impl<'w, S: Duplex + Drop> Model for Closings<'w, S> {
-    ghost use Rattle.std.specs.Prelude.{◌≤◌, List, map, vec_len, vec_capacity};
-    ghost use Rattle.daide_streams.specs.Buffers.{Buffer};
+    ghost use Rattle.std.specs.Prelude.{◌≤◌, List, vec_len, vec_capacity};
+    ghost use Rattle.daide_sockets.specs.Lingering.{ClosingStream};
 
-    ghost Value = { List (Buffer S) };
+    ghost Value = { List (ClosingStream S) };
 
-    ghost view = { λ c. map (λ closing. closing.socket.stream) c.sockets.items };
+    ghost view = { λ c. c.sockets.items };
 
     // there is room for all
     ghost invariant = { λ c. (vec_len c.sockets ≤ 256) × (256 ≤ vec_capacity c.sockets) };
@@ -190,9 +207,9 @@ impl<'w, S: Duplex + Drop> Closings<'w, S> {
     {
         self.make_room();
         let mut closing = Closing::new(socket);
-        closing.end_writing(poller);
-        // There is room: a socket for which there were none would be closed at once.
-        let _ = self.sockets.push(closing);
+        let now = poller.now().get();
+        closing.end_writing(now);
+        self.sockets.push_reserved(closing);
     }
 
     /// Begins to close both sockets of a session.
@@ -208,30 +225,94 @@ impl<'w, S: Duplex + Drop> Closings<'w, S> {
         self.begin(poller, server);
     }
 
-    /// Goes on with the next, behind the last with the first, and closes it where it is to be.
-    fn advance_next<R: Clock>(&mut self, poller: &Poller<R>) {
-        if self.next >= self.sockets.len() {
-            self.next = 0;
+    /// Goes on with the one at a position, and returns that of the next: it is closed, or closes on.
+    fn look_at(&mut self, now: Option<Instant>, at: usize) -> usize
+        requires { at < length self.old }
+        ensures { LooksAtOne S.to_give S.taken S.calls now at self.old result self.new }
+    {
+        let closing = &mut self.sockets[at];
+        if closing.lingers(now) {
+            return at + 1;
         }
-        let Some(closing) = self.sockets.get_mut(self.next) else {
-            return;
-        };
-        if closing.advances(poller) {
-            self.sockets.remove(self.next);
-        } else {
-            self.next = self.next.saturating_add(1);
+        self.sockets.remove(at);
+        at
+    }
+
+    /// Goes on with those from one position up to another, and returns that of the next.
+    fn look_along(&mut self, now: Option<Instant>, from: usize, to: usize) -> usize
+        requires order { from ≤ to }
+        requires there { to ≤ length self.old }
+        ensures { LooksAlong S.to_give S.taken S.calls now from to self.old result self.new }
+    {
+        let mut at = from;
+        for _place in from..to {
+            at = self.look_at(now, at);
         }
+        at
+    }
+
+    /// Returns which are looked at in a round: from the first of these positions up to the second, and so many of the first.
+    fn looked_at(&self) -> (usize, usize, usize)
+        ensures order { result.0 ≤ result.1 }
+        ensures there { result.1 ≤ length self.now }
+        ensures looks { result.0 + min MOST_LOOKS (length self.now) ≡ result.1 + result.2 }
+        ensures last { 0 < result.2 → result.1 ≡ length self.now }
+        ensures few { result.2 ≤ result.0 }
+    {
+        let count = self.sockets.len();
+        let looks = MOST_LOOKS.min(count);
+        let from = self.next.min(count);
+        let to = count.min(from + looks);
+        (from, to, looks - (to - from))
+    }
+
+    /// Goes on with the next few, behind the last with the first, at this reading of the clock, and returns the position of the
+    /// next.
+    fn look_around(&mut self, now: Option<Instant>) -> usize
+        ensures { LingerOrLeave S.to_give S.taken S.calls now (min MOST_LOOKS (length self.old)) self.old self.new }
+    {
+        let (from, to, left) = self.looked_at();
+        let next = self.look_along(now, from, to);
+        if left == 0 {
+            return next;
+        }
+        self.look_along(now, 0, left)
     }
 
     /// Goes on with the next few.
-    pub fn advance<R: Clock>(&mut self, poller: &Poller<R>) {
-        for _ in 0..self.sockets.len().min(MOST_LOOKS) {
-            self.advance_next(poller);
+    pub fn advance<R: Clock>(&mut self, poller: &Poller<R>)
+        ensures { ClosingsGoOn S.to_give S.taken S.calls self.old self.new }
+    {
+        self.next = self.look_around(poller.now().get());
+    }
+
+    /// Goes on until there are none, in rounds, and waits between them.
+    pub fn finish<R: Clock>(&mut self, poller: &Poller<R>)
+        ensures { (rounds : ℕ) × GoOnFor S.to_give S.taken S.calls rounds self.old self.new
+            × ((self.new ≡ []) ⊎ (rounds ≡ u64.MAX)) }
+    {
+        for _round in 0..u64::MAX {
+            self.advance(poller);
+            if self.is_empty() {
+                return;
+            }
+            self.rest(poller);
+        }
+    }
+
+    /// Waits, but where one of them may have more to drop.
+    pub fn rest<R: Clock>(&self, poller: &Poller<R>) {
+        if self.is_ready() {
+            poller.look();
+        } else {
+            poller.wait();
         }
     }
 
     /// Whether there are none.
-    pub fn is_empty(&self) -> bool {
+    pub fn is_empty(&self) -> bool
+        ensures { result ≡ true → self.now ≡ [] }
+    {
         self.sockets.is_empty()
     }
 

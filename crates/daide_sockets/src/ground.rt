@@ -103,7 +103,7 @@ pub fn sockets_on<'w, R: AllocGlobal + Clock + Net, E: Write + Drop>(
     ground: (TcpListener, &'w [SocketAddr], &'w Poller<&'w R>),
     errors: E,
 ) -> Option<Sockets<'w, R, E>>
-    ensures none_came { IfSome result (λ sockets. (sockets.came ≡ 0) × (sockets.is_verbose ≡ false)) }
+    ensures none_came { IfSome result (λ sockets. (sockets.acceptor.came ≡ 0) × (sockets.is_verbose ≡ false)) }
     ensures none_held { IfSome result (λ sockets. (sockets.arrivals.items ≡ []) × (sockets.closings ≡ [])) }
     ensures im_time { IfSome result (λ sockets. IsSeconds settings.now.im_seconds sockets.im_time) }
     ensures idle_time { IfSome result (λ sockets. IsIdleTime settings.now.idle_seconds sockets.idle_time) }

@@ -8,5 +8,5 @@ use daide_streams::duplex::Duplex;
 /// Of no session ports come twice, by whatever answers the sockets of a run go on: each bot that came is joined at most
 /// once, by its own number, to the server that its own connect reached.
 pub fn sessions_come_once<P: Ports, S: Duplex + Drop>()
-    ensures { SessionsComeOnce P S.to_give S.taken }
+    ensures { SessionsComeOnce P S.to_give S.taken S.calls }
 {}

@@ -4,7 +4,9 @@
 //! The table is shared by `&`, so that the ports in a hub see what the loop's wait was told. An idle session reads
 //! two flags of it, and makes no call to the system. Beside the table stands the room for what the sockets hold.
 
+ghost use Rattle.std.specs.Duration.{as_nanos};
 ghost use Rattle.std.specs.Prelude.{◌≡◌, IsNone, IfOk, false, vec_len};
+ghost use Rattle.daide_sockets.specs.Times.{IsAfter, is_past, is_time_over};
 
 use daide_streams::pool::Pool;
 use daide_streams::readiness::Readiness;
@@ -75,11 +77,29 @@ pub enum PollerError {
 
 /// Returns whether a moment is over by what the clock read last; one that isn't given never is.
 pub(crate) fn is_past(now: Option<Instant>, moment: Option<Instant>) -> bool
-    ensures { IsNone moment → result ≡ false }
+    ensures never { IsNone moment → result ≡ false }
+    ensures past { result ≡ is_past now moment }
 {
-    match (moment, now) {
-        (Some(moment), Some(now)) => moment <= now,
+    match (now, moment) {
+        (Some(now), Some(moment)) => now.checked_duration_since(moment).is_some(),
         _ => false,
+    }
+}
+
+/// Returns whether a time that ends at this moment is over by what the clock read last: one without a moment is.
+pub(crate) fn is_time_over(now: Option<Instant>, moment: Option<Instant>) -> bool
+    ensures { result ≡ is_time_over now moment }
+{
+    moment.is_none() || is_past(now, moment)
+}
+
+/// Returns the moment this long after a reading of the clock; none if it can't be read, or no such moment is known.
+pub(crate) fn after(now: Option<Instant>, duration: Duration) -> Option<Instant>
+    ensures { IsAfter now (as_nanos duration) result }
+{
+    match now {
+        None => None,
+        Some(now) => now.checked_add(duration),
     }
 }
 
@@ -244,7 +264,7 @@ impl<R: Clock> Poller<R> {
 
     /// So long after the moment at which the system was asked last; none where the clock can't be read, or no such moment is known.
     pub fn after(&self, duration: Duration) -> Option<Instant> {
-        self.now.get()?.checked_add(duration)
+        after(self.now.get(), duration)
     }
 
     /// Whether a moment is over; one that isn't given never is.

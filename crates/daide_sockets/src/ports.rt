@@ -6,7 +6,7 @@
 //! system's read and write answered.
 
 ghost use Rattle.std.specs.Prelude.{◌≡◌, ◌≢◌, ◌<◌, IsNone, IfSome, [], min, length, take, true, false};
-ghost use Rattle.daide_machine.specs.Ports.{IsPullWithin, IsPutWithin, pulled_len};
+ghost use Rattle.daide_machine.specs.Ports.{TurnBegins, Clock as Popped, IsPullWithin, IsPutWithin, pulled_len};
 ghost use Rattle.daide_streams.specs.Buffers.{Passes, IsUnread, IsBufferedPull};
 ghost use Rattle.daide_streams.specs.declared.readiness.Readiness.{Readiness};
 ghost use Rattle.daide_streams.specs.Streams.{Moves};
@@ -432,6 +432,8 @@ pub struct SocketPorts<'w, R: Clock, S: Drop = Connection> {
     patience: Patience<'w, R>,
     held_for_bot: TurnsHeld,
     held_for_server: TurnsHeld,
+    /// Whether the time for the initial message was over when the turn began, and had not been before.
+    im_timer_expired: bool,
     bot: Socket<'w, S>,
     server: Socket<'w, S>,
 }
@@ -455,6 +457,7 @@ impl<'w, R: Clock, S: Drop> SocketPorts<'w, R, S> {
             patience,
             held_for_bot: TurnsHeld::NONE,
             held_for_server: TurnsHeld::NONE,
+            im_timer_expired: false,
             bot,
             server,
         }
@@ -480,6 +483,7 @@ impl<'w, R: Clock, S: Drop> SocketPorts<'w, R, S> {
             patience,
             held_for_bot,
             held_for_server,
+            im_timer_expired,
             mut bot,
             mut server,
         } = self;
@@ -496,6 +500,7 @@ impl<'w, R: Clock, S: Drop> SocketPorts<'w, R, S> {
             patience,
             held_for_bot,
             held_for_server,
+            im_timer_expired,
             bot,
             server,
         }
@@ -525,16 +530,19 @@ impl<'w, R: Clock, S: Drop> SocketPorts<'w, R, S> {
             patience: _,
             held_for_bot: _,
             held_for_server: _,
+            im_timer_expired: _,
             bot,
             server,
         } = self;
         (bot, server)
     }
 
-    /// Counts a turn, each of which asks the clock first; it asks the system nothing.
+    /// Counts a turn that begins; it asks the system nothing.
     fn count_turn(&mut self)
         ensures bot { self.new.bot ≡ self.old.bot }
         ensures server { self.new.server ≡ self.old.server }
+        ensures number { self.new.number ≡ self.old.number }
+        ensures patience { self.new.patience ≡ self.old.patience }
     {
         self.patience.poller.note_turn();
         self.held_for_bot = self.held_for_bot.with_turn(self.bot.stream.behind_len());
@@ -546,14 +554,54 @@ impl<'w, R: Clock, S: Drop> SocketPorts<'w, R, S> {
 
 impl<R: Clock, S: Duplex + Drop> SocketPorts<'_, R, S> {
     /// Begins a turn of both sockets.
-    fn begin_turn(&mut self)
+    fn begin_both(&mut self)
         ensures bot { Passes S.to_give S.taken self.old.bot.stream [] [] self.new.bot.stream }
         ensures server { Passes S.to_give S.taken self.old.server.stream [] [] self.new.server.stream }
         ensures bot_unread { IsUnread S.to_give self.old.bot.stream self.new.bot.stream }
         ensures server_unread { IsUnread S.to_give self.old.server.stream self.new.server.stream }
+        ensures silent { (self.new.bot.timed.is_silent ≡ self.old.bot.timed.is_silent)
+            × (self.new.server.timed.is_silent ≡ self.old.server.timed.is_silent) }
+        ensures ends { (self.new.bot.timed.ends_stalled ≡ self.old.bot.timed.ends_stalled)
+            × (self.new.server.timed.ends_stalled ≡ self.old.server.timed.ends_stalled) }
+        ensures gathering { (self.new.bot.is_gathering ≡ false) × (self.new.server.is_gathering ≡ false) }
+        ensures number { self.new.number ≡ self.old.number }
+        ensures patience { self.new.patience ≡ self.old.patience }
     {
         self.bot.begin_turn(self.held_for_bot);
         self.server.begin_turn(self.held_for_server);
+    }
+
+    /// Reads the deadline of the initial message. It is over once: in the turn that begins at it or next after it.
+    fn read_deadline(&mut self)
+        ensures bot { self.new.bot ≡ self.old.bot }
+        ensures server { self.new.server ≡ self.old.server }
+        ensures number { self.new.number ≡ self.old.number }
+        ensures patience { self.new.patience ≡ self.old.patience }
+    {
+        let due = &self.bot.place.flags.due;
+        let is_over = self.patience.poller.is_over(due.get());
+        if is_over {
+            due.set(None);
+        }
+        self.im_timer_expired = is_over;
+    }
+
+    /// Begins a turn of the session: counts it, gives up writing to a stalled peer, writes what was held for long enough,
+    /// and reads the deadline of the initial message. Nothing is read, and nothing was put in it yet.
+    pub fn begin_turn(&mut self)
+        ensures begins { Moves S.to_give S.taken (self.old.bot.stream, self.old.server.stream) TurnBegins
+            (self.new.bot.stream, self.new.server.stream) }
+        ensures silent { (self.new.bot.timed.is_silent ≡ self.old.bot.timed.is_silent)
+            × (self.new.server.timed.is_silent ≡ self.old.server.timed.is_silent) }
+        ensures ends { (self.new.bot.timed.ends_stalled ≡ self.old.bot.timed.ends_stalled)
+            × (self.new.server.timed.ends_stalled ≡ self.old.server.timed.ends_stalled) }
+        ensures gathering { (self.new.bot.is_gathering ≡ false) × (self.new.server.is_gathering ≡ false) }
+        ensures number { self.new.number ≡ self.old.number }
+        ensures patience { self.new.patience ≡ self.old.patience }
+    {
+        self.count_turn();
+        self.begin_both();
+        self.read_deadline();
     }
 }
 
@@ -575,14 +623,12 @@ impl<R: Clock, S: Duplex + Drop> Ports for SocketPorts<'_, R, S> {
         }
     }
 
-    fn clock_popped(&mut self) -> bool {
-        self.count_turn();
-        self.begin_turn();
-        let due = &self.bot.place.flags.due;
-        let is_over = self.patience.poller.is_over(due.get());
-        if is_over {
-            due.set(None);
-        }
-        is_over
+    fn clock_popped(&mut self) -> bool
+        ensures becomes { Moves S.to_give S.taken (self.old.bot.stream, self.old.server.stream) (Popped result)
+            (self.new.bot.stream, self.new.server.stream) }
+        ensures answer { result ≡ self.old.im_timer_expired }
+        ensures same { self.new ≡ self.old }
+    {
+        self.im_timer_expired
     }
 }

@@ -1,14 +1,18 @@
 //! What a run asks of the system, over sockets.
 
-ghost use Rattle.std.specs.Prelude.{◌≡◌, ◌+◌, ◌*◌, ◌^◌, ◌<◌, IfSome, None, false, [], length};
+ghost use Rattle.std.specs.Prelude.{◌≡◌, ◌⊎◌, ℕ, ◌+◌, ◌*◌, ◌^◌, ◌<◌, IfSome, None, false, [], length};
 ghost use Rattle.daide_sockets.specs.Times.{IsSeconds, IsIdleTime};
+ghost use Rattle.daide_machine.specs.Ports.{TurnBegins};
+ghost use Rattle.daide_machine.specs.System.{BeginsTurn};
+ghost use Rattle.daide_streams.specs.Streams.{Moves};
+ghost use Rattle.daide_sockets.specs.Lingering.{ClosingsGoOn, GoOnFor};
 ghost use Rattle.daide_sockets.specs.Pairing.{FirstBecomes, Transits, Closes};
 
 use crate::admission::{Acceptor, Arrival, Unreached};
 use crate::closing::{Closings, MOST_CLOSING};
 use crate::connection::Connection;
 use crate::poller::Poller;
-use crate::ports::{Socket, SocketPorts};
+use crate::ports::SocketPorts;
 use crate::session_notice::SessionNotice;
 use daide_machine::system::{Connect, Notice, SessionEnd, System};
 use daide_settings::Settings;
@@ -55,8 +59,6 @@ pub struct Sockets<'w, R: Clock + Net, E: Write + Drop> {
     /// The same in seconds, as the settings have it.
     stall_seconds: u32,
     connect_time: Duration,
-    /// How many bots came.
-    came: u32,
     arrivals: Vec<Arrival<'w>>,
     closings: Closings<'w>,
     /// Where lines for the operator go.
@@ -77,7 +79,7 @@ impl<'w, R: Clock + Net, E: Write + Drop> Sockets<'w, R, E> {
         connect_time: Duration,
         errors: E,
     ) -> Option<Sockets<'w, R, E>>
-        ensures none_came { IfSome result (λ sockets. (sockets.came ≡ 0) × (sockets.is_verbose ≡ false)) }
+        ensures none_came { IfSome result (λ sockets. (sockets.acceptor.came ≡ 0) × (sockets.is_verbose ≡ false)) }
         ensures none_held { IfSome result (λ sockets. (sockets.arrivals.items ≡ []) × (sockets.closings ≡ [])) }
         ensures im_time { IfSome result (λ sockets. IsSeconds settings.now.im_seconds sockets.im_time) }
         ensures idle_time { IfSome result (λ sockets. IsIdleTime settings.now.idle_seconds sockets.idle_time) }
@@ -103,7 +105,6 @@ impl<'w, R: Clock + Net, E: Write + Drop> Sockets<'w, R, E> {
             stall_time: idle_time_of(settings.stall_seconds),
             stall_seconds: settings.stall_seconds,
             connect_time,
-            came: 0,
             arrivals,
             closings,
             errors,
@@ -132,7 +133,7 @@ impl<'w, R: Clock + Net, E: Write + Drop> Sockets<'w, R, E> {
     fn let_go(&mut self, left: Unreached<'w>)
         ensures closes { Closes ⟦<Connection as Duplex>⟧.to_give ⟦<Connection as Duplex>⟧.taken self.old.closings
             left.entry.bot.stream self.new.closings }
-        ensures came { self.new.came ≡ self.old.came }
+        ensures came { self.new.acceptor.came ≡ self.old.acceptor.came }
         ensures arrivals { self.new.arrivals.items ≡ self.old.arrivals.items }
     {
         self.tell_of_session(SessionNotice::of_no_server(left.number));
@@ -145,8 +146,8 @@ impl<'w, R: Clock + Net, E: Write + Drop> Sockets<'w, R, E> {
         requires { 0 < length self.old.arrivals.items }
         ensures { FirstBecomes ⟦<Connection as Duplex>⟧.to_give ⟦<Connection as Duplex>⟧.taken
             (λ ports. record { number = ports.number; bot = ports.bot.stream; server = ports.server.stream })
-            (record { came = self.old.came; arrivals = self.old.arrivals.items; closing = self.old.closings })
-            result (record { came = self.new.came; arrivals = self.new.arrivals.items; closing = self.new.closings }) }
+            (record { came = self.old.acceptor.came; arrivals = self.old.arrivals.items; closing = self.old.closings })
+            result (record { came = self.new.acceptor.came; arrivals = self.new.arrivals.items; closing = self.new.closings }) }
     {
         let mut arrival = self.arrivals.remove(0);
         if arrival.advances(self.poller, self.runtime, self.servers) {
@@ -170,69 +171,76 @@ impl<'w, R: Clock + Net, E: Write + Drop> Sockets<'w, R, E> {
 
     /// Goes on with the sockets that close, and reopens the acceptor where its pause is over.
     fn tidy(&mut self)
-        ensures came { self.new.came ≡ self.old.came }
+        ensures came { self.new.acceptor.came ≡ self.old.acceptor.came }
         ensures arrivals { self.new.arrivals.items ≡ self.old.arrivals.items }
+        ensures closing { ClosingsGoOn ⟦<Connection as Duplex>⟧.to_give ⟦<Connection as Duplex>⟧.taken
+            ⟦<Connection as Duplex>⟧.calls self.old.closings self.new.closings }
     {
         self.acceptor.reopen(self.poller);
         self.closings.advance(self.poller);
     }
 
-    /// Waits until the last sockets are closed, which takes a second at most once their peers took what they hold.
-    pub fn finish(&mut self) {
-        for _ in 0..u64::MAX {
-            if !self.is_closing() {
-                return;
-            }
-            self.rest();
-        }
-    }
-
-    /// Goes on with what closes, and answers whether anything does.
-    fn is_closing(&mut self) -> bool {
-        self.tidy();
-        !self.closings.is_empty()
+    /// Waits until the last sockets are closed, which takes a second at most once their peers took what they hold, or are
+    /// stalled. What closes goes on by rounds; nothing else is done to it.
+    pub fn finish(&mut self)
+        ensures closing { (rounds : ℕ) × GoOnFor ⟦<Connection as Duplex>⟧.to_give ⟦<Connection as Duplex>⟧.taken
+            ⟦<Connection as Duplex>⟧.calls rounds self.old.closings self.new.closings
+            × ((self.new.closings ≡ []) ⊎ (rounds ≡ u64.MAX)) }
+        ensures came { self.new.acceptor.came ≡ self.old.acceptor.came }
+        ensures arrivals { self.new.arrivals.items ≡ self.old.arrivals.items }
+    {
+        self.acceptor.stop();
+        self.closings.finish(self.poller);
     }
 
     /// Waits, but where a socket that closes may have more to drop.
     fn rest(&mut self)
         ensures { self.new ≡ self.old }
     {
-        if self.closings.is_ready() {
-            self.poller.look();
-        } else {
-            self.poller.wait();
-        }
+        self.closings.rest(self.poller);
     }
 }
 
 impl<'w, R: Clock + Net, E: Write + Drop> System<SocketPorts<'w, &'w R>> for Sockets<'w, R, E> {
     ghost transition = { λ old answer new. Transits ⟦<Connection as Duplex>⟧.to_give ⟦<Connection as Duplex>⟧.taken
-        (λ ports. record { number = ports.number; bot = ports.bot.stream; server = ports.server.stream })
-        (record { came = old.came; arrivals = old.arrivals.items; closing = old.closings }) answer
-        (record { came = new.came; arrivals = new.arrivals.items; closing = new.closings }) };
+        ⟦<Connection as Duplex>⟧.calls (λ ports. record { number = ports.number; bot = ports.bot.stream; server = ports.server.stream })
+        (record { came = old.acceptor.came; arrivals = old.arrivals.items; closing = old.closings }) answer
+        (record { came = new.acceptor.came; arrivals = new.arrivals.items; closing = new.closings }) };
 
     fn begin_round(&mut self) {
         self.poller.look_by_turns();
         self.tidy();
     }
 
+    fn begin_turn(&mut self, ports: &mut SocketPorts<'w, &'w R>)
+        ensures ports { Moves ⟦<Connection as Duplex>⟧.to_give ⟦<Connection as Duplex>⟧.taken
+            (ports.old.bot.stream, ports.old.server.stream) TurnBegins (ports.new.bot.stream, ports.new.server.stream) }
+        ensures system { Transits ⟦<Connection as Duplex>⟧.to_give ⟦<Connection as Duplex>⟧.taken
+            ⟦<Connection as Duplex>⟧.calls
+            (λ ports. record { number = ports.number; bot = ports.bot.stream; server = ports.server.stream })
+            (record { came = self.old.acceptor.came; arrivals = self.old.arrivals.items; closing = self.old.closings })
+            (BeginsTurn ports.old ports.new)
+            (record { came = self.new.acceptor.came; arrivals = self.new.arrivals.items; closing = self.new.closings }) }
+        ensures silent { (ports.new.bot.timed.is_silent ≡ ports.old.bot.timed.is_silent)
+            × (ports.new.server.timed.is_silent ≡ ports.old.server.timed.is_silent) }
+        ensures gathering { (ports.new.bot.is_gathering ≡ false) × (ports.new.server.is_gathering ≡ false) }
+        ensures number { ports.new.number ≡ ports.old.number }
+        ensures same { self.new ≡ self.old }
+    {
+        ports.begin_turn();
+    }
+
     fn accept(&mut self) -> bool {
-        let Some(number) = self.came.checked_add(1) else {
+        if self.arrivals.len() >= self.arrivals.capacity() {
             return false;
-        };
-        let Some((stream, address)) = self.acceptor.accept(self.poller) else {
-            return false;
-        };
-        let Some(bot) = Socket::new(self.poller, stream) else {
+        }
+        let Some((number, bot, address)) = self.acceptor.next_bot(self.poller) else {
             return false;
         };
         let times = (self.im_time, self.connect_time);
         let came = (number, bot);
         let arrival = Arrival::new(self.poller, self.runtime, self.servers, came, times);
-        if self.arrivals.push(arrival).is_err() {
-            return false;
-        }
-        self.came = number;
+        self.arrivals.push_reserved(arrival);
         self.tell_of_session(SessionNotice::Began {
             number,
             bot: address,

@@ -1,4 +1,4 @@
--- Calls that are made again while they are interrupted: what the last of them comes to.
+-- Calls that are repeated while they are interrupted: the effect of all of them.
 use Rattle.std.proofs.Common.{◌≡◌, ℕ, zero, suc, ◌+◌, ◌<◌, ◌≤◌, List, [], ◌∷◌, ◌++◌, length, take, replicate}
 use Rattle.std.proofs.Common.{arith, sym, ap, ◌∙◌, subst}
 use Rattle.std.proofs.Common.{Option, Some, None, Result, Ok, Err, append_assoc, append-nil}
@@ -15,13 +15,13 @@ use Rattle.daide_streams.specs.Taking.{IsTaken}
 use Rattle.daide_streams.specs.declared.outcome.Outcome.{Outcome}
 use Rattle.daide_streams.specs.declared.outcome.Outcome.TheVariants.{Interrupted, NotNow, Failed}
 
--- ---- what is told
+-- ---- traces
 
 module _ {A : Type 0} where
   some_same : (x y : List A) → Some x ≡ Some y → x ≡ y
   some_same x y e = cc
 
-  -- one after another
+  -- concatenation
   tells_then : (old mid new : Option (List A)) (xs ys : List A) → Tells old xs mid → Tells mid ys new →
       Tells old (xs ++ ys) new
   tells_then old mid None xs ys first next = tt
@@ -33,7 +33,7 @@ module _ {A : Type 0} where
         ∙ append_assoc first.0 xs ys,
   )
 
--- one more that was interrupted
+-- one more interrupted call
 pub again_told : (call : StreamCall) (old mid new : Option (List StreamCall)) (n : ℕ) (last : StreamCall) →
     last ≡ call → Tells old (replicate n call) mid → Tells mid (last ∷ []) new → Tells old (replicate (n + 1) call) new
 again_told call old mid new n last e before told =
@@ -41,7 +41,7 @@ again_told call old mid new n last e before told =
     (tells_then old mid new (replicate n call) (call ∷ []) before
     (subst (λ (c : StreamCall). Tells mid (c ∷ []) new) e told))
 
--- the last
+-- the last call
 pub last_tried : (call : Outcome → StreamCall) (old mid new : Option (List StreamCall)) (n : ℕ) (outcome : Outcome)
     (last : StreamCall) → last ≡ call outcome → n < 8 → (outcome ≡ Interrupted → suc n ≡ 8) →
     Tells old (replicate n (call Interrupted)) mid → Tells mid (last ∷ []) new → Tries call old outcome new
@@ -55,7 +55,7 @@ last_tried call old mid new n outcome last e few spent before told = record {
 
 -- ---- bytes
 
--- an outcome by a failure is one of three
+-- the outcome of an error is one of three
 by_kind : (Holds : Outcome → Type 0) (kind : ErrorKind) → Holds Interrupted → Holds NotNow → Holds Failed →
     Holds (outcome_of_kind kind)
 by_kind Holds Kinds.Interrupted interrupted not_now failed = interrupted
@@ -108,7 +108,7 @@ module _ (outcome : Outcome) (answer : Result ℕ Error) (is : outcome ≡ outco
         by (Ok (suc n)) within = within.0
         by (Err error) within = by_kind (λ o. IsPullWithin (pull_of o) (length bytes)) (error_kind error) tt tt tt
 
-    -- behind others that gave nothing
+    -- after reads that returned no byte
     pub read_given : (old mid new : Option (List ℕ)) → Keeps old mid → ReadConsumes mid new answer bytes →
         Consumes old new (take (pulled_len (pull_of outcome)) bytes)
     read_given old mid new kept read =
@@ -122,7 +122,7 @@ module _ (outcome : Outcome) (answer : Result ℕ Error) (is : outcome ≡ outco
             let none : Consumes old new [] = keeps_consumes old new (keeps_then old mid new kept read) in
             by_kind (λ o. Consumes old new (take (pulled_len (pull_of o)) bytes)) (error_kind error) none none none
 
-    -- one that was interrupted gave nothing
+    -- an interrupted read returned no byte
     pub read_kept : (old mid new : Option (List ℕ)) → outcome ≡ Interrupted → Keeps old mid →
         ReadConsumes mid new answer bytes → Keeps old new
     read_kept old mid new e kept read = by answer (sym is ∙ e) read
@@ -146,7 +146,7 @@ module _ (outcome : Outcome) (answer : Result ℕ Error) (is : outcome ≡ outco
         by (Err error) within =
             by_kind (λ o. IsPutWithin (put_of o) (length bytes)) (error_kind error) least least tt
 
-    -- behind others that took nothing
+    -- after writes that accepted no byte
     pub write_taken : (old mid new : Option (List ℕ)) → Keeps old mid → WriteAppends mid new answer bytes →
         IsTaken old bytes (put_of outcome) new
     write_taken old mid new kept written =

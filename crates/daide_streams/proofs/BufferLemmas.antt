@@ -1,4 +1,4 @@
--- Streams with buffers: what is held of them, and one call after another.
+-- Buffered streams: their buffers, and sequences of calls.
 use Rattle.std.proofs.Common.{◌≡◌, ℕ, zero, suc, ◌+◌, ◌-◌, ◌≤◌, List, [], ◌∷◌, ◌++◌, length, take, drop, arith, refl, sym, ap, ◌∙◌}
 use Rattle.std.proofs.Common.{Option, Some, None, append_assoc, append-nil, take-append-drop, length-append, length-take-le}
 use Rattle.std.proofs.Common.{length-drop, subst}
@@ -13,7 +13,7 @@ use Rattle.daide_streams.specs.Taking.{IsTaken, taken_len, front_of}
 
 -- ---- bytes in an array
 
--- the first bytes let go
+-- the first bytes are removed
 pub skipped : (bytes : List ℕ) (from to n : ℕ) → n ≤ length (take (to - from) (drop from bytes)) →
     take (to - (from + n)) (drop (from + n) bytes) ≡ drop n (take (to - from) (drop from bytes))
 skipped bytes from to n h =
@@ -28,7 +28,7 @@ skipped bytes from to n h =
     front_few (suc n) [] = omega arith
     front_few (suc n) (x ∷ l) = omega (arith, front_few n l)
 
--- bytes put behind those that are there
+-- bytes are appended
 pub gathered : (xs ys rest : List ℕ) (from to n : ℕ) → from ≤ to → to ≤ length xs → length ys ≡ n →
     take ((to + n) - from) (drop from (take to xs ++ (ys ++ rest))) ≡ take (to - from) (drop from xs) ++ ys
 gathered xs ys rest from to n below within size =
@@ -52,7 +52,7 @@ module _ {S : Type 0} (to_give got : S → Option (List ℕ)) where
   same_takes old new e =
       subst (λ (known : Option (List ℕ)). Appends (got old) known []) (sym e) (Appends-nil (got old))
 
-  -- nothing moved
+  -- no byte was moved
   pub still_passes : (old new : Buffer S) → IsUnread to_give old new → IsUnwritten got old new →
       Passes to_give got old [] [] new
   still_passes old new unread unwritten = record {
@@ -67,7 +67,7 @@ module _ {S : Type 0} (to_give got : S → Option (List ℕ)) where
   pub same_passes : (b : Buffer S) → Passes to_give got b [] [] b
   same_passes b = still_passes b b (record { ahead = refl; gives = refl }) (record { behind = refl; takes = refl })
 
-  -- bytes came, and some were handed out
+  -- bytes were read, and some were returned
   pub read_passes : (old new : Buffer S) (came out : List ℕ) → Consumes (to_give old.stream) (to_give new.stream) came →
       old.ahead ++ came ≡ out ++ new.ahead → IsUnwritten got old new → Passes to_give got old out [] new
   read_passes old new came out gives ahead unwritten = record {
@@ -79,7 +79,7 @@ module _ {S : Type 0} (to_give got : S → Option (List ℕ)) where
     behind = append-nil old.behind ∙ sym unwritten.behind;
   }
 
-  -- nothing came
+  -- nothing was read
   pub none_passes : (old new : Buffer S) (came : List ℕ) → length came ≡ 0 →
       Consumes (to_give old.stream) (to_give new.stream) came → new.ahead ≡ old.ahead → IsUnwritten got old new →
       Passes to_give got old [] [] new
@@ -88,7 +88,7 @@ module _ {S : Type 0} (to_give got : S → Option (List ℕ)) where
       (subst (λ (l : List ℕ). Consumes (to_give old.stream) (to_give new.stream) l) (nil_from_length came none) gives)
       (append-nil old.ahead ∙ sym ahead) unwritten
 
-  -- bytes were handed over, and some went
+  -- bytes were put, and some were written
   pub write_passes : (old new : Buffer S) (went over : List ℕ) → Appends (got old.stream) (got new.stream) went →
       old.behind ++ over ≡ went ++ new.behind → IsUnread to_give old new → Passes to_give got old [] over new
   write_passes old new went over takes behind unread = record {
@@ -100,14 +100,14 @@ module _ {S : Type 0} (to_give got : S → Option (List ℕ)) where
     behind = behind;
   }
 
-  -- bytes are held behind those that are
+  -- bytes were appended to the write buffer
   pub held_passes : (old new : Buffer S) (over : List ℕ) → new.stream ≡ old.stream → new.ahead ≡ old.ahead →
       new.behind ≡ old.behind ++ over → Passes to_give got old [] over new
   held_passes old new over stream ahead behind =
       write_passes old new [] over (same_takes old.stream new.stream (ap got stream)) (sym behind)
       (record { ahead = ahead; gives = ap to_give stream })
 
-  -- what was held was written, as much as the stream took
+  -- the write buffer was written once
   pub drain_passes : (old new : Buffer S) (put : Put) (held rest : List ℕ) → old.behind ≡ held → new.behind ≡ rest →
       IsTaken (got old.stream) held put (got new.stream) → rest ≡ drop (taken_len put) held →
       IsUnread to_give old new → Passes to_give got old [] [] new
@@ -124,7 +124,7 @@ module _ {S : Type 0} (to_give got : S → Option (List ℕ)) where
       kept_appends (Some x) None h = absurd h
       kept_appends (Some x) (Some y) h = h ∙ sym (append-nil x)
 
-  -- bytes went past the buffer, where nothing is held
+  -- bytes were written directly, with an empty write buffer
   pub straight_passes : (old new : Buffer S) (bytes : List ℕ) (put : Put) → old.behind ≡ [] → new.behind ≡ [] →
       IsTaken (got old.stream) bytes put (got new.stream) → IsUnread to_give old new →
       Passes to_give got old [] (front_of put bytes) new
@@ -135,14 +135,14 @@ module _ {S : Type 0} (to_give got : S → Option (List ℕ)) where
   straight_passes old new bytes Failed none still takes unread =
       drain_passes old new Failed [] [] none still takes refl unread
 
-  -- ---- one call, by the values that it made on its way
+  -- ---- one call, by its intermediate values
 
-  -- what is known of a value is known of what a call sees of it
+  -- a fact of a value is a fact of its view
   pub of_view : (seen old new : Buffer S) (out over : List ℕ) → seen ≡ old → Passes to_give got seen out over new →
       Passes to_give got old out over new
   of_view seen old new out over e h = subst (λ (b : Buffer S). Passes to_give got b out over new) e h
 
-  -- bytes were read where nothing was held, and some were handed out
+  -- bytes were read with an empty read buffer, and some were returned
   pub ahead_passes : (old new : Buffer S) (between : S) (came out : List ℕ) →
       Consumes (to_give old.stream) (to_give between) came → got between ≡ got old.stream → new.stream ≡ between →
       old.ahead ≡ [] → came ≡ out ++ new.ahead → new.behind ≡ old.behind → Passes to_give got old out [] new
@@ -152,14 +152,14 @@ module _ {S : Type 0} (to_give got : S → Option (List ℕ)) where
       (ap (λ (l : List ℕ). l ++ came) none ∙ ahead)
       (record { behind = behind; takes = ap got stream ∙ takes })
 
-  -- bytes that were held were handed out
+  -- bytes of the read buffer were returned
   pub out_passes : (old new : Buffer S) (held out : List ℕ) → new.stream ≡ old.stream → old.ahead ≡ held →
       held ≡ out ++ new.ahead → new.behind ≡ old.behind → Passes to_give got old out [] new
   out_passes old new held out stream ahead bytes behind =
       read_passes old new [] out (same_gives old.stream new.stream (ap to_give stream))
       (append-nil old.ahead ∙ ahead ∙ bytes) (record { behind = behind; takes = ap got stream })
 
-  -- ---- one call after another
+  -- ---- two calls in sequence
 
   pub passes_then : (a b c : Buffer S) (out over more further : List ℕ) → Passes to_give got a out over b →
       Passes to_give got b more further c → Passes to_give got a (out ++ more) (over ++ further) c
@@ -181,16 +181,16 @@ module _ {S : Type 0} (to_give got : S → Option (List ℕ)) where
         ∙ sym (append_assoc first.went next.went c.behind);
   }
 
-  -- nothing was read by either of two calls
+  -- neither of two calls read a byte
   pub unread_then : (a b c : Buffer S) → IsUnread to_give a b → IsUnread to_give b c → IsUnread to_give a c
   unread_then a b c first next = record { ahead = next.ahead ∙ first.ahead; gives = next.gives ∙ first.gives }
 
-  -- a call behind a flush
+  -- a call after a flush
   pub flush_then : (a b c : Buffer S) (over : List ℕ) → Passes to_give got a [] [] b → Passes to_give got b [] over c →
       Passes to_give got a [] over c
   flush_then a b c over first next = passes_then a b c [] [] [] over first next
 
-  -- a flush behind a call
+  -- a flush after a call
   pub then_flush : (a b c : Buffer S) (over : List ℕ) → Passes to_give got a [] over b → Passes to_give got b [] [] c →
       Passes to_give got a [] over c
   then_flush a b c over first next =

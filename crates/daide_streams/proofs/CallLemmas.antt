@@ -1,4 +1,4 @@
--- A pull and a put by the call that was made of the stream, and pulls of a stream with buffers by those of the stream.
+-- Pulls and puts from the calls of the stream, and pulls of a buffered stream from those of the stream.
 use Rattle.std.proofs.Common.{◌≡◌, ℕ, zero, suc, ◌-◌, ◌<◌, ◌≤◌, ◌==◌, Bool, true, false, List, [], length, take}
 use Rattle.std.specs.Prelude.{nat_lt, if◌then◌else◌}
 use Rattle.std.proofs.lemmas.List.{take_all, length-take}
@@ -21,7 +21,7 @@ alike_self (Got n) = refl
 alike_self Idle = refl
 alike_self Ended = refl
 
--- ---- what an outcome is told as
+-- ---- the pull and the put of an outcome
 
 pub some_room : (room : ℕ) → false ≡ (room == 0) → 0 < room
 some_room room e = grind (arith, nat_tests, e)
@@ -29,7 +29,7 @@ some_room room e = grind (arith, nat_tests, e)
 pub no_room : (room : ℕ) → true ≡ (room == 0) → room ≡ 0
 no_room room e = grind (arith, nat_tests, e)
 
--- a buffer that room was taken for is shorter than that
+-- the caller's buffer is shorter than the pool's
 pub short : {A : Type 0} (n most : ℕ) (room : Option A) (held : A) → room ≡ Some held →
     (n < most) ⊎ (room ≡ None) → n ≤ most
 short n most room held some (inl less) = omega (arith, less)
@@ -38,13 +38,13 @@ short n most room held some (inr none) = absurd (let e = sym none ∙ some in cc
 pub is_some : (held ahead : List ℕ) → held ≡ ahead → 0 < length held → ahead ≡ [] → ⊥
 is_some held ahead same some none = omega (arith, some, ap length (same ∙ none))
 
--- bytes read in place of those that were held
+-- bytes were read into the emptied buffer
 pub filled : (items buffer : List ℕ) (count : ℕ) → items ≡ buffer → take (count - 0) items ≡ take count buffer
 filled items buffer count same =
     let whole : count - 0 ≡ count = omega arith in
     ap (λ (n : ℕ). take n items) whole ∙ ap (take count) same
 
--- of some bytes a front that is not empty has some
+-- a non-empty prefix of a list
 pub some_front : (most : ℕ) (bytes : List ℕ) → 0 < most → 0 < length bytes → 0 < length (take most bytes)
 some_front most bytes few some = grind (arith, length-take most bytes)
 
@@ -71,7 +71,7 @@ took_same n m e = cc
 module _ {S : Type 0} (calls : S → Option (List StreamCall)) where
   -- ---- a pull
 
-  -- where nothing can come, or there is no room
+  -- the stream is not readable, or there is no room
   pub idle_pull : (room : ℕ) (known : Readiness) (stream : S) → (known.may_read ≡ false) ⊎ (room ≡ 0) →
       IsPull calls room known stream Idle known stream
   idle_pull room known stream spared = record {
@@ -83,7 +83,7 @@ module _ {S : Type 0} (calls : S → Option (List StreamCall)) where
       neither (inl e) ready some = cc
       neither (inr e) ready some = omega (arith, e, some)
 
-  -- one that was made
+  -- the call was made
   pub made_pull : (room : ℕ) (known still : Readiness) (old new : S) (pull : Pull) (outcome : Outcome) →
       known.may_read ≡ true → 0 < room → Tries (Read room) (calls old) outcome (calls new) → pull ≡ pull_of outcome →
       still ≡ after_read known room outcome → IsPull calls room known old pull still new
@@ -96,12 +96,12 @@ module _ {S : Type 0} (calls : S → Option (List StreamCall)) where
       neither (inl e) = cc
       neither (inr e) = omega (arith, e, some)
 
-  -- what a pull of a stream with buffers is, where nothing is held ahead: one of the stream, into as much room or more
+  -- with an empty read buffer a pull of a buffered stream is one of the stream, into at least as much room
   abbrev OfStream : ℕ → Readiness → S → Pull → Readiness → S → Type 0
   OfStream room known stream pull still now = (more : ℕ) × (room ≤ more) × (own : Pull)
       × IsPull calls more known stream own still now × (is_alike pull own ≡ true)
 
-  -- one into more room
+  -- into more room
   pub more_pull : (ahead : List ℕ) (room more : ℕ) (known still : Readiness) (seen stream read now : S)
       (pull own : Pull) → seen ≡ stream → room ≤ more → now ≡ read → is_alike pull own ≡ true →
       IsPull calls more known seen own still read → ahead ≡ [] → OfStream room known stream pull still now
@@ -114,14 +114,14 @@ module _ {S : Type 0} (calls : S → Option (List StreamCall)) where
     alike,
   )
 
-  -- one that leaves the stream alone
+  -- without a call
   pub left_alone : (ahead : List ℕ) (room : ℕ) (known : Readiness) (stream now : S) → now ≡ stream →
       (known.may_read ≡ false) ⊎ (room ≡ 0) → ahead ≡ [] → OfStream room known stream Idle known now
   left_alone ahead room known stream now same spared =
       more_pull ahead room room known known stream stream stream now Idle Idle refl (omega arith) same refl
       (idle_pull room known stream spared)
 
-  -- a pull of the stream itself
+  -- into the caller's buffer
   pub own_pull : (ahead : List ℕ) (room : ℕ) (known : Readiness) (seen stream now : S) (pull : Pull)
       (still : Readiness) → seen ≡ stream → IsPull calls room known seen pull still now → ahead ≡ [] →
       OfStream room known stream pull still now
@@ -130,7 +130,7 @@ module _ {S : Type 0} (calls : S → Option (List StreamCall)) where
 
   -- ---- a put
 
-  -- where nothing can be taken
+  -- the stream is not writable
   pub spared_put : (bytes : List ℕ) (known : Readiness) (stream : S) → known.may_write ≡ false →
       IsPut calls bytes known stream (Took 0) known stream
   spared_put bytes known stream spared = record {
@@ -138,7 +138,7 @@ module _ {S : Type 0} (calls : S → Option (List StreamCall)) where
     made = λ ready. absurd (let e = spared in let r = ready in cc);
   }
 
-  -- one that was made
+  -- the call was made
   pub made_put : (bytes front : List ℕ) (known still : Readiness) (old new : S) (put : Put) (outcome : Outcome) →
       front ≡ bytes → known.may_write ≡ true → Tries (Written front) (calls old) outcome (calls new) →
       put ≡ put_of outcome → still ≡ after_write known (length front) outcome →
@@ -153,14 +153,14 @@ module _ {S : Type 0} (calls : S → Option (List StreamCall)) where
     );
   }
 
-  -- one of bytes that a write may hand over whole
+  -- of at most `MOST_AT_ONCE` bytes
   pub whole_put : (bytes : List ℕ) (most : ℕ) (known still : Readiness) (old new : S) (put : Put) →
       length bytes ≤ most → IsPut calls (take most bytes) known old put still new →
       IsPut calls bytes known old put still new
   whole_put bytes most known still old new put few made =
       subst (λ (l : List ℕ). IsPut calls l known old put still new) (take_all most bytes few) made
 
-  -- one that took less than it was handed stops those to come
+  -- a short write makes the stream not writable
   pub stopped : (bytes : List ℕ) (known still : Readiness) (old new : S) (put : Put) (n : ℕ) →
       IsPut calls bytes known old put still new → put ≡ Took n → n < length bytes → IsStopped calls still new
   stopped bytes known still old new put n made took less = by known.may_write refl

@@ -1,10 +1,10 @@
--- One answer moves the two streams behind a session's ports.
+-- The effect of one port call on a session's two streams.
 use Rattle.std.proofs.Common.{◌≡◌, ℕ, Bool, true, false, List, [], Option, take, refl, sym}
 use Rattle.std.proofs.Common.{◌∙◌, subst}
 use Rattle.daide_frame.specs.declared.side.Side.{Side}
 use Rattle.daide_frame.specs.declared.side.Side.TheVariants.{Bot, Server}
 use Rattle.daide_machine.specs.Events.{other}
-use Rattle.daide_machine.specs.Ports.{PortAnswer, Clock, Pulled, Offered, took, pulled_len}
+use Rattle.daide_machine.specs.Ports.{PortAnswer, TurnBegins, Clock, Pulled, Offered, took, pulled_len}
 use Rattle.daide_machine.proofs.WireLemmas.{same_self}
 use Rattle.daide_machine.specs.declared.ports.Pull.{Pull}
 use Rattle.daide_machine.specs.declared.ports.Pull.TheVariants.{Got, Idle, Ended}
@@ -18,7 +18,7 @@ use Rattle.daide_streams.proofs.BufferLemmas.{same_passes}
 true_not_false : true ≡ false → ⊥
 true_not_false e = absurd (cc)
 
--- ---- one call moves the streams
+-- ---- one call
 
 own_given : (side : Side) (buffer : ℕ) (pull : Pull) (bytes : List ℕ) →
     gave side (Pulled side buffer pull (take (pulled_len pull) bytes)) ≡ take (pulled_len pull) bytes
@@ -44,7 +44,7 @@ none_taken Bot bytes (Took n) = refl
 none_taken Server bytes (Took n) = refl
 none_taken side bytes Failed = refl
 
--- what holds of a side and of the other holds of both
+-- a fact of one side and of the other is a fact of both
 of_both : (Holds : Side → Type 0) (side : Side) → Holds side → Holds (other side) → (one : Side) → Holds one
 of_both Holds Bot own rest Bot = own
 of_both Holds Bot own rest Server = rest
@@ -57,14 +57,13 @@ module _ {S : Type 0} (to_give got : S → Option (List ℕ)) where
   passes_as old new out over more further e f h = rw e (rw f h)
 
   module _ (old new : Buffer S × Buffer S) where
-    -- a call of which both streams are the other's
-    pub looked_moves : (popped : Bool) →
-        Passes to_give got old.0 [] [] new.0 → IsUnread to_give old.0 new.0 →
-        Passes to_give got old.1 [] [] new.1 → IsUnread to_give old.1 new.1 →
-        Moves to_give got old (Clock popped) new
-    looked_moves popped bot unread server also = record {
+    -- a turn begins: neither stream is read, and each may write its write buffer
+    pub begun_moves : Passes to_give got old.0 [] [] new.0 → IsUnread to_give old.0 new.0 →
+        Passes to_give got old.1 [] [] new.1 → IsUnread to_give old.1 new.1 → Moves to_give got old TurnBegins new
+    begun_moves bot unread server also = record {
       passes = of_both (λ one. Passes to_give got (stream_of old one) [] [] (stream_of new one)) Bot bot server;
       unread = λ side f. of_both (λ one. IsUnread to_give (stream_of old one) (stream_of new one)) Bot unread also side;
+      unchanged = λ f. absurd (true_not_false (sym f));
     }
 
     pub pulled_moves : (side : Side) (buffer : ℕ) (pull : Pull) (bytes : List ℕ) →
@@ -82,6 +81,7 @@ module _ {S : Type 0} (to_give got : S → Option (List ℕ)) where
           unread = of_both
               (λ one. is_of one call ≡ false → IsUnread to_give (stream_of old one) (stream_of new one)) side
               (λ f. absurd (true_not_false (sym (same_self side) ∙ f))) (λ f. unread);
+          unchanged = λ f. absurd (true_not_false (sym f));
         }
 
     pub offered_moves : (side : Side) (bytes : List ℕ) (put : Put) →
@@ -99,9 +99,10 @@ module _ {S : Type 0} (to_give got : S → Option (List ℕ)) where
           unread = of_both
               (λ one. is_of one call ≡ false → IsUnread to_give (stream_of old one) (stream_of new one)) side
               (λ f. absurd (true_not_false (sym (same_self side) ∙ f))) (λ f. unread);
+          unchanged = λ f. absurd (true_not_false (sym f));
         }
 
-    -- an answer that gives nothing and takes nothing moves none
+    -- a call that returns and accepts no byte moves none
     pub still_moves : (answer : PortAnswer) → ((side : Side) → gave side answer ≡ []) →
         ((side : Side) → took side answer ≡ []) → new ≡ old → Moves to_give got old answer new
     still_moves answer none_gave none_took e =
@@ -110,4 +111,9 @@ module _ {S : Type 0} (to_give got : S → Option (List ℕ)) where
               (none_gave side) (none_took side)
               (same_passes to_give got (stream_of old side));
           unread = λ side f. record { ahead = refl; gives = refl };
+          unchanged = λ f. refl;
         })
+
+    -- a question moves none
+    pub asked_moves : (popped : Bool) → new ≡ old → Moves to_give got old (Clock popped) new
+    asked_moves popped e = still_moves (Clock popped) (λ side. refl) (λ side. refl) e

@@ -1,4 +1,4 @@
--- The calls of a stream whose calls never wait, and what a pull and a put make of their answers. (own)
+-- The calls of a non-blocking stream, and what a pull and a put make of their results. (own)
 use Rattle.std.specs.Prelude.{◌≡◌, ℕ, zero, suc, ◌<◌, ◌⊎◌, ◌==◌, ◌&&◌, not, nat_lt, if◌then◌else◌, Bool, true, false, List, [], ◌∷◌, ◌++◌, length, Option}
 use Rattle.std.specs.Prelude.{Result, Ok, Err, replicate}
 use Rattle.std.specs.IoError.{error_kind}
@@ -14,25 +14,25 @@ use Rattle.daide_streams.specs.declared.outcome.Outcome.{Outcome}
 use Rattle.daide_streams.specs.declared.readiness.Readiness.{Readiness}
 use Rattle.daide_streams.specs.declared.outcome.Outcome.TheVariants.{Moved, Interrupted, NotNow, Failed}
 
--- a failure is an interruption, a call that would have waited, or any other
+-- an error is an interruption, a call that would have blocked, or a failure
 abbrev pub outcome_of_kind : ErrorKind → Outcome
 outcome_of_kind Kinds.Interrupted = Interrupted
 outcome_of_kind Kinds.WouldBlock = NotNow
 outcome_of_kind kind = Failed
 
--- how a call went, by what it answered
+-- the outcome of a call, by what it returned
 abbrev pub outcome_by : Result ℕ Error → Outcome
 outcome_by (Ok count) = Moved count
 outcome_by (Err error) = outcome_of_kind (error_kind error)
 
--- a call of a stream: a read into a buffer of so many bytes, a write of these, or the end of its writing
+-- one call in a trace: a read into a buffer of this size, a write of these bytes, or the shutdown of writing
 pub data StreamCall : Type 0 where
   Read : ℕ → Outcome → StreamCall
   Written : List ℕ → Outcome → StreamCall
   WritingEnded : StreamCall
 
--- A call is made again while it is interrupted, and eight times in all: so many were interrupted before the last, whose
--- outcome counts.
+-- A call is repeated while it is interrupted, up to eight calls in all. The first `before` calls were interrupted; the
+-- last one has the outcome.
 pub record Tries (call : Outcome → StreamCall) (old : Option (List StreamCall)) (outcome : Outcome)
     (new : Option (List StreamCall)) : Type 0 where
   pub before : ℕ
@@ -40,7 +40,7 @@ pub record Tries (call : Outcome → StreamCall) (old : Option (List StreamCall)
   pub spent : outcome ≡ Interrupted → suc before ≡ 8
   pub told : Tells old (replicate before (call Interrupted) ++ call outcome ∷ []) new
 
--- ---- what is known behind a call
+-- ---- readiness after a call
 
 abbrev pub without_reads : Readiness → Readiness
 without_reads known = record { may_read = false; may_write = known.may_write; reads_on = known.reads_on }
@@ -48,8 +48,8 @@ without_reads known = record { may_read = false; may_write = known.may_write; re
 abbrev pub without_writes : Readiness → Readiness
 without_writes known = record { may_read = known.may_read; may_write = false; reads_on = known.reads_on }
 
--- A read that would have waited finds nothing until more is told; nor does one behind a read that gave something, and less
--- than it had room for, but where an end, a failure or an urgent byte was told.
+-- After a read that would have blocked, the stream is not readable until the next event. The same holds after a short
+-- read, unless an event reported an end, a failure or an urgent byte.
 abbrev pub after_read : Readiness → ℕ → Outcome → Readiness
 after_read known room (Moved zero) = known
 after_read known room (Moved (suc count)) =
@@ -58,7 +58,7 @@ after_read known room Interrupted = known
 after_read known room NotNow = without_reads known
 after_read known room Failed = known
 
--- a write that would have waited, or took less than it was handed, is the last until more is told
+-- after a write that would have blocked, or a short write, the stream is not writable until the next event
 abbrev pub after_write : Readiness → ℕ → Outcome → Readiness
 after_write known handed (Moved count) = if nat_lt count handed then without_writes known else known
 after_write known handed Interrupted = known
@@ -67,7 +67,7 @@ after_write known handed Failed = known
 
 -- ---- a pull
 
--- a stream that gives no byte has ended, and one whose read fails gives nothing more
+-- a read of no byte is the end of the stream, and so is a failed read
 abbrev pub pull_of : Outcome → Pull
 pull_of (Moved zero) = Pulls.Ended
 pull_of (Moved (suc count)) = Pulls.Got (suc count)
@@ -75,15 +75,15 @@ pull_of Interrupted = Pulls.Idle
 pull_of NotNow = Pulls.Idle
 pull_of Failed = Pulls.Ended
 
--- Where it is known that nothing can come, or there is no room, the stream is left alone. Else it is read into the whole
--- room, and what the outcome says is told.
+-- If the stream is known not to be readable, or there is no room, no call is made. Otherwise it is read into the whole
+-- room, and the pull is the one of the outcome.
 pub record IsPull {S : Type 0} (calls : S → Option (List StreamCall)) (room : ℕ) (known : Readiness) (old : S)
     (pull : Pull) (still : Readiness) (new : S) : Type 0 where
   pub spared : (known.may_read ≡ false) ⊎ (room ≡ 0) → (pull ≡ Pulls.Idle) × (new ≡ old) × (still ≡ known)
   pub made : known.may_read ≡ true → 0 < room → (outcome : Outcome) × Tries (Read room) (calls old) outcome (calls new)
       × (pull ≡ pull_of outcome) × (still ≡ after_read known room outcome)
 
--- whether nothing more is to be dropped of a stream, behind a piece and with so many bytes left
+-- whether draining is finished after a piece, with `left` bytes of the budget
 abbrev pub is_last_piece : Pull → ℕ → Bool
 is_last_piece Pulls.Ended left = true
 is_last_piece (Pulls.Got count) left = left == 0
@@ -97,16 +97,16 @@ put_of Interrupted = Puts.Took 0
 put_of NotNow = Puts.Took 0
 put_of Failed = Puts.Failed
 
--- Where it is known that nothing can be taken, the stream is left alone. Else these bytes are written, and what the
--- outcome says is told.
+-- If the stream is known not to be writable, no call is made. Otherwise these bytes are written, and the put is the one
+-- of the outcome.
 pub record IsPut {S : Type 0} (calls : S → Option (List StreamCall)) (bytes : List ℕ) (known : Readiness) (old : S)
     (put : Put) (still : Readiness) (new : S) : Type 0 where
   pub spared : known.may_write ≡ false → (put ≡ Puts.Took 0) × (new ≡ old) × (still ≡ known)
   pub made : known.may_write ≡ true → (outcome : Outcome) × Tries (Written bytes) (calls old) outcome (calls new)
       × (put ≡ put_of outcome) × (still ≡ after_write known (length bytes) outcome)
 
--- Nothing more can be written now: the system is to tell when it can be, or the last write was interrupted each time
--- that it was made.
+-- Nothing more can be written now: the stream is not writable until the next event, or the last write was interrupted
+-- each of the eight times.
 abbrev pub IsStopped : {S : Type 0} → (S → Option (List StreamCall)) → Readiness → S → Type 0
 IsStopped calls still new = (still.may_write ≡ false)
     ⊎ ((before : Option (List StreamCall)) × (bytes : List ℕ) × Tries (Written bytes) before Interrupted (calls new))

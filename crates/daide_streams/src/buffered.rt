@@ -1,9 +1,9 @@
-//! A stream that is read ahead, and to which small parts are written together.
+//! A stream with a read buffer and a write buffer.
 //!
-//! A call of the system costs more than what is done with a short frame. So one read takes what is there, up to
-//! `MOST_HELD` bytes, from which what is asked for is handed out; and what is handed over in small parts is held until
-//! it is flushed, or there is no more room. Room is taken of a pool while something is held, and no longer; where memory
-//! is refused, the stream is read and written as if there were no buffers.
+//! A system call costs more than the processing of a short frame. So one read takes what is available, up to
+//! `MOST_HELD` bytes, and pulls return it piece by piece. Small puts are collected until a flush, or until the buffer
+//! is full. A buffer is taken from the pool only while it has bytes. If the pool can't allocate one, the stream is read
+//! and written without buffers.
 
 ghost use Rattle.std.specs.Prelude.{◌≡◌, ◌<◌, ◌≤◌, ◌++◌, [], ◌∷◌, true, false, min, length, take, IfSome};
 ghost use Rattle.daide_machine.specs.Ports.{Tells, IsPullWithin, IsPutWithin, pulled_len};
@@ -19,13 +19,13 @@ use crate::readiness::Readiness;
 use daide_machine::ports::{Pull, Put};
 use std::marker::Model;
 
-/// A stream, what was read of it ahead, and what it is still to take.
+/// A stream with its read buffer (`ahead`) and its write buffer (`behind`), each `None` while it is empty.
 #[derive(Drop)]
 pub struct Buffered<S: Drop> {
     stream: S,
     ahead: Option<Held>,
     behind: Option<Held>,
-    /// Whether a write failed.
+    /// Whether a write failed. If so, nothing more is written.
     has_failed: bool,
 }
 
@@ -46,7 +46,7 @@ impl<S: Drop> Model for Buffered<S> {
         × IfSome b.behind (λ held. 0 < length held.bytes) };
 }
 
-/// What is still held, if that is something; else its room goes back.
+/// Returns the buffer if it has bytes, or else gives it back to the pool.
 fn kept(held: Held, pool: &Pool) -> Option<Held>
     ensures held { held_in result ≡ held.bytes }
     ensures some { IfSome result (λ kept. 0 < length kept.bytes) }
@@ -59,7 +59,7 @@ fn kept(held: Held, pool: &Pool) -> Option<Held>
 }
 
 impl<S: Drop> Buffered<S> {
-    /// A stream of which nothing is held.
+    /// Wraps a stream, with empty buffers.
     pub fn new(stream: S) -> Buffered<S>
         ensures { result ≡ record { stream = stream; ahead = []; behind = []; has_failed = false } }
     {
@@ -71,14 +71,14 @@ impl<S: Drop> Buffered<S> {
         }
     }
 
-    /// The stream itself.
+    /// Returns the stream.
     pub fn stream(&self) -> &S
         ensures { result.now ≡ self.now.stream }
     {
         &self.stream
     }
 
-    /// Whether something was read that isn't handed out yet.
+    /// Returns whether the read buffer has bytes.
     pub fn is_ahead(&self) -> bool
         ensures some { result ≡ true → 0 < length self.now.ahead }
         ensures none { result ≡ false → self.now.ahead ≡ [] }
@@ -86,7 +86,7 @@ impl<S: Drop> Buffered<S> {
         self.ahead.is_some()
     }
 
-    /// Whether something is held that may still be written.
+    /// Returns whether the write buffer has bytes that may still be written: false after a failed write.
     pub fn is_behind(&self) -> bool
         ensures may { result ≡ true → self.now.has_failed ≡ false }
         ensures some { result ≡ true → 0 < length self.now.behind }
@@ -95,14 +95,14 @@ impl<S: Drop> Buffered<S> {
         self.behind.is_some() && !self.has_failed
     }
 
-    /// Gives up writing: from now on it is as after a failed write, and nothing of what is held is written.
+    /// Marks the stream as failed, as after a failed write: the bytes of the write buffer are never written.
     pub fn give_up(&mut self)
         ensures { self.new ≡ record self.old { has_failed = true } }
     {
         self.has_failed = true;
     }
 
-    /// How many bytes are held that are not written yet.
+    /// Returns the number of bytes in the write buffer.
     pub fn behind_len(&self) -> usize
         ensures { result ≡ length self.now.behind }
     {
@@ -112,7 +112,7 @@ impl<S: Drop> Buffered<S> {
         }
     }
 
-    /// Whether all that was handed over was written.
+    /// Returns whether the write buffer is empty, so that every byte of every put was written.
     pub fn is_written(&self) -> bool
         ensures all { result ≡ true → self.now.behind ≡ [] }
         ensures some { result ≡ false → 0 < length self.now.behind }
@@ -122,7 +122,7 @@ impl<S: Drop> Buffered<S> {
 }
 
 impl<S: Duplex + Drop> Buffered<S> {
-    /// Hands out the front of what was read, and holds the rest.
+    /// Moves the first bytes of a buffer to the caller's, keeps the rest as the read buffer, and returns their number.
     fn hand_out(&mut self, held: Held, pool: &Pool, buffer: &mut [u8]) -> usize
         ensures within { result ≤ length buffer.old }
         ensures len { length buffer.new ≡ length buffer.old }
@@ -138,7 +138,7 @@ impl<S: Duplex + Drop> Buffered<S> {
         count
     }
 
-    /// Takes out what was read ahead, if that is something.
+    /// Takes the read buffer out, if it has bytes.
     fn take_ahead(&mut self, pool: &Pool) -> Option<Held>
         ensures held { held_in result ≡ self.old.ahead }
         ensures some { IfSome result (λ held. 0 < length held.bytes) }
@@ -154,7 +154,8 @@ impl<S: Duplex + Drop> Buffered<S> {
         Some(held)
     }
 
-    /// Reads ahead into room of the pool, and hands out the front; without room, reads into the buffer alone.
+    /// Reads into a buffer of the pool and returns its first bytes. Reads into the caller's buffer directly if that has
+    /// at least `MOST_HELD` bytes or the pool returns none.
     fn read_ahead(&mut self, pool: &Pool, readiness: &mut Readiness, buffer: &mut [u8]) -> Pull
         requires { self.old.ahead ≡ [] }
         ensures asked { IsBufferedPull S.calls (length buffer.old) readiness.old self.old result readiness.new self.new }
@@ -165,7 +166,7 @@ impl<S: Duplex + Drop> Buffered<S> {
         ensures few { length self.new.ahead ≤ MOST_HELD }
         ensures failed { self.new.has_failed ≡ self.old.has_failed }
     {
-        // What a long buffer takes is not copied.
+        // A read into a long buffer needs no copy.
         let room = if buffer.len() < MOST_HELD {
             pool.take()
         } else {
@@ -188,10 +189,12 @@ impl<S: Duplex + Drop> Buffered<S> {
         }
     }
 
-    /// Hands out what was read ahead; where that is nothing, reads what is there, where something may be.
+    /// Returns bytes from the read buffer, or reads from the stream if the read buffer is empty and the stream may be
+    /// readable.
     ///
-    /// What is told as `Got` stands at the buffer's front. It is, in order, what the stream gave, and nothing between is
-    /// lost; an end is told behind the last byte.
+    /// Returns `Got(n)` if the next `n` bytes are at the front of `buffer`. Pulls return the bytes of the stream in
+    /// order and without gaps. Returns `Ended`, at the end of the stream or after a failed read, only once all bytes
+    /// were returned.
     pub fn pull(&mut self, pool: &Pool, readiness: &mut Readiness, buffer: &mut [u8]) -> Pull
         ensures asked { IsBufferedPull S.calls (length buffer.old) readiness.old self.old result readiness.new self.new }
         ensures within { IsPullWithin result (length buffer.old) }
@@ -213,7 +216,8 @@ impl<S: Duplex + Drop> Buffered<S> {
         self.read_ahead(pool, readiness, buffer)
     }
 
-    /// Writes what is held, as much as the stream takes. A failure is told by the next put.
+    /// Writes the write buffer once, and keeps what the stream did not accept. If the write fails, the next put returns
+    /// `Failed`.
     pub fn flush(&mut self, pool: &Pool, readiness: &mut Readiness)
         ensures passes { Passes S.to_give S.taken self.old [] [] self.new }
         ensures unread { IsUnread S.to_give self.old self.new }
@@ -233,7 +237,7 @@ impl<S: Duplex + Drop> Buffered<S> {
         self.behind = kept(held, pool);
     }
 
-    /// Holds bytes behind these, as many as there is room for.
+    /// Appends a prefix of the bytes to a buffer, as long as its free space allows, and makes it the write buffer.
     fn hold(&mut self, held: Held, pool: &Pool, bytes: &[u8]) -> Put
         ensures within { IsPutWithin result (length bytes.now) }
         ensures all { result ≡ Put.Took (min held.room (length bytes.now)) }
@@ -248,7 +252,8 @@ impl<S: Duplex + Drop> Buffered<S> {
         Put::Took(count)
     }
 
-    /// Takes the first bytes, in room of the pool. Many bytes, or any for which there is no room, are written at once.
+    /// Puts bytes while the write buffer is empty: into a buffer of the pool, or directly to the stream if there are at
+    /// least `MOST_HELD` bytes or the pool returns no buffer.
     fn take_first(&mut self, pool: &Pool, readiness: &mut Readiness, bytes: &[u8]) -> Put
         requires { self.old.behind ≡ [] }
         ensures within { IsPutWithin result (length bytes.now) }
@@ -268,8 +273,8 @@ impl<S: Duplex + Drop> Buffered<S> {
         put
     }
 
-    /// Writes what is held, as much as the stream takes, and takes bytes behind what is left, as many as there is room
-    /// for. A failure is told.
+    /// Writes a buffer once, then appends a prefix of the bytes to what is left of it, as long as the free space
+    /// allows. Returns `Failed` if the write failed.
     fn take_written(
         &mut self,
         held: Held,
@@ -298,8 +303,8 @@ impl<S: Duplex + Drop> Buffered<S> {
         }
     }
 
-    /// Takes bytes behind those that are held, as many as there is room for. Where so many have none, what is held is
-    /// written first.
+    /// Appends a prefix of the bytes to the write buffer, as long as the free space allows. Writes the buffer first if
+    /// its free space is less than `count` bytes.
     fn take_behind(
         &mut self,
         pool: &Pool,
@@ -324,9 +329,9 @@ impl<S: Duplex + Drop> Buffered<S> {
         self.hold(held, pool, bytes)
     }
 
-    /// Takes as many bytes as are held at most, or more: as many as there is room for behind those that are held, and
-    /// writes them together; where none are held, writes them at once. Where there is no room for one, what is held is
-    /// written first, so that it takes none only where the stream takes no more.
+    /// Puts at least `MOST_HELD` bytes. Fills the write buffer with the first of them and writes it, or writes the
+    /// bytes directly if it is empty. If it is full, it is written first, so `Took(0)` means that the stream accepts
+    /// nothing now.
     fn put_many(&mut self, pool: &Pool, readiness: &mut Readiness, bytes: &[u8]) -> Put
         ensures within { IsPutWithin result (length bytes.now) }
         ensures passes { Passes S.to_give S.taken self.old [] (front_of result bytes.now) self.new }
@@ -343,11 +348,11 @@ impl<S: Duplex + Drop> Buffered<S> {
         put
     }
 
-    /// Takes bytes behind those that are held. Fewer than are held at most stay together: where there is no room for all,
-    /// what is held is written first. A failure that a write met is told here, from then on.
+    /// Puts bytes. Fewer than `MOST_HELD` are kept together: if the free space is too small for all of them, the write
+    /// buffer is written first.
     ///
-    /// What is told as `Took` is the front of these bytes, and stands, in order, in the stream or behind what it took.
-    /// None of some are taken only where no more can be written now.
+    /// Returns `Took(n)` if the first `n` bytes are accepted, in order: the stream or the write buffer has them.
+    /// Returns `Took(0)` for some bytes only if no more can be written now, and `Failed` after any write that failed.
     pub fn put(&mut self, pool: &Pool, readiness: &mut Readiness, bytes: &[u8]) -> Put
         ensures within { IsPutWithin result (length bytes.now) }
         ensures passes { Passes S.to_give S.taken self.old [] (front_of result bytes.now) self.new }
@@ -366,7 +371,7 @@ impl<S: Duplex + Drop> Buffered<S> {
         self.take_behind(pool, readiness, bytes, bytes.len())
     }
 
-    /// Tells the peer that nothing more is written, once all was.
+    /// Shuts down the writing direction. Requires an empty write buffer.
     pub fn end_writing(&mut self)
         requires { self.old.behind ≡ [] }
         ensures passes { Passes S.to_give S.taken self.old [] [] self.new }

@@ -1,4 +1,4 @@
-//! A read and a write of a stream whose calls never wait.
+//! Reads and writes of a non-blocking stream, with retries after interruptions.
 
 ghost use Rattle.std.specs.Prelude.{◌≡◌, length, take};
 ghost use Rattle.std.specs.Io.KnownBytes.{Consumes};
@@ -11,14 +11,14 @@ use crate::outcome::Outcome;
 use crate::readiness::Readiness;
 use daide_machine::ports::{Pull, Put};
 
-/// How often an interrupted call is made again.
+/// How often an interrupted call is repeated.
 const AGAIN: usize = 7;
 
-/// The most bytes that one write hands to the system, so that a long frame holds up no other session for its length.
+/// The largest write, in bytes. It bounds how long one session's frame can delay the other sessions.
 const MOST_AT_ONCE: usize = 16_384;
 
-/// Reads once more where it was interrupted, eight times in all. The last read's outcome is told, and no other gave
-/// anything.
+/// Reads, and repeats a read that was interrupted, up to eight reads in all. Returns the result of the last one; the
+/// others returned no byte.
 fn read_on<S: Duplex>(stream: &mut S, buffer: &mut [u8]) -> Outcome
     ensures tries { Tries (Read (length buffer.old)) (S.calls stream.old) result (S.calls stream.new) }
     ensures within { IsPullWithin (pull_of result) (length buffer.old) }
@@ -36,11 +36,11 @@ fn read_on<S: Duplex>(stream: &mut S, buffer: &mut [u8]) -> Outcome
     Outcome::of(&stream.read(buffer))
 }
 
-/// Reads what is there, where something may be, and notes where nothing was or nothing more is. Into an empty buffer
-/// nothing is read.
+/// Reads what is available into the buffer, if the stream may be readable, and updates the cached readiness. Makes no
+/// call if the buffer is empty.
 ///
-/// What is told as `Got` stands at the buffer's front, and is what the stream gave next; at `Idle`, and at `Ended`, which
-/// is the stream's end or a failure, it gave nothing.
+/// Returns `Got(n)` if the next `n` bytes of the stream are now at the front of the buffer, `Ended` at the end of the
+/// stream or if the read failed, and `Idle` if there is nothing to read yet. Only `Got` takes bytes from the stream.
 pub fn pull_from<S: Duplex>(stream: &mut S, readiness: &mut Readiness, buffer: &mut [u8]) -> Pull
     ensures asked { IsPull S.calls (length buffer.old) readiness.old stream.old result readiness.new stream.new }
     ensures within { IsPullWithin result (length buffer.old) }
@@ -60,8 +60,8 @@ pub fn pull_from<S: Duplex>(stream: &mut S, readiness: &mut Readiness, buffer: &
     }
 }
 
-/// Writes once more where it was interrupted, eight times in all. The last write's outcome is told, and none before it
-/// took anything.
+/// Writes, and repeats a write that was interrupted, up to eight writes in all. Returns the result of the last one; the
+/// others accepted no byte.
 fn write_on<S: Duplex>(stream: &mut S, bytes: &[u8]) -> Outcome
     ensures tries { Tries (Written bytes.now) (S.calls stream.old) result (S.calls stream.new) }
     ensures within { IsPutWithin (put_of result) (length bytes.now) }
@@ -77,10 +77,10 @@ fn write_on<S: Duplex>(stream: &mut S, bytes: &[u8]) -> Outcome
     Outcome::of(&stream.write(bytes))
 }
 
-/// Writes what the stream takes, where it may take something, and notes where it took less than it was handed. It hands
-/// on the front of what it was given, of `MOST_AT_ONCE` bytes where there are more.
+/// Writes the first `MOST_AT_ONCE` bytes at most, if the stream may be writable, and updates the cached readiness.
 ///
-/// What is told as `Took` is exactly what the stream took, the front of these bytes; at `Failed` it took nothing more.
+/// Returns `Took(n)` if the stream accepted exactly the first `n` bytes, with 0 if it is not writable now, and `Failed`
+/// if the write failed, in which case the stream accepted none of them.
 #[tactic(auto, using(std::proofs::lemmas::List::take_min))]
 pub fn put_to<S: Duplex>(stream: &mut S, readiness: &mut Readiness, bytes: &[u8]) -> Put
     ensures asked { IsPut S.calls (take MOST_AT_ONCE bytes.now) readiness.old stream.old result readiness.new

@@ -1,4 +1,4 @@
-//! What is read and dropped of a stream that closes.
+//! Draining: bytes that are read from a closing stream and discarded.
 
 ghost use Rattle.std.specs.Prelude.{◌≡◌, ◌+◌, ◌≤◌, ℕ, List, [], length, true};
 ghost use Rattle.daide_machine.specs.declared.ports.Pull.{Pull};
@@ -12,10 +12,10 @@ use crate::readiness::Readiness;
 use daide_machine::ports::Pull;
 use std::marker::Model;
 
-/// The most bytes that are dropped at once.
+/// The most bytes that one call discards.
 const PIECE: usize = 4096;
 
-/// What may still be dropped of a stream. Contracts see how many bytes.
+/// A budget of bytes that may still be discarded. Its abstract value is their number.
 #[derive(Drop)]
 pub struct Dropping {
     left: usize,
@@ -28,16 +28,15 @@ impl Model for Dropping {
 }
 
 impl Dropping {
-    /// Nothing was dropped yet, and at most so many bytes will be.
+    /// Creates a budget of `most` bytes.
     pub fn new(most: usize) -> Dropping
         ensures { result ≡ most }
     {
         Dropping { left: most }
     }
 
-    /// Drops a piece of what came, by one pull, and answers whether no more is to be dropped: at the stream's end, or where
-    /// all was dropped that may be. What it drops is what the stream gives next, exactly as much as less may be dropped
-    /// then.
+    /// Pulls once, discards up to `PIECE` bytes, and subtracts their number from the budget. Returns true if draining
+    /// is finished: the stream ended, a read failed, or the budget is used up.
     pub fn drop_piece<S: Duplex + Drop>(
         &mut self,
         stream: &mut Buffered<S>,
@@ -51,6 +50,7 @@ impl Dropping {
         ensures dropped { (bytes : List ℕ) × (self.old ≡ self.new + length bytes)
             × Passes S.to_give S.taken stream.old bytes [] stream.new }
         ensures unwritten { IsUnwritten S.taken stream.old stream.new }
+        ensures failed { stream.new.has_failed ≡ stream.old.has_failed }
     {
         let mut piece = [0; PIECE];
         let room = self.left.min(PIECE);

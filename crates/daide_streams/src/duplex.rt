@@ -1,4 +1,4 @@
-//! A stream both ways, whose two directions are apart.
+//! A full-duplex byte stream whose two directions are independent.
 
 ghost use Rattle.std.specs.Prelude.{◌≡◌, ℕ, List, [], ◌∷◌, length, Option};
 ghost use Rattle.std.specs.Io.{ReadsAtMost, WritesAtMost};
@@ -8,35 +8,41 @@ ghost use Rattle.daide_streams.specs.Calls.{StreamCall, Read, Written, WritingEn
 
 use std::io;
 
-/// A stream both ways: a read leaves what it took, and a write leaves what it has to give.
+/// A full-duplex byte stream. A read does not change the bytes that were written, and a write does not change the bytes
+/// that are still to be read.
 ///
-/// It may tell the bytes of each way, and its calls. Contracts of what drives it speak of these, so one that tells none,
-/// as a connection of the system's, owes nothing.
+/// An implementation may record the bytes of each direction, and its calls. The contracts of its callers are about
+/// these records. A connection of the operating system records nothing, so nothing is proved of its bytes.
 pub trait Duplex {
-    /// The bytes that it has still to give; `None` of one that doesn't tell.
+    /// The bytes that reads will still return; `None` if the stream does not record them.
     ghost to_give: { Self → Option (List ℕ) };
 
-    /// The bytes that it took, in order; `None` of one that doesn't tell.
+    /// The bytes that writes accepted, in order; `None` if the stream does not record them.
     ghost taken: { Self → Option (List ℕ) };
 
-    /// The calls that were made of it, in order, and how each went; `None` of one that doesn't tell.
+    /// The trace of its calls, each with its result; `None` if the stream does not record them.
     ghost calls: { Self → Option (List StreamCall) };
 
-    /// Gives what comes next, at the buffer's front. It may fail for want of anything to give now.
+    /// Reads the next bytes into the front of the buffer, and returns their number, 0 at the end of the stream.
+    ///
+    /// Fails, without reading a byte, with `Interrupted`, with `WouldBlock`, or with the stream's own error.
     fn read(&mut self, buffer: &mut [u8]) -> io::Result<usize>
         ensures within { ReadsAtMost result buffer.new }
         ensures given { ReadConsumes (to_give self.old) (to_give self.new) result buffer.new }
         ensures apart { taken self.new ≡ taken self.old }
         ensures told { Tells (calls self.old) (Read (length buffer.old) (outcome_by result) ∷ []) (calls self.new) };
 
-    /// Takes bytes, from the first on. It may fail for want of room now.
+    /// Writes a prefix of the bytes, and returns its length.
+    ///
+    /// Fails, without writing a byte, with `Interrupted`, with `WouldBlock`, or with the stream's own error.
     fn write(&mut self, bytes: &[u8]) -> io::Result<usize>
         ensures within { WritesAtMost result bytes.now }
         ensures taken { WriteAppends (taken self.old) (taken self.new) result bytes.now }
         ensures apart { to_give self.new ≡ to_give self.old }
         ensures told { Tells (calls self.old) (Written bytes.now (outcome_by result) ∷ []) (calls self.new) };
 
-    /// Tells the peer that nothing more is written. One that is gone already has nothing to end.
+    /// Shuts down the writing direction, so that the peer reads the end of the stream. Has no effect if the peer is
+    /// gone.
     fn end_writing(&mut self)
         ensures taken { taken self.new ≡ taken self.old }
         ensures apart { to_give self.new ≡ to_give self.old }

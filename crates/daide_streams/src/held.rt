@@ -1,4 +1,4 @@
-//! Bytes that wait in the process, between a stream and who calls it.
+//! The I/O buffer: bytes between a stream and its caller.
 
 ghost use Rattle.std.specs.Prelude.{◌≡◌, ◌≤◌, ◌++◌, [], min, length, take, drop, IfOk};
 ghost use Rattle.std.specs.Io.KnownBytes.{Consumes};
@@ -14,11 +14,12 @@ use daide_machine::ports::{Pull, Put};
 use std::alloc::{AllocError, Global};
 use std::marker::Model;
 
-/// How many bytes are held at most.
+/// The capacity of a buffer, in bytes.
 pub const MOST_HELD: usize = 4096;
 
-/// Bytes in their order, `MOST_HELD` at most, in room that is taken at once. Contracts see their list, and how many
-/// more have room behind them.
+/// A FIFO byte buffer with a capacity of `MOST_HELD`, allocated at once. Its abstract value is the list of its bytes,
+/// and the free space after the last of them. Removing the first bytes adds nothing to it; only an emptied buffer is
+/// reset.
 #[derive(Drop)]
 pub struct Held {
     bytes: Vec<u8>,
@@ -38,7 +39,7 @@ impl Model for Held {
 }
 
 impl Held {
-    /// Room, with no bytes yet.
+    /// Allocates an empty buffer. Fails if the allocation is refused.
     pub fn new(alloc: Global) -> Result<Held, AllocError>
         ensures { IfOk result (λ held. held ≡ all_room) }
     {
@@ -51,7 +52,7 @@ impl Held {
         })
     }
 
-    /// The bytes.
+    /// Returns the bytes.
     pub fn as_slice(&self) -> &[u8]
         ensures value { result.now ≡ self.now.bytes }
         ensures few { length result.now ≤ MOST_HELD }
@@ -59,7 +60,7 @@ impl Held {
         &self.bytes[self.from..self.to]
     }
 
-    /// How many more it takes.
+    /// Returns the free space, in bytes.
     pub fn room(&self) -> usize
         ensures value { result ≡ self.now.room }
         ensures few { result ≤ MOST_HELD }
@@ -67,7 +68,7 @@ impl Held {
         MOST_HELD - self.to
     }
 
-    /// Lets all bytes go.
+    /// Removes all bytes.
     pub fn clear(&mut self)
         ensures { self.new ≡ all_room }
     {
@@ -75,7 +76,7 @@ impl Held {
         self.to = 0;
     }
 
-    /// Lets the first bytes go.
+    /// Removes the first `count` bytes.
     pub fn skip(&mut self, count: usize)
         requires { count ≤ length self.old.bytes }
         ensures { self.new ≡ record self.old { bytes = drop count self.old.bytes } }
@@ -83,7 +84,7 @@ impl Held {
         self.from += count;
     }
 
-    /// Hands out the first bytes, as many as the buffer takes.
+    /// Moves the first bytes to the caller's buffer, as many as fit, and returns their number.
     pub fn give(&mut self, buffer: &mut [u8]) -> usize
         ensures count { result ≡ min (length self.old.bytes) (length buffer.old) }
         ensures len { length buffer.new ≡ length buffer.old }
@@ -97,7 +98,7 @@ impl Held {
         count
     }
 
-    /// Takes bytes behind those that are held, as many as there is room for.
+    /// Appends a prefix of the bytes, as long as the free space allows, and returns its length.
     pub fn gather(&mut self, bytes: &[u8]) -> usize
         ensures count { result ≡ min self.old.room (length bytes.now) }
         ensures within { result ≤ length bytes.now }
@@ -111,7 +112,7 @@ impl Held {
         count
     }
 
-    /// Reads what is there of a stream, in place of what is held.
+    /// Replaces the bytes by what one read of the stream returns. Returns what `pull_from` returns.
     pub fn refill<S: Duplex>(&mut self, stream: &mut S, readiness: &mut Readiness) -> Pull
         ensures given { Consumes (S.to_give stream.old) (S.to_give stream.new) self.new.bytes }
         ensures asked { IsPull S.calls MOST_HELD readiness.old stream.old result readiness.new stream.new }
@@ -127,7 +128,7 @@ impl Held {
         pull
     }
 
-    /// Writes what the stream takes of the bytes, and lets it go.
+    /// Writes the bytes once, and removes those that the stream accepted. Returns what `put_to` returns.
     pub fn drain<S: Duplex>(&mut self, stream: &mut S, readiness: &mut Readiness) -> Put
         ensures asked { IsPut S.calls self.old.bytes readiness.old stream.old result readiness.new stream.new }
         ensures taken { IsTaken (S.taken stream.old) self.old.bytes result (S.taken stream.new) }

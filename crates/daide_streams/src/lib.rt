@@ -1,5 +1,5 @@
-//! What the program takes of streams, whichever they are: calls that never wait, what is read ahead and what is held to
-//! be written, and what is dropped of a stream that closes.
+//! Buffered, non-blocking I/O over any full-duplex stream: reads and writes that never wait, a read buffer and a write
+//! buffer, and draining of a stream that is being closed.
 #![tactic(auto)]
 
 pub mod buffered;

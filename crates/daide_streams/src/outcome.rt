@@ -1,4 +1,4 @@
-//! How a call of a stream went, as far as it matters to who asked.
+//! The result of a system call on a stream, reduced to the four cases that callers distinguish.
 
 ghost use Rattle.std.specs.Prelude.{◌≡◌};
 ghost use Rattle.daide_streams.specs.Calls.{outcome_by};
@@ -6,21 +6,21 @@ ghost use Rattle.daide_streams.specs.Calls.{outcome_by};
 use std::io;
 use std::io::ErrorKind;
 
-/// How a call of a stream went.
+/// The result of one read or write.
 #[derive(Clone, Copy, Debug, PartialEq, Eq)]
 pub enum Outcome {
-    /// So many bytes were given or taken.
+    /// The call moved this number of bytes. 0 from a read is the end of the stream.
     Moved(usize),
-    /// A signal came in between, and nothing was moved.
+    /// A signal interrupted the call (`EINTR`) before it moved a byte.
     Interrupted,
-    /// It would have waited, and moved nothing.
+    /// The call would have blocked (`EWOULDBLOCK`), and moved no byte.
     NotNow,
-    /// It failed, and moved nothing.
+    /// The call failed with any other error, and moved no byte.
     Failed,
 }
 
 impl Outcome {
-    /// How a call went, by what it answered.
+    /// Classifies what a read or a write returned.
     pub fn of(answer: &io::Result<usize>) -> Outcome
         ensures { result ≡ outcome_by answer.now }
     {

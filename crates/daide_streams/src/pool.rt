@@ -1,4 +1,4 @@
-//! Room for bytes that are held, of which as much is there as is needed at once.
+//! A free list of I/O buffers, so that a run allocates as many as are in use at the same time.
 
 ghost use Rattle.std.specs.Prelude.{◌≡◌, IfSome};
 ghost use Rattle.daide_streams.specs.Buffers.{all_room};
@@ -8,10 +8,10 @@ use std::alloc::Global;
 use std::cell::RefCell;
 use std::marker::Model;
 
-/// How many rooms are kept while nothing is held in them; what is more is given back to the system.
+/// The most free buffers that are kept. Further ones are deallocated.
 const MOST_FREE: usize = 64;
 
-/// Rooms in which nothing is held, 64 at most: 256 KB.
+/// The free buffers, at most 64 of 4,096 bytes each: 256 KB. The abstract value is their number.
 #[derive(Drop)]
 struct Free {
     rooms: Vec<Held>,
@@ -28,7 +28,7 @@ impl Model for Free {
 }
 
 impl Free {
-    /// No rooms yet.
+    /// Creates an empty list.
     fn new(alloc: Global) -> Free
         ensures { result ≡ 0 }
     {
@@ -37,21 +37,21 @@ impl Free {
         }
     }
 
-    /// One of them, if there are some.
+    /// Removes and returns a buffer, or returns `None` if the list is empty.
     fn take(&mut self) -> Option<Held> {
         self.rooms.pop()
     }
 
-    /// Keeps one more, if it is not one too many.
+    /// Adds a buffer, or deallocates it if the list is full.
     fn keep(&mut self, held: Held) {
         if self.rooms.len() < MOST_FREE {
-            // Where memory for its place is refused, it is the system's again.
+            // If the list can't grow, the buffer is deallocated.
             let _ = self.rooms.push(held);
         }
     }
 }
 
-/// Room for what a run's sockets hold, taken where the first byte comes and back here with the last.
+/// The buffers of a run's sockets. A socket takes one with its first buffered byte, and gives it back with the last.
 #[derive(Drop)]
 pub struct Pool {
     alloc: Global,
@@ -59,7 +59,7 @@ pub struct Pool {
 }
 
 impl Pool {
-    /// A pool that has no room yet.
+    /// Creates a pool without buffers.
     pub fn new(alloc: Global) -> Pool {
         Pool {
             alloc,
@@ -67,7 +67,7 @@ impl Pool {
         }
     }
 
-    /// Room that was given back, if there is some.
+    /// Returns a buffer from the free list, if there is one.
     fn take_back(&self) -> Option<Held> {
         let Ok(mut free) = self.free.try_borrow_mut() else {
             return None;
@@ -75,7 +75,7 @@ impl Pool {
         free.take()
     }
 
-    /// Room with no bytes; none where memory is refused.
+    /// Returns an empty buffer: a free one, or else a new one. Returns `None` if the allocation is refused.
     pub fn take(&self) -> Option<Held>
         ensures { IfSome result (λ held. held ≡ all_room) }
     {
@@ -89,7 +89,7 @@ impl Pool {
         }
     }
 
-    /// Gives room back.
+    /// Gives a buffer back.
     pub fn give_back(&self, held: Held) {
         if let Ok(mut free) = self.free.try_borrow_mut() {
             free.keep(held);

@@ -1,32 +1,32 @@
-//! What is known of a stream without a call of it.
+//! Cached readiness of a stream: what is known without a system call.
 
 ghost use Rattle.std.specs.Prelude.{◌≡◌};
 ghost use Rattle.daide_streams.specs.Calls.{after_read, after_write};
 
 use crate::outcome::Outcome;
 
-/// Whether a call of a stream may do something.
+/// Whether a read or a write may make progress. Events of the poller set the flags; results of calls clear them.
 #[derive(Clone, Copy, Debug, PartialEq, Eq)]
 pub struct Readiness {
-    /// Whether a read may give something.
+    /// Whether a read may return bytes, the end or a failure.
     pub may_read: bool,
-    /// Whether a write may take something.
+    /// Whether a write may accept bytes.
     pub may_write: bool,
-    /// Whether more may be there though a read gave less than it had room for: an end or a failure, which are told but
-    /// once, or what stands behind an urgent byte, at which a read stops.
+    /// Whether a short read may leave something unread. The poller reports an end or a failure only once, and a read
+    /// stops before an urgent byte, so after any of these events a short read proves nothing.
     pub reads_on: bool,
 }
 
 impl Readiness {
-    /// Nothing is known.
+    /// Neither direction is known to be ready.
     pub const UNKNOWN: Readiness = Readiness {
         may_read: false,
         may_write: false,
         reads_on: false,
     };
 
-    /// Notes a read into so much room: none is made behind one that would have waited, or that gave something and less
-    /// than it had room for, until more is told.
+    /// Records the result of a read into a buffer of `room` bytes. Clears `may_read` if the read would have blocked, or
+    /// if it returned some bytes but fewer than `room`, unless `reads_on` is set.
     pub fn note_read(&mut self, room: usize, outcome: Outcome)
         ensures { self.new ≡ after_read self.old room outcome }
     {
@@ -41,8 +41,8 @@ impl Readiness {
         }
     }
 
-    /// Notes a write of so many bytes: none is made behind one that would have waited, or that took less than it was
-    /// handed, until more is told.
+    /// Records the result of a write of `handed` bytes. Clears `may_write` if the write would have blocked or accepted
+    /// fewer than `handed`.
     pub fn note_write(&mut self, handed: usize, outcome: Outcome)
         ensures { self.new ≡ after_write self.old handed outcome }
     {

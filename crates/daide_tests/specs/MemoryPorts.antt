@@ -3,10 +3,11 @@ use Rattle.std.specs.Prelude.{List, map, Option, Some, None}
 use Rattle.std.specs.Prelude.{Vec}
 use Rattle.daide_tests.specs.declared.memory_ports.Call.{Call}
 use Rattle.daide_tests.specs.declared.memory_ports.Call.TheVariants as Calls
-use Rattle.daide_machine.specs.Ports.{PortAnswer, Clock, Pulled, Offered}
+use Rattle.daide_machine.specs.Ports.{PortAnswer, TurnBegins, Clock, Pulled, Offered}
 
 -- a stored call, as an answer
 abbrev pub answer_stored : {A : Type 0} → Call A → PortAnswer
+answer_stored Calls.TurnBegins = TurnBegins
 answer_stored (Calls.Clock popped) = Clock popped
 answer_stored (Calls.Pulled side buffer pull bytes) = Pulled side buffer pull bytes.items
 answer_stored (Calls.Offered side bytes put) = Offered side bytes.items put

@@ -4,7 +4,7 @@
 //! nothing from then on.
 
 ghost use Rattle.std.specs.Prelude.{◌≡◌, [], ◌∷◌, ◌++◌, ◌≤◌, length, Some, Ok, IfSome, Option, Vec, map, option_map};
-ghost use Rattle.daide_machine.specs.Ports.{IsPullWithin, IsPutWithin, pulled_len};
+ghost use Rattle.daide_machine.specs.Ports.{Tells, TurnBegins, IsPullWithin, IsPutWithin, pulled_len};
 ghost use Rattle.daide_tests.specs.MemoryPorts.{answer_stored, answers_stored};
 ghost use Rattle.daide_tests.specs.declared.memory_ports.Call.{Call};
 
@@ -43,6 +43,8 @@ pub struct Script<'a> {
 /// A call, and what it answered.
 #[derive(Drop)]
 pub enum Call<A: Allocator = Global> {
+    /// A turn began.
+    TurnBegins,
     /// The clock was asked, and had popped or not.
     Clock(bool),
     /// A side was read into a buffer of this length, and these bytes came.
@@ -171,6 +173,14 @@ impl<'a, A: Allocator + Copy> MemoryPorts<'a, A> {
             server: Player::new(server),
             quiet,
         }
+    }
+
+    /// Stores that a turn begins.
+    pub fn begin_turn(&mut self)
+        ensures { Tells (answers_stored self.old.calls) (TurnBegins ∷ []) (answers_stored self.new.calls) }
+    {
+        let calls = self.calls.take();
+        self.calls = with_call(calls, Ok(Call::TurnBegins));
     }
 
     /// The calls so far, or none where memory for them was refused.

@@ -6,3 +6,5 @@ mod ReadBack
 mod AddedNames
 mod Written
 mod Small
+mod WordFacts
+mod LineFacts

@@ -4,6 +4,7 @@
 
 pub mod frames;
 mod input;
+mod law_facts;
 pub mod laws;
 pub mod line;
 mod pieces;

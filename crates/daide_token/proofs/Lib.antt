@@ -3,11 +3,14 @@ mod TableLemmas
 mod NameLaws
 mod NamePages
 mod NamesByLetter
-mod NumberText
+mod DecimalText
+pub mod TextParts
+mod TextWords
 mod TokenLemmas
-mod WholeText
+pub mod WholeText
 mod TextBack
 pub mod ClassNumbers
 mod StandardFacts
 mod WholeRangeFacts
 mod SecondListing
+pub mod TextLines

@@ -1,37 +1,46 @@
--- The names of a category on a page: those of its codes from a first one on. (own)
-use Rattle.std.specs.Prelude.{ℕ, ◌+◌, ◌*◌, ◌-◌, nat_le, nat_lt, Bool, if◌then◌else◌, List, [], ◌∷◌, length, get_or}
+-- The names of a category on a page: a cell for each of its codes, from 00 on. (own)
+use Rattle.std.specs.Prelude.{ℕ, ◌+◌, ◌*◌, nat_le, ◌==◌, Bool, true, List, [], ◌∷◌, length, get_or}
 use Rattle.std.specs.Prelude.{Option, None, Some}
 use Rattle.std.specs.List.{list_all}
 use Rattle.daide_token.specs.Names.{Named}
 
--- a page: its first code, and a cell for each code from there on
+-- a page: the cells of a category, in each a name as it is printed behind another word, or nothing
 abbrev pub Page : Type 0
-Page = ℕ × List (List ℕ)
+Page = List (List ℕ)
 
--- a cell's name; an empty cell has none
+-- a cell's name, which stands behind the space; an empty cell has none
 abbrev pub name_of_cell : List ℕ → Option (List ℕ)
 name_of_cell [] = None
-name_of_cell (letter ∷ letters) = Some (letter ∷ letters)
+name_of_cell (space ∷ letters) = Some letters
 
--- the name of a code; codes before the first and past the last have none
-abbrev pub name_on : ℕ → List (List ℕ) → ℕ → Option (List ℕ)
-name_on first cells code = if nat_lt code first then None else name_of_cell (get_or cells (code - first) [])
+-- whether a cell is empty or begins with a space
+abbrev pub is_spaced : List ℕ → Bool
+is_spaced [] = true
+is_spaced (space ∷ letters) = space == 32
+
+-- the name of a code; codes past the last cell have none
+abbrev pub name_on : Page → ℕ → Option (List ℕ)
+name_on cells code = name_of_cell (get_or cells code [])
 
 -- the row of a cell before other rows; an empty cell has none
 abbrev pub row_before : ℕ → List ℕ → List Named → List Named
 row_before t [] rows = rows
-row_before t (letter ∷ letters) rows = (t, letter ∷ letters) ∷ rows
+row_before t (space ∷ letters) rows = (t, letters) ∷ rows
 
 -- the rows of cells, of tokens from one on, before other rows
-abbrev pub rows_before : ℕ → List (List ℕ) → List Named → List Named
+abbrev pub rows_before : ℕ → Page → List Named → List Named
 rows_before t [] rows = rows
 rows_before t (cell ∷ cells) rows = row_before t cell (rows_before (t + 1) cells rows)
 
 -- the rows of pages, of categories from one on
 abbrev pub rows_on : ℕ → List Page → List Named
 rows_on category [] = []
-rows_on category (page ∷ pages) = rows_before (category * 256 + page.0) page.1 (rows_on (category + 1) pages)
+rows_on category (page ∷ pages) = rows_before (category * 256) page (rows_on (category + 1) pages)
 
 -- whether no page has a cell past the last code
 abbrev pub are_short : List Page → Bool
-are_short pages = list_all (λ page. nat_le (page.0 + length page.1) 256) pages
+are_short pages = list_all (λ page. nat_le (length page) 256) pages
+
+-- whether all cells are empty or begin with a space
+abbrev pub are_spaced : List Page → Bool
+are_spaced pages = list_all (λ page. list_all is_spaced page) pages

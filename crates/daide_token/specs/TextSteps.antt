@@ -1,8 +1,5 @@
--- The text in the order in which it is written: what a token adds depends on what was written last.
+-- The text in the order in which it is printed: what a token adds depends on what was printed last.
 use Rattle.std.specs.Prelude.{ℕ, ◌%◌, ◌++◌, if◌then◌else◌, List, [], ◌∷◌}
-use Rattle.std.specs.Prelude.{option_map, unwrap_or}
-use Rattle.std.specs.Fmt.{signed_decimal}
-use Rattle.daide_token.specs.Token.{number_of}
 use Rattle.daide_token.specs.Text.{is_quotable, word_with}
 use Rattle.daide_token.specs.Names.{Named}
 use Rattle.daide_token.specs.declared.text.PrinterState.{PrinterState}
@@ -20,18 +17,30 @@ before_character Start = 39 ∷ []
 before_character Word = 32 ∷ 39 ∷ []
 before_character Quote = []
 
--- what stands last once a token is written
+-- what stands last once a token is printed
 abbrev pub place_after : ℕ → PrinterState
 place_after t = if is_quotable t then Quote else Word
-
--- a token's number in decimal form, where it has one
-abbrev pub number_text : ℕ → List ℕ
-number_text t = unwrap_or (option_map signed_decimal (number_of t)) []
 
 -- what a token adds
 abbrev pub token_text : List Named → PrinterState → ℕ → List ℕ
 token_text added place t =
     if is_quotable t then before_character place ++ (t % 256) ∷ [] else before_item place ++ word_with added t
+
+-- what some tokens add
+abbrev pub some_text : List Named → PrinterState → List ℕ → List ℕ
+some_text added place [] = []
+some_text added place (t ∷ ts) = token_text added place t ++ some_text added (place_after t) ts
+
+-- what stands last once they are printed
+abbrev pub place_past : PrinterState → List ℕ → PrinterState
+place_past place [] = place
+place_past place (t ∷ ts) = place_past (place_after t) ts
+
+-- what ends a text: the quote of an open run
+abbrev pub end_text : PrinterState → List ℕ
+end_text Start = []
+end_text Word = []
+end_text Quote = 39 ∷ []
 
 -- what some tokens add, to the end
 abbrev pub rest_of_text : List Named → PrinterState → List ℕ → List ℕ

@@ -3,12 +3,12 @@
 
 pub mod class;
 mod class_number;
-mod gathered;
+mod law_facts;
 pub mod laws;
 mod names;
 pub mod text;
 pub mod token;
 
 pub use class::Class;
-pub use text::{write_text, write_text_with};
+pub use text::{Printed, PrinterState, end_of, put_tokens, write_text, write_text_with};
 pub use token::Token;

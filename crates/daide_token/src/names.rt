@@ -1,32 +1,37 @@
-//! The names of tokens, by category and code, and the tokens by the first letters of their names.
+//! The names of tokens, by category and code, and the tokens by the first letters of their names. A name is kept as it is
+//! printed behind another word, with a space before it, so that a text takes it as it is.
 
-ghost use Rattle.std.specs.Prelude.{◌≡◌, ◌<◌, ◌+◌, ◌*◌, ℕ, true, length, map, option_map};
-ghost use Rattle.daide_token.specs.NamePages.{Page, are_short, name_on, rows_on};
-ghost use Rattle.std.specs.List.{find, range_with_len};
+ghost use Rattle.std.specs.Prelude.{◌≡◌, ◌<◌, ◌+◌, ◌*◌, ℕ, [], true, length, map, option_map, slice_index_or};
+ghost use Rattle.std.specs.List.{find, list_all, range_with_len};
+ghost use Rattle.daide_token.specs.NamePages.{are_short, are_spaced, is_spaced, name_of_cell, name_on, rows_on};
 ghost use Rattle.daide_token.specs.Names.{name_of, names, token_named};
 ghost use Rattle.daide_token.specs.NamesByLetter.{codes_with, first_letter, is_named};
 
-/// Category 40, brackets, from 00 on.
+/// Category 40, brackets.
 #[rattlefmt::skip]
-const BRACKETS: [&str; 2] = ["BRA", "KET"];
+const BRACKETS: [&str; 2] = [" BRA", " KET"];
 
-/// Category 41, powers, from 00 on.
+/// Category 41, powers.
 #[rattlefmt::skip]
-const POWERS: [&str; 7] = ["AUS", "ENG", "FRA", "GER", "ITA", "RUS", "TUR"];
+const POWERS: [&str; 7] = [" AUS", " ENG", " FRA", " GER", " ITA", " RUS", " TUR"];
 
-/// Category 42, units, from 00 on.
+/// Category 42, units.
 #[rattlefmt::skip]
-const UNITS: [&str; 2] = ["AMY", "FLT"];
+const UNITS: [&str; 2] = [" AMY", " FLT"];
 
-/// Category 43, orders, from 20 on.
+/// Category 43, orders.
 #[rattlefmt::skip]
-const ORDERS: [&str; 99] = [
+const ORDERS: [&str; 131] = [
+    // 00
+    "", "", "", "", "", "", "", "", "", "", "", "", "", "", "", "",
+    // 10
+    "", "", "", "", "", "", "", "", "", "", "", "", "", "", "", "",
     // 20
-    "CTO", "CVY", "HLD", "MTO", "SUP", "VIA", "", "", "", "", "", "", "", "", "", "",
+    " CTO", " CVY", " HLD", " MTO", " SUP", " VIA", "", "", "", "", "", "", "", "", "", "",
     // 30
     "", "", "", "", "", "", "", "", "", "", "", "", "", "", "", "",
     // 40
-    "DSB", "RTO", "", "", "", "", "", "", "", "", "", "", "", "", "", "",
+    " DSB", " RTO", "", "", "", "", "", "", "", "", "", "", "", "", "", "",
     // 50
     "", "", "", "", "", "", "", "", "", "", "", "", "", "", "", "",
     // 60
@@ -34,123 +39,154 @@ const ORDERS: [&str; 99] = [
     // 70
     "", "", "", "", "", "", "", "", "", "", "", "", "", "", "", "",
     // 80
-    "BLD", "REM", "WVE",
+    " BLD", " REM", " WVE",
 ];
 
-/// Category 44, notes, from 00 on.
+/// Category 44, notes.
 #[rattlefmt::skip]
 const NOTES: [&str; 20] = [
     // 00
-    "MBV", "", "CST", "ESC", "FAR", "HSC", "NAS", "NMB", "NMR", "NRN", "NRS", "NSA", "NSC", "NSF", "NSP", "",
+    " MBV", "", " CST", " ESC", " FAR", " HSC", " NAS", " NMB", " NMR", " NRN", " NRS", " NSA", " NSC", " NSF", " NSP", "",
     // 10
-    "NSU", "NVR", "NYU", "YSC",
+    " NSU", " NVR", " NYU", " YSC",
 ];
 
-/// Category 45, outcomes, from 00 on.
+/// Category 45, outcomes.
 #[rattlefmt::skip]
-const OUTCOMES: [&str; 7] = ["SUC", "BNC", "CUT", "DSR", "FLD", "NSO", "RET"];
+const OUTCOMES: [&str; 7] = [" SUC", " BNC", " CUT", " DSR", " FLD", " NSO", " RET"];
 
-/// Category 46, coasts, from 00 on.
+/// Category 46, coasts.
 #[rattlefmt::skip]
-const COASTS: [&str; 15] = [
-    // 00
-    "NCS", "", "NEC", "", "ECS", "", "SEC", "", "SCS", "", "SWC", "", "WCS", "", "NWC",
-];
+const COASTS: [&str; 15] = [" NCS", "", " NEC", "", " ECS", "", " SEC", "", " SCS", "", " SWC", "", " WCS", "", " NWC"];
 
-/// Category 47, seasons, from 00 on.
+/// Category 47, seasons.
 #[rattlefmt::skip]
-const SEASONS: [&str; 5] = ["SPR", "SUM", "FAL", "AUT", "WIN"];
+const SEASONS: [&str; 5] = [" SPR", " SUM", " FAL", " AUT", " WIN"];
 
-/// Category 48, commands, from 00 on.
+/// Category 48, commands.
 #[rattlefmt::skip]
 const COMMANDS: [&str; 31] = [
     // 00
-    "CCD", "DRW", "FRM", "GOF", "HLO", "HST", "HUH", "IAM", "LOD", "MAP", "MDF", "MIS", "NME", "NOT", "NOW", "OBS",
+    " CCD", " DRW", " FRM", " GOF", " HLO", " HST", " HUH", " IAM", " LOD", " MAP", " MDF", " MIS", " NME", " NOT", " NOW", " OBS",
     // 10
-    "OFF", "ORD", "OUT", "PRN", "REJ", "SCO", "SLO", "SND", "SUB", "SVE", "THX", "TME", "YES", "ADM", "SMR",
+    " OFF", " ORD", " OUT", " PRN", " REJ", " SCO", " SLO", " SND", " SUB", " SVE", " THX", " TME", " YES", " ADM", " SMR",
 ];
 
-/// Category 49, parameters, from 00 on.
+/// Category 49, parameters.
 #[rattlefmt::skip]
 const PARAMETERS: [&str; 14] = [
-    // 00
-    "AOA", "BTL", "ERR", "LVL", "MRT", "MTL", "NPB", "NPR", "PDA", "PTL", "RTL", "UNO", "", "DSD",
+    " AOA", " BTL", " ERR", " LVL", " MRT", " MTL", " NPB", " NPR", " PDA", " PTL", " RTL", " UNO", "", " DSD",
 ];
 
-/// Category 4A, press, from 00 on.
+/// Category 4A, press.
 #[rattlefmt::skip]
 const PRESS: [&str; 32] = [
     // 00
-    "ALY", "AND", "BWX", "DMZ", "", "", "FCT", "", "", "", "IDK", "", "INS", "", "OCC", "ORR",
+    " ALY", " AND", " BWX", " DMZ", "", "", " FCT", "", "", "", " IDK", "", " INS", "", " OCC", " ORR",
     // 10
-    "PCE", "", "", "PRP", "QRY", "SCD", "SRY", "SUG", "THK", "", "TRY", "", "VSS", "", "", "XDO",
+    " PCE", "", "", " PRP", " QRY", " SCD", " SRY", " SUG", " THK", "", " TRY", "", " VSS", "", "", " XDO",
 ];
 
-/// Category 50, inland provinces, from 00 on.
+/// Category 50, inland provinces.
 #[rattlefmt::skip]
-const INLAND: [&str; 7] = ["BOH", "BUR", "GAL", "RUH", "SIL", "TYR", "UKR"];
+const INLAND: [&str; 7] = [" BOH", " BUR", " GAL", " RUH", " SIL", " TYR", " UKR"];
 
-/// Category 51, inland centres, from 07 on.
+/// Category 51, inland centres.
 #[rattlefmt::skip]
-const INLAND_CENTRES: [&str; 7] = ["BUD", "MOS", "MUN", "PAR", "SER", "VIE", "WAR"];
+const INLAND_CENTRES: [&str; 14] = ["", "", "", "", "", "", "", " BUD", " MOS", " MUN", " PAR", " SER", " VIE", " WAR"];
 
-/// Category 52, seas, from 0E on.
+/// Category 52, seas.
 #[rattlefmt::skip]
-const SEAS: [&str; 19] = [
-    // 0E
-    "ADR", "AEG",
+const SEAS: [&str; 33] = [
+    // 00
+    "", "", "", "", "", "", "", "", "", "", "", "", "", "", " ADR", " AEG",
     // 10
-    "BAL", "BAR", "BLA", "EAS", "ECH", "GOB", "GOL", "HEL", "ION", "IRI", "MAO", "NAO", "NTH", "NWG", "SKA", "TYS",
+    " BAL", " BAR", " BLA", " EAS", " ECH", " GOB", " GOL", " HEL", " ION", " IRI", " MAO", " NAO", " NTH", " NWG", " SKA", " TYS",
     // 20
-    "WES",
+    " WES",
 ];
 
-/// Category 54, coastal provinces, from 21 on.
+/// Category 54, coastal provinces.
 #[rattlefmt::skip]
-const COASTAL: [&str; 15] = [
-    // 21
-    "ALB", "APU", "ARM", "CLY", "FIN", "GAS", "LVN", "NAF", "PIC", "PIE", "PRU", "SYR", "TUS", "WAL", "YOR",
+const COASTAL: [&str; 48] = [
+    // 00
+    "", "", "", "", "", "", "", "", "", "", "", "", "", "", "", "",
+    // 10
+    "", "", "", "", "", "", "", "", "", "", "", "", "", "", "", "",
+    // 20
+    "", " ALB", " APU", " ARM", " CLY", " FIN", " GAS", " LVN", " NAF", " PIC", " PIE", " PRU", " SYR", " TUS", " WAL", " YOR",
 ];
 
-/// Category 55, coastal centres, from 30 on.
+/// Category 55, coastal centres.
 #[rattlefmt::skip]
-const COASTAL_CENTRES: [&str; 24] = [
+const COASTAL_CENTRES: [&str; 72] = [
+    // 00
+    "", "", "", "", "", "", "", "", "", "", "", "", "", "", "", "",
+    // 10
+    "", "", "", "", "", "", "", "", "", "", "", "", "", "", "", "",
+    // 20
+    "", "", "", "", "", "", "", "", "", "", "", "", "", "", "", "",
     // 30
-    "ANK", "BEL", "BER", "BRE", "CON", "DEN", "EDI", "GRE", "HOL", "KIE", "LON", "LVP", "MAR", "NAP", "NWY", "POR",
+    " ANK", " BEL", " BER", " BRE", " CON", " DEN", " EDI", " GRE", " HOL", " KIE", " LON", " LVP", " MAR", " NAP", " NWY", " POR",
     // 40
-    "ROM", "RUM", "SEV", "SMY", "SWE", "TRI", "TUN", "VEN",
+    " ROM", " RUM", " SEV", " SMY", " SWE", " TRI", " TUN", " VEN",
 ];
 
-/// Category 57, bicoastal centres, from 48 on.
+/// Category 57, bicoastal centres.
 #[rattlefmt::skip]
-const BICOASTAL_CENTRES: [&str; 3] = ["BUL", "SPA", "STP"];
+const BICOASTAL_CENTRES: [&str; 75] = [
+    // 00
+    "", "", "", "", "", "", "", "", "", "", "", "", "", "", "", "",
+    // 10
+    "", "", "", "", "", "", "", "", "", "", "", "", "", "", "", "",
+    // 20
+    "", "", "", "", "", "", "", "", "", "", "", "", "", "", "", "",
+    // 30
+    "", "", "", "", "", "", "", "", "", "", "", "", "", "", "", "",
+    // 40
+    "", "", "", "", "", "", "", "", " BUL", " SPA", " STP",
+];
 
-/// The names of each category from 40 to 57: the first code that has one, and the names from there on.
-static PAGES: [(u8, &[&str]); 24] = [
-    (0x00, &BRACKETS),
-    (0x00, &POWERS),
-    (0x00, &UNITS),
-    (0x20, &ORDERS),
-    (0x00, &NOTES),
-    (0x00, &OUTCOMES),
-    (0x00, &COASTS),
-    (0x00, &SEASONS),
-    (0x00, &COMMANDS),
-    (0x00, &PARAMETERS),
-    (0x00, &PRESS),
-    (0x00, &[]),
-    (0x00, &[]),
-    (0x00, &[]),
-    (0x00, &[]),
-    (0x00, &[]),
-    (0x00, &INLAND),
-    (0x07, &INLAND_CENTRES),
-    (0x0E, &SEAS),
-    (0x00, &[]),
-    (0x21, &COASTAL),
-    (0x30, &COASTAL_CENTRES),
-    (0x00, &[]),
-    (0x48, &BICOASTAL_CENTRES),
+/// A category without names.
+const NONE: [&str; 0] = [];
+
+/// The names of each category, as they are printed behind another word.
+#[rattlefmt::skip]
+static PAGES: [&[&str]; 256] = [
+    // 00
+    &NONE, &NONE, &NONE, &NONE, &NONE, &NONE, &NONE, &NONE, &NONE, &NONE, &NONE, &NONE, &NONE, &NONE, &NONE, &NONE,
+    // 10
+    &NONE, &NONE, &NONE, &NONE, &NONE, &NONE, &NONE, &NONE, &NONE, &NONE, &NONE, &NONE, &NONE, &NONE, &NONE, &NONE,
+    // 20
+    &NONE, &NONE, &NONE, &NONE, &NONE, &NONE, &NONE, &NONE, &NONE, &NONE, &NONE, &NONE, &NONE, &NONE, &NONE, &NONE,
+    // 30
+    &NONE, &NONE, &NONE, &NONE, &NONE, &NONE, &NONE, &NONE, &NONE, &NONE, &NONE, &NONE, &NONE, &NONE, &NONE, &NONE,
+    // 40
+    &BRACKETS, &POWERS, &UNITS, &ORDERS, &NOTES, &OUTCOMES, &COASTS, &SEASONS,
+    &COMMANDS, &PARAMETERS, &PRESS, &NONE, &NONE, &NONE, &NONE, &NONE,
+    // 50
+    &INLAND, &INLAND_CENTRES, &SEAS, &NONE, &COASTAL, &COASTAL_CENTRES, &NONE, &BICOASTAL_CENTRES,
+    &NONE, &NONE, &NONE, &NONE, &NONE, &NONE, &NONE, &NONE,
+    // 60
+    &NONE, &NONE, &NONE, &NONE, &NONE, &NONE, &NONE, &NONE, &NONE, &NONE, &NONE, &NONE, &NONE, &NONE, &NONE, &NONE,
+    // 70
+    &NONE, &NONE, &NONE, &NONE, &NONE, &NONE, &NONE, &NONE, &NONE, &NONE, &NONE, &NONE, &NONE, &NONE, &NONE, &NONE,
+    // 80
+    &NONE, &NONE, &NONE, &NONE, &NONE, &NONE, &NONE, &NONE, &NONE, &NONE, &NONE, &NONE, &NONE, &NONE, &NONE, &NONE,
+    // 90
+    &NONE, &NONE, &NONE, &NONE, &NONE, &NONE, &NONE, &NONE, &NONE, &NONE, &NONE, &NONE, &NONE, &NONE, &NONE, &NONE,
+    // A0
+    &NONE, &NONE, &NONE, &NONE, &NONE, &NONE, &NONE, &NONE, &NONE, &NONE, &NONE, &NONE, &NONE, &NONE, &NONE, &NONE,
+    // B0
+    &NONE, &NONE, &NONE, &NONE, &NONE, &NONE, &NONE, &NONE, &NONE, &NONE, &NONE, &NONE, &NONE, &NONE, &NONE, &NONE,
+    // C0
+    &NONE, &NONE, &NONE, &NONE, &NONE, &NONE, &NONE, &NONE, &NONE, &NONE, &NONE, &NONE, &NONE, &NONE, &NONE, &NONE,
+    // D0
+    &NONE, &NONE, &NONE, &NONE, &NONE, &NONE, &NONE, &NONE, &NONE, &NONE, &NONE, &NONE, &NONE, &NONE, &NONE, &NONE,
+    // E0
+    &NONE, &NONE, &NONE, &NONE, &NONE, &NONE, &NONE, &NONE, &NONE, &NONE, &NONE, &NONE, &NONE, &NONE, &NONE, &NONE,
+    // F0
+    &NONE, &NONE, &NONE, &NONE, &NONE, &NONE, &NONE, &NONE, &NONE, &NONE, &NONE, &NONE, &NONE, &NONE, &NONE, &NONE,
 ];
 
 /// The tokens whose names begin with each letter from A to Z, in the order of the tokens.
@@ -224,46 +260,61 @@ static LETTERS: [&[u16]; 26] = [
     &[],
 ];
 
-/// The pages of the categories from 40 to 57: their rows are those of the table.
-fn pages() -> &'static [(u8, &'static [&'static str])]
-    ensures rows { rows_on 0x40 (map (λ page. let told : Page = (page.0, map (λ cell. cell.now) page.1.now) in told)
-        result.now) ≡ names }
-    ensures short { are_short (map (λ page. let told : Page = (page.0, map (λ cell. cell.now) page.1.now) in told)
-        result.now) ≡ true }
-    ensures count { length result.now ≡ 24 }
+/// The pages of all categories: their rows are those of the table.
+fn pages() -> &'static [&'static [&'static str]]
+    ensures rows { rows_on 0 (map (λ page. map (λ cell. cell.now) page.now) result.now) ≡ names }
+    ensures short { are_short (map (λ page. map (λ cell. cell.now) page.now) result.now) ≡ true }
+    ensures spaced { are_spaced (map (λ page. map (λ cell. cell.now) page.now) result.now) ≡ true }
+    ensures count { length result.now ≡ 256 }
 {
     &PAGES
 }
 
 /// The page of a category.
 #[inline(always)]
-fn page_of(category: u8) -> (u8, &'static [&'static str])
-    ensures { (code : ℕ) → code < 256 →
-        name_on result.0 (map (λ cell. cell.now) result.1.now) code ≡ name_of (category * 256 + code) }
+fn page_of(category: u8) -> &'static [&'static str]
+    ensures names { (code : ℕ) → code < 256 →
+        name_on (map (λ cell. cell.now) result.now) code ≡ name_of (category * 256 + code) }
+    ensures spaced { list_all is_spaced (map (λ cell. cell.now) result.now) ≡ true }
 {
-    if category < 0x40 || category > 0x57 {
-        return (0, &[]);
-    }
-    pages()[(category - 0x40) as usize]
+    pages()[category as usize]
 }
 
-/// The name of a code on a page.
+/// The cell of a code on a page, empty past the last one.
 #[inline(always)]
-fn name_on(first: u8, cells: &[&'static str], code: u8) -> Option<&'static str>
-    ensures { option_map (λ name. name.now) result ≡ name_on first (map (λ cell. cell.now) cells.now) code }
+fn cell_on(cells: &[&'static str], code: u8) -> &'static str
+    ensures { result.now ≡ slice_index_or (map (λ cell. cell.now) cells.now) code [] }
 {
-    let cell = *cells.get(code.checked_sub(first)? as usize)?;
-    if cell.is_empty() { None } else { Some(cell) }
+    match cells.get(code as usize) {
+        Some(cell) => *cell,
+        None => "",
+    }
+}
+
+/// The name of a token, by its two bytes, as it is printed behind another word: a space and its letters. Empty where it
+/// has none.
+#[inline(always)]
+pub(crate) fn spaced_name(category: u8, code: u8) -> &'static str
+    ensures name { name_of_cell result.now ≡ name_of (category * 256 + code) }
+    ensures spaced { is_spaced result.now ≡ true }
+{
+    cell_on(page_of(category), code)
+}
+
+/// The same by its whole number.
+fn spaced_name_of(code: u16) -> &'static str
+    ensures name { name_of_cell result.now ≡ name_of code }
+    ensures spaced { is_spaced result.now ≡ true }
+{
+    let [category, code] = code.to_be_bytes();
+    spaced_name(category, code)
 }
 
 /// The name of a token.
-#[inline(always)]
 pub(crate) fn name_of(code: u16) -> Option<&'static str>
     ensures { option_map (λ name. name.now) result ≡ name_of code }
 {
-    let [category, code] = code.to_be_bytes();
-    let (first, cells) = page_of(category);
-    name_on(first, cells, code)
+    spaced_name_of(code).strip_prefix(' ')
 }
 
 /// The tokens by the first letters of their names, from A to Z.

@@ -1,35 +1,58 @@
 //! The text form of tokens, in which a person reads them.
 
-ghost use Rattle.std.specs.Prelude.{List, IfOk, OnOk, None, [], ◌++◌, length, ◌∷◌, ◌%◌, ◌<◌, ◌≤◌, ◌≡◌};
+ghost use Rattle.std.specs.Prelude.{List, OnOk, IfSome, IfNone, None, drop, [], ◌++◌, length, take, ◌∷◌, ◌%◌, ◌*◌, ◌+◌, ◌<◌, ◌≤◌, ◌≡◌};
 ghost use Rattle.std.specs.Io.KnownBytes.{Appends};
 ghost use Rattle.std.specs.Prelude.{unwrap_or};
+ghost use Rattle.std.specs.Fmt.{decimal, signed_decimal};
+ghost use Rattle.std.specs.Int.RustNames.{unsigned_abs};
 ghost use Rattle.daide_token.specs.Names.{Named};
 ghost use Rattle.daide_token.specs.Text.{added_name_of, hex_digit_of, hex_text, is_quotable, text_of, text_with, word_with};
-ghost use Rattle.daide_token.specs.TextSteps.{before_character, before_item, number_text, place_after, rest_of_text};
+ghost use Rattle.daide_token.specs.TextSteps.{before_character, before_item, end_text, place_after, place_past, some_text};
 ghost use Rattle.daide_token.specs.TextSteps.{token_text};
 ghost use Rattle.daide_token.specs.Token.{number_of, tokens_of};
-ghost use Rattle.daide_token.specs.declared.text.PrinterState.TheVariants.{Word};
+ghost use Rattle.daide_token.specs.declared.text.PrinterState.TheVariants.{Quote, Word};
 
-use crate::gathered::Gathered;
+use crate::names::spaced_name;
 use crate::token::Token;
 use std::io;
 use std::io::Write;
 
-/// From how many bytes on the text that was gathered is written before more comes.
-const MOST_GATHERED: usize = 240;
+/// How many bytes of tokens `write_text_with` prints together.
+const TOGETHER: usize = 60;
 
-/// The category of characters.
-const CHARACTERS: u8 = 0x4B;
+/// Room for their text: eight bytes at most a token.
+const ROOM: usize = 256;
 
-/// What was written last.
+/// The category of brackets.
+const BRACKETS: u8 = 0x40;
+
+/// What was printed last.
 #[derive(Clone, Copy)]
-enum PrinterState {
+pub enum PrinterState {
     /// Nothing yet.
     Start,
     /// A token by itself.
     Word,
     /// A character, and its run is open.
     Quote,
+}
+
+/// How far a text has come in the bytes that it is put into.
+#[derive(Clone, Copy)]
+pub struct Printed {
+    /// What was printed last.
+    pub place: PrinterState,
+    /// How many bytes there are.
+    pub len: usize,
+}
+
+/// A run of words that was put.
+#[derive(Clone, Copy)]
+struct Run {
+    /// How many bytes of text there are.
+    len: usize,
+    /// How many bytes of tokens were put.
+    count: usize,
 }
 
 /// Writes tokens, two bytes each with the high byte first, as text without a line end. `GOF ( 'a' #4a12 -1 )`
@@ -55,99 +78,196 @@ pub fn write_text_with<W: Write>(
     ensures text { OnOk result
         (Appends (W.contents writer.old) (W.contents writer.new) (text_with added.now (tokens_of tokens.now))) }
 {
-    let mut text = Gathered::new();
+    let mut line = [0; ROOM];
     let mut place = PrinterState::Start;
     let mut rest = tokens;
-    while let [high, low, others @ ..] = rest {
-        if text.len() > MOST_GATHERED {
-            text.write_out(writer)?;
-        }
+    'tokens: while !rest.is_empty() {
+        let (some, more) = rest.split_at(rest.len().min(TOGETHER));
+        let printed = put_tokens(added, some, &mut line, Printed { place, len: 0 });
+        writer.write_all(&line[..printed.len])?;
+        place = printed.place;
+        rest = more;
+    }
+    writer.write_all(end_of(place))
+}
+
+/// Puts the text of some tokens of a message behind a line's first bytes. The room is eight bytes a token.
+pub fn put_tokens(
+    added: &[(Token, [u8; 3])],
+    tokens: &[u8],
+    line: &mut [u8],
+    from: Printed,
+) -> Printed
+    requires { from.len + 4 * length tokens.now ≤ length line.old }
+    ensures text { take result.len line.new
+        ≡ take from.len line.old ++ some_text added.now from.place (tokens_of tokens.now) }
+    ensures place { result.place ≡ place_past from.place (tokens_of tokens.now) }
+    ensures len { result.len ≤ from.len + 4 * length tokens.now }
+{
+    let mut printed = from;
+    let mut rest = tokens;
+    'tokens: while let [high, low, others @ ..] = rest {
         let token = Token::from_be([*high, *low]);
-        place = match token.number() {
-            Some(_) => write_number(token, place, &mut text, writer)?,
-            None => put_token(added, place, token, &mut text),
+        let one = put_any(added, token, line, printed);
+        let run = put_words_behind(others, line, one);
+        let (_put, more) = others.split_at(run.count);
+        printed = Printed {
+            place: one.place,
+            len: run.len,
         };
-        rest = others;
+        rest = more;
     }
-    end_last(place, &mut text);
-    text.write_out(writer)
+    printed
 }
 
-/// Writes what was gathered, and a token's number behind it.
-fn write_number<W: Write>(
-    token: Token,
-    place: PrinterState,
-    text: &mut Gathered,
-    writer: &mut W,
-) -> Result<PrinterState, io::Error>
-    requires { length text.old ≤ 240 }
-    ensures { IfOk result (λ next. (next ≡ Word) × (text.new ≡ []) × Appends (W.contents writer.old)
-        (W.contents writer.new) (text.old ++ before_item place ++ number_text token)) }
-{
-    begin_item(place, text);
-    text.write_out(writer)?;
-    if let Some(number) = token.number() {
-        write!(writer, "{number}")?;
-    }
-    Ok(PrinterState::Word)
-}
-
-/// Gathers the text of one token that is no number, and says what was gathered last.
-#[inline(always)]
-fn put_token(
-    added: &[(Token, [u8; 3])],
-    place: PrinterState,
-    token: Token,
-    text: &mut Gathered,
-) -> PrinterState
-    requires room { length text.old ≤ 240 }
-    requires word { number_of token ≡ None }
-    ensures place { result ≡ place_after token }
-    ensures text { text.new ≡ text.old ++ token_text added.now place token }
-    ensures room { length text.new ≤ 250 }
-{
-    let [category, _code] = token.to_be();
-    if category == CHARACTERS {
-        return put_character(added, place, token, text);
-    }
-    put_word(added, place, token, text);
-    PrinterState::Word
-}
-
-/// Gathers the text of one token that may be a character.
-fn put_character(
-    added: &[(Token, [u8; 3])],
-    place: PrinterState,
-    token: Token,
-    text: &mut Gathered,
-) -> PrinterState
-    requires room { length text.old ≤ 240 }
-    requires word { number_of token ≡ None }
-    ensures place { result ≡ place_after token }
-    ensures text { text.new ≡ text.old ++ token_text added.now place token }
-    ensures room { length text.new ≤ 250 }
-{
-    if !quotable(token) {
-        put_word(added, place, token, text);
-        return PrinterState::Word;
-    }
-    begin_character(place, text);
-    let [_category, character] = token.to_be();
-    text.push(character);
-    PrinterState::Quote
-}
-
-/// Opens a run, and gathers the space before it, unless one is open.
-#[inline(always)]
-fn begin_character(place: PrinterState, text: &mut Gathered)
-    requires { length text.old ≤ 240 }
-    ensures text { text.new ≡ text.old ++ before_character place }
-    ensures room { length text.new ≤ 242 }
+/// Returns what a text ends with, once its last token is put.
+pub fn end_of(place: PrinterState) -> &'static [u8]
+    ensures text { result.now ≡ end_text place }
+    ensures few { length result.now ≤ 1 }
 {
     match place {
-        PrinterState::Start => text.push(b'\''),
-        PrinterState::Word => text.extend(*b" '"),
-        PrinterState::Quote => {}
+        PrinterState::Start | PrinterState::Word => b"",
+        PrinterState::Quote => b"'",
+    }
+}
+
+/// Puts the words that come first of some tokens, if they follow a word, as nearly all tokens do.
+#[inline(always)]
+fn put_words_behind(tokens: &[u8], line: &mut [u8], from: Printed) -> Run
+    requires { from.len + 4 * length tokens.now ≤ length line.old }
+    ensures text { (added : List Named) →
+        take result.len line.new ++ some_text added from.place (tokens_of (drop result.count tokens.now))
+        ≡ take from.len line.old ++ some_text added from.place (tokens_of tokens.now) }
+    ensures place { place_past from.place (tokens_of (drop result.count tokens.now))
+        ≡ place_past from.place (tokens_of tokens.now) }
+    ensures count { result.count ≤ length tokens.now }
+    ensures len { result.len ≤ from.len + 4 * result.count }
+{
+    match from.place {
+        PrinterState::Word => put_words(tokens, line, from.len),
+        PrinterState::Start | PrinterState::Quote => Run {
+            len: from.len,
+            count: 0,
+        },
+    }
+}
+
+/// Puts the words that come first of some tokens that follow a word: brackets and names, each with its space.
+fn put_words(tokens: &[u8], line: &mut [u8], from: usize) -> Run
+    requires { from + 4 * length tokens.now ≤ length line.old }
+    ensures text { (added : List Named) →
+        take result.len line.new ++ some_text added Word (tokens_of (drop result.count tokens.now))
+        ≡ take from line.old ++ some_text added Word (tokens_of tokens.now) }
+    ensures place { place_past Word (tokens_of (drop result.count tokens.now))
+        ≡ place_past Word (tokens_of tokens.now) }
+    ensures count { result.count ≤ length tokens.now }
+    ensures len { result.len ≤ from + 4 * result.count }
+{
+    let mut len = from;
+    let mut count = 0;
+    'words: while tokens.len() - count >= 2 {
+        match put_if_word(tokens[count], tokens[count + 1], line, len) {
+            None => return Run { len, count },
+            Some(end) => {
+                len = end;
+                count += 2;
+            }
+        }
+    }
+    Run { len, count }
+}
+
+/// Puts the text of a token that follows a word, by its two bytes, if it is a bracket or has a name.
+#[inline(always)]
+fn put_if_word(category: u8, code: u8, line: &mut [u8], len: usize) -> Option<usize>
+    requires { len + 8 ≤ length line.old }
+    ensures text { IfSome result (λ end. (added : List Named) →
+        take end line.new ≡ take len line.old ++ token_text added Word (category * 256 + code)) }
+    ensures place { IfSome result (λ end. place_after (category * 256 + code) ≡ Word) }
+    ensures len { IfSome result (λ end. end ≤ len + 8) }
+    ensures unchanged { IfNone result (line.new ≡ line.old) }
+{
+    if category == BRACKETS {
+        return put_if_bracket(code, line, len);
+    }
+    match spaced_name(category, code).as_bytes() {
+        [space, a, b, c] => Some(put([*space, *a, *b, *c], line, len)),
+        _ => None,
+    }
+}
+
+/// Puts the text of a token of the category of brackets that follows a word, by its code, if it is a bracket.
+#[inline(always)]
+fn put_if_bracket(code: u8, line: &mut [u8], len: usize) -> Option<usize>
+    requires { len + 8 ≤ length line.old }
+    ensures text { IfSome result (λ end. (added : List Named) →
+        take end line.new ≡ take len line.old ++ token_text added Word (0x4000 + code)) }
+    ensures place { IfSome result (λ end. place_after (0x4000 + code) ≡ Word) }
+    ensures len { IfSome result (λ end. end ≤ len + 8) }
+    ensures unchanged { IfNone result (line.new ≡ line.old) }
+{
+    match code {
+        0x00 => Some(put(*b" (", line, len)),
+        0x01 => Some(put(*b" )", line, len)),
+        _ => None,
+    }
+}
+
+/// Puts bytes behind the first ones.
+#[inline(always)]
+fn put<const N: usize>(bytes: [u8; N], line: &mut [u8], len: usize) -> usize
+    requires { len + N ≤ length line.old }
+    ensures text { take result line.new ≡ take len line.old ++ bytes.entry }
+    ensures len { result ≡ len + N }
+{
+    line[len..len + N].copy_from_slice(&bytes);
+    len + N
+}
+
+/// Puts the text of one token, whatever it is and follows.
+#[inline(never)]
+fn put_any(added: &[(Token, [u8; 3])], token: Token, line: &mut [u8], from: Printed) -> Printed
+    requires { from.len + 8 ≤ length line.old }
+    ensures text { take result.len line.new ≡ take from.len line.old ++ token_text added.now from.place token }
+    ensures place { result.place ≡ place_after token }
+    ensures len { result.len ≤ from.len + 8 }
+{
+    if quotable(token) {
+        return put_character(token, line, from);
+    }
+    let len = put_before_item(line, from);
+    Printed {
+        place: PrinterState::Word,
+        len: put_by_itself(added, token, line, len),
+    }
+}
+
+/// Puts a character, and opens its run unless one is open.
+fn put_character(token: Token, line: &mut [u8], from: Printed) -> Printed
+    requires { from.len + 8 ≤ length line.old }
+    ensures text { take result.len line.new
+        ≡ take from.len line.old ++ before_character from.place ++ (token % 256) ∷ [] }
+    ensures place { result.place ≡ Quote }
+    ensures len { result.len ≤ from.len + 8 }
+{
+    let len = put_before_character(line, from);
+    let [_category, character] = token.to_be();
+    Printed {
+        place: PrinterState::Quote,
+        len: put([character], line, len),
+    }
+}
+
+/// Opens a run, and puts the space before it, unless one is open.
+fn put_before_character(line: &mut [u8], from: Printed) -> usize
+    requires { from.len + 8 ≤ length line.old }
+    ensures text { take result line.new ≡ take from.len line.old ++ before_character from.place }
+    ensures len { result ≤ from.len + 2 }
+{
+    match from.place {
+        PrinterState::Start => put(*b"'", line, from.len),
+        PrinterState::Word => put(*b" '", line, from.len),
+        PrinterState::Quote => from.len,
     }
 }
 
@@ -158,99 +278,71 @@ fn quotable(token: Token) -> bool
     matches!(token.to_be(), [0x4B, 0x20..=0x26 | 0x28..=0x7E])
 }
 
-/// Ends the run that is open, and gathers the space before the next item.
-#[inline(always)]
-fn begin_item(place: PrinterState, text: &mut Gathered)
-    requires { length text.old ≤ 240 }
-    ensures text { text.new ≡ text.old ++ before_item place }
-    ensures room { length text.new ≤ 242 }
+/// Ends the run that is open, and puts the space before the next item.
+fn put_before_item(line: &mut [u8], from: Printed) -> usize
+    requires { from.len + 8 ≤ length line.old }
+    ensures text { take result line.new ≡ take from.len line.old ++ before_item from.place }
+    ensures len { result ≤ from.len + 2 }
 {
-    match place {
-        PrinterState::Start => {}
-        PrinterState::Word => text.push(b' '),
-        PrinterState::Quote => text.extend(*b"' "),
+    match from.place {
+        PrinterState::Start => from.len,
+        PrinterState::Word => put(*b" ", line, from.len),
+        PrinterState::Quote => put(*b"' ", line, from.len),
     }
 }
 
-/// Ends the run that is open, behind the last token.
-#[inline(always)]
-fn end_last(place: PrinterState, text: &mut Gathered)
-    requires { length text.old ≤ 250 }
-    ensures { (added : List Named) → text.new ≡ text.old ++ rest_of_text added place [] }
+/// Puts a token by itself.
+fn put_by_itself(added: &[(Token, [u8; 3])], token: Token, line: &mut [u8], len: usize) -> usize
+    requires { len + 6 ≤ length line.old }
+    ensures text { take result line.new ≡ take len line.old ++ word_with added.now token }
+    ensures len { result ≤ len + 6 }
 {
-    match place {
-        PrinterState::Start => {}
-        PrinterState::Word => {}
-        PrinterState::Quote => text.push(b'\''),
+    match token.number() {
+        Some(number) => put_number(number, line, len),
+        None => put_no_number(added, token, line, len),
     }
 }
 
-/// Gathers a token by itself that is no number, and what goes before it.
-#[inline(always)]
-fn put_word(added: &[(Token, [u8; 3])], place: PrinterState, token: Token, text: &mut Gathered)
-    requires room { length text.old ≤ 240 }
+/// Puts a token by itself that is no number.
+fn put_no_number(added: &[(Token, [u8; 3])], token: Token, line: &mut [u8], len: usize) -> usize
+    requires room { len + 6 ≤ length line.old }
     requires word { number_of token ≡ None }
-    ensures text { text.new ≡ text.old ++ before_item place ++ word_with added.now token }
-    ensures room { length text.new ≤ 250 }
+    ensures text { take result line.new ≡ take len line.old ++ word_with added.now token }
+    ensures len { result ≤ len + 6 }
 {
     match token.code() {
-        0x4000 => put_sign(place, b'(', text),
-        0x4001 => put_sign(place, b')', text),
+        0x4000 => put(*b"(", line, len),
+        0x4001 => put(*b")", line, len),
         _ => match token.name() {
-            Some(name) => put_name(place, name, text),
-            None => {
-                begin_item(place, text);
-                put_unnamed(added, token, text);
-            }
+            Some(name) => put_name(name, line, len),
+            None => put_unnamed(added, token, line, len),
         },
     }
 }
 
-/// Gathers a bracket's sign, and what goes before it.
-#[inline(always)]
-fn put_sign(place: PrinterState, sign: u8, text: &mut Gathered)
-    requires { length text.old ≤ 240 }
-    ensures text { text.new ≡ text.old ++ before_item place ++ sign ∷ [] }
-    ensures room { length text.new ≤ 250 }
-{
-    match place {
-        PrinterState::Word => text.extend([b' ', sign]),
-        _ => {
-            begin_item(place, text);
-            text.push(sign);
-        }
-    }
-}
-
-/// Gathers a name of three letters, and what goes before it.
-#[inline(always)]
-fn put_name(place: PrinterState, name: &str, text: &mut Gathered)
-    requires room { length text.old ≤ 240 }
+/// Puts a name of three letters.
+fn put_name(name: &str, line: &mut [u8], len: usize) -> usize
+    requires room { len + 6 ≤ length line.old }
     requires three { length name.now ≡ 3 }
-    ensures text { text.new ≡ text.old ++ before_item place ++ name.now }
-    ensures room { length text.new ≤ 250 }
+    ensures text { take result line.new ≡ take len line.old ++ name.now }
+    ensures len { result ≤ len + 6 }
 {
     let [a, b, c] = name.as_bytes() else {
         unreachable!();
     };
-    match place {
-        PrinterState::Word => text.extend([b' ', *a, *b, *c]),
-        _ => {
-            begin_item(place, text);
-            text.extend([*a, *b, *c]);
-        }
-    }
+    put([*a, *b, *c], line, len)
 }
 
-/// Gathers a token that the protocol doesn't name: by its first entry among the added names, else as its digits.
-fn put_unnamed(added: &[(Token, [u8; 3])], token: Token, text: &mut Gathered)
-    requires room { length text.old ≤ 242 }
-    ensures text { text.new ≡ text.old ++ unwrap_or (added_name_of added.now token) (hex_text token) }
-    ensures room { length text.new ≤ 250 }
+/// Puts a token that the protocol doesn't name: by its first entry among the added names, else as its digits.
+fn put_unnamed(added: &[(Token, [u8; 3])], token: Token, line: &mut [u8], len: usize) -> usize
+    requires { len + 6 ≤ length line.old }
+    ensures text { take result line.new
+        ≡ take len line.old ++ unwrap_or (added_name_of added.now token) (hex_text token) }
+    ensures len { result ≤ len + 6 }
 {
     match added_name_of(added, token) {
-        Some(name) => text.extend(name),
-        None => put_hex(token, text),
+        Some(name) => put(name, line, len),
+        None => put_hex(token, line, len),
     }
 }
 
@@ -264,19 +356,21 @@ fn added_name_of(added: &[(Token, [u8; 3])], token: Token) -> Option<[u8; 3]>
     Some(name)
 }
 
-/// Gathers a token as its four digits.
-fn put_hex(token: Token, text: &mut Gathered)
-    requires { length text.old ≤ 242 }
-    ensures { text.new ≡ text.old ++ hex_text token }
+/// Puts a token as its four digits.
+fn put_hex(token: Token, line: &mut [u8], len: usize) -> usize
+    requires { len + 6 ≤ length line.old }
+    ensures text { take result line.new ≡ take len line.old ++ hex_text token }
+    ensures len { result ≤ len + 6 }
 {
     let code = token.code();
-    text.extend([
+    let digits = [
         b'#',
         hex_digit(code / 4096),
         hex_digit(code / 256 % 16),
         hex_digit(code / 16 % 16),
         hex_digit(code % 16),
-    ]);
+    ];
+    put(digits, line, len)
 }
 
 /// One digit.
@@ -285,4 +379,32 @@ fn hex_digit(value: u16) -> u8
     ensures { result ≡ hex_digit_of value }
 {
     b"0123456789abcdef"[value as usize]
+}
+
+/// Puts a number of four digits at most, and its sign if it is negative.
+fn put_number(number: i16, line: &mut [u8], len: usize) -> usize
+    requires room { len + 6 ≤ length line.old }
+    requires small { unsigned_abs number < 10000 }
+    ensures text { take result line.new ≡ take len line.old ++ signed_decimal number }
+    ensures len { result ≤ len + 6 }
+{
+    let value = number.unsigned_abs();
+    if number < 0 {
+        let digits = put(*b"-", line, len);
+        return put_digits(value, line, digits);
+    }
+    put_digits(value, line, len)
+}
+
+/// Puts the digits of a number.
+fn put_digits(value: u16, line: &mut [u8], len: usize) -> usize
+    requires { len + length (decimal value) ≤ length line.old }
+    ensures text { take result line.new ≡ take len line.old ++ decimal value }
+    ensures len { result ≡ len + length (decimal value) }
+{
+    if value < 10 {
+        return put([b'0' + value as u8], line, len);
+    }
+    let front = put_digits(value / 10, line, len);
+    put([b'0' + (value % 10) as u8], line, front)
 }

@@ -7,7 +7,7 @@
 //! stays where it came. So a side holds one body, and a frame takes no more memory when it is answered.
 
 ghost use Rattle.std.specs.Prelude.{◌≡◌, ℕ, ◌+◌, ◌-◌, ◌*◌, ◌/◌, ◌<◌, ◌≤◌, List, [], ◌∷◌, ◌++◌, length, take, drop, ◌⊎◌};
-ghost use Rattle.std.specs.Prelude.{true, false, is_some, Some, None, IfOk, if◌then◌else◌};
+ghost use Rattle.std.specs.Prelude.{true, false, is_some, Some, None, IfOk, OnErr, if◌then◌else◌};
 ghost use Rattle.daide_frame.specs.Frames.{fed, fed_items, told, IsFault, IsWholeBody, head_in, missing};
 ghost use Rattle.daide_frame.specs.Frames.{announced};
 ghost use Rattle.daide_frame.specs.declared.cutter.Step.TheVariants.{Bodied};
@@ -26,6 +26,7 @@ ghost use Rattle.daide_traffic.specs.Inbound.{tokens_ended};
 
 use daide_frame::cutter::{Cutter, Step};
 use daide_frame::head::{Head, Kind, write_head};
+use daide_frame::memory::Memory;
 use daide_frame::side::Side;
 use daide_grammar::level::Level;
 use daide_grammar::predict::Predict;
@@ -112,8 +113,9 @@ fn front_of_parts<'a>(
     &[]
 }
 
-impl<A: Allocator> Inbound<A> {
-    /// A side that nothing came of, at level 0. The room of the longest body is taken here, once.
+impl<A: Memory> Inbound<A> {
+    /// A side that nothing came of, at level 0. The room of the longest body is taken here, once, and nothing but its
+    /// refusal is an error.
     pub fn new(
         alloc: A,
         side: Side,
@@ -131,6 +133,7 @@ impl<A: Allocator> Inbound<A> {
         ensures empty { IfOk result (λ i. (i.held ≡ []) × (i.verdict ≡ None)) }
         ensures unasked { IfOk result (λ i. i.total ≡ 0) }
         ensures unlooked { IfOk result (λ i. i.looked_at ≡ 0) }
+        ensures refused { OnErr result (A.Refuses cap) }
     {
         // Where a reader is made over words, the prover wants their codes' type among the function's own.
         let _names = words.names();
@@ -147,7 +150,9 @@ impl<A: Allocator> Inbound<A> {
             verdict: None,
         })
     }
+}
 
+impl<A: Allocator> Inbound<A> {
     /// Whether an answer to the last frame waits.
     pub fn is_awaited(&self) -> bool
         ensures { result ≡ is_some self.now.verdict }

@@ -4,16 +4,19 @@ use Rattle.std.proofs.Common.{◌<◌, subst, set, ◌∙◌, arith}
 use Rattle.std.specs.Prelude.{slice_get, remove, unwrap_or}
 use Rattle.daide_machine.specs.Machine.{Limits}
 use Rattle.daide_machine.specs.Wires.{SessionView, IsNew, is_closed}
-use Rattle.daide_machine.specs.Ports.{PortAnswer, BecomesBy}
-use Rattle.daide_turns.specs.Record.{Carries}
+use Rattle.daide_machine.specs.Ports.{PortAnswer, TurnBegins, BecomesBy}
+use Rattle.daide_session.specs.Bounds.{IsWithinBounds}
+use Rattle.daide_turns.specs.Record.{Relays, Carries}
 use Rattle.daide_turns.specs.Turn.{Then}
-use Rattle.daide_turns.specs.Headline.{Stands, Headline, WholeTurn}
-use Rattle.daide_turns.specs.Hub.{HubView, IsTurned}
-use Rattle.daide_turns.specs.HubRuns.{HubCall, Added, Turned, Removed, HubStep, HubRuns, Beginning, Stood, Opened, Life}
-use Rattle.daide_turns.specs.HubRuns.{fresh_life, turned, turned_at, lives_after, lives_after_all, lives_of}
-use Rattle.daide_turns.specs.HubRuns.{TurnsAlone, BeginsAs, WentAlone, AreApart}
-use Rattle.daide_turns.proofs.Stretches.{becomes_then, carries_then, carries_weaker}
-use Rattle.daide_turns.proofs.Standing.{headlines_join, new_stands}
+use Rattle.daide_turns.specs.Headline.{Stands, Headline, WholeTurn, untouched}
+use Rattle.daide_turns.specs.Hub.{HubView}
+use Rattle.daide_turns.specs.HubRuns.{HubCall, Added, Begun, Turned, Removed, HubStep, HubRuns, Beginning, Stood, Opened}
+use Rattle.daide_turns.specs.HubRuns.{OwnCall, TurnStarts, TurnRuns, Life, fresh_life, with_call, with_call_at, lives_after}
+use Rattle.daide_turns.specs.HubRuns.{lives_after_all, lives_of, OwnStep, CallsAlone, turns_of, BeginsAs, WentAlone}
+use Rattle.daide_turns.specs.HubRuns.{AreApart}
+use Rattle.daide_turns.proofs.PortAnswers.{turn_begins}
+use Rattle.daide_turns.proofs.Stretches.{becomes_then, carries_then, carries_weaker, relays_append, relays_nil}
+use Rattle.daide_turns.proofs.Standing.{headline_of, headlines_join, new_stands}
 
 -- what is the one thing is the other
 some-same : {X : Type 0} (x y : X) → Some x ≡ Some y → x ≡ y
@@ -38,22 +41,29 @@ module _ {P : Type 0} (becomes : P → PortAnswer → P → Type 0) (limits : Li
   each-added (l ∷ lives) [] life place w each = absurd each
   each-added (l ∷ lives) (p ∷ places) life place w each = (each.0, each-added lives places life place w each.1)
 
-  -- a turn of its own more
-  once-more : (life : Life P) (before after : SessionView × P) → WentAlone becomes limits life before →
-      IsTurned becomes before after → WentAlone becomes limits (turned life) after
-  once-more life before after w t = (w.0, w.1, (before, w.2, t))
+  -- a call of its own more
+  calls-more : (calls : List OwnCall) (call : OwnCall) (first before after : SessionView × P) →
+      CallsAlone becomes calls first before → OwnStep becomes call before after →
+      CallsAlone becomes (calls ++ call ∷ []) first after
+  calls-more [] call first before after w t =
+      (after, subst (λ (x : SessionView × P). OwnStep becomes call x after) w t, refl)
+  calls-more (own ∷ calls) call first before after w t = (w.0, w.1, calls-more calls call w.0 before after w.2 t)
 
-  each-turned : (lives : List (Life P)) (places : List (SessionView × P)) (i : ℕ) (before after : SessionView × P) →
-      slice_get places i ≡ Some before → IsTurned becomes before after → Each lives places →
-      Each (turned_at i lives) (set places i after)
-  each-turned [] [] i before after e t each = absurd (cc)
-  each-turned [] (p ∷ places) i before after e t each = absurd each
-  each-turned (l ∷ lives) [] i before after e t each = absurd each
-  each-turned (l ∷ lives) (p ∷ places) zero before after e t each =
+  once-more : (life : Life P) (call : OwnCall) (before after : SessionView × P) → WentAlone becomes limits life before →
+      OwnStep becomes call before after → WentAlone becomes limits (with_call call life) after
+  once-more life call before after w t = (w.0, w.1, calls-more life.calls call w.0 before after w.2 t)
+
+  each-called : (lives : List (Life P)) (places : List (SessionView × P)) (i : ℕ) (call : OwnCall)
+      (before after : SessionView × P) → slice_get places i ≡ Some before → OwnStep becomes call before after →
+      Each lives places → Each (with_call_at i call lives) (set places i after)
+  each-called [] [] i call before after e t each = absurd (cc)
+  each-called [] (p ∷ places) i call before after e t each = absurd each
+  each-called (l ∷ lives) [] i call before after e t each = absurd each
+  each-called (l ∷ lives) (p ∷ places) zero call before after e t each =
       let went = subst (λ (x : SessionView × P). WentAlone becomes limits l x) (some-same p before e) each.0 in
-      (once-more l before after went t, each.1)
-  each-turned (l ∷ lives) (p ∷ places) (suc i) before after e t each =
-      (each.0, each-turned lives places i before after e t each.1)
+      (once-more l call before after went t, each.1)
+  each-called (l ∷ lives) (p ∷ places) (suc i) call before after e t each =
+      (each.0, each-called lives places i call before after e t each.1)
 
   each-removed : (lives : List (Life P)) (places : List (SessionView × P)) (i : ℕ) → Each lives places →
       Each (remove lives i) (remove places i)
@@ -103,11 +113,17 @@ module _ {P : Type 0} (becomes : P → PortAnswer → P → Type 0) where
             (each-added becomes old.limits lives old.places (fresh_life (Opened ports)) (s.0, ports)
             ((s.0, ports), (s.1, refl), refl) each),
       )
+  one-call (Begun i) old new lives s each =
+      let same = s.3 in (
+        ap (λ (h : HubView P). h.limits) same,
+        subst (λ (h : HubView P). Each becomes old.limits (with_call_at i TurnStarts lives) h.places) (sym same)
+            (each-called becomes old.limits lives old.places i TurnStarts s.0 s.1 s.2 s.4 each),
+      )
   one-call (Turned i) old new lives s each =
       let same = s.3 in (
         ap (λ (h : HubView P). h.limits) same,
-        subst (λ (h : HubView P). Each becomes old.limits (turned_at i lives) h.places) (sym same)
-            (each-turned becomes old.limits lives old.places i s.0 s.1 s.2 s.4 each),
+        subst (λ (h : HubView P). Each becomes old.limits (with_call_at i TurnRuns lives) h.places) (sym same)
+            (each-called becomes old.limits lives old.places i TurnRuns s.0 s.1 s.2 s.4 each),
       )
   one-call (Removed i ports) old new lives s each =
       let same = s.3 in (
@@ -164,46 +180,69 @@ module _ {P : Type 0} (becomes : P → PortAnswer → P → Type 0) where
       carries_weaker becomes (Then Headline Headline) Headline a c (λ xs. headlines_join a.0 xs c.0)
       (carries_then becomes Headline Headline a b c h k)
 
-  -- turns in a row have the headline of all that the ports answered in them
-  many-headlines : (n : ℕ) (a b : SessionView × P) → TurnsAlone becomes (suc n) a b → Carries becomes Headline a b
-  many-headlines zero a b t =
-      subst (λ (x : SessionView × P). Carries becomes Headline x b) t.1
-      (carries_weaker becomes WholeTurn Headline t.0 b (λ xs o. o.headline) t.2.exchange)
-  many-headlines (suc n) a b t =
-      headline_then a t.0 b (many-headlines n a t.0 t.1)
-      (carries_weaker becomes WholeTurn Headline t.0 b (λ xs o. o.headline) t.2.exchange)
+  -- by a call of its own a session goes as the answers of its ports in it say
+  own-relays : (call : OwnCall) (a b : SessionView × P) → OwnStep becomes call a b → Carries becomes Relays a b
+  own-relays TurnStarts a b t = record {
+    call = TurnBegins ∷ [];
+    session = subst (λ (g : SessionView). Relays a.0 (TurnBegins ∷ []) g) (sym t.0) (turn_begins a.0);
+    ports = (b.1, t.1, refl);
+  }
+  own-relays TurnRuns a b t = carries_weaker becomes WholeTurn Relays a b (λ xs o. o.delivered) t.exchange
 
-  some-headlines : (n : ℕ) (a b : SessionView × P) → 0 < n → TurnsAlone becomes n a b → Carries becomes Headline a b
-  some-headlines zero a b h t = absurd (omega arith)
-  some-headlines (suc n) a b h t = many-headlines n a b t
+  relays-then : (a b c : SessionView × P) → Carries becomes Relays a b → Carries becomes Relays b c →
+      Carries becomes Relays a c
+  relays-then a b c h k =
+      carries_weaker becomes (Then Relays Relays) Relays a c
+      (λ xs r. subst (λ (l : List PortAnswer). Relays a.0 l c.0) (sym r.3) (relays_append a.0 r.1 r.0 r.2 c.0 r.4 r.5))
+      (carries_then becomes Relays Relays a b c h k)
+
+  alone-relays : (calls : List OwnCall) (a b : SessionView × P) → CallsAlone becomes calls a b → Carries becomes Relays a b
+  alone-relays [] a b t =
+      subst (λ (x : SessionView × P). Carries becomes Relays a x) (sym t)
+      (record { call = []; session = relays_nil a.0; ports = refl })
+  alone-relays (call ∷ calls) a b t = relays-then a t.0 b (own-relays call a t.0 t.1) (alone-relays calls t.0 b t.2)
+
+  -- within its bounds it stays, and a turn leaves it there
+  own-bounded : (call : OwnCall) (a b : SessionView × P) → OwnStep becomes call a b → IsWithinBounds a.0 →
+      IsWithinBounds b.0
+  own-bounded TurnStarts a b t h = subst IsWithinBounds (sym t.0) h
+  own-bounded TurnRuns a b t h = t.exchange.session.bounds
+
+  stays-bounded : (calls : List OwnCall) (a b : SessionView × P) → CallsAlone becomes calls a b → IsWithinBounds a.0 →
+      IsWithinBounds b.0
+  stays-bounded [] a b t h = subst (λ (x : SessionView × P). IsWithinBounds x.0) (sym t) h
+  stays-bounded (call ∷ calls) a b t h = stays-bounded calls t.0 b t.2 (own-bounded call a t.0 t.1 h)
+
+  turned-bounded : (calls : List OwnCall) (a b : SessionView × P) → 0 < turns_of calls → CallsAlone becomes calls a b →
+      IsWithinBounds b.0
+  turned-bounded [] a b h t = absurd (omega (arith, h))
+  turned-bounded (TurnStarts ∷ calls) a b h t = turned-bounded calls t.0 b h t.2
+  turned-bounded (TurnRuns ∷ calls) a b h t = stays-bounded calls t.0 b t.2 t.1.exchange.session.bounds
+
+  -- calls of its own, of which one at least turned it, have the headline of all that the ports answered in them
+  alone-headline : (calls : List OwnCall) (a b : SessionView × P) → 0 < turns_of calls → CallsAlone becomes calls a b →
+      Carries becomes Headline a b
+  alone-headline calls a b h t =
+      carries_weaker becomes Relays Headline a b (λ xs r. headline_of a.0 xs b.0 (turned-bounded calls a b h t) r)
+      (alone-relays calls a b t)
 
   pub each_headline : (calls : List (HubCall P)) (old new : HubView P) → HubRuns becomes old calls new →
       (i : ℕ) (life : Life P) (now : SessionView × P) → slice_get (lives_of old calls) i ≡ Some life →
-      slice_get new.places i ≡ Some now → 0 < life.turns →
+      slice_get new.places i ≡ Some now → 0 < turns_of life.calls →
       (first : SessionView × P) × BeginsAs old.limits life.begun first × Carries becomes Headline first now
   each_headline calls old new run i life now e f h =
       let went = (sessions_apart calls old new run).alone i life now e f in
-      (went.0, went.1, some-headlines life.turns went.0 now h went.2)
+      (went.0, went.1, alone-headline life.calls went.0 now h went.2)
 
-  -- where a session stood by these answers, it stands by one turn's more
-  pub stands_then : (limits : Limits) (ports : P) (a b : SessionView × P) →
-      Carries becomes WholeTurn a b →
+  -- where a session stood by these answers, it stands by those of its own calls more
+  stands-alone : (limits : Limits) (ports : P) (a b : SessionView × P) → Carries becomes Relays a b →
       ((history : List PortAnswer) × Stands limits history a.0 × BecomesBy becomes ports history a.1) →
       (history : List PortAnswer) × Stands limits history b.0 × BecomesBy becomes ports history b.1
-  stands_then limits ports a b t h = (
+  stands-alone limits ports a b t h = (
     h.0 ++ t.call,
-    (t.session.headline limits h.0 h.1).sends,
+    relays_append (untouched limits) h.0 a.0 t.call b.0 h.1 t.session,
     becomes_then becomes h.0 t.call ports a.1 b.1 h.2 t.ports,
   )
-
-  stands-alone : (limits : Limits) (ports : P) (n : ℕ) (a b : SessionView × P) → TurnsAlone becomes n a b →
-      ((history : List PortAnswer) × Stands limits history a.0 × BecomesBy becomes ports history a.1) →
-      (history : List PortAnswer) × Stands limits history b.0 × BecomesBy becomes ports history b.1
-  stands-alone limits ports zero a b t h =
-      subst (λ (x : SessionView × P). (history : List PortAnswer) × Stands limits history x.0
-      × BecomesBy becomes ports history x.1) (sym t) h
-  stands-alone limits ports (suc n) a b t h =
-      stands_then limits ports t.0 b t.2.exchange (stands-alone limits ports n a t.0 t.1 h)
 
   pub opened_stand : (calls : List (HubCall P)) (old new : HubView P) → HubRuns becomes old calls new →
       (i : ℕ) (life : Life P) (ports : P) (now : SessionView × P) → slice_get (lives_of old calls) i ≡ Some life →
@@ -213,4 +252,4 @@ module _ {P : Type 0} (becomes : P → PortAnswer → P → Type 0) where
       let went = (sessions_apart calls old new run).alone i life now e f in
       let begun : IsNew old.limits went.0.0 × (went.0.1 ≡ ports) =
       subst (λ (x : Beginning P). BeginsAs old.limits x went.0) o went.1 in
-      stands-alone old.limits ports life.turns went.0 now went.2 ([], new_stands old.limits went.0.0 begun.0, begun.1)
+      stands-alone old.limits ports went.0 now (alone-relays life.calls went.0 now went.2) ([], new_stands old.limits went.0.0 begun.0, begun.1)

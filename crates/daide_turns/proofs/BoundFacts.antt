@@ -77,9 +77,11 @@ hub_sizes = (
   (λ size. absurd (omega (arith, size.1))),
 )
 
-hub_refusals : (config : Config) → (IsHubCause config 1 Errors.Sessions → ⊥) × (IsHubCause config 256 Errors.Sessions → ⊥)
-    × (config_fault config ≡ Ok tt → IsHubCause config 0 Errors.Sessions × IsHubCause config 257 Errors.Sessions)
-hub_refusals config = (
+hub_refusals : (Refuses : ℕ → Type 0) (config : Config) →
+    (IsHubCause Refuses config 1 Errors.Sessions → ⊥) × (IsHubCause Refuses config 256 Errors.Sessions → ⊥)
+    × (config_fault config ≡ Ok tt →
+    IsHubCause Refuses config 0 Errors.Sessions × IsHubCause Refuses config 257 Errors.Sessions)
+hub_refusals Refuses config = (
   (λ cause. no cause.1 (omega arith) (omega arith)),
   (λ cause. no cause.1 (omega arith) (omega arith)),
   (λ right. ((right, inl refl), (right, inr (omega arith)))),

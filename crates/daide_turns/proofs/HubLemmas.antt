@@ -20,9 +20,21 @@ use Rattle.daide_machine.specs.declared.config.ConfigError.TheVariants as Errors
 use Rattle.daide_machine.specs.Config.{config_fault, is_level, is_body, is_depth}
 use Rattle.daide_machine.specs.Weight.{IsKeptSmall}
 use Rattle.daide_machine.specs.Config.{limits_with}
+use Rattle.daide_session.specs.Session.{IsCause}
+use Rattle.daide_session.specs.declared.session.SessionError.{SessionError}
+use Rattle.daide_session.specs.declared.session.SessionError.TheVariants as SessionErrors
 use Rattle.daide_turns.specs.Hub.{HubView, IsHosting, with_places, session_bound}
 use Rattle.std.proofs.lemmas.Bool.{leb-true}
 use Rattle.std.proofs.Math.Nat.{add-mul}
+
+-- ---- memory
+
+-- with right limits there is one cause for which no session is made
+pub body_refused : (Refuses : ℕ → Type 0) (config : Config) (error : SessionError) → config_fault config ≡ Ok tt →
+    IsCause Refuses config error → Refuses config.max_body
+body_refused Refuses config (SessionErrors.Config fault) right cause =
+    let e : Err fault ≡ Ok tt = sym cause ∙ right in absurd (cc)
+body_refused Refuses config SessionErrors.Memory right cause = cause.1
 
 -- ---- places
 

@@ -6,6 +6,7 @@ pub mod Standing
 pub mod RelayLemmas
 pub mod HubLemmas
 mod BoundFacts
+mod LawFacts
 pub mod ApartLemmas
 pub mod DueLemmas
 pub mod FramesGone

@@ -15,9 +15,10 @@ use Rattle.daide_machine.specs.Wires.{SessionView, waiting, sent_to, bytes_of, w
 use Rattle.daide_machine.specs.Wires.{Goes, Lost, Wrote, IsFrontOf}
 use Rattle.daide_machine.proofs.WireLemmas.{bytes_of-append}
 use Rattle.daide_session.proofs.GatewayFronts.{apart}
+use Rattle.daide_session.proofs.WorkLemmas.{paid_same}
 use Rattle.daide_machine.specs.declared.ports.Pull.TheVariants.{Got, Idle, Ended}
 use Rattle.daide_machine.specs.declared.ports.Put.TheVariants.{Took, Failed}
-use Rattle.daide_machine.specs.Ports.{Clock, Pulled, Offered, taken, has_failed}
+use Rattle.daide_machine.specs.Ports.{TurnBegins, Clock, Pulled, Offered, taken, has_failed}
 use Rattle.daide_turns.specs.Record.{Moved, Relays, Works}
 
 goes_wire : (a : SessionView) (es : List Event) (note : Note) (b : SessionView) (g : Goes a es note b) (side : Side) →
@@ -26,6 +27,15 @@ goes_wire a es note b g side =
     sym (ap bytes_of (g.kept side) ∙ bytes_of-append (waiting a side) (sent_to side g.effects))
 
 -- ---- the clock and the pulls
+
+pub turn_begins : (a : SessionView) → Relays a (TurnBegins ∷ []) a
+turn_begins a = record {
+  effects = [];
+  run = (refl, refl);
+  wires = λ side. append-nil (bytes_of (waiting a side));
+  counts = refl;
+  work = λ side. paid_same side a a refl refl;
+}
 
 pub clock_pops : (a b : SessionView) (note : Note) → Works a (Clock true ∷ []) b → Goes a (TimerExpires ∷ []) note b →
     Relays a (Clock true ∷ []) b

@@ -4,7 +4,7 @@ use Rattle.daide_frame.specs.declared.side.Side.{Side}
 use Rattle.daide_machine.specs.Wires.{SessionView, waiting, same_side, bytes_of, first_len, parts_of}
 use Rattle.daide_traffic.specs.Fronts.{AreFresh}
 use Rattle.daide_machine.specs.declared.ports.Put.TheVariants.{Took, Failed}
-use Rattle.daide_machine.specs.Ports.{PortAnswer, Clock, Pulled, Offered, taken}
+use Rattle.daide_machine.specs.Ports.{PortAnswer, TurnBegins, Clock, Pulled, Offered, taken}
 use Rattle.daide_turns.specs.Turn.{Turn}
 
 -- turns in a row, each by the answers of its own
@@ -14,6 +14,7 @@ AreTurns old (answers ∷ turns) new = (mid : SessionView) × Turn old answers m
 
 -- a put to the wire toward a side takes one byte at least
 abbrev pub TakesSome : Side → PortAnswer → Type 0
+TakesSome side TurnBegins = Unit {0}
 TakesSome side (Clock popped) = Unit {0}
 TakesSome side (Pulled from buffer pull bytes) = Unit {0}
 TakesSome side (Offered to bytes (Took n)) = same_side side to ≡ true → 0 < n
@@ -43,6 +44,7 @@ DueBytesGo = (side : Side) (turns : List (List PortAnswer)) (old new : SessionVi
 
 -- a put to the wire toward a side takes all that it hands over
 abbrev pub TakesAll : Side → PortAnswer → Type 0
+TakesAll side TurnBegins = Unit {0}
 TakesAll side (Clock popped) = Unit {0}
 TakesAll side (Pulled from buffer pull bytes) = Unit {0}
 TakesAll side (Offered to bytes (Took n)) = same_side side to ≡ true → n ≡ length bytes

@@ -1,6 +1,6 @@
 -- Many sessions in one loop: what a hub holds, and what each of its calls does to one session alone.
 use Rattle.std.specs.Prelude.{◌≡◌, ℕ, ◌+◌, ◌*◌, ◌<◌, ◌≤◌, ◌⊎◌, true, List, [], ◌∷◌, ◌++◌, length}
-use Rattle.std.specs.Prelude.{Some, Ok, Err, slice_get, slice_set, remove, All}
+use Rattle.std.specs.Prelude.{Option, Some, None, Ok, Err, slice_get, slice_set, remove, All}
 use Rattle.daide_words.specs.declared.word.Word.{Word}
 use Rattle.daide_machine.specs.Machine.{Limits}
 use Rattle.daide_machine.specs.Wires.{SessionView, IsNew, is_closed}
@@ -15,7 +15,7 @@ use Rattle.daide_turns.specs.declared.hub.HubError.TheVariants as Errors
 use Rattle.daide_machine.specs.Bounds.{most_sessions}
 use Rattle.daide_machine.specs.Config.{config_fault}
 use Rattle.daide_machine.specs.Config.{limits_with}
-use Rattle.daide_machine.specs.Ports.{PortAnswer}
+use Rattle.daide_machine.specs.Ports.{PortAnswer, TurnBegins}
 use Rattle.daide_turns.specs.Record.{Carries}
 use Rattle.daide_turns.specs.Turn.{AsksAtMost, turn_steps}
 use Rattle.daide_turns.specs.Headline.{WholeTurn}
@@ -30,6 +30,14 @@ pub record HubView (P : Type 0) : Type 0 where
 -- the same with other places
 abbrev pub with_places : {P : Type 0} → HubView P → List (SessionView × P) → HubView P
 with_places hub places = record { limits = hub.limits; max = hub.max; places = places }
+
+-- the same with other ports at one place, whose session stays
+abbrev pub with_ports_at : {P : Type 0} → HubView P → ℕ → Option (SessionView × P) → P → HubView P
+with_ports_at hub i None ports = hub
+with_ports_at hub i (Some place) ports = with_places hub (slice_set hub.places i (place.0, ports))
+
+abbrev pub with_ports : {P : Type 0} → HubView P → ℕ → P → HubView P
+with_ports hub i ports = with_ports_at hub i (slice_get hub.places i) ports
 
 -- what holds of a hub between calls; `seen` is a place's session
 pub record IsHosting {X : Type 0} (seen : X → SessionView) (config : Config) (words : List Word) (max capacity : ℕ)
@@ -46,16 +54,18 @@ pub record IsHosting {X : Type 0} (seen : X → SessionView) (config : Config) (
 abbrev pub IsHubSize : ℕ → Type 0
 IsHubSize max = (0 < max) × (max ≤ most_sessions)
 
--- the limits are looked at first, then the number of sessions; memory is wanted only where these are right
-abbrev pub IsHubCause : Config → ℕ → HubError → Type 0
-IsHubCause config max (Errors.Config fault) = config_fault config ≡ Err fault
-IsHubCause config max Errors.Sessions = (config_fault config ≡ Ok tt) × ((max ≡ 0) ⊎ (most_sessions < max))
-IsHubCause config max Errors.Memory = (config_fault config ≡ Ok tt) × IsHubSize max
+-- The limits are checked first, then the number of sessions. Memory is requested only if these are right, and the error
+-- is then that room for all places was refused; `Refuses` is the allocator's relation of that name.
+abbrev pub IsHubCause : (ℕ → Type 0) → Config → ℕ → HubError → Type 0
+IsHubCause Refuses config max (Errors.Config fault) = config_fault config ≡ Err fault
+IsHubCause Refuses config max Errors.Sessions = (config_fault config ≡ Ok tt) × ((max ≡ 0) ⊎ (most_sessions < max))
+IsHubCause Refuses config max Errors.Memory = (config_fault config ≡ Ok tt) × IsHubSize max × Refuses max
 
--- a session is refused where the hub is full; memory is wanted only where it isn't
-abbrev pub IsAddCause : {P : Type 0} → HubView P → AddFault → Type 0
-IsAddCause hub Faults.Full = length hub.places ≡ hub.max
-IsAddCause hub Faults.Memory = length hub.places < hub.max
+-- A session is refused if the hub is full. Memory is requested only if it isn't, and the fault is then that room for a
+-- body of the longest length was refused.
+abbrev pub IsAddCause : {P : Type 0} → (ℕ → Type 0) → HubView P → AddFault → Type 0
+IsAddCause Refuses hub Faults.Full = length hub.places ≡ hub.max
+IsAddCause Refuses hub Faults.Memory = (length hub.places < hub.max) × Refuses hub.limits.cap
 
 -- ---- calls
 
@@ -80,6 +90,10 @@ abbrev pub Changes : {P : Type 0} → (SessionView × P → SessionView × P →
 Changes {P} Kind old i new =
     (before : SessionView × P) × (after : SessionView × P) × (slice_get old.places i ≡ Some before)
     × (new ≡ with_places old (slice_set old.places i after)) × Kind before after
+
+-- a turn of a session begins with its ports, which are lent for it; the session itself stays as it is
+abbrev pub IsBegun : {P : Type 0} → (P → PortAnswer → P → Type 0) → SessionView × P → SessionView × P → Type 0
+IsBegun becomes old new = (new.0 ≡ old.0) × becomes old.1 TurnBegins new.1
 
 -- what a turn does to a session and its ports: all that `turn` promises
 pub record IsTurned {P : Type 0} (becomes : P → PortAnswer → P → Type 0) (old new : SessionView × P) : Type 0 where

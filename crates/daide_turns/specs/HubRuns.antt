@@ -6,19 +6,22 @@ use Rattle.daide_machine.specs.Wires.{SessionView, IsNew, is_closed}
 use Rattle.daide_machine.specs.Ports.{PortAnswer, BecomesBy}
 use Rattle.daide_turns.specs.Record.{Carries}
 use Rattle.daide_turns.specs.Headline.{Stands, Headline}
-use Rattle.daide_turns.specs.Hub.{HubView, Adds, Removes, Changes, IsTurned}
+use Rattle.daide_turns.specs.Hub.{HubView, Adds, Removes, Changes, IsBegun, IsTurned}
 
 -- ---- the calls
 
--- a call that changes a hub: a session is added, with its ports; one at a place is turned; or one is taken out
+-- a call that changes a hub: a session is added, with its ports; those of one at a place are lent, and its turn begins with
+-- them; one at a place is turned; or one is taken out
 pub data HubCall (P : Type 0) : Type 0 where
   Added : P → HubCall P
+  Begun : ℕ → HubCall P
   Turned : ℕ → HubCall P
   Removed : ℕ → P → HubCall P
 
 -- what one call does, as its contract says
 abbrev pub HubStep : {P : Type 0} → (P → PortAnswer → P → Type 0) → HubView P → HubCall P → HubView P → Type 0
 HubStep becomes old (Added ports) new = Adds old ports new
+HubStep becomes old (Begun i) new = Changes (IsBegun becomes) old i new
 HubStep becomes old (Turned i) new = Changes (IsTurned becomes) old i new
 HubStep becomes old (Removed i ports) new = Removes old i ports new
 
@@ -35,30 +38,36 @@ pub data Beginning (P : Type 0) : Type 0 where
   Stood : SessionView × P → Beginning P
   Opened : P → Beginning P
 
--- a session by the calls alone: how it began, and how many of the calls turned it
+-- what a call of its own does with a session: its turn begins, or it is turned
+pub data OwnCall : Type 0 where
+  TurnStarts : OwnCall
+  TurnRuns : OwnCall
+
+-- a session by the calls alone: how it began, and the calls of its own, in their order
 pub record Life (P : Type 0) : Type 0 where
   pub begun : Beginning P
-  pub turns : ℕ
+  pub calls : List OwnCall
 
--- one that was not turned yet
+-- one of which no call was made yet
 abbrev pub fresh_life : {P : Type 0} → Beginning P → Life P
-fresh_life begun = record { begun = begun; turns = 0 }
+fresh_life begun = record { begun = begun; calls = [] }
 
--- one that was turned once more
-abbrev pub turned : {P : Type 0} → Life P → Life P
-turned life = record { begun = life.begun; turns = suc life.turns }
+-- one of which one call more was made
+abbrev pub with_call : {P : Type 0} → OwnCall → Life P → Life P
+with_call call life = record { begun = life.begun; calls = life.calls ++ call ∷ [] }
 
--- the one at this place was turned once more
-abbrev pub turned_at : {P : Type 0} → ℕ → List (Life P) → List (Life P)
-turned_at i [] = []
-turned_at zero (life ∷ lives) = turned life ∷ lives
-turned_at (suc i) (life ∷ lives) = life ∷ turned_at i lives
+-- one call more was made of the one at this place
+abbrev pub with_call_at : {P : Type 0} → ℕ → OwnCall → List (Life P) → List (Life P)
+with_call_at i call [] = []
+with_call_at zero call (life ∷ lives) = with_call call life ∷ lives
+with_call_at (suc i) call (life ∷ lives) = life ∷ with_call_at i call lives
 
--- those at the places after a call: an added one has the last place; of those at their places one is turned; and where
--- one is taken out the later ones move down one place
+-- those at the places after a call: an added one has the last place; of those at their places a turn of one begins, or one
+-- is turned; and where one is taken out the later ones move down one place
 abbrev pub lives_after : {P : Type 0} → HubCall P → List (Life P) → List (Life P)
 lives_after (Added ports) lives = lives ++ fresh_life (Opened ports) ∷ []
-lives_after (Turned i) lives = turned_at i lives
+lives_after (Begun i) lives = with_call_at i TurnStarts lives
+lives_after (Turned i) lives = with_call_at i TurnRuns lives
 lives_after (Removed i ports) lives = remove lives i
 
 -- those at the places after calls, one after another
@@ -72,20 +81,33 @@ lives_of hub calls = lives_after_all calls (map (λ place. fresh_life (Stood pla
 
 -- ---- alone
 
--- a session and its ports went on by n turns of its own, and by nothing else
-abbrev pub TurnsAlone : {P : Type 0} → (P → PortAnswer → P → Type 0) → ℕ → SessionView × P → SessionView × P → Type 0
-TurnsAlone becomes zero old new = new ≡ old
-TurnsAlone {P} becomes (suc n) old new = (mid : SessionView × P) × TurnsAlone becomes n old mid × IsTurned becomes mid new
+-- what one call of its own does to a session and its ports
+abbrev pub OwnStep : {P : Type 0} → (P → PortAnswer → P → Type 0) → OwnCall → SessionView × P → SessionView × P → Type 0
+OwnStep becomes TurnStarts old new = IsBegun becomes old new
+OwnStep becomes TurnRuns old new = IsTurned becomes old new
+
+-- a session and its ports went on by these calls of its own, in their order, and by nothing else
+abbrev pub CallsAlone : {P : Type 0} → (P → PortAnswer → P → Type 0) → List OwnCall → SessionView × P → SessionView × P →
+    Type 0
+CallsAlone becomes [] old new = new ≡ old
+CallsAlone {P} becomes (call ∷ calls) old new =
+    (mid : SessionView × P) × OwnStep becomes call old mid × CallsAlone becomes calls mid new
+
+-- how many of them turned it
+abbrev pub turns_of : List OwnCall → ℕ
+turns_of [] = 0
+turns_of (TurnStarts ∷ calls) = turns_of calls
+turns_of (TurnRuns ∷ calls) = suc (turns_of calls)
 
 -- a session and its ports at their beginning
 abbrev pub BeginsAs : {P : Type 0} → Limits → Beginning P → SessionView × P → Type 0
 BeginsAs limits (Stood place) first = first ≡ place
 BeginsAs limits (Opened ports) first = IsNew limits first.0 × (first.1 ≡ ports)
 
--- from its beginning on a session went on by as many turns of its own as calls turned it, and by nothing else
+-- from its beginning on a session went on by the calls of its own, and by nothing else
 abbrev pub WentAlone : {P : Type 0} → (P → PortAnswer → P → Type 0) → Limits → Life P → SessionView × P → Type 0
 WentAlone {P} becomes limits life now =
-    (first : SessionView × P) × BeginsAs limits life.begun first × TurnsAlone becomes life.turns first now
+    (first : SessionView × P) × BeginsAs limits life.begun first × CallsAlone becomes life.calls first now
 
 -- the sessions of a hub are those of these lives, each at its place, and each went alone
 pub record AreApart {P : Type 0} (becomes : P → PortAnswer → P → Type 0) (limits : Limits) (lives : List (Life P))
@@ -94,13 +116,13 @@ pub record AreApart {P : Type 0} (becomes : P → PortAnswer → P → Type 0) (
   pub alone : (i : ℕ) (life : Life P) (now : SessionView × P) → slice_get lives i ≡ Some life →
       slice_get places i ≡ Some now → WentAlone becomes limits life now
 
--- Whatever calls are made of a hub, no session knows of another: each went on by the turns of its own place alone, of
+-- Whatever calls are made of a hub, no session knows of another: each went on by the calls of its own place alone, of
 -- those that the hub had as of those that were added.
 abbrev pub SessionsAreApart : {P : Type 0} → (P → PortAnswer → P → Type 0) → Type 0
 SessionsAreApart {P} becomes = (calls : List (HubCall P)) (old new : HubView P) → HubRuns becomes old calls new →
     AreApart becomes old.limits (lives_of old calls) new.places
 
--- So did each that is taken out: the ports that are handed back are as its own turns left them.
+-- So did each that is taken out: the ports that are handed back are as its own calls left them.
 abbrev pub PortsComeBackApart : {P : Type 0} → (P → PortAnswer → P → Type 0) → Type 0
 PortsComeBackApart {P} becomes = (calls : List (HubCall P)) (i : ℕ) (ports : P) (old new : HubView P) →
     HubRuns becomes old (calls ++ Removed i ports ∷ []) new →
@@ -114,7 +136,7 @@ PortsComeBackApart {P} becomes = (calls : List (HubCall P)) (i : ℕ) (ports : P
 abbrev pub EachHasItsHeadline : {P : Type 0} → (P → PortAnswer → P → Type 0) → Type 0
 EachHasItsHeadline {P} becomes = (calls : List (HubCall P)) (old new : HubView P) → HubRuns becomes old calls new →
     (i : ℕ) (life : Life P) (now : SessionView × P) → slice_get (lives_of old calls) i ≡ Some life →
-    slice_get new.places i ≡ Some now → 0 < life.turns →
+    slice_get new.places i ≡ Some now → 0 < turns_of life.calls →
     (first : SessionView × P) × BeginsAs old.limits life.begun first
     × Carries becomes Headline first now
 

@@ -10,9 +10,11 @@ ghost use Rattle.daide_machine.specs.Config.{config_fault};
 ghost use Rattle.daide_machine.specs.Config.{limits_of, limits_with};
 ghost use Rattle.daide_words.specs.Words.{words_of};
 ghost use Rattle.daide_turns.specs.Hub.{HubView, IsHubSize, IsHubCause, IsAddCause, Adds, Removes, Changes, IsTurned};
-ghost use Rattle.daide_turns.specs.Hub.{IsToldOf, weight_at, session_bound};
+ghost use Rattle.std.specs.Borrow.{Lends, sem};
+ghost use Rattle.daide_turns.specs.Hub.{IsToldOf, with_ports, weight_at, session_bound};
 
 use crate::exchange::{BUFFER, turn_through};
+use daide_frame::memory::Memory;
 use daide_machine::bounds::MAX_SESSIONS;
 use daide_machine::config::{Config, ConfigError};
 use daide_machine::ending::Ending;
@@ -91,12 +93,12 @@ impl<P: Ports, A: Allocator> Model for Hub<P, A> {
         h.places.items };
 }
 
-impl<P: Ports, A: Allocator + Copy> Hub<P, A> {
-    /// A hub with no sessions, and room for so many.
+impl<P: Ports, A: Memory + Copy> Hub<P, A> {
+    /// A hub with no sessions, and room for so many. `Memory` comes only after that room was refused.
     pub fn new(alloc: A, config: Config, max: usize) -> Result<Hub<P, A>, HubError>
         ensures opening { IfOk result (λ hub. hub ≡ record { limits = limits_of config; max = max; places = [] }) }
         ensures accepted { IfOk result (λ hub. (config_fault config ≡ Ok tt) × IsHubSize max) }
-        ensures refused { IfErr result (λ error. IsHubCause config max error) }
+        ensures refused { IfErr result (λ error. IsHubCause A.Refuses config max error) }
     {
         Hub::with_words(alloc, config, max, Words::new())
     }
@@ -112,7 +114,7 @@ impl<P: Ports, A: Allocator + Copy> Hub<P, A> {
         ensures opening { IfOk result (λ hub. hub
             ≡ record { limits = limits_with config (words_of words); max = max; places = [] }) }
         ensures accepted { IfOk result (λ hub. (config_fault config ≡ Ok tt) × IsHubSize max) }
-        ensures refused { IfErr result (λ error. IsHubCause config max error) }
+        ensures refused { IfErr result (λ error. IsHubCause A.Refuses config max error) }
     {
         if let Err(fault) = config.check() {
             return Err(HubError::Config(fault));
@@ -120,7 +122,7 @@ impl<P: Ports, A: Allocator + Copy> Hub<P, A> {
         if max == 0 || max > MAX_SESSIONS {
             return Err(HubError::Sessions);
         }
-        let Ok(places) = Vec::with_capacity(alloc, max) else {
+        let Ok(places) = alloc.with_capacity(max) else {
             return Err(HubError::Memory);
         };
         Ok(Hub {
@@ -134,12 +136,12 @@ impl<P: Ports, A: Allocator + Copy> Hub<P, A> {
     }
 
     /// Adds a session that nothing came to yet, and answers its place, which is the last. A refusal changes
-    /// nothing and hands the ports back.
+    /// nothing and hands the ports back. `Memory` comes only after room for a body was refused.
     pub fn add(&mut self, ports: P) -> Result<usize, (AddFault, P)>
         ensures place { IfOk result (λ i. i ≡ length self.old.places) }
         ensures room { OnOk result (length self.old.places < self.old.max) }
         ensures added { OnOk result (Adds self.old ports self.new) }
-        ensures refused { IfErr result (λ refusal. IsAddCause self.old refusal.0) }
+        ensures refused { IfErr result (λ refusal. IsAddCause A.Refuses self.old refusal.0) }
         ensures unchanged { OnErr result (self.new ≡ self.old) }
         ensures ports_back { IfErr result (λ refusal. refusal.1 ≡ ports) }
     {
@@ -153,6 +155,10 @@ impl<P: Ports, A: Allocator + Copy> Hub<P, A> {
         self.places.push_reserved(Place { session, ports });
         Ok(place)
     }
+}
+
+impl<P: Ports, A: Allocator + Copy> Hub<P, A> {
+    ghost use Rattle.daide_turns.specs.contracts.hub.Hub.{the_row};
 
     /// One turn of the session at a place, with its ports.
     pub fn turn(&mut self, i: usize)
@@ -177,6 +183,18 @@ impl<P: Ports, A: Allocator + Copy> Hub<P, A> {
         ensures { IfSome (slice_get self.now.places i) (λ place. result.now ≡ place.1) }
     {
         &self.places[i].ports
+    }
+
+    /// Lends the ports of the session at a place, as to what begins a turn with them. When the loan is over that place has
+    /// the ports as they were left, and nothing else changed: neither its session, nor another place, nor the limits.
+    pub fn ports_mut(&mut self, i: usize) -> &mut P
+        requires { i < length self.old.places }
+        ensures* writes_back { sem 𝓛 (Lends (the_row P.row A.row P.Ports A.Allocator) P.row self.entry result
+            (with_ports self.old i)) }
+        ensures value { IfSome (slice_get self.old.places i) (λ place. result.now ≡ place.1) }
+    {
+        let lent = &mut self.places[i];
+        &mut lent.ports
     }
 
     /// How many sessions there are.

@@ -23,11 +23,12 @@ pub fn headlines_join<P: Ports>()
     ensures { HeadlinesJoin P.becomes }
 {}
 
-/// Whatever calls are made of a hub, in whatever order: the session at each place, however it moved, went on by turns
-/// of its own alone, as many as calls of `turn` were made of it, from its opening or from where it stood before. So
-/// its answers, and what its ports were asked, are those that it would have had with no other session beside it; and
-/// so are those of one that is taken out, whose ports come back. Each that was turned has the headline,
-/// and each that was added stands where a run from its opening stands, by the answers of its ports since then.
+/// Whatever calls are made of a hub, in whatever order, where ports are lent to begin a turn with them: the session at
+/// each place, however it moved, went on by the calls of its own alone, which began its turns and made them, from its
+/// opening or from where it stood before. So its answers, and what its ports were asked, are those that it would have had
+/// with no other session beside it; and so are those of one that is taken out, whose ports come back. Each that was turned
+/// has the headline, and each that was added stands where a run from its opening stands, by the answers of its ports since
+/// then.
 pub fn sessions_are_apart<P: Ports>()
     ensures kept { SessionsAreApart P.becomes }
     ensures taken_out { PortsComeBackApart P.becomes }

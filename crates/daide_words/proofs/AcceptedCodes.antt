@@ -54,7 +54,7 @@ every_at p start (suc n) k h low high =
     by_test false e here later = later (grind (arith, nat_tests))
 
 -- the first test that fails is the fault
-abbrev choice : Bool → Bool → Bool → Bool → Bool → Result (Unit {0}) WordError
+abbrev pub choice : Bool → Bool → Bool → Bool → Bool → Result (Unit {0}) WordError
 choice full name code level operand =
     if full then Err faults.Full else
     if not name then Err faults.Name else
@@ -70,7 +70,7 @@ passed false true false level operand h = cc
 passed false true true level operand h = refl
 
 -- an accepted word has a free code
-code_free : (taken : List Named) (word : code.Word) → is_ok (word_fault taken word) ≡ true →
+pub code_free : (taken : List Named) (word : code.Word) → is_ok (word_fault taken word) ≡ true →
     is_free_code taken word.code ≡ true
 code_free taken word h =
     passed (nat_le most_words (length taken)) (is_free_name taken word.name) (is_free_code taken word.code)

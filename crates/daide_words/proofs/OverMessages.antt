@@ -1,5 +1,5 @@
 -- An opening symbol stands for its side's messages, with an operator's words as without.
-use Rattle.std.proofs.Common.{◌≡◌, ℕ, Bool, true, false, ◌==◌, List, [], ◌∷◌, inl, inr, ◌↔◌, refl, sym, ◌∙◌, ap, subst}
+use Rattle.std.proofs.Common.{◌≡◌, ℕ, true, false, ◌==◌, List, [], ◌∷◌, inl, inr, ◌↔◌, refl, sym, ◌∙◌, ap, subst}
 use Rattle.std.proofs.Common.{arith}
 use Rattle.std.proofs.lemmas.Bool.{eqb-true}
 use Rattle.daide_token.specs.declared.class.Class.TheVariants.{Prn}
@@ -11,10 +11,10 @@ use Rattle.daide_grammar.specs.declared.side.Side2.{Side2}
 use Rattle.daide_grammar.specs.declared.side.Side2.TheVariants.{Client, ServerEnd}
 use Rattle.daide_grammar.specs.Forms.{Form}
 use Rattle.daide_grammar.specs.Matches.{Matches}
-use Rattle.daide_grammar.specs.Paired.{begins_with_prn, IsPrnReport}
+use Rattle.daide_grammar.specs.Paired.{begins_with_prn}
 use Rattle.daide_grammar.specs.Table.Answers.{Stop}
-use Rattle.daide_grammar.specs.Table.Symbols.{form_of, entries, may_end_of, table_answer, opening_of}
-use Rattle.daide_grammar.specs.SideMessages.{dialect_of, message_form, IsMessageOver}
+use Rattle.daide_grammar.specs.Table.Symbols.{entries, may_end_of, table_answer, opening_of}
+use Rattle.daide_grammar.specs.SideMessages.{dialect_of, IsMessageOver}
 use Rattle.daide_grammar.specs.Table.Languages.{SymbolMatchesIn}
 use Rattle.daide_grammar.specs.Words.{Words}
 use Rattle.daide_words.specs.Table.OverWords.{answer_over, are_free}

@@ -4,7 +4,6 @@ use Rattle.std.proofs.Common.{refl, sym, ◌∙◌, ap, subst, arith, append-nil
 use Rattle.std.proofs.lemmas.Bool.Decides.{nat_tests}
 use Rattle.daide_token.specs.declared.class.Class.TheVariants.{Huh, Word}
 use Rattle.daide_token.specs.Token.{bra, ket, huh, err}
-use Rattle.daide_token.specs.Class.{class_of}
 use Rattle.daide_grammar.specs.declared.level.Level.{Level}
 use Rattle.daide_grammar.specs.declared.level.Level.TheVariants.{L60}
 use Rattle.daide_grammar.specs.declared.side.Side2.{Side2}

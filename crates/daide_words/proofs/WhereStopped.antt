@@ -111,15 +111,21 @@ found_from n j (suc k) (word ∷ words) e =
     ap (λ b. this_word b (grammar_word word) (word_from n (suc j) (grammar_words words))) other
     ∙ found_from n (suc j) k words (omega (arith, e))
 
+-- the answer for a word's class, by the word of its place
+pub word_found : (words : List code.Word) (s : Sym) (k : ℕ) →
+    answer_over (grammar_words words) s (Word k)
+    ≡ word_answer (slot_of s) (option_map grammar_word (word_at k words)) (table_answer s (Word k))
+unfolding answer_over
+word_found words s k =
+    ap (λ (o : Option AddedWord). word_answer (slot_of s) o (table_answer s (Word k)))
+    (found_from k 0 k words (omega arith))
+
 -- a word's answer where the table stops it
 pub word_told : (words : List code.Word) (s : Sym) (k : ℕ) → table_answer s (Word k) ≡ Stop →
     answer_over (grammar_words words) s (Word k)
     ≡ word_answer (slot_of s) (option_map grammar_word (word_at k words)) Stop
-unfolding answer_over
 word_told words s k e =
-    ap (λ (o : Option AddedWord). word_answer (slot_of s) o (table_answer s (Word k)))
-    (found_from k 0 k words (omega arith))
-    ∙ ap (word_answer (slot_of s) (option_map grammar_word (word_at k words))) e
+    word_found words s k ∙ ap (word_answer (slot_of s) (option_map grammar_word (word_at k words))) e
 
 -- without a word or without a slot it stays
 pub no_word_there : (o : Option (Slot × Level)) (a : Answer) → word_answer o None a ≡ a

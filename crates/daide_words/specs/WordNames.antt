@@ -25,6 +25,19 @@ operand_named name =
     if bytes_eq name (codes "press") then Some operands.Press else
     None
 
+-- the name of each slot, and of each operand, the only one by which it is read
+abbrev pub slot_name : Slot → List ℕ
+slot_name slots.Press = codes "press"
+slot_name slots.Arrangement = codes "arrangement"
+
+abbrev pub operand_name : Operand → List ℕ
+operand_name operands.Power = codes "power"
+operand_name operands.Powers = codes "powers"
+operand_name operands.Provinces = codes "provinces"
+operand_name operands.Order = codes "order"
+operand_name operands.Arrangement = codes "arrangement"
+operand_name operands.Press = codes "press"
+
 -- a word by its parts, if each is there
 abbrev pub word_of_parts : Option (List ℕ) → Option ℕ → Option Slot → Option Level → Option Operand → Option Word
 word_of_parts (Some name) (Some code) (Some slot) (Some level) (Some operand) =

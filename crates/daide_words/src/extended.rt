@@ -134,7 +134,7 @@ impl Predict for Extended {
         self.table.predict_token(sym, token, known)
     }
 
-    fn predict_word(&self, sym: Symbol, token: Token, known: Column) -> Move {
+    fn predict_word(&mut self, sym: Symbol, token: Token, known: Column) -> Move {
         let answer = self.table.predict_word(sym, token, known);
         if answer.is_stop() {
             let class = class_with(&self.words, token, known);

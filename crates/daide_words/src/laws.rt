@@ -2,9 +2,13 @@
 //! to do. `laws_hold_over` gives them all to who holds `Words`.
 
 ghost use Rattle.std.specs.Prelude.{◌≡◌, ◌↔◌, ℕ, ◌≤◌, true, false, List, [], ◌∷◌, ◌++◌, take, drop};
+ghost use Rattle.daide_token.specs.declared.class.Class.TheVariants.{Other, Word as WordClass};
+ghost use Rattle.daide_token.specs.Class.{class_of};
 ghost use Rattle.daide_token.specs.Token.{bra, ket, prn, huh, err};
 ghost use Rattle.daide_grammar.specs.declared.level.Level.{Level};
 ghost use Rattle.daide_grammar.specs.declared.side.Side2.{Side2};
+ghost use Rattle.daide_grammar.specs.declared.symbol.Sym.{Sym};
+ghost use Rattle.daide_grammar.specs.Forms.{Slot as WordPlace};
 ghost use Rattle.daide_grammar.specs.Level.{level_number};
 ghost use Rattle.daide_grammar.specs.Balanced.{IsBalanced};
 ghost use Rattle.daide_grammar.specs.Paired.{begins_with_prn, IsPaired};
@@ -12,12 +16,16 @@ ghost use Rattle.daide_grammar.specs.Table.Laws.{PredictLaws};
 ghost use Rattle.daide_grammar.specs.Table.LawfulStack.{IsLawful};
 ghost use Rattle.daide_grammar.specs.SideMessages.{IsMessageOver, dialect_of};
 ghost use Rattle.daide_grammar.specs.Table.Languages.{SymbolMatchesIn};
-ghost use Rattle.daide_grammar.specs.Table.Symbols.{may_end_of, opening_of};
+ghost use Rattle.daide_grammar.specs.Table.Answers.{Take};
+ghost use Rattle.daide_grammar.specs.Table.Symbols.{may_end_of, opening_of, slot_of, table_answer};
+ghost use Rattle.daide_words.specs.declared.operand.Operand.{Operand};
+ghost use Rattle.daide_words.specs.declared.slot.Slot.{Slot};
 ghost use Rattle.daide_words.specs.declared.word.Word.{Word};
-ghost use Rattle.daide_words.specs.Word.{grammar_words};
+ghost use Rattle.daide_words.specs.Word.{grammar_operand, grammar_word, grammar_words};
+ghost use Rattle.daide_words.specs.WordNames.{operand_name, operand_named, slot_name, slot_named};
 ghost use Rattle.daide_words.specs.Accepted.{are_accepted};
-ghost use Rattle.daide_words.specs.Table.OverWords.{answer_over, spoken};
-ghost use Rattle.daide_words.specs.Words.{words_of};
+ghost use Rattle.daide_words.specs.Table.OverWords.{answer_over, operand_symbol, spoken, stands, stands_for};
+ghost use Rattle.daide_words.specs.Words.{word_at, words_of};
 
 use crate::words::Words;
 
@@ -40,6 +48,39 @@ pub fn opening_stands_for_messages()
 /// A table speaks all words that are accepted one after the other.
 pub fn accepted_words_are_spoken()
     ensures { (words : List Word) → are_accepted words ≡ true → spoken (grammar_words words) ≡ grammar_words words }
+{}
+
+/// The code of an accepted word has a class of its own, and the code alone: without the words it has the class of a
+/// token without a meaning, `Other`. If the word may stand for a symbol, its class is followed by its operand in
+/// brackets there; for every other symbol it moves as `Other` does.
+pub fn added_words_move_as_other()
+    ensures class { (words : List Word) (place : ℕ) (word : Word) → are_accepted words ≡ true →
+        word_at place words ≡ Some word →
+        ((dialect_of (grammar_words words)).class_of word.code ≡ WordClass place) × (class_of word.code ≡ Other) }
+    ensures stands { (words : List Word) (place : ℕ) (word : Word) (sym : Sym) (slot : WordPlace) (level : Level) →
+        are_accepted words ≡ true → word_at place words ≡ Some word → slot_of sym ≡ Some (slot, level) →
+        stands (grammar_word word) slot level ≡ true →
+        answer_over (grammar_words words) sym (WordClass place)
+        ≡ Take (operand_symbol (grammar_operand word.operand) slot level ∷ []) }
+    ensures elsewhere { (words : List Word) (place : ℕ) (word : Word) (sym : Sym) → are_accepted words ≡ true →
+        word_at place words ≡ Some word → stands_for (grammar_word word) (slot_of sym) ≡ false →
+        answer_over (grammar_words words) sym (WordClass place) ≡ table_answer sym Other }
+{}
+
+/// Accepted words have names that differ, and codes that differ: two places of the list with one name, or with one
+/// code, are one place.
+pub fn accepted_words_differ()
+    ensures names { (words : List Word) (i j : ℕ) (one other : Word) → are_accepted words ≡ true →
+        word_at i words ≡ Some one → word_at j words ≡ Some other → one.name ≡ other.name → i ≡ j }
+    ensures codes { (words : List Word) (i j : ℕ) (one other : Word) → are_accepted words ≡ true →
+        word_at i words ≡ Some one → word_at j words ≡ Some other → one.code ≡ other.code → i ≡ j }
+{}
+
+/// A name is read as an operand if and only if it is that operand's one name, letter for letter; and as a slot likewise.
+pub fn operands_have_one_name()
+    ensures operand { (name : List ℕ) (operand : Operand) →
+        (operand_named name ≡ Some operand) ↔ (name ≡ operand_name operand) }
+    ensures slot { (name : List ℕ) (slot : Slot) → (slot_named name ≡ Some slot) ↔ (name ≡ slot_name slot) }
 {}
 
 /// With an operator's words too a level only adds messages, whatever the list of words: what a side may say at a level,
@@ -95,6 +136,16 @@ pub fn laws_hold_over(words: &Words)
     ensures huh_with_err { (side : Side2) (level : Level) (m : List ℕ) (place : ℕ) → IsBalanced m →
         IsMessageOver (grammar_words (words_of words.now)) side level
         (huh ∷ bra ∷ ((take place m ++ err ∷ drop place m) ++ ket ∷ [])) }
+    ensures class { (place : ℕ) (word : Word) → word_at place (words_of words.now) ≡ Some word →
+        ((dialect_of (grammar_words (words_of words.now))).class_of word.code ≡ WordClass place)
+        × (class_of word.code ≡ Other) }
+    ensures elsewhere { (place : ℕ) (word : Word) (sym : Sym) → word_at place (words_of words.now) ≡ Some word →
+        stands_for (grammar_word word) (slot_of sym) ≡ false →
+        answer_over (grammar_words (words_of words.now)) sym (WordClass place) ≡ table_answer sym Other }
+    ensures names { (i j : ℕ) (one other : Word) → word_at i (words_of words.now) ≡ Some one →
+        word_at j (words_of words.now) ≡ Some other → one.name ≡ other.name → i ≡ j }
+    ensures codes { (i j : ℕ) (one other : Word) → word_at i (words_of words.now) ≡ Some one →
+        word_at j (words_of words.now) ≡ Some other → one.code ≡ other.code → i ≡ j }
 {
     words.are_accepted();
     added_words_keep_the_laws();
@@ -103,4 +154,6 @@ pub fn laws_hold_over(words: &Words)
     messages_are_paired();
     huh_answer_is_a_message();
     huh_answer_with_err_is_a_message();
+    added_words_move_as_other();
+    accepted_words_differ();
 }

@@ -2,6 +2,7 @@
 #![tactic(auto)]
 
 pub mod extended;
+mod law_facts;
 pub mod laws;
 pub mod operand;
 mod place;

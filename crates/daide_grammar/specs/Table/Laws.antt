@@ -39,7 +39,8 @@ pub record PredictLaws (class_of : ℕ → Class) (language : Sym → List ℕ �
       lawful (s ∷ stack) k → moves s Bra ≡ Take rest → lawful (rest ++ stack) (k + 1)
   pub lawful_close : (s : Sym) (rest stack : List Sym) (k : ℕ) →
       lawful (s ∷ stack) k → moves s Ket ≡ Take rest → (less : ℕ) × (k ≡ less + 1) × lawful (rest ++ stack) less
-  -- they are bounded by the open brackets, and a question goes few symbols down
+  -- they are bounded by the open brackets, and a question goes few symbols down: two are skipped at most, and with the
+  -- one that is asked as a word too that makes four answers a token
   pub few_entries : (stack : List Sym) (k : ℕ) → lawful stack k → length stack ≤ 8 * k + 16
-  pub few_skips : (stack : List Sym) (k : ℕ) (c : Class) → lawful stack k → skips_before moves c stack ≤ 3
+  pub few_skips : (stack : List Sym) (k : ℕ) (c : Class) → lawful stack k → skips_before moves c stack ≤ 2
   pub few_ends : (stack : List Sym) → lawful stack 0 → ends_asked may_end stack ≤ 4

@@ -44,6 +44,11 @@ makes arrangement_word Flat_slot = true
 abbrev pub stands : AddedWord → Slot → Level → Bool
 stands word slot l = makes word.slot slot && nat_le (level_number word.level) (level_number l)
 
+-- whether a word may stand for a symbol, whose slot for words this is, if it has one
+abbrev pub stands_for : AddedWord → Option (Slot × Level) → Bool
+stands_for word (Some p) = stands word p.0 p.1
+stands_for word None = false
+
 abbrev pub this_word : Bool → AddedWord → Option AddedWord → Option AddedWord
 this_word true word others = Some word
 this_word false word others = others

@@ -14,17 +14,13 @@ pub push-requires : goal.push-requires
 push-requires t c =
     elim c.if-number-ge10.branch [
       | then-number-ge10 w ↦
-          let e : c.if-number-ge10.line.items ≡ c.args.line.now.items ++ decimal (c.args.number / 10) = cc in (
-            omega arith,
-            room_behind c.args.line.now.items c.if-number-ge10.line.items c.args.number 8192 w.if-number-ge10.true
-                c.ranges.number.fits c.requires e,
-          )
+          let e : c.if-number-ge10.line.items ≡ c.args.line.now.items ++ decimal (c.args.number / 10) = cc in
+          room_behind c.args.line.now.items c.if-number-ge10.line.items c.args.number 8192 w.if-number-ge10.true
+          c.ranges.number.fits c.requires e
       | else-number-ge10 w ↦
           let room = room_for_one c.args.line.now.items c.args.number 8192 c.ranges.number.fits c.requires in
-          let e : c.if-number-ge10.line.items ≡ c.args.line.now.items = cc in (
-            omega arith,
-            omega (arith, room, ap length e),
-          )
+          let e : c.if-number-ge10.line.items ≡ c.args.line.now.items = cc in
+          omega (arith, room, ap length e)
     ]
 
 pub returns : goal.returns

@@ -3,10 +3,11 @@ use Rattle.std.proofs.Common.{length, get_or, take, reverse}
 use Rattle.std.proofs.Common.{refl, sym, ap, ◌∙◌, subst, rules, arith}
 use Rattle.daide_token.specs.declared.class.Class.{Class}
 use Rattle.daide_grammar.specs.declared.symbol.Sym.{Sym}
+use Rattle.daide_grammar.specs.Words.{Words}
 use Rattle.daide_grammar.specs.Table.Rules.{rest_of}
 use Rattle.daide_grammar.specs.Table.Stacks.{stack_after}
 use Rattle.daide_reader.specs.Stack.{steps_at}
-use Rattle.daide_reader.proofs.Counts.{less_within, word_asked}
+use Rattle.daide_reader.proofs.Counts.{less_within, word_asked, word_stopped}
 use Rattle.daide_reader.proofs.CellLemmas.{on_place, put_on_top, room_after}
 use Rattle.daide_reader.proofs.CellLemmas.{after_taken, after_stopped, after_skipped}
 use Rattle.daide_reader.proofs.CellLemmas.{steps_taken, steps_stopped, steps_skipped}
@@ -20,7 +21,7 @@ put_slowly-requires g c =
     let s = get_or cells c.args.top c.index-cells-top.result in
     let below = reverse (take c.args.top cells) in
     let a = c.predict_word-answer.result in
-    let is : moves s class ≡ a = sym c.predict_word-answer.ensures in
+    let is : moves s class ≡ a = sym c.predict_word-answer.ensures.answer in
     let inside : c.args.top < length cells = omega arith in
     let top : reverse (take (c.args.top + 1) cells) ≡ s ∷ below =
     on_place cells c.args.top c.index-cells-top.result inside in
@@ -43,7 +44,7 @@ returns-then-is_take g c =
     let s = get_or cells c.args.top c.index-cells-top.result in
     let below = reverse (take c.args.top cells) in
     let a = c.predict_word-answer.result in
-    let is : moves s class ≡ a = sym c.predict_word-answer.ensures in
+    let is : moves s class ≡ a = sym c.predict_word-answer.ensures.answer in
     let inside : c.args.top < length cells = omega arith in
     let top : reverse (take (c.args.top + 1) cells) ≡ s ∷ below =
     on_place cells c.args.top c.index-cells-top.result inside in
@@ -58,8 +59,8 @@ returns-then-is_take g c =
       taken = after ∙ ap (λ (x : List Sym). Some x) (sym turned);
       inside = subst (λ (n : ℕ). c.args.top + n ≤ g.row.N) (sym c.len-then-is_take.ensures.len) room;
       refused = tt;
-      words = refl;
-      steps = ap (λ (k : ℕ). (g.T.Predict.asked c.args.table.now + k) % 2 ^ 64) (sym due);
+      words = c.predict_word-answer.ensures.words_stay;
+      steps = word_stopped _ _ _ c.predict_word-answer.ensures.counts_each_answer due;
     }
 
 -- it stops it
@@ -71,7 +72,7 @@ returns-then-is_stop g c =
     let s = get_or cells c.args.top c.index-cells-top.result in
     let below = reverse (take c.args.top cells) in
     let a = c.predict_word-answer.result in
-    let is : moves s class ≡ a = sym c.predict_word-answer.ensures in
+    let is : moves s class ≡ a = sym c.predict_word-answer.ensures.answer in
     let inside : c.args.top < length cells = omega arith in
     let top : reverse (take (c.args.top + 1) cells) ≡ s ∷ below =
     on_place cells c.args.top c.index-cells-top.result inside in
@@ -81,8 +82,8 @@ returns-then-is_stop g c =
       taken = tt;
       inside = tt;
       refused = ap (stack_after moves class) top ∙ after_stopped moves class s below a is stops;
-      words = refl;
-      steps = ap (λ (k : ℕ). (g.T.Predict.asked c.args.table.now + k) % 2 ^ 64) (sym due);
+      words = c.predict_word-answer.ensures.words_stay;
+      steps = word_stopped _ _ _ c.predict_word-answer.ensures.counts_each_answer due;
     }
 
 -- the word's symbol is skipped, and those below it follow
@@ -94,14 +95,17 @@ follow-requires g c =
     let s = get_or cells c.args.top c.index-cells-top.result in
     let below = reverse (take c.args.top cells) in
     let a = c.predict_word-answer.result in
-    let is : moves s class ≡ a = sym c.predict_word-answer.ensures in
+    let is : moves s class ≡ a = sym c.predict_word-answer.ensures.answer in
     let inside : c.args.top < length cells = omega arith in
     let top : reverse (take (c.args.top + 1) cells) ≡ s ∷ below =
     on_place cells c.args.top c.index-cells-top.result inside in
     let takes = sym c.is_take.ensures ∙ c.if-is_take.false in
     let stops = sym c.is_stop.ensures ∙ c.if-is_stop.false in
+    let same = c.predict_word-answer.ensures.words_stay in
+    let then = g.T.Predict.moves (g.T.Predict.words c.predict_word-answer.new.self) in
     let after = ap (stack_after moves class) top ∙ after_skipped moves class s below a is takes stops
-    ∙ ap (λ (k : Class). stack_after moves k below) (sym c.class_of-class.ensures) in (
+    ∙ ap (λ (w : Words). stack_after (g.T.Predict.moves w) (g.T.Predict.class_of w c.args.token) below) (sym same)
+    ∙ ap (λ (k : Class). stack_after then k below) (sym c.class_of-class.ensures) in (
       search rules,
       (
         c.requires.size,
@@ -121,18 +125,22 @@ returns g c =
     let s = get_or cells c.args.top c.index-cells-top.result in
     let below = reverse (take c.args.top cells) in
     let a = c.predict_word-answer.result in
-    let is : moves s class ≡ a = sym c.predict_word-answer.ensures in
+    let is : moves s class ≡ a = sym c.predict_word-answer.ensures.answer in
     let inside : c.args.top < length cells = omega arith in
     let top : reverse (take (c.args.top + 1) cells) ≡ s ∷ below =
     on_place cells c.args.top c.index-cells-top.result inside in
     let takes = sym c.is_take.ensures ∙ c.if-is_take.false in
     let stops = sym c.is_stop.ensures ∙ c.if-is_stop.false in
+    let same = c.predict_word-answer.ensures.words_stay in
+    let then = g.T.Predict.moves (g.T.Predict.words c.predict_word-answer.new.self) in
     let after = ap (stack_after moves class) top ∙ after_skipped moves class s below a is takes stops
-    ∙ ap (λ (k : Class). stack_after moves k below) (sym c.class_of-class.ensures) in
+    ∙ ap (λ (w : Words). stack_after (g.T.Predict.moves w) (g.T.Predict.class_of w c.args.token) below) (sym same)
+    ∙ ap (λ (k : Class). stack_after then k below) (sym c.class_of-class.ensures) in
     let due : steps_at moves class (reverse (take (c.args.top + 1) cells)) ≡ 1 + steps_at moves class below =
     ap (steps_at moves class) top ∙ steps_skipped moves class s below a is takes stops in
-    let here : steps_at moves c.class_of-class.result below ≡ steps_at moves class below =
-    ap (λ (k : Class). steps_at moves k below) c.class_of-class.ensures in
+    let here : steps_at then c.class_of-class.result below ≡ steps_at moves class below =
+    ap (λ (k : Class). steps_at then k below) c.class_of-class.ensures
+    ∙ ap (λ (w : Words). steps_at (g.T.Predict.moves w) (g.T.Predict.class_of w c.args.token) below) same in
     let steps = c.follow.ensures.steps in
     record {
       taken = subst (λ (o : Option (List Sym)). IfSome c.follow.result (λ (left : ℕ). o ≡ Some (reverse (take left
@@ -141,6 +149,6 @@ returns g c =
       inside = c.follow.ensures.inside;
       refused = subst (λ (o : Option (List Sym)). IfNone c.follow.result (o ≡ None)) (sym after)
           c.follow.ensures.refused;
-      words = c.follow.ensures.words;
-      steps = word_asked _ _ _ _ _ steps due here;
+      words = c.follow.ensures.words ∙ same;
+      steps = word_asked _ _ _ _ _ _ c.predict_word-answer.ensures.counts_each_answer steps due here;
     }

@@ -1,7 +1,8 @@
 use Rattle.std.proofs.Common.{◌≡◌, ◌≤◌, ◌/◌, ℕ, true, false, None, Some, is_some}
 use Rattle.std.proofs.Common.{take, length, reverse, refl, sym, ap, ◌∙◌, subst, rules, arith}
 use Rattle.daide_reader.specs.Slice.{ReadsTo, Standing}
-use Rattle.daide_reader.proofs.Counts.{all_of, count_low, fewer_left, next_within, one_less, place_fits, read_inside}
+use Rattle.daide_reader.proofs.Counts.{all_of, count_low, fewer_left, next_within, one_less, or_one_more, place_fits}
+use Rattle.daide_reader.proofs.Counts.{read_inside}
 use Rattle.daide_reader.proofs.Counts.{token_inside, whole_token}
 use Rattle.daide_reader.proofs.BodyLemmas.{tokens_of-length}
 use Rattle.daide_reader.proofs.ReadingLemmas.{none_from_test, room_more}
@@ -111,7 +112,7 @@ returns-in_default g c = record {
         words = c.step.ensures.words;
         why = c.in_default.ensures.refused;
         counted = c.refused.ensures.unclosed ∙ sym c.step.ensures.counted;
-        steps = c.step.ensures.steps;
+        steps = (c.step.ensures.steps.0, or_one_more _ _ c.step.ensures.steps.1, c.step.ensures.steps.2);
       }) in
       rw (c.refused.ensures.tokens, c.refused.ensures.place) whole;
 }
@@ -137,7 +138,7 @@ loop-next-preserved g c =
             fits = c.in-Some.ensures.fits refl;
             taken = c.in-Some.ensures.taken;
             counted = c.step.ensures.counted;
-            steps = c.step.ensures.steps;
+            steps = (c.step.ensures.steps.0, or_one_more _ _ c.step.ensures.steps.1, c.step.ensures.steps.2);
           });
     }
 

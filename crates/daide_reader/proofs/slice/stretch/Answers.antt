@@ -6,7 +6,8 @@ use Rattle.daide_grammar.specs.Table.Stacks.{stack_after}
 use Rattle.daide_reader.specs.Slice.{ReadsTo, Standing}
 use Rattle.daide_reader.specs.Stack.{open_count, steps_at}
 use Rattle.daide_reader.proofs.Counts.{all_inside, all_of, before_end, count_low, end_inside, end_moves, from_next}
-use Rattle.daide_reader.proofs.Counts.{less_deep, less_within, next_within, none_due, one_asked, one_behind, place_fits}
+use Rattle.daide_reader.proofs.Counts.{less_deep, less_within, next_within, none_more, once_more, one_behind}
+use Rattle.daide_reader.proofs.Counts.{place_fits}
 use Rattle.daide_reader.proofs.Counts.{read_inside, rest_inside, room_on_top, shallow_next, some_left, stack_less}
 use Rattle.daide_reader.proofs.Counts.{token_inside, token_less, top_inside, top_some, top_whole, whole_token}
 use Rattle.daide_reader.proofs.BodyLemmas.{tokens_of-length}
@@ -70,7 +71,7 @@ returns-then-left-eq0 g c = record {
       (tokens_of-length c.args.body.now))
       c.token_at-token.ensures.front c.token_at-token.ensures.rest
       (ap (λ (k : ℕ). stack_after moves class (reverse (take k c.loop-next.cells))) c.if-left-eq0.true)
-      refl (none_due _ _ due) (c.refused.ensures.unclosed ∙ sym counted)
+      refl (0, omega arith, none_more _ _ due) (c.refused.ensures.unclosed ∙ sym counted)
       (ap (λ (k : ℕ). reverse (take k c.loop-next.cells)) c.refused.ensures.count)
       c.refused.ensures.tokens c.refused.ensures.place;
   none_left = λ _. c.refused.ensures.count;
@@ -199,7 +200,7 @@ returns-in_default g c = record {
       (tokens_of-length c.args.body.now))
       c.token_at-token.ensures.front c.token_at-token.ensures.rest
       (said ∙ c.in_default.ensures.refused)
-      (c.follow_word.ensures.words ∙ c.predict_token-answer.ensures.words_stay) (one_asked _ _ _ _ _ due once steps)
+      (c.follow_word.ensures.words ∙ c.predict_token-answer.ensures.words_stay) (1, omega arith, once_more _ _ _ _ _ due once steps)
       (c.refused-in_default.ensures.unclosed ∙ sym counted)
       (ap (λ (k : ℕ). reverse (take k c.follow_word.new.cells)) c.refused-in_default.ensures.count)
       c.refused-in_default.ensures.tokens c.refused-in_default.ensures.place;
@@ -238,7 +239,7 @@ loop-next-preserved-then-is_stop g c =
     let next = goes_on g.T.Predict g.met.T.Predict.laws c.args.max_depth c.args.body.now c.args.read c.args.unclosed old
     i opened end t ((opened + c.bracket_step-opened-then-is_stop.result) % 65536) now new inv.mid
     c.token_at-token.ensures.front c.token_at-token.ensures.rest (said ∙ c.in-Some.ensures.taken)
-    (c.follow_word.ensures.words ∙ c.predict_token-answer.ensures.words_stay) (one_asked _ _ _ _ _ due once steps) less
+    (c.follow_word.ensures.words ∙ c.predict_token-answer.ensures.words_stay) (1, omega arith, once_more _ _ _ _ _ due once steps) less
     counted in
     record {
       inside = c.in-Some.ensures.inside;

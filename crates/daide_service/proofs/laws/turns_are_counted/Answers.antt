@@ -1,4 +1,4 @@
-use Rattle.daide_service.proofs.LookLemmas.{turns_counted}
+use Rattle.daide_service.proofs.TurnCounts.{turns_counted}
 use Rattle.daide_service.proofs.laws.turns_are_counted.Goals as goal
 
 pub returns : goal.returns

@@ -1,9 +1,9 @@
-use Rattle.std.proofs.Common.{◌≤◌, List, sym, ◌∙◌, subst, arith, rules}
+use Rattle.std.proofs.Common.{◌≤◌, List, [], refl, inr, sym, ◌∙◌, subst, arith, rules}
 use Rattle.daide_service.specs.declared.serving.ServeFault.{ServeFault}
 use Rattle.daide_machine.specs.System.{SystemAnswer, TransitsBy}
-use Rattle.daide_service.specs.Serving.{ServiceView, GivesUp, opening}
-use Rattle.daide_service.proofs.ServingLemmas.{Ran, no_rounds, another_round, at_memory, runs_out}
-use Rattle.daide_service.proofs.ServedLemmas.{whole_run}
+use Rattle.daide_service.specs.Serving.{ServiceView, GivesUp, IsServeCause, opening}
+use Rattle.daide_service.proofs.ServingLemmas.{Ran, no_rounds, another_round, at_fault, at_memory, not_begun, opening_cause, runs_out}
+use Rattle.daide_service.proofs.ServedLemmas.{body_refused, whole_run}
 use Rattle.daide_service.proofs.serving.serve.Goals as goal
 
 pub loop-round-init : goal.loop-round-init
@@ -28,16 +28,48 @@ returns-then-is_done-clause-served g c =
           (sym c.is_done.ensures ∙ c.if-is_done.true),
     )
 
+-- the settings are wrong, or the places have no room
+pub returns-in_err-service-clause-given_up : goal.returns-in_err-service-clause-given_up
+returns-in_err-service-clause-given_up g c =
+    at_fault c.from_residual.result c.in_err-service.field-0.0
+    (λ (fault : ServeFault). (answers : List (SystemAnswer g.row.P.Denot))
+    × TransitsBy g.S.System.transition c.args.system.now answers c.args.system.now
+    × GivesUp g.A.Memory.Refuses g.P.Ports.becomes c.args.settings.now fault answers)
+    c.from_residual.ensures.1 (
+      [],
+      refl,
+      not_begun g.A.Memory.Refuses g.P.Ports.becomes c.args.settings.now c.in_err-service.field-0.0
+          c.in_err-service.ensures.refused,
+    )
+
+pub returns-in_err-service-clause-refused : goal.returns-in_err-service-clause-refused
+returns-in_err-service-clause-refused g c =
+    at_fault c.from_residual.result c.in_err-service.field-0.0
+    (IsServeCause g.A.Memory.Refuses c.args.settings.now) c.from_residual.ensures.1
+    (opening_cause g.A.Memory.Refuses c.args.settings.now c.in_err-service.field-0.0 c.in_err-service.ensures.refused)
+
 -- a round is broken off for want of memory alone
 pub returns-in_err-round-clause-given_up : goal.returns-in_err-round-clause-given_up
 returns-in_err-round-clause-given_up g c =
     let broken = c.in_err-round.ensures.broken_off in
     at_memory c.from_residual-in_err-round.result c.in_err-round.field-0.0 (λ (fault : ServeFault). (answers : List (SystemAnswer g.row.P.Denot))
     × TransitsBy g.S.System.transition c.args.system.now answers c.round.new.system
-    × GivesUp g.P.Ports.becomes c.args.settings.now fault answers)
+    × GivesUp g.A.Memory.Refuses g.P.Ports.becomes c.args.settings.now fault answers)
     c.from_residual-in_err-round.ensures.1 c.in_err-round.ensures.refused
-    (runs_out g.P.Ports.becomes g.S.System.transition c.args.settings.now c.loop-round._round _ _ _ _ _ c.loop-round.invariant
+    (runs_out g.A.Memory.Refuses g.P.Ports.becomes g.S.System.transition c.args.settings.now c.loop-round._round _ _ _ _ _ c.loop-round.invariant
     (sym c.is_done.ensures ∙ c.if-is_done.false) broken.0 broken.1 broken.2)
+
+pub returns-in_err-round-clause-refused : goal.returns-in_err-round-clause-refused
+returns-in_err-round-clause-refused g c =
+    let ran = c.loop-round.invariant in
+    let broken = c.in_err-round.ensures.broken_off in
+    at_memory c.from_residual-in_err-round.result c.in_err-round.field-0.0
+    (IsServeCause g.A.Memory.Refuses c.args.settings.now) c.from_residual-in_err-round.ensures.1
+    c.in_err-round.ensures.refused (
+      c.in_ok-service.ensures.accepted,
+      inr (body_refused g.P.Ports.becomes c.args.settings.now g.A.Memory.Refuses c.loop-round._round ran.0
+          c.loop-round.service ran.2 broken.2.refused),
+    )
 
 -- all rounds were made where the loop went to its end
 pub returns-clause-given_up : goal.returns-clause-given_up

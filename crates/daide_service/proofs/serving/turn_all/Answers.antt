@@ -1,9 +1,10 @@
-use Rattle.daide_service.proofs.ServingLemmas.{another_turn}
+use Rattle.daide_service.proofs.BeginningLemmas.{none_turned, another_turn}
 use Rattle.daide_service.proofs.serving.turn_all.Goals as goal
+
+pub loop-i-init : goal.loop-i-init
+loop-i-init g c = none_turned g.P.Ports.becomes g.S.System.transition c.args.system.now c.args.hub.now
 
 pub loop-i-preserved : goal.loop-i-preserved
 loop-i-preserved g c =
-    let so_far = c.loop-i.invariant in
-    let more = another_turn g.P.Ports.becomes c.loop-i.i c.args.hub.now c.loop-i.hub c.turn.new.self
-    so_far.runs so_far.count so_far.max c.turn.ensures in
-    record { runs = more.0; max = more.1; count = more.2 }
+    let turn = c.take_turn.ensures in
+    another_turn g.P.Ports.becomes g.S.System.transition _ _ _ _ _ _ c.loop-i.i c.loop-i.invariant turn.0 turn.1 turn.2

@@ -1,4 +1,4 @@
--- So many reads were interrupted: each gave nothing and left what the stream took, and the buffer keeps its length.
+-- Loop invariant: all reads so far were interrupted and moved no byte, and the buffer keeps its length.
 use Rattle.std.proofs.Common.{◌≡◌, length, replicate}
 use Rattle.std.specs.Io.KnownBytes.{Keeps}
 use Rattle.daide_machine.specs.Ports.{Tells}

@@ -1,4 +1,4 @@
--- So many writes were interrupted: each took nothing, and left what the stream has to give.
+-- Loop invariant: all writes so far were interrupted and moved no byte.
 use Rattle.std.proofs.Common.{◌≡◌, replicate}
 use Rattle.std.specs.Io.KnownBytes.{Keeps}
 use Rattle.daide_machine.specs.Ports.{Tells}

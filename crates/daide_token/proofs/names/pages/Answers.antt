@@ -11,3 +11,6 @@ returns-clause-short c = refl
 
 pub returns-clause-count : goal.returns-clause-count
 returns-clause-count c = refl
+
+pub returns-clause-spaced : goal.returns-clause-spaced
+returns-clause-spaced c = refl

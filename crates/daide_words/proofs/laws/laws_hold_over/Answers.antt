@@ -12,4 +12,8 @@ returns c =
       paired = λ side level m. c.messages_are_paired.ensures words side level m accepted;
       huh = λ side level a. c.huh_answer_is_a_message.ensures words side level a accepted;
       huh_with_err = λ side level m place. c.huh_answer_with_err_is_a_message.ensures words side level m place accepted;
+      class = λ place word at. c.added_words_move_as_other.ensures.class words place word accepted at;
+      elsewhere = λ place word sym at. c.added_words_move_as_other.ensures.elsewhere words place word sym accepted at;
+      names = λ i j one other at there. c.accepted_words_differ.ensures.names words i j one other accepted at there;
+      codes = λ i j one other at there. c.accepted_words_differ.ensures.codes words i j one other accepted at there;
     }

@@ -5,7 +5,7 @@ use Rattle.std.proofs.lemmas.Bool.{eqb-true, eq-eqb}
 use Rattle.daide_token.specs.declared.class.Class.{Class}
 use Rattle.daide_token.specs.declared.class.Class.TheVariants.{Bra, Ket, Other, Word}
 use Rattle.daide_token.specs.Token.{bra, ket}
-use Rattle.daide_token.specs.Class.{class_of, token_of, is_standard}
+use Rattle.daide_token.specs.Class.{class_of, token_of}
 use Rattle.daide_token.proofs.ClassLaws.{class_of-token_of, class_bra, class_ket, class_of-bra, class_of-ket}
 use Rattle.daide_grammar.specs.declared.level.Level.{Level}
 use Rattle.daide_grammar.specs.Level.{level_number}

@@ -2,5 +2,5 @@ use Rattle.std.proofs.Common.{ap, ◌∙◌}
 use Rattle.daide_grammar.specs.Table.Symbols.{table_answer}
 use Rattle.daide_grammar.proofs.plain.PlainPredict.predict_word.Goals as goal
 
-pub returns : goal.returns
-returns c = c.move_of.ensures ∙ ap (table_answer c.args.sym) c.requires
+pub returns-clause-answer : goal.returns-clause-answer
+returns-clause-answer c = c.predict.ensures.answer ∙ ap (table_answer c.args.sym) c.requires

@@ -1,11 +1,31 @@
 use Rattle.std.proofs.Common.{◌≡◌, ◌++◌, ◌∙◌, List, ℕ, subst, sym, ap}
 use Rattle.std.specs.Io.KnownBytes.{Appends}
+use Rattle.daide_token.specs.Token.{tokens_of}
 use Rattle.daide_lines.specs.Output.{all_of}
 use Rattle.daide_words.specs.Words.{words_of}
-use Rattle.daide_log.specs.Explained.{indented}
+use Rattle.daide_log.specs.Explained.{indented, line, printed}
 use Rattle.daide_log.proofs.EventLemmas.{on_ok}
 use Rattle.daide_log.proofs.MadeLemmas.{rightly_told, told_with}
 use Rattle.daide_log.proofs.explained.ExplainingStyle.explain.Goals as goal
+
+pub put_message-requires : goal.put_message-requires
+put_message-requires g c =
+    c.in-Some.ensures.even (words_of c.args.head.now.words) c.args.head.now.limits.config
+    (rightly_told c.args.head.now.limits.config (words_of c.args.head.now.words) c.requires.made.0 c.args.side
+    c.args.session.now c.requires.under c.requires.made.1 c.args.told c.requires.made.2)
+
+pub returns-in-Some-clause-text : goal.returns-in-Some-clause-text
+returns-in-Some-clause-text g c =
+    let config = c.args.head.now.limits.config in
+    let words = words_of c.args.head.now.words in
+    on_ok c.put_message.result _ _ c.put_message.ensures.text
+    (λ appends. (
+      indented (line (printed words (tokens_of c.in-Some.body.now))),
+      λ source old events made.
+          told_with config words old c.args.side c.args.session.now c.requires.under events c.args.told
+          (line (printed words (tokens_of c.in-Some.body.now))) source made (c.in-Some.ensures.alone words config.max_depth),
+      appends,
+    ))
 
 pub write_lines-requires : goal.write_lines-requires
 write_lines-requires g c = record {

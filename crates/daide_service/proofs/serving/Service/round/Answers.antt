@@ -13,22 +13,24 @@ returns-clause-round g c =
     let old = c.self.inside in
     let admits = c.admit-came.ensures.admits in
     let finishes = c.in_ok-met.ensures.finishes in
+    let turns = c.turn_all.ensures.turns in
     let removes = c.remove_closed-removed.ensures.removes in
     let stirred = c.admit-came.result || c.in_ok-met.met || c.has_moved-moved.result || c.remove_closed-removed.result in
     let asleep = waits_alike {P = g.row.P.Denot} _ _ _ _ _ _ _ _ _ _ admits.3 finishes.3 c.has_moved-moved.ensures
     removes.3 (c.accepts-more.ensures ∙ ap (accepts c.finish_connect.new.tally) c.count-2.ensures) in
     let step : Round g.P.Ports.becomes (record { hub = old.hub; tally = old.tally })
-    (Begins ∷ admits.0 ++ finishes.0 ++ removes.0 ++ wait_where stirred c.accepts-more.result)
+    (Begins ∷ admits.0 ++ finishes.0 ++ turns.0 ++ removes.0 ++ wait_where stirred c.accepts-more.result)
     (record { hub = c.remove_closed-removed.new.hub; tally = c.finish_connect.new.tally }) = record {
       admission = admits.0;
       meeting = finishes.0;
+      beginnings = turns.0;
       removal = removes.0;
       came = c.admit-came.new.tally;
       met = c.finish_connect.new.hub;
       turned = c.turn_all.new.hub;
       admits = subst (λ (n : ℕ). Admits n old.tally admits.0 c.admit-came.new.tally) c.count.ensures admits.2;
       finishes = finishes.2;
-      turns = c.turn_all.ensures.turns;
+      turns = turns.2;
       removes = removes.2;
       within = record {
         same_max = c.remove_closed-removed.ensures.max ∙ c.turn_all.ensures.max ∙ c.finish_connect.ensures.within.same_max;
@@ -39,16 +41,17 @@ returns-clause-round g c =
             omega (arith, held, count, fewer);
         accepted = c.finish_connect.ensures.within.accepted;
       };
-      asked = ap (λ w. Begins ∷ admits.0 ++ finishes.0 ++ removes.0 ++ w) asleep;
+      asked = ap (λ w. Begins ∷ admits.0 ++ finishes.0 ++ turns.0 ++ removes.0 ++ w) asleep;
     } in (
-      Begins ∷ admits.0 ++ finishes.0 ++ removes.0 ++ wait_where stirred c.accepts-more.result,
-      transits_then go (Begins ∷ admits.0 ++ finishes.0 ++ removes.0) _ _ _ _
-          (transits_then go (Begins ∷ admits.0 ++ finishes.0) removes.0 _ _ _
+      Begins ∷ admits.0 ++ finishes.0 ++ turns.0 ++ removes.0 ++ wait_where stirred c.accepts-more.result,
+      transits_then go (Begins ∷ admits.0 ++ finishes.0 ++ turns.0 ++ removes.0) _ _ _ _
+          (transits_then go (Begins ∷ admits.0 ++ finishes.0 ++ turns.0) removes.0 _ _ _
+          (transits_then go (Begins ∷ admits.0 ++ finishes.0) turns.0 _ _ _
           (transits_then go (Begins ∷ admits.0) finishes.0 _ _ _
-          (c.begin_round.new.self, c.begin_round.ensures, admits.1) finishes.1) removes.1)
+          (c.begin_round.new.self, c.begin_round.ensures, admits.1) finishes.1) turns.1) removes.1)
           c.rest.ensures,
       subst (λ (a : ServiceView g.row.P.Denot). Round g.P.Ports.becomes a
-          (Begins ∷ admits.0 ++ finishes.0 ++ removes.0 ++ wait_where stirred c.accepts-more.result)
+          (Begins ∷ admits.0 ++ finishes.0 ++ turns.0 ++ removes.0 ++ wait_where stirred c.accepts-more.result)
           (record { hub = c.remove_closed-removed.new.hub; tally = c.finish_connect.new.tally })) c.self.view_is step,
     )
 
@@ -66,19 +69,21 @@ returns-in_err-met-clause-broken_off g c =
     let old = c.self.inside in
     let answers = Begins ∷ admits.0 ++ Connects (Ready broken.0) ∷ [] in
     let after : ServiceView g.row.P.Denot = record { hub = c.finish_connect.new.hub; tally = c.finish_connect.new.tally } in
-    let breaks : BreaksOff (record { hub = old.hub; tally = old.tally }) answers after = record {
+    let breaks : BreaksOff g.A.Memory.Refuses (record { hub = old.hub; tally = old.tally }) answers after = record {
       admission = admits.0;
       came = c.admit-came.new.tally;
       ports = broken.0;
       admits = subst (λ (n : ℕ). Admits n old.tally admits.0 c.admit-came.new.tally) c.count.ensures admits.2;
       under_way = broken.2;
       asked = refl;
+      refused = c.in_err-met.ensures.out_of_memory;
       leaves = rw (left.0, left.1) refl;
     } in
     at_error c.from_residual.result ((all : List (SystemAnswer g.row.P.Denot))
-    × TransitsBy go c.args.system.now all c.finish_connect.new.system × BreaksOff c.args.self.now all after) (
+    × TransitsBy go c.args.system.now all c.finish_connect.new.system
+    × BreaksOff g.A.Memory.Refuses c.args.self.now all after) (
       answers,
       transits_then go (Begins ∷ admits.0) (Connects (Ready broken.0) ∷ []) _ _ _
           (c.begin_round.new.self, c.begin_round.ensures, admits.1) broken.1,
-      subst (λ (a : ServiceView g.row.P.Denot). BreaksOff a answers after) c.self.view_is breaks,
+      subst (λ (a : ServiceView g.row.P.Denot). BreaksOff g.A.Memory.Refuses a answers after) c.self.view_is breaks,
     )

@@ -1,4 +1,4 @@
-use Rattle.std.proofs.Common.{sym, ap, ◌∙◌, take, ◌≡◌, false, subst}
+use Rattle.std.proofs.Common.{sym, ap, ◌∙◌, take}
 use Rattle.daide_machine.specs.Machine.{Coming, coming}
 use Rattle.daide_machine.specs.Wires.{SessionView, Holding, holding, is_awaited, waiting}
 use Rattle.daide_session.proofs.ReactionLemmas.{holding_at}

@@ -6,6 +6,6 @@ use Rattle.daide_sockets.proofs.system.SocketsSystemSocketPortsRef.connected.Giv
 abbrev pub invariant-loop-look : goal.invariant-loop-look
 invariant-loop-look g l = record {
   looks : LooksAt l._look l.initial.self.arrivals.items l.self.arrivals.items;
-  came : l.self.came ≡ l.initial.self.came;
+  came : l.self.acceptor.came ≡ l.initial.self.acceptor.came;
   closing : l.self.closings ≡ l.initial.self.closings;
 }

@@ -38,5 +38,5 @@ made g c =
 pub invariant_of-result : goal.invariant_of-result
 invariant_of-result g c = new_sound (made g c)
 
-pub returns : goal.returns
-returns g c = quiet_of (made g c)
+pub returns-clause-quiet : goal.returns-clause-quiet
+returns-clause-quiet g c = quiet_of (made g c)

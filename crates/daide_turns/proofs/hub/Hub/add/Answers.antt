@@ -4,7 +4,7 @@ use Rattle.daide_words.specs.Words.{words_of}
 use Rattle.daide_machine.specs.Wires.{IsNew}
 use Rattle.daide_turns.specs.Hub.{HubView}
 use Rattle.daide_machine.specs.Config.{limits_with}
-use Rattle.daide_turns.proofs.HubLemmas.{hosting_added, place_added, places_counted, room_here}
+use Rattle.daide_turns.proofs.HubLemmas.{body_refused, hosting_added, place_added, places_counted, room_here}
 use Rattle.daide_turns.proofs.hub.Hub.add.Goals as goal
 
 pub push_reserved-requires : goal.push_reserved-requires
@@ -58,9 +58,13 @@ returns-in_default-clause-refused g c =
     let s = c.self.inside in
     let fits = c.self.invariant.fits in
     let len = c.len-place.ensures in
-    let apart = c.if-place-self.false in
-    room_here (λ p. (p.session, p.ports)) (limits_with s.config (words_of s.words)) s.max s.places.items c.args.self.now
-    c.self.view_is (omega (arith, fits, len, apart, s.places.ok.0))
+    let apart = c.if-place-self.false in (
+      room_here (λ p. (p.session, p.ports)) (limits_with s.config (words_of s.words)) s.max s.places.items
+          c.args.self.now c.self.view_is (omega (arith, fits, len, apart, s.places.ok.0)),
+      subst (λ (h : HubView g.row.P.Denot). g.A.Memory.Refuses h.limits.cap) c.self.view_is
+          (body_refused g.A.Memory.Refuses s.config c.in_default.field-0 c.self.invariant.checked
+          c.in_default.ensures.refused),
+    )
 
 pub returns-in_default-clause-unchanged : goal.returns-in_default-clause-unchanged
 returns-in_default-clause-unchanged g c = refl

@@ -20,4 +20,5 @@ returns-clause-accepted g c =
 -- no memory
 pub returns-in_default-with_capacity-clause-refused : goal.returns-in_default-with_capacity-clause-refused
 returns-in_default-with_capacity-clause-refused g c =
-    let some = c.if-max-eq0.false in (sym c.in_default.ensures, (omega (arith, some), c.if-max-gt-MAX_SESSIONS.false))
+    let some = c.if-max-eq0.false in
+    (sym c.in_default.ensures, (omega (arith, some), c.if-max-gt-MAX_SESSIONS.false), c.in_default-with_capacity.ensures.refused)

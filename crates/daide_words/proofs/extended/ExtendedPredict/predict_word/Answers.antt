@@ -1,4 +1,4 @@
-use Rattle.std.proofs.Common.{sym, ap, ◌∙◌}
+use Rattle.std.proofs.Common.{refl, sym, ap, ◌∙◌}
 use Rattle.daide_grammar.specs.Table.Rules.{is_stop}
 use Rattle.daide_grammar.specs.SideMessages.{dialect_of}
 use Rattle.daide_grammar.specs.Table.Symbols.{table_answer}
@@ -20,12 +20,12 @@ where_stopped-requires c =
     ap (table_answer s) c.class_with-class.ensures
     ∙ told_before (words_of words) s c.args.token words.accepted
     (few_names words.names words.meanings words.count words.few)
-    ∙ sym c.predict_word-answer.ensures
+    ∙ sym c.predict_word-answer.ensures.answer
     ∙ the_stop c.predict_word-answer.result (sym c.is_stop.ensures ∙ c.if-is_stop.true)
 
-pub returns-then-is_stop : goal.returns-then-is_stop
+pub returns-then-is_stop-clause-answer : goal.returns-then-is_stop-clause-answer
 unfolding spoken_words words_of
-returns-then-is_stop c =
+returns-then-is_stop-clause-answer c =
     let words = c.args.self.now.words in
     let s = c.args.sym in
     let t = c.args.token in
@@ -34,16 +34,24 @@ returns-then-is_stop c =
     ∙ ap (λ ws. answer_over ws s ((dialect_of ws).class_of t))
     (sym (all-spoken (spoken_words c.args.self.now) (accepted_free (words_of words) words.accepted)))
 
-pub returns : goal.returns
+pub returns-then-is_stop-clause-words_stay : goal.returns-then-is_stop-clause-words_stay
+unfolding spoken_words
+returns-then-is_stop-clause-words_stay c = refl
+
+pub returns-clause-answer : goal.returns-clause-answer
 unfolding spoken_words words_of
-returns c =
+returns-clause-answer c =
     let words = c.args.self.now.words in
     let s = c.args.sym in
     let t = c.args.token in
-    let told = c.predict_word-answer.ensures in
+    let told = c.predict_word-answer.ensures.answer in
     told
     ∙ sym (answered_before (words_of words) s t words.accepted
     (few_names words.names words.meanings words.count words.few)
     (ap is_stop (sym told) ∙ sym c.is_stop.ensures ∙ c.if-is_stop.false))
     ∙ ap (λ ws. answer_over ws s ((dialect_of ws).class_of t))
     (sym (all-spoken (spoken_words c.args.self.now) (accepted_free (words_of words) words.accepted)))
+
+pub returns-clause-words_stay : goal.returns-clause-words_stay
+unfolding spoken_words
+returns-clause-words_stay c = refl

@@ -1,0 +1,34 @@
+//! Each law of `laws`, used once at values that were worked out by hand, so that a weaker law does not check. Nothing
+//! here is called.
+
+ghost use Rattle.std.specs.Prelude.{◌≡◌, ◌≤◌, ℕ, [], ◌∷◌, Ok};
+ghost use Rattle.daide_frame.specs.Frames.{Begun, Whole, cut, fed, fed_items, first_items, items_by_byte, items_of};
+ghost use Rattle.daide_frame.specs.Head.{head_of};
+ghost use Rattle.daide_frame.specs.declared.head.Kind.TheVariants.{Dm, Fm};
+
+use crate::laws;
+
+/// The header of a message of 65,526 bytes is read back under each cap that allows it. Two bytes more of a header are
+/// told as the piece of two bytes; and two final messages are two frames, found at once or byte by byte.
+fn frames_at_values()
+    ensures head { (cap : ℕ) → 65526 ≤ cap →
+        head_of (0x02 ∷ 0x00 ∷ 0xFF ∷ 0xF6 ∷ []) cap ≡ Ok (record { kind = Dm; len = 65526 }) }
+    ensures pieces { (high low : ℕ) →
+        items_of (first_items 1024 (fed 1024 (0x02 ∷ 0x00 ∷ []) (high ∷ low ∷ [])))
+        ≡ fed_items 1024 (0x02 ∷ 0x00 ∷ []) (high ∷ low ∷ []) }
+    ensures follow { cut 1024 (0x03 ∷ 0x00 ∷ 0x00 ∷ 0x00 ∷ 0x03 ∷ 0x00 ∷ 0x00 ∷ 0x00 ∷ [])
+        ≡ record { item = Begun (record { kind = Fm; len = 0 }); at = 4 }
+        ∷ record { item = Whole (record { kind = Fm; len = 0 }) []; at = 4 }
+        ∷ record { item = Begun (record { kind = Fm; len = 0 }); at = 8 }
+        ∷ record { item = Whole (record { kind = Fm; len = 0 }) []; at = 8 } ∷ [] }
+    ensures by_byte { items_by_byte 1024 0 [] (0x03 ∷ 0x00 ∷ 0x00 ∷ 0x00 ∷ 0x03 ∷ 0x00 ∷ 0x00 ∷ 0x00 ∷ [])
+        ≡ record { item = Begun (record { kind = Fm; len = 0 }); at = 4 }
+        ∷ record { item = Whole (record { kind = Fm; len = 0 }) []; at = 4 }
+        ∷ record { item = Begun (record { kind = Fm; len = 0 }); at = 8 }
+        ∷ record { item = Whole (record { kind = Fm; len = 0 }) []; at = 8 } ∷ [] }
+{
+    laws::head_comes_back();
+    laws::any_pieces_agree();
+    laws::frames_follow_one_another();
+    laws::frames_are_found_byte_by_byte();
+}

@@ -1,0 +1,27 @@
+//! Memory that may be refused, so that a contract can say that it was.
+
+ghost use Rattle.std.specs.Prelude.{◌≡◌, ℕ, ◌≤◌, [], IfOk, OnErr, vec_capacity};
+
+use std::alloc::{AllocError, Allocator};
+
+/// An allocator that may refuse room, as every allocator may. Code that is generic in it doesn't know what `Refuses` is.
+/// So it can show `Refuses` only for a number of elements that it requested and was refused, and a contract that ends in
+/// `Refuses` allows no other cause for an error.
+pub trait Memory: Allocator {
+    /// Room for so many elements was refused.
+    ghost Refuses: { ℕ → Type 0 };
+
+    /// Returns an empty vector with room for so many elements.
+    fn with_capacity<T>(self, capacity: usize) -> Result<Vec<T, Self>, AllocError>
+        ensures items { IfOk result (λ v. v.items ≡ []) }
+        ensures capacity { IfOk result (λ v. capacity ≤ vec_capacity v) }
+        ensures refused { OnErr result (Refuses capacity) };
+}
+
+impl<A: Allocator> Memory for A {
+    ghost Refuses = { λ _. Unit {0} };
+
+    fn with_capacity<T>(self, capacity: usize) -> Result<Vec<T, A>, AllocError> {
+        Vec::with_capacity(self, capacity)
+    }
+}

@@ -1,0 +1,22 @@
+use Rattle.std.proofs.Common.{◌≡◌, ◌%◌, length}
+use Rattle.daide_lines.specs.Output.{IsSameWriter, all_of}
+use Rattle.daide_token.specs.TextSteps.{place_past, some_text}
+use Rattle.daide_token.specs.Token.{tokens_of}
+use Rattle.daide_token.specs.declared.text.PrinterState.TheVariants.{Start}
+use Rattle.daide_words.specs.Word.{names_of}
+use Rattle.daide_words.specs.Words.{words_of}
+use Rattle.daide_log.proofs.PageTexts.{Puts}
+use Rattle.daide_log.proofs.page.put_tokens.Given as goal
+
+abbrev pub invariant-tokens : goal.invariant-tokens
+invariant-tokens g l = record {
+  even : length l.rest % 2 ≡ 0;
+  text : Puts (all_of g.W.Write.contents l.fn.output) (all_of g.W.Write.contents l.output)
+      (some_text (names_of (words_of l.words)) Start (tokens_of l.tokens))
+      (some_text (names_of (words_of l.words)) l.place (tokens_of l.rest));
+  place : place_past l.place (tokens_of l.rest) ≡ place_past Start (tokens_of l.tokens);
+  same_writer : IsSameWriter l.fn.output l.output;
+}
+
+abbrev pub decreases-tokens : goal.decreases-tokens
+decreases-tokens g l = length l.rest

@@ -1,0 +1,28 @@
+//! A writer that may fail, so that a contract can say that it did.
+
+ghost use Rattle.std.specs.Prelude.{OnOk, OnErr};
+ghost use Rattle.std.specs.Io.KnownBytes.{Appends};
+
+use std::io;
+use std::io::Write;
+
+/// A writer as one whose write may fail; every writer is one. Code that is generic in it doesn't know what `Fails` is, so
+/// it can show `Fails` only of a writer whose write returned an error. A contract that asks for `Fails` allows no other
+/// reason to stop writing.
+pub trait Sink: Write {
+    /// A write took the writer from its old value to its new one, and returned an error.
+    ghost Fails: { Self → Self → Type 0 };
+
+    /// Writes all of the bytes.
+    fn write_whole(&mut self, bytes: &[u8]) -> io::Result<()>
+        ensures written { OnOk result (Appends (Self.contents self.old) (Self.contents self.new) bytes.now) }
+        ensures failed { OnErr result (Fails self.old self.new) };
+}
+
+impl<W: Write> Sink for W {
+    ghost Fails = { λ _ _. Unit {0} };
+
+    fn write_whole(&mut self, bytes: &[u8]) -> io::Result<()> {
+        self.write_all(bytes)
+    }
+}

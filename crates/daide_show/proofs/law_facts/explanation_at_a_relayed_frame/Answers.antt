@@ -1,0 +1,10 @@
+use Rattle.std.proofs.Common.{◌≡◌, ◌++◌, [], ℕ, List, Ok, codes, append-nil, refl, ◌∙◌, ap}
+use Rattle.daide_frame.specs.declared.side.Side.TheVariants.{Bot}
+use Rattle.daide_grammar.specs.declared.level.Level.TheVariants.{L0}
+use Rattle.daide_show.proofs.FrameFacts.{fm, fm_shown}
+use Rattle.daide_show.proofs.law_facts.explanation_at_a_relayed_frame.Goals as goal
+
+pub returns : goal.returns
+returns c explained h =
+    let only = c.explanation_only_adds.ensures [] Bot L0 (codes "03 00 00 00") (Ok fm_shown) (Ok explained) fm h in
+    only.1 ∙ ap (λ (lines : List ℕ). fm_shown.text ++ lines) (only.3 refl)

@@ -1,0 +1,51 @@
+//! Each law of `laws`, used once at inputs that were worked out by hand, so that a weaker law does not check. Nothing here
+//! is called.
+
+ghost use Rattle.std.specs.Prelude.{◌≡◌, ◌++◌, [], ◌∷◌, ℕ, List, Result, Ok, Err, Some, None, codes, false, true};
+ghost use Rattle.daide_frame.specs.declared.side.Side.TheVariants.{Bot};
+ghost use Rattle.daide_grammar.specs.declared.level.Level.TheVariants.{L0};
+ghost use Rattle.daide_reader.specs.declared.verdict.Verdict.TheVariants.{Huh};
+ghost use Rattle.daide_show.specs.declared.frame_view.ShowFault.{ShowFault};
+ghost use Rattle.daide_show.specs.declared.frame_view.ShowFault.TheVariants.{NotHex};
+ghost use Rattle.daide_show.specs.Note.{noted_fault};
+ghost use Rattle.daide_show.specs.Shown.{IsShownAs, Shown, plain_asked, verdict_lines};
+
+use crate::laws;
+
+/// An FM is shown by its kind, its length and `relay`, and in no other way; and a letter is no digit.
+fn one_way_at_two_inputs()
+    ensures shown { (outcome : Result Shown ShowFault) →
+        IsShownAs (plain_asked Bot L0) (codes "03 00 00 00") outcome →
+        outcome ≡ Ok (record { text = codes "FM 0" ++ 10 ∷ codes "relay" ++ 10 ∷ []; relayed = true }) }
+    ensures refused { (outcome : Result Shown ShowFault) → IsShownAs (plain_asked Bot L0) (codes "0G") outcome →
+        outcome ≡ Err NotHex }
+{
+    laws::input_is_shown_in_one_way();
+}
+
+/// What is shown of an FM gets no line more with explanations.
+fn explanation_at_a_relayed_frame()
+    ensures { (explained : Shown) →
+        IsShownAs (record { words = []; side = Bot; level = L0; explained = true }) (codes "03 00 00 00") (Ok explained) →
+        explained.text ≡ codes "FM 0" ++ 10 ∷ codes "relay" ++ 10 ∷ [] }
+{
+    laws::explanation_only_adds();
+}
+
+/// An input of one digit has the fault of its note, and one that is shown has none.
+fn note_at_two_inputs()
+    ensures odd { (outcome : Result Shown ShowFault) → IsShownAs (plain_asked Bot L0) (codes "0") outcome →
+        noted_fault outcome ≡ Some NotHex }
+    ensures whole { (outcome : Result Shown ShowFault) → IsShownAs (plain_asked Bot L0) (codes "03 00 00 00") outcome →
+        noted_fault outcome ≡ None }
+{
+    laws::note_is_of_the_fault();
+}
+
+/// Of `OBS GOF`, refused at 1, the answer that is shown is `HUH ( OBS ERR GOF )`.
+fn answer_at_a_message()
+    ensures { verdict_lines [] (Huh 1) (0x48 ∷ 0x0F ∷ 0x48 ∷ 0x03 ∷ [])
+        ≡ codes "HUH at 1" ++ 10 ∷ codes "HUH ( OBS ERR GOF )" ++ 10 ∷ [] }
+{
+    laws::shown_answers_are_those_sent();
+}

@@ -1,0 +1,35 @@
+//! Each law of `laws`, used once at values that were worked out by hand, so that a weaker law does not check. Nothing
+//! here is called.
+
+ghost use Rattle.std.specs.Prelude.{◌≡◌, ◌^◌, ◌<◌, ℕ, List, [], ◌∷◌, Result, Err, length, true, codes};
+ghost use Rattle.daide_text.specs.Line.{IsReadAs, IsText};
+
+use crate::laws;
+
+/// The text `GOF ( -1 )` is printed for four tokens, and read as them.
+fn printed_text_at_a_value()
+    ensures { IsText [] (codes "GOF ( -1 )") (0x4803 ∷ 0x4000 ∷ 0x3FFF ∷ 0x4001 ∷ []) }
+{
+    laws::printed_text_is_read_back();
+}
+
+/// A word that is no item is at fault at its own column alone, whatever else is said of its line.
+fn one_reading_at_a_value()
+    ensures { (outcome : Result (List ℕ) ℕ) → IsReadAs [] (codes "GOF gof") outcome → outcome ≡ Err 5 }
+{
+    laws::lines_are_read_in_one_way();
+}
+
+/// A line with a byte that no token has is read too: it has a fault.
+fn some_reading_at_a_value()
+    ensures { (outcome : Result (List ℕ) ℕ) × IsReadAs [] (0xC3 ∷ []) outcome }
+{
+    laws::each_line_is_read();
+}
+
+/// Where `TME(007)` is a text of some tokens, what is printed for these is a text of them too.
+fn canonical_text_at_a_value()
+    ensures { IsText [] (codes "TME ( 7 )") (0x481B ∷ 0x4000 ∷ 7 ∷ 0x4001 ∷ []) }
+{
+    laws::canonical_text_is_read_alike();
+}

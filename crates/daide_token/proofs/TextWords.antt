@@ -1,0 +1,133 @@
+-- The text of one token, by what it is.
+use Rattle.std.proofs.Common.{◌≡◌, ◌==◌, ◌&&◌, Bool, nat_le, not, ℕ, ℤ, pos, negsuc, ◌+◌, ◌/◌, ◌<◌, true, false, List, [], ◌∷◌, ◌++◌}
+use Rattle.std.proofs.Common.{◌*◌, ◌%◌, length, get_or, unwrap_or, Option, Some, None, refl, sym, ap, ◌∙◌, arith}
+use Rattle.std.proofs.lemmas.Bool.{eqb-true}
+use Rattle.std.proofs.lemmas.Bool.Decides.{nat_tests}
+use Rattle.std.proofs.lemmas.Int.{ints}
+use Rattle.std.specs.Int.RustNames.{unsigned_abs}
+use Rattle.std.specs.Fmt.{signed_decimal}
+use Rattle.std.specs.List.{list_all}
+use Rattle.daide_token.specs.Token.{bra, ket, bytes_of, number_of}
+use Rattle.daide_token.specs.Names.{Named, names, name_of}
+use Rattle.daide_token.specs.NamePages.{is_spaced, name_of_cell}
+use Rattle.daide_token.specs.Text.{added_name_of, hex_text, is_quotable, word_with}
+use Rattle.daide_token.specs.TextSteps.{place_after, token_text}
+use Rattle.daide_token.specs.declared.text.PrinterState.{PrinterState}
+use Rattle.daide_token.specs.declared.text.PrinterState.TheVariants.{Quote, Word}
+use Rattle.daide_token.proofs.NameLaws.{name_of-length}
+use Rattle.daide_token.proofs.TableLemmas.{found_passes}
+
+-- ---- numbers
+
+number_small : (t : ℕ) (n : ℤ) → number_of t ≡ Some n → t < 0x4000
+number_small t n e = grind (arith, nat_tests)
+
+not_bra : (t : ℕ) → t < 0x4000 → (t == bra) ≡ false
+not_bra t less = grind (arith, nat_tests)
+
+not_ket : (t : ℕ) → t < 0x4000 → (t == ket) ≡ false
+not_ket t less = grind (arith, nat_tests)
+
+pub number_word : (added : List Named) (t : ℕ) (n : ℤ) → number_of t ≡ Some n → word_with added t ≡ signed_decimal n
+number_word added t n e =
+    let less = number_small t n e in
+    rw (not_bra t less) (rw (not_ket t less) (rw e refl))
+
+pub number_few : (t : ℕ) (n : ℤ) → number_of t ≡ Some n → unsigned_abs n < 10000
+number_few t (pos n) e = grind (arith, nat_tests, ints)
+number_few t (negsuc n) e = grind (arith, nat_tests, ints)
+
+-- ---- names
+
+-- a token with a name is no number, and no character
+abbrev is_word : Named → Bool
+is_word row = nat_le 0x4000 row.0 && not (is_quotable row.0)
+
+all_words : list_all is_word names ≡ true
+unfolding names
+all_words = refl
+
+no_number : (t : ℕ) → is_word (t, []) ≡ true → number_of t ≡ None
+no_number t e = grind (arith, nat_tests)
+
+no_character : (t : ℕ) → is_word (t, []) ≡ true → is_quotable t ≡ false
+no_character t e = grind (arith, nat_tests)
+
+pub named_number : (t : ℕ) (name : List ℕ) → name_of t ≡ Some name → number_of t ≡ None
+unfolding name_of
+named_number t name e =
+    found_passes (λ (row : Named). row.1) (λ row. row.0 == t) is_word names name all_words e
+    (λ row same word here. ap number_of (sym (eqb-true row.0 t same)) ∙ no_number row.0 word)
+
+pub named_character : (t : ℕ) (name : List ℕ) → name_of t ≡ Some name → is_quotable t ≡ false
+unfolding name_of
+named_character t name e =
+    found_passes (λ (row : Named). row.1) (λ row. row.0 == t) is_word names name all_words e
+    (λ row same word here. ap is_quotable (sym (eqb-true row.0 t same)) ∙ no_character row.0 word)
+
+pub named_word : (added : List Named) (t : ℕ) (name : List ℕ) → name_of t ≡ Some name → (t == bra) ≡ false →
+    (t == ket) ≡ false → word_with added t ≡ name
+named_word added t name e a b = rw a (rw b (rw (named_number t name e) (rw e refl)))
+
+-- a cell of four bytes is the name behind a word
+pub four : (cell : List ℕ) → length cell ≡ 4 →
+    get_or cell 0 0 ∷ get_or cell 1 0 ∷ get_or cell 2 0 ∷ get_or cell 3 0 ∷ [] ≡ cell
+four [] e = absurd (omega arith)
+four (a ∷ []) e = absurd (omega arith)
+four (a ∷ b ∷ []) e = absurd (omega arith)
+four (a ∷ b ∷ c ∷ []) e = absurd (omega arith)
+four (a ∷ b ∷ c ∷ d ∷ []) e = refl
+four (a ∷ b ∷ c ∷ d ∷ f ∷ rest) e = absurd (omega arith)
+
+pub cell_text : (added : List Named) (t : ℕ) (cell : List ℕ) → name_of_cell cell ≡ name_of t → is_spaced cell ≡ true →
+    length cell ≡ 4 → (t == bra) ≡ false → (t == ket) ≡ false → token_text added Word t ≡ cell
+cell_text added t [] e s long a b = absurd (omega arith)
+cell_text added t (space ∷ letters) e s long a b =
+    rw (named_character t letters (sym e))
+    (ap (λ (l : List ℕ). 32 ∷ l) (named_word added t letters (sym e) a b)
+    ∙ ap (λ (c : ℕ). c ∷ letters) (sym (eqb-true space 32 s)))
+
+pub cell_place : (t : ℕ) (cell : List ℕ) → name_of_cell cell ≡ name_of t → length cell ≡ 4 → place_after t ≡ Word
+cell_place t [] e long = absurd (omega arith)
+cell_place t (space ∷ letters) e long = rw (named_character t letters (sym e)) refl
+
+-- its letters are the name by itself
+pub cell_word : (added : List Named) (t : ℕ) (cell : List ℕ) → name_of_cell cell ≡ name_of t → length cell ≡ 4 →
+    (t == bra) ≡ false → (t == ket) ≡ false →
+    get_or cell 1 0 ∷ get_or cell 2 0 ∷ get_or cell 3 0 ∷ [] ≡ word_with added t
+cell_word added t [] e long a b = absurd (omega arith)
+cell_word added t (s ∷ []) e long a b = absurd (omega arith)
+cell_word added t (s ∷ x ∷ []) e long a b = absurd (omega arith)
+cell_word added t (s ∷ x ∷ y ∷ []) e long a b = absurd (omega arith)
+cell_word added t (s ∷ x ∷ y ∷ z ∷ []) e long a b = sym (named_word added t (x ∷ y ∷ z ∷ []) (sym e) a b)
+cell_word added t (s ∷ x ∷ y ∷ z ∷ w ∷ rest) e long a b = absurd (omega arith)
+
+-- a cell of another length is empty, and then the token has no name
+no_name : (t : ℕ) (cell : List ℕ) → name_of_cell cell ≡ name_of t → (length cell ≡ 4 → ⊥) → name_of t ≡ None
+no_name t [] e other = sym e
+no_name t (space ∷ letters) e other =
+    absurd (other (omega (arith, name_of-length t letters (sym e))))
+
+pub unnamed_word : (added : List Named) (t : ℕ) (cell : List ℕ) → name_of_cell cell ≡ name_of t →
+    (length cell ≡ 4 → ⊥) → number_of t ≡ None → (t == bra) ≡ false → (t == ket) ≡ false →
+    word_with added t ≡ unwrap_or (added_name_of added t) (hex_text t)
+unnamed_word added t cell e other number a b = rw a (rw b (rw number (rw (no_name t cell e other) refl)))
+
+-- ---- a token by its two bytes
+
+pub of_bytes : (t : ℕ) (bytes : List ℕ) → bytes ≡ bytes_of t → get_or bytes 0 0 * 256 + get_or bytes 1 0 ≡ t
+of_bytes t bytes e =
+    let high : get_or bytes 0 0 ≡ t / 256 = ap (λ (b : List ℕ). get_or b 0 0) e in
+    let low : get_or bytes 1 0 ≡ t % 256 = ap (λ (b : List ℕ). get_or b 1 0) e in
+    omega (arith, high, low)
+
+category_apart : (t : ℕ) → (t / 256 ≡ 0x40 → ⊥) → ((t == bra) ≡ false) × ((t == ket) ≡ false)
+category_apart t other = (grind (arith, nat_tests), grind (arith, nat_tests))
+
+pub no_bracket : (t : ℕ) (bytes : List ℕ) → bytes ≡ bytes_of t → (get_or bytes 0 0 ≡ 0x40 → ⊥) →
+    ((t == bra) ≡ false) × ((t == ket) ≡ false)
+no_bracket t bytes e other = category_apart t (λ same. other (ap (λ (b : List ℕ). get_or b 0 0) e ∙ same))
+
+pub in_brackets : (t code : ℕ) (bytes : List ℕ) → bytes ≡ bytes_of t → get_or bytes 0 0 ≡ 0x40 → get_or bytes 1 0 ≡ code →
+    0x4000 + code ≡ t
+in_brackets t code bytes e high low = let all = of_bytes t bytes e in omega (arith, all, high, low)

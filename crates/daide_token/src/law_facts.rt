@@ -1,0 +1,60 @@
+//! Each law of `laws`, used once at values that were worked out by hand, so that a weaker law does not check. Nothing
+//! here is called.
+
+ghost use Rattle.std.specs.Prelude.{[], true, ℕ, ℤ, List, ◌^◌, ◌<◌, ◌∷◌, ◌≡◌, Some, negsuc, codes};
+ghost use Rattle.std.specs.List.{All};
+ghost use Rattle.daide_token.specs.Class.{class_of, is_standard, token_of};
+ghost use Rattle.daide_token.specs.ClassNumbers.{same_class};
+ghost use Rattle.daide_token.specs.declared.class.Class.{Class};
+ghost use Rattle.daide_token.specs.declared.class.Class.TheVariants as classes;
+ghost use Rattle.daide_token.specs.Names.{name_of, token_named};
+ghost use Rattle.daide_token.specs.Text.{text_of};
+ghost use Rattle.daide_token.specs.Token.{bytes_of, bytes_of_tokens, number_of, token_of_bytes, token_of_number};
+
+use crate::laws;
+
+/// Two bytes are one token's alone, also with the greatest low byte, and four are those of two tokens.
+fn bytes_at_values()
+    ensures token { (t : ℕ) → bytes_of t ≡ 0x48 ∷ 0x06 ∷ [] → t ≡ 0x4806 }
+    ensures bytes { (high : ℕ) → bytes_of (token_of_bytes (high ∷ 0xFF ∷ [])) ≡ high ∷ 0xFF ∷ [] }
+    ensures tokens { (ts : List ℕ) → bytes_of_tokens ts ≡ 0x48 ∷ 0x03 ∷ 0x40 ∷ 0x00 ∷ [] →
+        ts ≡ 0x4803 ∷ 0x4000 ∷ [] }
+{
+    laws::bytes_come_back();
+}
+
+/// The least number is that of one token, and the last token of a number stands for -1.
+fn numbers_at_values()
+    ensures token { (t : ℕ) → number_of t ≡ Some (negsuc 8191) → t ≡ 0x2000 }
+    ensures number { (n : ℤ) → token_of_number n ≡ Some 0x3FFF → n ≡ negsuc 0 }
+{
+    laws::numbers_come_back();
+}
+
+/// HUH has one token, and its token one name.
+fn names_at_values()
+    ensures token { (t : ℕ) → name_of t ≡ Some (codes "HUH") → t ≡ 0x4806 }
+    ensures name { (name : List ℕ) → token_named name ≡ Some 0x4806 → name ≡ codes "HUH" }
+{
+    laws::names_come_back();
+}
+
+/// HLO is the only token of its class, no token has the class of an operator's first word, and a class with the token
+/// 4804 is that of HLO.
+fn classes_at_values()
+    ensures alone { (t : ℕ) → class_of t ≡ classes.Hlo → t ≡ 0x4804 }
+    ensures standard { (t : ℕ) → class_of t ≡ classes.Word 0 → ⊥ }
+    ensures own { (class : Class) → is_standard class ≡ true → token_of class ≡ 0x4804 → class ≡ classes.Hlo }
+    ensures apart { (class : Class) → same_class classes.Hlo class ≡ true → class ≡ classes.Hlo }
+    ensures same { (class : Class) → class ≡ classes.Alien → same_class class classes.Alien ≡ true }
+{
+    laws::single_tokens_stand_alone();
+    laws::numbers_tell_classes_apart();
+}
+
+/// The text `GOF (` is that of two tokens and of no others.
+fn text_at_values()
+    ensures { (ts : List ℕ) → All (λ t. t < 2 ^ 16) ts → text_of ts ≡ codes "GOF (" → ts ≡ 0x4803 ∷ 0x4000 ∷ [] }
+{
+    laws::text_comes_back();
+}
