@@ -54,7 +54,7 @@ def tokens_of_page():
 
 
 class Grammar:
-    """Rules by the names of what they make. A rule is a row of symbols: names as `<name`, tokens and kinds as such."""
+    """ReaderLimits by the names of what they make. A rule is a row of symbols: names as `<name`, tokens and kinds as such."""
 
     def __init__(self):
         self.rules, self.count = {}, 0

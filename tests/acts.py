@@ -259,7 +259,7 @@ class Floods(Act):
     number: int
 
     def play(self, stage):
-        stage.flows.append(Flow(stage.peer(Bot(self.number)), UNCLOSED * 4096, has_end=False))
+        stage.flows.append(Flow(stage.peer(Bot(self.number)), UNCLOSED * 4096, has_final_frame=False))
         stage.flood_began = time.monotonic()
         return True
 
@@ -345,30 +345,30 @@ class Flow:
     """Bytes that an end sends beside the acts, as its socket takes them; without an end, again and again, and it drops
     what it hears."""
 
-    def __init__(self, peer, data, has_end=True):
-        self.peer, self.data, self.has_end = peer, memoryview(data), has_end
+    def __init__(self, peer, data, has_final_frame=True):
+        self.peer, self.data, self.has_final_frame = peer, memoryview(data), has_final_frame
         self.sent = 0
 
     def is_done(self):
         """Whether all of it went out."""
-        return self.has_end and self.sent == len(self.data)
+        return self.has_final_frame and self.sent == len(self.data)
 
     def events(self):
         """What it waits for."""
-        return selectors.EVENT_WRITE if self.has_end else selectors.EVENT_WRITE | selectors.EVENT_READ
+        return selectors.EVENT_WRITE if self.has_final_frame else selectors.EVENT_WRITE | selectors.EVENT_READ
 
     def go_on(self):
         """Sends what the socket takes."""
-        if not self.has_end:
+        if not self.has_final_frame:
             self.peer.listen()
             self.peer.heard.clear()
         try:
             while self.sent < len(self.data):
                 self.sent += self.peer.stream.send(self.data[self.sent :])
-            if not self.has_end:
+            if not self.has_final_frame:
                 self.sent = 0
         except BlockingIOError:
             pass
         except OSError as fault:
-            self.sent, self.has_end = len(self.data), True
+            self.sent, self.has_final_frame = len(self.data), True
             self.peer.fault = fault

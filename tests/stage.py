@@ -91,7 +91,7 @@ class Run:
         self.errors.close()
 
 
-class Stage:
+class ProtocolState:
     """The bots and the server, and what they do."""
 
     def __init__(self, run, listener):
@@ -256,7 +256,7 @@ def begun(program, settings, server, words=(), files=(), watcher=()):
         for name in files:
             (pathlib.Path(room) / name).touch()
         run = Run(program, room, settings, listener.getsockname()[1], words, watcher)
-        stage = Stage(run, listener)
+        stage = ProtocolState(run, listener)
         try:
             stage.play_beside(Listens(), "before all acts")
             yield stage

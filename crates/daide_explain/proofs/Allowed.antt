@@ -9,7 +9,7 @@ use Rattle.daide_grammar.specs.Depth.{excess, prefixes, greatest, depth_of}
 use Rattle.daide_grammar.proofs.Counting.{greatest_prefixes-snoc}
 use Rattle.daide_reader.specs.ErrorPlace.{IsAllowedPrefix, AreAllowed}
 use Rattle.daide_reader.specs.ViablePrefix.{IsMessageOf}
-use Rattle.daide_reader.specs.Reading.{Reading, HasPlace, StandsAfter, tokens_read}
+use Rattle.daide_reader.specs.Reading.{Reading, HasErrorIndex, HasReadPrefix, tokens_read}
 use Rattle.daide_grammar.specs.declared.symbol.Sym.{Sym}
 use Rattle.daide_grammar.specs.declared.predict.Predict.{Ghosts}
 use Rattle.daide_grammar.specs.Words.{Words}
@@ -61,7 +61,7 @@ allowed_along a b there max_depth p h = record {
 -- tokens are allowed exactly where a reader found no place in them
 pub allowed_if_no_place : (language : List ℕ → Type 0) (max_depth : ℕ) (q : List ℕ) (place : Option ℕ) (none : Bool) →
     is_some place ≡ not none →
-    MatchOption place (AreAllowed (IsMessageOf language) max_depth q) (HasPlace language max_depth q) →
+    MatchOption place (AreAllowed (IsMessageOf language) max_depth q) (HasErrorIndex language max_depth q) →
     IsTrue none ↔ IsAllowedPrefix (IsMessageOf language) max_depth q
 allowed_if_no_place language max_depth q None true e h = (
   λ _. subst (IsAllowedPrefix (IsMessageOf language) max_depth) (take_all (length q) q (omega arith))
@@ -98,8 +98,8 @@ plain_more (x ∷ y ∷ b) t h k = h
 
 -- a reader that has read nothing has read as many tokens of any body as it counts
 pub read_nothing : {T : Type 0} (table : Ghosts T) (words : Words) (first : Sym) (max_depth : ℕ) (v : Reading T)
-    (b : List ℕ) → StandsAfter table words first max_depth v [] →
-    StandsAfter table words first max_depth v (tokens_of (take (2 * tokens_read v) b))
+    (b : List ℕ) → HasReadPrefix table words first max_depth v [] →
+    HasReadPrefix table words first max_depth v (tokens_of (take (2 * tokens_read v) b))
 read_nothing {T = T} table words first max_depth v b h =
-    subst (λ (p : List ℕ). StandsAfter {T = T} table words first max_depth v p)
+    subst (λ (p : List ℕ). HasReadPrefix {T = T} table words first max_depth v p)
     (sym (ap (λ (k : ℕ). tokens_of (take (2 * k) b)) h.outline.tokens)) h

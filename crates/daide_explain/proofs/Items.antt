@@ -8,7 +8,7 @@ use Rattle.std.specs.Fmt.{decimal}
 use Rattle.daide_token.specs.declared.class.Class.{Class}
 use Rattle.daide_token.specs.Class.{class_of}
 use Rattle.daide_token.specs.Text.{text_with}
-use Rattle.daide_token.specs.Token.{bra, ket, tokens_of, bytes_of}
+use Rattle.daide_token.specs.Token.{bra, ket, tokens_of, token_bytes}
 use Rattle.daide_token.specs.Names.{Named}
 use Rattle.daide_grammar.specs.Depth.{open_brackets}
 use Rattle.daide_words.specs.declared.word.Word.{Word}
@@ -29,11 +29,11 @@ item_kind words t class name apart same e = go (t == 0x4002) refl (e ∙ ap kind
     go true f e = absurd (apart (eqb-true t 0x4002 f))
     go false f e = ap (λ (o : Option (List ℕ)). unwrap_or o (text_with (names_of words) (t ∷ []))) (sym e)
 
-one_token : (t : ℕ) → tokens_of (bytes_of t) ≡ t ∷ []
+one_token : (t : ℕ) → tokens_of (token_bytes t) ≡ t ∷ []
 one_token t = ap (λ (x : ℕ). x ∷ []) (let e : t / 256 * 256 + t % 256 ≡ t = omega arith in e)
 
 pub item_name : (words : List Word) (t : ℕ) (class : Class) (names : List Named) (bytes : List ℕ) → (t ≡ 0x4002 → ⊥) →
-    class ≡ class_of t → None ≡ kind_name class → names ≡ names_of words → bytes ≡ bytes_of t →
+    class ≡ class_of t → None ≡ kind_name class → names ≡ names_of words → bytes ≡ token_bytes t →
     item words t ≡ text_with names (tokens_of bytes)
 unfolding item
 item_name words t class names bytes apart same e is_names is_bytes =

@@ -17,11 +17,11 @@ use Rattle.daide_grammar.specs.declared.level.Level.TheVariants.{L60}
 use Rattle.daide_grammar.specs.declared.side.Side2.{Side2}
 use Rattle.daide_grammar.specs.declared.side.Side2.TheVariants.{Client, ServerEnd}
 use Rattle.daide_grammar.specs.Level.{level_number}
-use Rattle.daide_grammar.specs.Forms.{Dialect, Kind, is, any_word, accepts, Form, one, never, empty, ◌·◌, ◌∣◌, many, group}
-use Rattle.daide_grammar.specs.Forms.{named, tok, from, Name, Added, Arrangement_name, Flat_name, Fact_name, Press_name}
+use Rattle.daide_grammar.specs.Forms.{Dialect, TokenTest, is, any_but_brackets, is_of_kind, Form, one, never, empty, ◌·◌, ◌∣◌, many, group}
+use Rattle.daide_grammar.specs.Forms.{named, tok, from_level, Nonterminal, Added, Arrangement_name, Flat_name, Fact_name, Press_name}
 use Rattle.daide_grammar.specs.Forms.{Send_name, Request_name, Slot, Press_slot, Arrangement_slot, Flat_slot}
 use Rattle.daide_grammar.specs.Matches.{rule, Matches, token, nothing, both, first, second, no_more, one_more, bracketed, by_name}
-use Rattle.daide_grammar.specs.Paired.{IsPrnReport}
+use Rattle.daide_grammar.specs.Paired.{IsPrnWrapped}
 use Rattle.daide_grammar.specs.Depth.{bras, kets, excess, prefixes, greatest, depth_of}
 use Rattle.daide_grammar.specs.SideMessages.{dialect_from, dialect_of, message_form, IsMessageOver}
 use Rattle.daide_grammar.specs.Words.{Words, WordSlot, press_word, arrangement_word, WordOperand}
@@ -38,7 +38,7 @@ use Rattle.daide_reader.specs.ErrorPlace.{IsAllowedPrefix}
 -- none of a form's single tokens is one of an unknown category
 unfoldable names_known : Form → Bool
 names_known (one (is c)) = not (same_class c Alien)
-names_known (one any_word) = true
+names_known (one any_but_brackets) = true
 names_known never = true
 names_known empty = true
 names_known (f · g) = names_known f && names_known g
@@ -60,7 +60,7 @@ both_true true true e f = refl
 both_true true false e f = absurd cc
 both_true false b e f = absurd cc
 
-rules_known : (d : Dialect) → ((s : Slot) (l : Level) → names_known (d.added s l) ≡ true) → (n : Name) →
+rules_known : (d : Dialect) → ((s : Slot) (l : Level) → names_known (d.added s l) ≡ true) → (n : Nonterminal) →
     names_known (rule d n) ≡ true
 unfolding names_known
 rules_known d h (Added s l) = h s l
@@ -94,7 +94,7 @@ slot_known arrangement_word Press_slot f h = refl
 slot_known arrangement_word Arrangement_slot f h = h
 slot_known arrangement_word Flat_slot f h = h
 
-from_known : (a l : Level) (f : Form) → names_known f ≡ true → names_known (from a l f) ≡ true
+from_known : (a l : Level) (f : Form) → names_known f ≡ true → names_known (from_level a l f) ≡ true
 unfolding names_known
 from_known a l f h = go (nat_le (level_number a) (level_number l))
   where
@@ -115,7 +115,7 @@ unfolding names_known
 words_known place [] s l = refl
 words_known place (word ∷ words) s l =
     both_true (names_known (word_form place word s l)) (names_known ((dialect_from (suc place) words).added s l))
-    (slot_known word.slot s (from word.level l (tok (Word place) · group (operand_in word.operand s l)))
+    (slot_known word.slot s (from_level word.level l (tok (Word place) · group (operand_in word.operand s l)))
     (from_known word.level l (tok (Word place) · group (operand_in word.operand s l))
     (form_known place (operand_in word.operand s l) (operand_known word.operand s l))))
     (words_known (suc place) words s l)
@@ -167,14 +167,14 @@ module _ (d : Dialect) where
   same_append (x ∷ a) (y ∷ b) u v h k = (h.0, same_append a b u v h.1 k)
 
   -- a kind that accepts a token accepts each like it
-  accepted : (k : Kind) (x y : ℕ) → names_known (one k) ≡ true → IsLike x y → IsTrue (accepts k (d.class_of x)) →
-      IsTrue (accepts k (d.class_of y))
+  accepted : (k : TokenTest) (x y : ℕ) → names_known (one k) ≡ true → IsLike x y → IsTrue (is_of_kind k (d.class_of x)) →
+      IsTrue (is_of_kind k (d.class_of y))
   unfolding names_known
-  accepted k x y known (inl e) h = subst (λ (c : Class). IsTrue (accepts k c)) e h
+  accepted k x y known (inl e) h = subst (λ (c : Class). IsTrue (is_of_kind k c)) e h
   accepted (is c) x y known (inr (unknown, no_bra, no_ket)) h =
       let same : same_class c Alien ≡ true = subst (λ (e : Class). same_class c e ≡ true) unknown h in
       absurd (let f : not true ≡ true = ap not (sym same) ∙ known in cc)
-  accepted any_word x y known (inr (unknown, no_bra, no_ket)) h =
+  accepted any_but_brackets x y known (inr (unknown, no_bra, no_ket)) h =
       both_true (not (same_class Bra (d.class_of y))) (not (same_class Ket (d.class_of y))) (differs Bra no_bra)
       (differs Ket no_ket)
     where
@@ -195,7 +195,7 @@ module _ (d : Dialect) where
   none_left [] h = refl
   none_left (y ∷ n) h = absurd h
 
-  matches_along : ((n : Name) → names_known (rule d n) ≡ true) → (f : Form) (m n : List ℕ) →
+  matches_along : ((n : Nonterminal) → names_known (rule d n) ≡ true) → (f : Form) (m n : List ℕ) →
       names_known f ≡ true → Matches d f m → AreLike m n → Matches d f n
   unfolding names_known
   matches_along all (one k) m n e (token {t = t} h) same =
@@ -270,11 +270,11 @@ module _ (words : Words) (free : are_free words ≡ true) where
   ket_replaces t (inr (unknown, no_bra, no_ket)) = absurd (no_ket ket_class)
 
   -- a report stays one
-  report_along : (m n : List ℕ) → IsPrnReport m → AreLike (dialect_of words) m n → IsPrnReport n
+  report_along : (m n : List ℕ) → IsPrnWrapped m → AreLike (dialect_of words) m n → IsPrnWrapped n
   report_along m n (x, e) same =
       go n (subst (λ (l : List ℕ). AreLike (dialect_of words) l n) e same)
     where
-      go : (n : List ℕ) → AreLike (dialect_of words) (prn ∷ bra ∷ x ++ ket ∷ []) n → IsPrnReport n
+      go : (n : List ℕ) → AreLike (dialect_of words) (prn ∷ bra ∷ x ++ ket ∷ []) n → IsPrnWrapped n
       go [] h = absurd h
       go (a ∷ []) h = absurd h.1
       go (a ∷ b ∷ n) h =

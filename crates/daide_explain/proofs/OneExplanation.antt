@@ -11,7 +11,7 @@ use Rattle.daide_grammar.specs.declared.side.Side2.{Side2}
 use Rattle.daide_grammar.specs.Level.{level_number, level_of_number}
 use Rattle.daide_grammar.specs.Paired.{begins_with_prn}
 use Rattle.daide_grammar.specs.SideMessages.{IsMessageOver}
-use Rattle.daide_grammar.specs.Table.Brackets.{counted}
+use Rattle.daide_grammar.specs.Table.Brackets.{excess_or_none}
 use Rattle.daide_grammar.specs.Words.{Words}
 use Rattle.daide_grammar.proofs.Counting.{count_on, count_on-append, counted_on}
 use Rattle.daide_words.specs.declared.word.Word.{Word}
@@ -82,7 +82,7 @@ one_place i j no_less no_more = go (cases_order i j)
     go (inr (inr less)) = absurd (no_more less)
 
 -- once a KET closed nothing, the count is lost
-lost : (m before after : List ℕ) → m ≡ before ++ ket ∷ after → counted before ≡ Some 0 → counted m ≡ None
+lost : (m before after : List ℕ) → m ≡ before ++ ket ∷ after → excess_or_none before ≡ Some 0 → excess_or_none m ≡ None
 lost m before after whole closed =
     counted_on m
     ∙ (ap (count_on (Some 0)) whole
@@ -99,17 +99,17 @@ first_ket_once m i j (a, b, at, closed) (before, after, at', closed') less =
     let f : ◌≡◌ {A = Option ℕ} None (Some 0) = sym none ∙ closed' in
     absurd cc
 
-ket_lost : (m : List ℕ) (i : ℕ) → IsFirstKet m i → counted m ≡ None
+ket_lost : (m : List ℕ) (i : ℕ) → IsFirstKet m i → excess_or_none m ≡ None
 ket_lost m i (a, b, at, closed) = lost m a b at.whole closed
 
 -- no BRA is left open if all brackets are closed at the end
-none_open : (m : List ℕ) (i : ℕ) → counted m ≡ Some 0 → IsNeverClosed m i → ⊥
+none_open : (m : List ℕ) (i : ℕ) → excess_or_none m ≡ Some 0 → IsNeverClosed m i → ⊥
 none_open m i closed (a, b, at, unclosed) =
     let split : count_on (count_on (Some 0) a) (bra ∷ b) ≡ Some 0 =
     sym (count_on-append (Some 0) a (bra ∷ b)) ∙ (ap (count_on (Some 0)) (sym at.whole) ∙ (sym (counted_on m) ∙ closed)) in
-    no_value (counted b) (counted_on b ∙ closes_after_bra (count_on (Some 0) a) b split) unclosed
+    no_value (excess_or_none b) (counted_on b ∙ closes_after_bra (count_on (Some 0) a) b split) unclosed
 
-ket_closed : (m : List ℕ) (i : ℕ) → IsFirstKet m i → counted m ≡ Some 0 → ⊥
+ket_closed : (m : List ℕ) (i : ℕ) → IsFirstKet m i → excess_or_none m ≡ Some 0 → ⊥
 ket_closed m i h closed =
     let f : ◌≡◌ {A = Option ℕ} None (Some 0) = sym (ket_lost m i h) ∙ closed in
     absurd cc
@@ -117,9 +117,9 @@ ket_closed m i h closed =
 one_unpaired : (m : List ℕ) (one other : Unpaired) → IsUnpairedIn m one → IsUnpairedIn m other → one ≡ other
 one_unpaired m (Ket i) (Ket j) f g =
     ap (λ (k : ℕ). Ket k) (one_place i j (first_ket_once m i j f g) (first_ket_once m j i g f))
-one_unpaired m (Ket i) (Bra j) f g = absurd (no_value (counted m) (ket_lost m i f) g.0)
+one_unpaired m (Ket i) (Bra j) f g = absurd (no_value (excess_or_none m) (ket_lost m i f) g.0)
 one_unpaired m (Ket i) Nothing f g = absurd (ket_closed m i f g)
-one_unpaired m (Bra i) (Ket j) f g = absurd (no_value (counted m) (ket_lost m j g) f.0)
+one_unpaired m (Bra i) (Ket j) f g = absurd (no_value (excess_or_none m) (ket_lost m j g) f.0)
 one_unpaired m (Bra i) (Bra j) f g =
     ap (λ (k : ℕ). Bra k) (one_place i j (λ less. g.2 i less f.1) (λ less. f.2 j less g.1))
 one_unpaired m (Bra i) Nothing f g = absurd (none_open m i g f.1)

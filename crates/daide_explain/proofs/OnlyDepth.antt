@@ -7,10 +7,10 @@ use Rattle.daide_token.specs.Token.{bra, ket, prn}
 use Rattle.daide_grammar.specs.declared.level.Level.{Level}
 use Rattle.daide_grammar.specs.declared.side.Side2.{Side2}
 use Rattle.daide_grammar.specs.Balanced.{IsBalanced}
-use Rattle.daide_grammar.specs.Depth.{bras, kets, excess, prefixes, greatest, closes_early, depth_of, open_brackets}
+use Rattle.daide_grammar.specs.Depth.{bras, kets, excess, prefixes, greatest, has_unmatched_ket, depth_of, open_brackets}
 use Rattle.daide_grammar.specs.Paired.{begins_with_prn, IsPaired}
 use Rattle.daide_grammar.specs.SideMessages.{IsMessageOver}
-use Rattle.daide_grammar.specs.Table.Brackets.{counted, is_bra, is_ket}
+use Rattle.daide_grammar.specs.Table.Brackets.{excess_or_none, is_bra, is_ket}
 use Rattle.daide_grammar.proofs.Counting.{balanced_counted, bras-snoc, count_on, count_on-append, counted_on, depth_of-snoc}
 use Rattle.daide_grammar.proofs.Counting.{from_the_end, greatest_prefixes-snoc, kets-snoc}
 use Rattle.daide_words.specs.declared.word.Word.{Word}
@@ -106,19 +106,19 @@ not_lost o r e f =
     let none : ◌≡◌ {A = Option ℕ} None (Some 0) = sym (ap (λ (q : Option ℕ). count_on q r) f ∙ none_on r) ∙ e in
     absurd cc
 
-balanced_front : (p r : List ℕ) → IsBalanced (p ++ r) → closes_early p ≡ false
+balanced_front : (p r : List ℕ) → IsBalanced (p ++ r) → has_unmatched_ket p ≡ false
 balanced_front p r h =
-    let all : count_on (counted p) r ≡ Some 0 =
+    let all : count_on (excess_or_none p) r ≡ Some 0 =
     ap (λ (o : Option ℕ). count_on o r) (counted_on p)
     ∙ (sym (count_on-append (Some 0) p r) ∙ (sym (counted_on (p ++ r)) ∙ (balanced_counted (p ++ r)).0 h)) in
-    go (closes_early p) refl all
+    go (has_unmatched_ket p) refl all
   where
-    go : (b : Bool) → closes_early p ≡ b → count_on (counted p) r ≡ Some 0 → closes_early p ≡ false
-    go true e all = absurd (not_lost (counted p) r all (ap (λ b. if b then None else Some (excess p)) e))
+    go : (b : Bool) → has_unmatched_ket p ≡ b → count_on (excess_or_none p) r ≡ Some 0 → has_unmatched_ket p ≡ false
+    go true e all = absurd (not_lost (excess_or_none p) r all (ap (λ b. if b then None else Some (excess p)) e))
     go false e all = e
 
 -- tokens with which a paired message begins, but not with PRN, close no bracket early
-paired_front : (p r : List ℕ) → begins_with_prn p ≡ false → IsPaired (p ++ r) → closes_early p ≡ false
+paired_front : (p r : List ℕ) → begins_with_prn p ≡ false → IsPaired (p ++ r) → has_unmatched_ket p ≡ false
 paired_front [] r plain h = refl
 paired_front (x ∷ p) r plain (inl (a, e)) =
     let same : x ≡ prn = cc in
@@ -126,9 +126,9 @@ paired_front (x ∷ p) r plain (inl (a, e)) =
     absurd cc
 paired_front (x ∷ p) r plain (inr (b, h)) = balanced_front (x ∷ p) r h
 
-pub open_there : (p : List ℕ) → begins_with_prn p ≡ false → closes_early p ≡ false → open_brackets p ≡ excess p
+pub open_there : (p : List ℕ) → begins_with_prn p ≡ false → has_unmatched_ket p ≡ false → open_brackets p ≡ excess p
 open_there p plain early =
-    ap (λ b. if b || closes_early p then 0 else excess p) plain
+    ap (λ b. if b || has_unmatched_ket p then 0 else excess p) plain
     ∙ ap (λ b. if false || b then 0 else excess p) early
 
 -- ---- at an error place

@@ -5,8 +5,8 @@ use Rattle.std.proofs.Common.{◌⊎◌, inl, inr}
 use Rattle.std.proofs.lemmas.Bool.{eqb-true}
 use Rattle.std.proofs.lemmas.List.{take-append-drop, length-take-le, take_all}
 use Rattle.daide_token.specs.Token.{bra, ket}
-use Rattle.daide_grammar.specs.Table.Brackets.{is_bra, is_ket, counted, count_one}
-use Rattle.daide_grammar.proofs.Counting.{count_on, count_on-append, counted_on, counted-snoc}
+use Rattle.daide_grammar.specs.Table.Brackets.{is_bra, is_ket, excess_or_none, count_one}
+use Rattle.daide_grammar.proofs.Counting.{count_on, count_on-append, counted_on, excess_or_none-snoc}
 use Rattle.daide_explain.specs.Unpaired.{IsTokenAt, IsFirstKet, IsNeverClosed}
 
 -- a lost count stays lost
@@ -19,27 +19,27 @@ pub record OpenedAt (p : List ℕ) (more first : ℕ) : Type 0 where
   pub before : List ℕ
   pub after : List ℕ
   pub here : IsTokenAt p bra first before after
-  pub closed : counted before ≡ Some 0
-  pub left : counted after ≡ Some more
+  pub closed : excess_or_none before ≡ Some 0
+  pub left : excess_or_none after ≡ Some more
 
 -- as many brackets as the number are open after these tokens, the first of them at the place
 abbrev pub Scan : List ℕ → ℕ → ℕ → Type 0
-Scan p zero first = counted p ≡ Some 0
-Scan p (suc more) first = (counted p ≡ Some (suc more)) × OpenedAt p more first
+Scan p zero first = excess_or_none p ≡ Some 0
+Scan p (suc more) first = (excess_or_none p ≡ Some (suc more)) × OpenedAt p more first
 
 pub scan_start : (p : List ℕ) (first : ℕ) → p ≡ [] → Scan p 0 first
-scan_start p first e = ap counted e
+scan_start p first e = ap excess_or_none e
 
-counts : (p : List ℕ) (n first : ℕ) → Scan p n first → counted p ≡ Some n
+counts : (p : List ℕ) (n first : ℕ) → Scan p n first → excess_or_none p ≡ Some n
 counts p zero first h = h
 counts p (suc more) first h = h.0
 
-next_count : (p : List ℕ) (t n : ℕ) (opens closes : Bool) → is_bra t ≡ opens → is_ket t ≡ closes → counted p ≡ Some n →
-    counted (p ++ t ∷ []) ≡ count_one opens closes (Some n)
+next_count : (p : List ℕ) (t n : ℕ) (opens closes : Bool) → is_bra t ≡ opens → is_ket t ≡ closes → excess_or_none p ≡ Some n →
+    excess_or_none (p ++ t ∷ []) ≡ count_one opens closes (Some n)
 next_count p t n opens closes e f h =
-    counted-snoc p t
-    ∙ (ap (λ (b : Bool). count_one b (is_ket t) (counted p)) e
-    ∙ (ap (λ (b : Bool). count_one opens b (counted p)) f ∙ ap (count_one opens closes) h))
+    excess_or_none-snoc p t
+    ∙ (ap (λ (b : Bool). count_one b (is_ket t) (excess_or_none p)) e
+    ∙ (ap (λ (b : Bool). count_one opens b (excess_or_none p)) f ∙ ap (count_one opens closes) h))
 
 -- one token more after the first BRA that is open
 later : (p : List ℕ) (t more now first : ℕ) (opens closes : Bool) → is_bra t ≡ opens → is_ket t ≡ closes →
@@ -167,8 +167,8 @@ no_value None e h = let f : false ≡ true = h in absurd cc
 no_value (Some x) e h = absurd cc
 
 -- each BRA before the first that is open is closed
-closed_before : (m before after a b : List ℕ) (j : ℕ) → counted before ≡ Some 0 → m ≡ before ++ bra ∷ after →
-    j < length before → IsTokenAt m bra j a b → IsSome (counted b) → ⊥
+closed_before : (m before after a b : List ℕ) (j : ℕ) → excess_or_none before ≡ Some 0 → m ≡ before ++ bra ∷ after →
+    j < length before → IsTokenAt m bra j a b → IsSome (excess_or_none b) → ⊥
 closed_before m before after a b j closed whole less at open_still =
     let place : length a ≡ j = at.place in
     let parts = between bra bra a b before after (omega arith) (sym at.whole ∙ whole) in
@@ -177,10 +177,10 @@ closed_before m before after a b j closed whole less at open_still =
     ap (count_on (Some 0)) (sym parts.1) ∙ (sym (counted_on before) ∙ closed) in
     let split : count_on (count_on (Some 0) a) (bra ∷ c) ≡ Some 0 = sym (count_on-append (Some 0) a (bra ∷ c)) ∙ front in
     let gone : count_on (Some 0) c ≡ None = closes_after_bra (count_on (Some 0) a) c split in
-    let all : counted b ≡ None =
+    let all : excess_or_none b ≡ None =
     counted_on b ∙ (ap (count_on (Some 0)) parts.2 ∙ (count_on-append (Some 0) c (bra ∷ after)
     ∙ (ap (λ (o : Option ℕ). count_on o (bra ∷ after)) gone ∙ none_on (bra ∷ after)))) in
-    no_value (counted b) all open_still
+    no_value (excess_or_none b) all open_still
 
 some_value : (o : Option ℕ) (n : ℕ) → o ≡ Some n → IsSome o
 some_value None n e = absurd cc
@@ -188,11 +188,11 @@ some_value (Some x) n e = refl
 
 -- the first BRA that is open at the end is never closed, and each before it is
 pub first_bra : (m : List ℕ) (n first : ℕ) → Scan m (suc n) first →
-    IsSome (counted m) × IsNeverClosed m first × ((j : ℕ) → j < first → ¬ IsNeverClosed m j)
+    IsSome (excess_or_none m) × IsNeverClosed m first × ((j : ℕ) → j < first → ¬ IsNeverClosed m j)
 first_bra m n first h =
     let at = h.1 in (
-      some_value (counted m) (suc n) h.0,
-      (at.before, at.after, at.here, some_value (counted at.after) n at.left),
+      some_value (excess_or_none m) (suc n) h.0,
+      (at.before, at.after, at.here, some_value (excess_or_none at.after) n at.left),
       λ j less k.
           let place = at.here.place in
           closed_before m at.before at.after k.0 k.1 j at.closed at.here.whole (omega arith) k.2 k.3,
@@ -230,12 +230,12 @@ scan_plain m i t n first now place next b k same at h =
 pub scan_all : (m : List ℕ) (i n first : ℕ) → length m ≤ i → Scan (take i m) n first → Scan m n first
 scan_all m i n first over h = subst (λ (p : List ℕ). Scan p n first) (take_all i m over) h
 
-pub all_closed : (m : List ℕ) (n first : ℕ) → n ≡ 0 → Scan m n first → counted m ≡ Some 0
+pub all_closed : (m : List ℕ) (n first : ℕ) → n ≡ 0 → Scan m n first → excess_or_none m ≡ Some 0
 all_closed m zero first e h = h
 all_closed m (suc n) first e h = absurd (omega arith)
 
 pub some_open : (m : List ℕ) (n first : ℕ) → (n ≡ 0 → ⊥) → Scan m n first →
-    IsSome (counted m) × IsNeverClosed m first × ((j : ℕ) → j < first → ¬ IsNeverClosed m j)
+    IsSome (excess_or_none m) × IsNeverClosed m first × ((j : ℕ) → j < first → ¬ IsNeverClosed m j)
 some_open m zero first some h = absurd (some refl)
 some_open m (suc n) first some h = first_bra m n first h
 

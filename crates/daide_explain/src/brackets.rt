@@ -2,7 +2,7 @@
 
 ghost use Rattle.std.specs.Prelude.{◌≡◌, ◌≤◌, ◌<◌, ◌+◌, ◌*◌, ◌++◌, ◌∷◌, [], length, take, drop};
 ghost use Rattle.daide_token.specs.Token.{tokens_of};
-ghost use Rattle.daide_machine.specs.Bounds.{longest_body};
+ghost use Rattle.daide_protocol.specs.Bounds.{longest_body};
 ghost use Rattle.daide_explain.specs.Unpaired.{IsUnpairedIn};
 
 use daide_token::Token;

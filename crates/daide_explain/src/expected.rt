@@ -7,11 +7,11 @@ ghost use Rattle.daide_grammar.specs.SideMessages.{IsMessageOver};
 ghost use Rattle.daide_words.specs.Word.{grammar_words};
 ghost use Rattle.daide_words.specs.Words.{words_of};
 ghost use Rattle.daide_reader.specs.Verdict.{HasVerdict, IsPlaceIn, IsRelayed};
-ghost use Rattle.daide_machine.specs.Bounds.{longest_body, least_depth, greatest_depth};
+ghost use Rattle.daide_protocol.specs.Bounds.{longest_body, least_depth, greatest_depth};
 ghost use Rattle.daide_explain.specs.Expected.{IsExpected, IsEndExpected};
 
 use crate::rules::Rules;
-use daide_machine::STACK_ENTRIES;
+use daide_protocol::STACK_ENTRIES;
 use daide_reader::{Reader, Verdict};
 use daide_token::Token;
 use daide_words::Extended;

@@ -4,7 +4,7 @@ ghost use Rattle.std.specs.Prelude.{◌≤◌, length};
 ghost use Rattle.daide_token.specs.Token.{tokens_of};
 ghost use Rattle.daide_words.specs.Word.{grammar_words};
 ghost use Rattle.daide_words.specs.Words.{words_of};
-ghost use Rattle.daide_machine.specs.Bounds.{longest_body, least_depth, greatest_depth};
+ghost use Rattle.daide_protocol.specs.Bounds.{longest_body, least_depth, greatest_depth};
 ghost use Rattle.daide_explain.specs.LowestLevel.{IsLowestAbove};
 
 use crate::expected::is_relayed;

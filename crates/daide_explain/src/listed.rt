@@ -6,7 +6,7 @@ ghost use Rattle.daide_grammar.specs.Paired.{begins_with_prn};
 ghost use Rattle.daide_grammar.specs.SideMessages.{IsMessageOver};
 ghost use Rattle.daide_words.specs.Word.{grammar_words, names_of};
 ghost use Rattle.daide_words.specs.Words.{words_of};
-ghost use Rattle.daide_machine.specs.Bounds.{longest_body, least_depth, greatest_depth};
+ghost use Rattle.daide_protocol.specs.Bounds.{longest_body, least_depth, greatest_depth};
 ghost use Rattle.daide_explain.specs.Expected.{IsExpected};
 ghost use Rattle.daide_explain.specs.Listed.{IsFilteredBy, IsAppendedIf, codes_of, representatives};
 

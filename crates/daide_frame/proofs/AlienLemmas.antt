@@ -7,25 +7,25 @@ use Rattle.std.specs.Prelude.{not}
 use Rattle.std.proofs.lemmas.List.{take-append-drop}
 use Rattle.daide_token.specs.Token.{token_of_bytes}
 use Rattle.daide_token.specs.Class.{has_known_category}
-use Rattle.daide_frame.specs.Frames.{is_alien, further, first_alien}
+use Rattle.daide_frame.specs.Frames.{is_alien, shifted_place, first_alien}
 use Rattle.daide_frame.specs.Cutter.{AreKnown}
 
 pub is_alien-is : (high low : ℕ) → is_alien high low ≡ not (has_known_category (token_of_bytes (high ∷ low ∷ [])))
 unfolding is_alien
 is_alien-is high low = refl
 
-pub further-further : (a b : ℕ) (o : Option ℕ) → further a (further b o) ≡ further (a + b) o
-further-further a b None = refl
-further-further a b (Some n) = ap Some (omega arith)
+pub shifted_place-shifted_place : (a b : ℕ) (o : Option ℕ) → shifted_place a (shifted_place b o) ≡ shifted_place (a + b) o
+shifted_place-shifted_place a b None = refl
+shifted_place-shifted_place a b (Some n) = ap Some (omega arith)
 
-further-none : (by : ℕ) (o : Option ℕ) → further by o ≡ None → o ≡ None
-further-none by None e = refl
-further-none by (Some n) e = absurd (cc)
+shifted_place-none : (by : ℕ) (o : Option ℕ) → shifted_place by o ≡ None → o ≡ None
+shifted_place-none by None e = refl
+shifted_place-none by (Some n) e = absurd (cc)
 
 -- what is known of a token and the rest, where there is no alien one
-none_first : (b : Bool) (o : Option ℕ) → cond b (Some 2) (further 2 o) ≡ None → (b ≡ false) × (o ≡ None)
+none_first : (b : Bool) (o : Option ℕ) → cond b (Some 2) (shifted_place 2 o) ≡ None → (b ≡ false) × (o ≡ None)
 none_first true o e = absurd (cc)
-none_first false o e = (refl, further-none 2 o e)
+none_first false o e = (refl, shifted_place-none 2 o e)
 
 abbrev some_of : Option ℕ → ℕ
 some_of None = 0
@@ -39,7 +39,7 @@ pub record IsEndOf (v : List ℕ) (n : ℕ) : Type 0 where
 later_end : (high low : ℕ) (rest : List ℕ) (n k : ℕ) → is_alien high low ≡ false → IsEndOf rest k → n ≡ suc (suc k) →
     IsEndOf (high ∷ low ∷ rest) n
 later_end high low rest n k b h e =
-    rw e (record { within = omega (arith, h.within); told = rw b (ap (further 2) h.told ∙ ap Some (omega arith)) })
+    rw e (record { within = omega (arith, h.within); told = rw b (ap (shifted_place 2) h.told ∙ ap Some (omega arith)) })
 
 -- where an alien token ends, it is the first of the bytes up to there
 pub first_alien-end : (v : List ℕ) (n : ℕ) → first_alien v ≡ Some n → IsEndOf v n
@@ -52,16 +52,16 @@ first_alien-end (high ∷ low ∷ rest) n e =
         ((k : ℕ) → first_alien rest ≡ Some k → IsEndOf rest k) → IsEndOf (high ∷ low ∷ rest) n
     by_first true b o q later =
         let two : ◌≡◌ {A = Option ℕ} (Some 2) (Some n) =
-        sym (ap (λ (t : Bool). cond t (Some 2) (further 2 (first_alien rest))) b) ∙ e in
+        sym (ap (λ (t : Bool). cond t (Some 2) (shifted_place 2 (first_alien rest))) b) ∙ e in
         let same : 2 ≡ n = ap some_of two in
         rw (sym same) (record { within = omega arith; told = rw b refl })
     by_first false b None q later =
         let none : ◌≡◌ {A = Option ℕ} None (Some n) =
-        sym (ap (λ (t : Bool). cond t (Some 2) (further 2 (first_alien rest))) b ∙ ap (further 2) q) ∙ e in
+        sym (ap (λ (t : Bool). cond t (Some 2) (shifted_place 2 (first_alien rest))) b ∙ ap (shifted_place 2) q) ∙ e in
         absurd (cc)
     by_first false b (Some k) q later =
         let some : ◌≡◌ {A = Option ℕ} (Some (2 + k)) (Some n) =
-        sym (ap (λ (t : Bool). cond t (Some 2) (further 2 (first_alien rest))) b ∙ ap (further 2) q) ∙ e in
+        sym (ap (λ (t : Bool). cond t (Some 2) (shifted_place 2 (first_alien rest))) b ∙ ap (shifted_place 2) q) ∙ e in
         later_end high low rest n k b (later k q) (let same : 2 + k ≡ n = ap some_of some in omega arith)
 
 -- more bytes leave the first alien token where it is
@@ -74,43 +74,43 @@ first_alien-grown (high ∷ low ∷ rest) more n e =
     by_first : (b : Bool) → is_alien high low ≡ b → (o : Option ℕ) → first_alien rest ≡ o →
         ((k : ℕ) → first_alien rest ≡ Some k → first_alien (rest ++ more) ≡ Some k) →
         first_alien (high ∷ low ∷ (rest ++ more)) ≡ Some n
-    by_first true b o q later = rw b (sym (ap (λ (t : Bool). cond t (Some 2) (further 2 (first_alien rest))) b) ∙ e)
+    by_first true b o q later = rw b (sym (ap (λ (t : Bool). cond t (Some 2) (shifted_place 2 (first_alien rest))) b) ∙ e)
     by_first false b None q later =
         let none : ◌≡◌ {A = Option ℕ} None (Some n) =
-        sym (ap (λ (t : Bool). cond t (Some 2) (further 2 (first_alien rest))) b ∙ ap (further 2) q) ∙ e in
+        sym (ap (λ (t : Bool). cond t (Some 2) (shifted_place 2 (first_alien rest))) b ∙ ap (shifted_place 2) q) ∙ e in
         absurd (cc)
     by_first false b (Some k) q later =
         let some : ◌≡◌ {A = Option ℕ} (Some (2 + k)) (Some n) =
-        sym (ap (λ (t : Bool). cond t (Some 2) (further 2 (first_alien rest))) b ∙ ap (further 2) q) ∙ e in
-        rw b (ap (further 2) (later k q) ∙ some)
+        sym (ap (λ (t : Bool). cond t (Some 2) (shifted_place 2 (first_alien rest))) b ∙ ap (shifted_place 2) q) ∙ e in
+        rw b (ap (shifted_place 2) (later k q) ∙ some)
 
-pub further-zero : (o : Option ℕ) → o ≡ further 0 o
-further-zero None = refl
-further-zero (Some n) = ap Some (omega arith)
+pub shifted_place-zero : (o : Option ℕ) → o ≡ shifted_place 0 o
+shifted_place-zero None = refl
+shifted_place-zero (Some n) = ap Some (omega arith)
 
 -- where the first tokens are not alien, only the others are looked at
 pub first_alien-past : (v more : List ℕ) → length v % 2 ≡ 0 → first_alien v ≡ None →
-    first_alien (v ++ more) ≡ further (length v) (first_alien more)
-first_alien-past [] more h e = further-zero (first_alien more)
+    first_alien (v ++ more) ≡ shifted_place (length v) (first_alien more)
+first_alien-past [] more h e = shifted_place-zero (first_alien more)
 first_alien-past (x ∷ []) more h e = absurd (omega arith)
 first_alien-past (high ∷ low ∷ rest) more h e =
     let k = none_first (is_alien high low) (first_alien rest) e in
-    rw k.0 (ap (further 2) (first_alien-past rest more (omega arith) k.1)
-    ∙ further-further 2 (length rest) (first_alien more)
-    ∙ ap (λ (n : ℕ). further n (first_alien more)) (omega arith))
+    rw k.0 (ap (shifted_place 2) (first_alien-past rest more (omega arith) k.1)
+    ∙ shifted_place-shifted_place 2 (length rest) (first_alien more)
+    ∙ ap (λ (n : ℕ). shifted_place n (first_alien more)) (omega arith))
 
 -- the same of a list in two parts
 pub first_alien-known : (v : List ℕ) (n : ℕ) → n % 2 ≡ 0 → n ≤ length v → first_alien (take n v) ≡ None →
-    first_alien v ≡ further n (first_alien (drop n v))
+    first_alien v ≡ shifted_place n (first_alien (drop n v))
 first_alien-known v n h l e =
     let size : length (take n v) ≡ n = omega (arith, length-take n v) in
     ap first_alien (sym (take-append-drop n v)) ∙ first_alien-past (take n v) (drop n v) (omega arith) e
-    ∙ ap (λ (m : ℕ). further m (first_alien (drop n v))) size
+    ∙ ap (λ (m : ℕ). shifted_place m (first_alien (drop n v))) size
 
 -- what the token at a place is to the first alien one from there on
 pub first_alien-drop : (v : List ℕ) (n : ℕ) → n + 1 < length v →
     first_alien (drop n v)
-    ≡ cond (is_alien (get_or v n 0) (get_or v (n + 1) 0)) (Some 2) (further 2 (first_alien (drop (n + 2) v)))
+    ≡ cond (is_alien (get_or v n 0) (get_or v (n + 1) 0)) (Some 2) (shifted_place 2 (first_alien (drop (n + 2) v)))
 first_alien-drop v n h =
     let one : drop n v ≡ get_or v n 0 ∷ drop (suc n) v = drop-cons v n 0 (omega arith) in
     let two : drop (suc n) v ≡ get_or v (suc n) 0 ∷ drop (suc (suc n)) v = drop-cons v (suc n) 0 (omega arith) in
@@ -118,30 +118,30 @@ first_alien-drop v n h =
     let after : suc (suc n) ≡ n + 2 = omega arith in
     ap first_alien (one ∙ ap (λ (t : List ℕ). get_or v n 0 ∷ t) two)
     ∙ ap (λ (m : ℕ). cond (is_alien (get_or v n 0) (get_or v m 0)) (Some 2)
-    (further 2 (first_alien (drop (suc (suc n)) v)))) next
-    ∙ ap (λ (m : ℕ). cond (is_alien (get_or v n 0) (get_or v (n + 1) 0)) (Some 2) (further 2 (first_alien (drop m v))))
+    (shifted_place 2 (first_alien (drop (suc (suc n)) v)))) next
+    ∙ ap (λ (m : ℕ). cond (is_alien (get_or v n 0) (get_or v (n + 1) 0)) (Some 2) (shifted_place 2 (first_alien (drop m v))))
     after
 
 -- what a look at one token after the other finds: where all before a place are not alien
 
 pub first_alien-here : (v : List ℕ) (n : ℕ) → n + 1 < length v → is_alien (get_or v n 0) (get_or v (n + 1) 0) ≡ true →
-    first_alien v ≡ further n (first_alien (drop n v)) → Some (n + 2) ≡ first_alien v
+    first_alien v ≡ shifted_place n (first_alien (drop n v)) → Some (n + 2) ≡ first_alien v
 first_alien-here v n h a e =
-    sym (e ∙ ap (further n) (first_alien-drop v n h
-    ∙ ap (λ (b : Bool). cond b (Some 2) (further 2 (first_alien (drop (n + 2) v)))) a))
+    sym (e ∙ ap (shifted_place n) (first_alien-drop v n h
+    ∙ ap (λ (b : Bool). cond b (Some 2) (shifted_place 2 (first_alien (drop (n + 2) v)))) a))
 
 pub first_alien-next : (v : List ℕ) (n m : ℕ) → m ≡ n + 2 → n + 1 < length v →
-    is_alien (get_or v n 0) (get_or v (n + 1) 0) ≡ false → first_alien v ≡ further n (first_alien (drop n v)) →
-    first_alien v ≡ further m (first_alien (drop m v))
+    is_alien (get_or v n 0) (get_or v (n + 1) 0) ≡ false → first_alien v ≡ shifted_place n (first_alien (drop n v)) →
+    first_alien v ≡ shifted_place m (first_alien (drop m v))
 first_alien-next v n m q h a e =
-    e ∙ ap (further n) (first_alien-drop v n h
-    ∙ ap (λ (b : Bool). cond b (Some 2) (further 2 (first_alien (drop (n + 2) v)))) a)
-    ∙ further-further n 2 (first_alien (drop (n + 2) v)) ∙ ap (λ (k : ℕ). further k (first_alien (drop k v))) (sym q)
+    e ∙ ap (shifted_place n) (first_alien-drop v n h
+    ∙ ap (λ (b : Bool). cond b (Some 2) (shifted_place 2 (first_alien (drop (n + 2) v)))) a)
+    ∙ shifted_place-shifted_place n 2 (first_alien (drop (n + 2) v)) ∙ ap (λ (k : ℕ). shifted_place k (first_alien (drop k v))) (sym q)
 
 -- the same of as many tokens as are known
 pub first_alien-known_run : (v : List ℕ) (first n : ℕ) → 2 * (first + n) ≤ length v → AreKnown v first n →
-    first_alien v ≡ further (2 * first) (first_alien (drop (2 * first) v)) →
-    first_alien v ≡ further (2 * (first + n)) (first_alien (drop (2 * (first + n)) v))
+    first_alien v ≡ shifted_place (2 * first) (first_alien (drop (2 * first) v)) →
+    first_alien v ≡ shifted_place (2 * (first + n)) (first_alien (drop (2 * (first + n)) v))
 first_alien-known_run v first zero inside known before =
     let none : first + 0 ≡ first = omega arith in
     rw none before
@@ -175,10 +175,10 @@ first_alien-short [] h = refl
 first_alien-short (high ∷ []) h = refl
 first_alien-short (high ∷ low ∷ rest) h = absurd (omega arith)
 
-pub first_alien-none : (v : List ℕ) (n : ℕ) → length v ≤ n + 1 → first_alien v ≡ further n (first_alien (drop n v)) →
+pub first_alien-none : (v : List ℕ) (n : ℕ) → length v ≤ n + 1 → first_alien v ≡ shifted_place n (first_alien (drop n v)) →
     None ≡ first_alien v
 first_alien-none v n h e =
-    sym (e ∙ ap (further n) (first_alien-short (drop n v) (omega (arith, length-drop n v))))
+    sym (e ∙ ap (shifted_place n) (first_alien-short (drop n v) (omega (arith, length-drop n v))))
 
 -- no token of a part is alien where none of the whole is
 pub first_alien-part : (v more : List ℕ) → first_alien (v ++ more) ≡ None → first_alien v ≡ None
@@ -200,9 +200,9 @@ ends_alien-past : (high low : ℕ) (rest : List ℕ) (x : ℕ) →
 ends_alien-past high low [] x = refl
 ends_alien-past high low (y ∷ rest) x = refl
 
-further-cond : (b : Bool) (n : ℕ) → further 2 (cond b (Some (n + 1)) None) ≡ cond b (Some (suc (suc n) + 1)) None
-further-cond true n = ap Some (omega arith)
-further-cond false n = refl
+shifted_place-cond : (b : Bool) (n : ℕ) → shifted_place 2 (cond b (Some (n + 1)) None) ≡ cond b (Some (suc (suc n) + 1)) None
+shifted_place-cond true n = ap Some (omega arith)
+shifted_place-cond false n = refl
 
 -- a byte can only end an alien token at the end
 pub alien-push : (w : List ℕ) (x : ℕ) → first_alien w ≡ None →
@@ -212,4 +212,4 @@ alien-push (high ∷ []) x e = refl
 alien-push (high ∷ low ∷ rest) x e =
     let k = none_first (is_alien high low) (first_alien rest) e in
     rw k.0 (rw (alien-push rest x k.1)
-    (rw (ends_alien-past high low rest x) (further-cond (ends_alien (rest ++ x ∷ [])) (length rest))))
+    (rw (ends_alien-past high low rest x) (shifted_place-cond (ends_alien (rest ++ x ∷ [])) (length rest))))

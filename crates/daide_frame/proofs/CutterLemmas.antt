@@ -10,15 +10,15 @@ use Rattle.daide_frame.specs.declared.head.Head.{Head}
 use Rattle.daide_frame.specs.declared.code.Code.{Code}
 use Rattle.daide_frame.specs.declared.cutter.Step.{Step}
 use Rattle.daide_frame.specs.declared.cutter.Step.TheVariants.{Headed, Bodied}
-use Rattle.daide_frame.specs.Head.{head_of}
+use Rattle.daide_frame.specs.Head.{parse_head}
 use Rattle.std.proofs.Common.{◌⊎◌}
-use Rattle.daide_frame.specs.Frames.{alien_in, last_items, announced, announced_by, told, IsWholeBody, answer_to}
+use Rattle.daide_frame.specs.Frames.{alien_in, last_items, announced, announced_by, items_of_step, IsWholeBody, step_of_events}
 use Rattle.daide_frame.specs.Frames.{head_part, head_in, missing_of_body, missing}
 use Rattle.daide_frame.specs.Cutter.{has_alien, IsConsistent}
 use Rattle.daide_frame.proofs.ListLemmas.{eqb_apart, take_whole, take_whole', drop_past}
-use Rattle.daide_frame.proofs.HeadLemmas.{IsGood, head_of-good}
+use Rattle.daide_frame.proofs.HeadLemmas.{IsGood, parse_head-good}
 use Rattle.daide_frame.proofs.FramesLemmas.{head_in-short, head_in-whole, at_head, alien_in-nothing, last_items-head}
-use Rattle.daide_frame.proofs.FramesLemmas.{head_of-append, missing-four}
+use Rattle.daide_frame.proofs.FramesLemmas.{parse_head-append, missing-four}
 
 pub consistent_short : (limit have : ℕ) (header : List ℕ) (head : Option Head) (f : Bool) (body : List ℕ) (capacity : ℕ)
     → have < 4 → length header ≡ 4 → body ≡ [] → head ≡ None → f ≡ false → limit ≤ capacity →
@@ -41,14 +41,14 @@ bytes_of_header : (have : ℕ) (header body : List ℕ) → have ≡ 4 → lengt
 bytes_of_header have header body l e b = rw b (rw l (append-nil (take 4 header) ∙ take_whole 4 header (omega arith)))
 
 pub head_in-bytes : (limit have : ℕ) (header body : List ℕ) → have ≡ 4 → length header ≡ 4 →
-    head_in limit (take have header ++ body) ≡ head_part (head_of header limit)
+    head_in limit (take have header ++ body) ≡ head_part (parse_head header limit)
 head_in-bytes limit have header body l e =
     let t : take have header ≡ header = take_whole have header (omega arith) in
     rw t (head_in-whole limit (header ++ body) (omega (arith, length-append header body))
-    ∙ ap head_part (head_of-append limit header body e))
+    ∙ ap head_part (parse_head-append limit header body e))
 
 pub consistent_head : (limit have : ℕ) (header : List ℕ) (head : Option Head) (f : Bool) (body : List ℕ) (capacity : ℕ)
-    (r : Result Head Code) → have ≡ 4 → length header ≡ 4 → body ≡ [] → f ≡ false → head_of header limit ≡ r →
+    (r : Result Head Code) → have ≡ 4 → length header ≡ 4 → body ≡ [] → f ≡ false → parse_head header limit ≡ r →
     head ≡ head_part r → limit ≤ capacity → IsConsistent limit have header head f body capacity
 consistent_head limit have header head f body capacity (Err code) l e b n q h k =
     rw h (record {
@@ -72,7 +72,7 @@ consistent_head limit have header head f body capacity (Ok good) l e b n q h k =
     })
 
 pub consistent_body : (limit have : ℕ) (header : List ℕ) (head : Option Head) (f : Bool) (body : List ℕ) (capacity : ℕ)
-    (good : Head) → have ≡ 4 → length header ≡ 4 → head ≡ Some good → head_of header limit ≡ Ok good →
+    (good : Head) → have ≡ 4 → length header ≡ 4 → head ≡ Some good → parse_head header limit ≡ Ok good →
     length body ≤ good.len → f ≡ is_some (alien_in good body) → limit ≤ capacity →
     IsConsistent limit have header head f body capacity
 consistent_body limit have header head f body capacity good l e h q b n k =
@@ -111,7 +111,7 @@ in_header limit have header head f body capacity i h =
 -- once the header is whole and good
 pub record InBody (limit have : ℕ) (header : List ℕ) (f : Bool) (body : List ℕ) (good : Head) : Type 0 where
   pub whole : have ≡ 4
-  pub read : head_of header limit ≡ Ok good
+  pub read : parse_head header limit ≡ Ok good
   pub lawful : IsGood limit good
   pub within : length body ≤ good.len
   pub alien : f ≡ is_some (alien_in good body)
@@ -145,12 +145,12 @@ in_body limit have header head f body capacity good i h = by_length (leb_tells 4
 
     at : have ≡ 4 → InBody limit have header f body good
     at w =
-        let q : head_of header limit ≡ Ok good =
-        ok_of (head_of header limit) good (sym (head_in-bytes limit have header body w i.four) ∙ given) in
+        let q : parse_head header limit ≡ Ok good =
+        ok_of (parse_head header limit) good (sym (head_in-bytes limit have header body w i.four) ∙ given) in
         record {
           whole = w;
           read = q;
-          lawful = head_of-good header limit good q;
+          lawful = parse_head-good header limit good q;
           within = subst (λ (o : Option Head). MatchOption o (body ≡ []) (λ g. length body ≤ g.len)) h i.in_body;
           alien = i.faulty ∙ ap (λ (o : Option Head). has_alien o body) h;
         }
@@ -194,35 +194,35 @@ body_of limit have header head f body capacity i = by_have (leb_tells 4 have)
 
 -- what the header's last byte tells, by the fields
 pub header_step : (limit have : ℕ) (header body : List ℕ) → have ≡ 4 → length header ≡ 4 → body ≡ [] →
-    answer_to (last_items limit (take have header ++ body)) ≡ answer_to (at_head (head_of header limit))
+    step_of_events (last_items limit (take have header ++ body)) ≡ step_of_events (at_head (parse_head header limit))
 header_step limit have header body l e b =
-    rw (bytes_of_header have header body l e b) (ap answer_to (last_items-head limit header e))
+    rw (bytes_of_header have header body l e b) (ap step_of_events (last_items-head limit header e))
 
 header_left : (limit have : ℕ) (header body : List ℕ) (r : Result Head Code) → have ≡ 4 → length header ≡ 4 →
-    head_of header limit ≡ r → missing limit (take have header ++ body) ≡ missing_of_body (head_part r) body
+    parse_head header limit ≡ r → missing limit (take have header ++ body) ≡ missing_of_body (head_part r) body
 header_left limit have header body r l e q =
     missing-body limit have header (head_part r) body l e
     (sym (head_in-bytes limit have header body l e ∙ ap head_part q))
 
 -- nothing is missing after a header that is refused, or that announces nothing
 pub refused_closed : (limit have : ℕ) (header body : List ℕ) (code : Code) → have ≡ 4 → length header ≡ 4 →
-    head_of header limit ≡ Err code → missing limit (take have header ++ body) ≡ 0
+    parse_head header limit ≡ Err code → missing limit (take have header ++ body) ≡ 0
 refused_closed limit have header body code l e q = header_left limit have header body (Err code) l e q
 
 pub empty_closed : (limit have : ℕ) (header body : List ℕ) (head : Head) → have ≡ 4 → length header ≡ 4 → body ≡ [] →
-    head_of header limit ≡ Ok head → head.len ≡ 0 → missing limit (take have header ++ body) ≡ 0
+    parse_head header limit ≡ Ok head → head.len ≡ 0 → missing limit (take have header ++ body) ≡ 0
 empty_closed limit have header body head l e b q z =
     header_left limit have header body (Ok head) l e q ∙ ap (missing_of_body (Some head)) b
     ∙ rw (alien_in-nothing head) (omega (arith, z))
 
 -- and its body is whole
 pub empty_whole : (limit have : ℕ) (header body : List ℕ) (head : Head) → have ≡ 4 → length header ≡ 4 → body ≡ [] →
-    head_of header limit ≡ Ok head → head.len ≡ 0 →
+    parse_head header limit ≡ Ok head → head.len ≡ 0 →
     IsWholeBody (head_in limit (take have header ++ body)) (drop 4 (take have header ++ body))
 empty_whole limit have header body head l e b q z =
     let bytes = bytes_of_header have header body l e b in
     let none : drop 4 (take have header ++ body) ≡ [] = ap (drop 4) bytes ∙ drop_past 4 header (omega arith) in
-    let good = head_of-good header limit head q in
+    let good = parse_head-good header limit head q in
     rw none (rw (head_in-bytes limit have header body l e ∙ ap head_part q) (good.right, sym z))
 
 pub length_of_header : (have : ℕ) (header body : List ℕ) → have ≤ 4 → length header ≡ 4 → body ≡ [] →
@@ -230,11 +230,11 @@ pub length_of_header : (have : ℕ) (header body : List ℕ) → have ≤ 4 → 
 length_of_header have header body l e b =
     rw b (omega (arith, length-append (take have header) [], length-take have header))
 
-pub answer_to-empty : (head : Head) → head.len ≡ 0 → answer_to (at_head (Ok head)) ≡ Bodied
-answer_to-empty head e = rw e refl
+pub step_of_events-empty : (head : Head) → head.len ≡ 0 → step_of_events (at_head (Ok head)) ≡ Bodied
+step_of_events-empty head e = rw e refl
 
-pub answer_to-begun : (head : Head) → (head.len ≡ 0 → ⊥) → answer_to (at_head (Ok head)) ≡ Headed
-answer_to-begun head e = rw (eqb_apart head.len 0 e) refl
+pub step_of_events-begun : (head : Head) → (head.len ≡ 0 → ⊥) → step_of_events (at_head (Ok head)) ≡ Headed
+step_of_events-begun head e = rw (eqb_apart head.len 0 e) refl
 
 pub missing_of-open : (head : Head) (body : List ℕ) → is_some (alien_in head body) ≡ false →
     missing_of_body (Some head) body ≡ head.len - length body
@@ -244,28 +244,28 @@ pub missing_of-spoilt : (head : Head) (body : List ℕ) → is_some (alien_in he
     missing_of_body (Some head) body ≡ 0
 missing_of-spoilt head body e = rw e refl
 
-at_head-empty : (head : Head) → head.len ≡ 0 → at_head (Ok head) ≡ told Bodied (Some head) []
+at_head-empty : (head : Head) → head.len ≡ 0 → at_head (Ok head) ≡ items_of_step Bodied (Some head) []
 at_head-empty head e = rw e refl
 
-at_head-begun : (head : Head) → (head.len ≡ 0 → ⊥) → at_head (Ok head) ≡ told Headed (Some head) []
+at_head-begun : (head : Head) → (head.len ≡ 0 → ⊥) → at_head (Ok head) ≡ items_of_step Headed (Some head) []
 at_head-begun head e = rw (eqb_apart head.len 0 e) refl
 
 pub header_told : (limit have : ℕ) (header body : List ℕ) (r : Result Head Code) (step : Step) → have ≡ 4 →
-    length header ≡ 4 → body ≡ [] → head_of header limit ≡ r → at_head r ≡ told step (head_part r) [] →
+    length header ≡ 4 → body ≡ [] → parse_head header limit ≡ r → at_head r ≡ items_of_step step (head_part r) [] →
     last_items limit (take have header ++ body)
-    ≡ told step (head_in limit (take have header ++ body)) (drop 4 (take have header ++ body))
+    ≡ items_of_step step (head_in limit (take have header ++ body)) (drop 4 (take have header ++ body))
 header_told limit have header body r step l e b q t =
     let bytes = bytes_of_header have header body l e b in
     let none : drop 4 (take have header ++ body) ≡ [] = ap (drop 4) bytes ∙ drop_past 4 header (omega arith) in
     ap (last_items limit) bytes ∙ last_items-head limit header e ∙ ap at_head q ∙ t
-    ∙ ap (λ (o : Option Head). told step o []) (sym (head_in-bytes limit have header body l e ∙ ap head_part q))
-    ∙ ap (told step (head_in limit (take have header ++ body))) (sym none)
+    ∙ ap (λ (o : Option Head). items_of_step step o []) (sym (head_in-bytes limit have header body l e ∙ ap head_part q))
+    ∙ ap (items_of_step step (head_in limit (take have header ++ body))) (sym none)
 
 pub told_ok : (head : Head) (step : Step) →
     ((head.len ≡ 0) × (step ≡ Bodied)) ⊎ ((head.len ≡ 0 → ⊥) × (step ≡ Headed)) →
-    at_head (Ok head) ≡ told step (Some head) []
-told_ok head step (inl h) = at_head-empty head h.0 ∙ ap (λ (s : Step). told s (Some head) []) (sym h.1)
-told_ok head step (inr h) = at_head-begun head h.0 ∙ ap (λ (s : Step). told s (Some head) []) (sym h.1)
+    at_head (Ok head) ≡ items_of_step step (Some head) []
+told_ok head step (inl h) = at_head-empty head h.0 ∙ ap (λ (s : Step). items_of_step s (Some head) []) (sym h.1)
+told_ok head step (inr h) = at_head-begun head h.0 ∙ ap (λ (s : Step). items_of_step s (Some head) []) (sym h.1)
 
 announced_of : (limit have : ℕ) (header : List ℕ) (head : Option Head) (f : Bool) (body : List ℕ) (capacity : ℕ) →
     IsConsistent limit have header head f body capacity →

@@ -8,14 +8,14 @@ use Rattle.std.proofs.lemmas.List.{take-append-le, take-append-drop}
 use Rattle.std.proofs.Math.Seq.{drop-append_seam, take-append_seam}
 use Rattle.daide_frame.specs.declared.head.Head.{Head}
 use Rattle.daide_frame.specs.declared.code.Code.TheVariants.{InvalidToken}
-use Rattle.daide_frame.specs.Head.{kind_number, head_of}
+use Rattle.daide_frame.specs.Head.{kind_number, parse_head}
 use Rattle.daide_frame.specs.declared.cutter.Step.{Step}
 use Rattle.daide_frame.specs.declared.cutter.Step.TheVariants.{More, Bodied, Fault}
-use Rattle.daide_frame.specs.Frames.{first_alien, alien_in, Item, Whole, Wrong, last_items, fed, fed_items, answer_to}
-use Rattle.daide_frame.specs.Frames.{told, head_part, head_in, missing_of_body, missing}
+use Rattle.daide_frame.specs.Frames.{first_alien, alien_in, FrameEvent, Whole, Wrong, last_items, fed, fed_items, step_of_events}
+use Rattle.daide_frame.specs.Frames.{items_of_step, head_part, head_in, missing_of_body, missing}
 use Rattle.daide_frame.specs.Cutter.{IsConsistent, IsFed}
 use Rattle.daide_frame.proofs.AlienLemmas.{ends_alien, alien-push, first_alien-end, first_alien-grown, first_alien-part}
-use Rattle.daide_frame.proofs.FramesLemmas.{at_body, last_items-body, missing-four, head_in-whole, head_of-append}
+use Rattle.daide_frame.proofs.FramesLemmas.{at_body, last_items-body, missing-four, head_in-whole, parse_head-append}
 use Rattle.daide_frame.proofs.FramesLemmas.{told_whole}
 use Rattle.daide_frame.proofs.ListLemmas.{take_whole, take_whole', eqb_same, eqb_apart, eqb_is}
 use Rattle.daide_frame.proofs.HeadLemmas.{IsGood}
@@ -72,7 +72,7 @@ pub fed-on : (limit : ℕ) (b : List ℕ) (x : ℕ) (piece : List ℕ) → last_
     × (fed_items limit b (x ∷ piece) ≡ fed_items limit (b ++ x ∷ []) piece)
 fed-on limit b x piece e = (rw e refl, rw e refl)
 
-fed-stop : (limit : ℕ) (b : List ℕ) (x : ℕ) (piece : List ℕ) (item : Item) (items : List Item) →
+fed-stop : (limit : ℕ) (b : List ℕ) (x : ℕ) (piece : List ℕ) (item : FrameEvent) (items : List FrameEvent) →
     last_items limit (b ++ x ∷ []) ≡ item ∷ items →
     (fed limit b (x ∷ piece) ≡ b ++ x ∷ []) × (fed_items limit b (x ∷ piece) ≡ item ∷ items)
 fed-stop limit b x piece item items e = (rw e refl, rw e refl)
@@ -81,7 +81,7 @@ pub fed-one : (limit : ℕ) (b : List ℕ) (x : ℕ) →
     (fed limit b (x ∷ []) ≡ b ++ x ∷ []) × (fed_items limit b (x ∷ []) ≡ last_items limit (b ++ x ∷ []))
 fed-one limit b x = by_items (last_items limit (b ++ x ∷ [])) refl
   where
-    by_items : (items : List Item) → last_items limit (b ++ x ∷ []) ≡ items →
+    by_items : (items : List FrameEvent) → last_items limit (b ++ x ∷ []) ≡ items →
         (fed limit b (x ∷ []) ≡ b ++ x ∷ []) × (fed_items limit b (x ∷ []) ≡ last_items limit (b ++ x ∷ []))
     by_items [] e = let h = fed-on limit b x [] e in (h.0, h.1 ∙ sym e)
     by_items (item ∷ items) e = let h = fed-stop limit b x [] item items e in (h.0, h.1 ∙ sym e)
@@ -91,7 +91,7 @@ abbrev pub kept : Option ℕ → List ℕ → List ℕ
 kept None v = v
 kept (Some n) v = take n v
 
-abbrev pub ending : Head → List ℕ → Option ℕ → List Item
+abbrev pub ending : Head → List ℕ → Option ℕ → List FrameEvent
 ending head v None = cond (eqb (length v) head.len) (Whole head v ∷ []) []
 ending head v (Some n) = Wrong InvalidToken ∷ []
 
@@ -100,7 +100,7 @@ pub record IsBodyFed (limit : ℕ) (header w piece : List ℕ) (head : Head) : T
   pub items : fed_items limit (header ++ w) piece ≡ ending head (w ++ piece) (alien_in head (w ++ piece))
 
 told_last : (limit : ℕ) (header : List ℕ) (head : Head) (w : List ℕ) (x : ℕ) → length header ≡ 4 →
-    head_of header limit ≡ Ok head →
+    parse_head header limit ≡ Ok head →
     last_items limit ((header ++ w) ++ x ∷ []) ≡ at_body head (w ++ x ∷ []) (alien_in head (w ++ x ∷ []))
 told_last limit header head w x e q =
     ap (last_items limit) (append_assoc header w (x ∷ []))
@@ -115,7 +115,7 @@ at_body-last head v true o e = rw e (rw (eqb_same (length v)) refl, take_whole (
 at_body-last head v false o e = rw e (rw (eqb_turned head.len (length v)) refl, refl)
 
 pub fed_body : (limit : ℕ) (header : List ℕ) (head : Head) (w : List ℕ) (x : ℕ) (piece : List ℕ) → length header ≡ 4 →
-    head_of header limit ≡ Ok head → alien_in head w ≡ None → length w + length (x ∷ piece) ≤ head.len →
+    parse_head header limit ≡ Ok head → alien_in head w ≡ None → length w + length (x ∷ piece) ≤ head.len →
     IsBodyFed limit header w (x ∷ piece) head
 fed_body limit header head w x [] e q n l =
     let one = fed-one limit (header ++ w) x in
@@ -133,8 +133,8 @@ fed_body limit header head w x (y ∷ piece) e q n l =
     assoc : (w ++ x ∷ []) ++ y ∷ piece ≡ w ++ x ∷ y ∷ piece
     assoc = append_assoc w (x ∷ []) (y ∷ piece)
 
-    told : last_items limit ((header ++ w) ++ x ∷ []) ≡ at_body head (w ++ x ∷ []) (alien_in head (w ++ x ∷ []))
-    told = told_last limit header head w x e q
+    items_of_step : last_items limit ((header ++ w) ++ x ∷ []) ≡ at_body head (w ++ x ∷ []) (alien_in head (w ++ x ∷ []))
+    items_of_step = told_last limit header head w x e q
 
     by_end : (b : Bool) → alien_in head (w ++ x ∷ []) ≡ cond {A = Option ℕ} b (Some (length (w ++ x ∷ []))) None →
         (alien_in head (w ++ x ∷ []) ≡ None → IsBodyFed limit header (w ++ x ∷ []) (y ∷ piece) head) →
@@ -142,7 +142,7 @@ fed_body limit header head w x (y ∷ piece) e q n l =
     by_end true push later =
         let v = w ++ x ∷ [] in
         let last : last_items limit ((header ++ w) ++ x ∷ []) ≡ Wrong InvalidToken ∷ [] =
-        told ∙ ap (at_body head v) push ∙ rw (eqb_same (length v)) refl in
+        items_of_step ∙ ap (at_body head v) push ∙ rw (eqb_same (length v)) refl in
         let stop = fed-stop limit (header ++ w) x (y ∷ piece) (Wrong InvalidToken) [] last in
         let place : alien_in head (w ++ x ∷ y ∷ piece) ≡ Some (length v) =
         ap (alien_in head) (sym assoc)
@@ -157,7 +157,7 @@ fed_body limit header head w x (y ∷ piece) e q n l =
     by_end false push later =
         let v = w ++ x ∷ [] in
         let apart = eqb_apart head.len (length v) (λ h. (omega (arith, h, length-append w (x ∷ [])))) in
-        let last : last_items limit ((header ++ w) ++ x ∷ []) ≡ [] = told ∙ ap (at_body head v) push ∙ rw apart refl in
+        let last : last_items limit ((header ++ w) ++ x ∷ []) ≡ [] = items_of_step ∙ ap (at_body head v) push ∙ rw apart refl in
         let on = fed-on limit (header ++ w) x (y ∷ piece) last in
         let h = later push in
         record {
@@ -175,7 +175,7 @@ pub record IsReady (limit have : ℕ) (header : List ℕ) (f : Bool) (body : Lis
     (head : Head) : Type 0 where
   pub four : length header ≡ 4
   pub whole : have ≡ 4
-  pub read : head_of header limit ≡ Ok head
+  pub read : parse_head header limit ≡ Ok head
   pub lawful : IsGood limit head
   pub no_alien : alien_in head body ≡ None
   pub no_fault : f ≡ false
@@ -231,22 +231,22 @@ known_front head body piece v n e l q h =
     by-part false body n e = refl
     by-part true body n e = first_alien-part (take n body) (drop n body) (ap first_alien (take-append-drop n body) ∙ e)
 
-body_read : (limit : ℕ) (header v : List ℕ) (head : Head) → length header ≡ 4 → head_of header limit ≡ Ok head →
+body_read : (limit : ℕ) (header v : List ℕ) (head : Head) → length header ≡ 4 → parse_head header limit ≡ Ok head →
     head_in limit (header ++ v) ≡ Some head
 body_read limit header v head e q =
     head_in-whole limit (header ++ v) (omega (arith, length-append header v))
-    ∙ ap head_part (head_of-append limit header v e ∙ q)
+    ∙ ap head_part (parse_head-append limit header v e ∙ q)
 
 body_after : (header v : List ℕ) → length header ≡ 4 → drop 4 (header ++ v) ≡ v
 body_after header v e = subst (λ (n : ℕ). drop n (header ++ v) ≡ v) e (drop-append_seam header v)
 
-body_left : (limit : ℕ) (header v : List ℕ) (head : Head) → length header ≡ 4 → head_of header limit ≡ Ok head →
+body_left : (limit : ℕ) (header v : List ℕ) (head : Head) → length header ≡ 4 → parse_head header limit ≡ Ok head →
     missing limit (header ++ v) ≡ missing_of_body (Some head) v
 body_left limit header v head e q =
     missing-four limit header v e ∙ ap (λ (o : Option Head). missing_of_body o v) (body_read limit header v head e q)
 
 taken_whole : (limit : ℕ) (header : List ℕ) (head : Head) (w piece : List ℕ) → length header ≡ 4 →
-    head_of header limit ≡ Ok head → alien_in head w ≡ None → 0 < length piece → length (w ++ piece) ≤ head.len →
+    parse_head header limit ≡ Ok head → alien_in head w ≡ None → 0 < length piece → length (w ++ piece) ≤ head.len →
     IsBodyFed limit header w piece head
 taken_whole limit header head w [] e q n p l = absurd (omega arith)
 taken_whole limit header head w (x ∷ piece) e q n p l =
@@ -254,7 +254,7 @@ taken_whole limit header head w (x ∷ piece) e q n p l =
 
 -- a fault at the end of an alien token
 wrong_at : (limit : ℕ) (header : List ℕ) (head : Head) (w piece : List ℕ) (n : ℕ) → length header ≡ 4 →
-    head_of header limit ≡ Ok head → alien_in head w ≡ None → 0 < length piece → length (w ++ piece) ≤ head.len →
+    parse_head header limit ≡ Ok head → alien_in head w ≡ None → 0 < length piece → length (w ++ piece) ≤ head.len →
     alien_in head (w ++ piece) ≡ Some n →
     IsFed limit (header ++ w) piece (Fault InvalidToken) (header ++ take n (w ++ piece))
 wrong_at limit header head w piece n e q none p l a =
@@ -263,7 +263,7 @@ wrong_at limit header head w piece n e q none p l a =
     let items : fed_items limit (header ++ w) piece ≡ Wrong InvalidToken ∷ [] = b.items ∙ ap (ending head v) a in
     record {
       bytes = sym (b.bytes ∙ ap (λ (o : Option ℕ). header ++ kept o v) a);
-      answer = ap answer_to (sym items);
+      answer = ap step_of_events (sym items);
       items = items;
       whole = inl tt;
       full = λ (h : Fault InvalidToken ≡ Bodied). absurd (cc);
@@ -276,7 +276,7 @@ abbrev pub IsRightStep : List ℕ → Head → Step → Type 0
 IsRightStep v head step = ((length v ≡ head.len) × (step ≡ Bodied)) ⊎ ((length v ≡ head.len → ⊥) × (step ≡ More))
 
 right_at : (limit : ℕ) (header : List ℕ) (head : Head) (w piece : List ℕ) (step : Step) → length header ≡ 4 →
-    head_of header limit ≡ Ok head → IsGood limit head → alien_in head w ≡ None → 0 < length piece →
+    parse_head header limit ≡ Ok head → IsGood limit head → alien_in head w ≡ None → 0 < length piece →
     length (w ++ piece) ≤ head.len → alien_in head (w ++ piece) ≡ None → IsRightStep (w ++ piece) head step →
     IsFed limit (header ++ w) piece step (header ++ (w ++ piece))
 right_at limit header head w piece step e q good none p l a (inl h) =
@@ -288,10 +288,10 @@ right_at limit header head w piece step e q good none p l a (inl h) =
     b.items ∙ ap (ending head v) a ∙ rw (eqb_is (length v) head.len h.0) refl in
     rw h.1 (record {
       bytes = sym (b.bytes ∙ ap (λ (o : Option ℕ). header ++ kept o v) a);
-      answer = ap answer_to (sym items);
+      answer = ap step_of_events (sym items);
       items = items ∙ sym (told_whole head v (omega (arith, length-append w piece)))
-          ∙ ap (λ (o : Option Head). told Bodied o v) (sym read)
-          ∙ ap (told Bodied (head_in limit (header ++ v))) (sym after);
+          ∙ ap (λ (o : Option Head). items_of_step Bodied o v) (sym read)
+          ∙ ap (items_of_step Bodied (head_in limit (header ++ v))) (sym after);
       whole = inr (sym (append_assoc header w piece));
       full = λ _. rw after (rw read (good.right, h.0));
       closed = λ _. body_left limit header v head e q
@@ -304,7 +304,7 @@ right_at limit header head w piece step e q good none p l a (inr h) =
     b.items ∙ ap (ending head v) a ∙ rw (eqb_apart (length v) head.len h.0) refl in
     rw h.1 (record {
       bytes = sym (b.bytes ∙ ap (λ (o : Option ℕ). header ++ kept o v) a);
-      answer = ap answer_to (sym items);
+      answer = ap step_of_events (sym items);
       items = items;
       whole = inr (sym (append_assoc header w piece));
       full = λ (h : More ≡ Bodied). absurd (cc);

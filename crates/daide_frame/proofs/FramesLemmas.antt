@@ -13,9 +13,9 @@ use Rattle.daide_frame.specs.declared.head.Head.{Head}
 use Rattle.daide_frame.specs.declared.code.Code.{Code}
 use Rattle.daide_frame.specs.declared.code.Code.TheVariants.{InvalidToken}
 use Rattle.daide_frame.specs.declared.cutter.Step.TheVariants.{Bodied}
-use Rattle.daide_frame.specs.Head.{kind_number, head_of}
-use Rattle.daide_frame.specs.Frames.{first_alien, alien_in, Item, Begun, Whole, Wrong, items_of_body, items_from_head}
-use Rattle.daide_frame.specs.Frames.{first_items, ending_at, last_items, told}
+use Rattle.daide_frame.specs.Head.{kind_number, parse_head}
+use Rattle.daide_frame.specs.Frames.{first_alien, alien_in, FrameEvent, Begun, Whole, Wrong, items_of_body, items_from_head}
+use Rattle.daide_frame.specs.Frames.{first_items, events_ending_at, last_items, items_of_step}
 use Rattle.daide_frame.specs.Frames.{head_part, head_in, missing_of_body, missing}
 use Rattle.daide_frame.proofs.ListLemmas.{ltb_no, eqb_no, take_whole}
 
@@ -28,12 +28,12 @@ pub head_in-short : (limit : ℕ) (b : List ℕ) → length b < 4 → head_in li
 unfolding head_in
 head_in-short limit b h = rw (lt-ltb (length b) 4 h) refl
 
-pub head_in-whole : (limit : ℕ) (b : List ℕ) → 4 ≤ length b → head_in limit b ≡ head_part (head_of b limit)
+pub head_in-whole : (limit : ℕ) (b : List ℕ) → 4 ≤ length b → head_in limit b ≡ head_part (parse_head b limit)
 unfolding head_in
 head_in-whole limit b h = rw (ltb_no (length b) 4 h) refl
 
 -- what the header's last byte tells
-abbrev pub at_head : Result Head Code → List Item
+abbrev pub at_head : Result Head Code → List FrameEvent
 at_head (Err code) = Wrong code ∷ []
 at_head (Ok head) = Begun head ∷ (cond (eqb head.len 0) (Whole head [] ∷ []) [])
 
@@ -47,16 +47,16 @@ alien_in-nothing head =
     (elim (eqb (kind_number head.kind) 2) as (λ b. cond b (first_alien []) None
     ≡ None) [ true ↦ refl | false ↦ refl ])
 
-ending_at-head : (r : Result Head Code) → ending_at 4 (items_from_head r []) ≡ at_head r
-ending_at-head (Err code) = refl
-ending_at-head (Ok head) = rw (alien_in-nothing head) (rw (take-nothing head.len) (grind (arith, nat_tests)))
+events_ending_at-head : (r : Result Head Code) → events_ending_at 4 (items_from_head r []) ≡ at_head r
+events_ending_at-head (Err code) = refl
+events_ending_at-head (Ok head) = rw (alien_in-nothing head) (rw (take-nothing head.len) (grind (arith, nat_tests)))
 
 pub last_items-head4 : (limit p q r s : ℕ) →
-    last_items limit (p ∷ q ∷ r ∷ s ∷ []) ≡ at_head (head_of (p ∷ q ∷ r ∷ s ∷ []) limit)
+    last_items limit (p ∷ q ∷ r ∷ s ∷ []) ≡ at_head (parse_head (p ∷ q ∷ r ∷ s ∷ []) limit)
 unfolding last_items first_items
-last_items-head4 limit p q r s = ending_at-head (head_of (p ∷ q ∷ r ∷ s ∷ []) limit)
+last_items-head4 limit p q r s = events_ending_at-head (parse_head (p ∷ q ∷ r ∷ s ∷ []) limit)
 
-pub last_items-head : (limit : ℕ) (b : List ℕ) → length b ≡ 4 → last_items limit b ≡ at_head (head_of b limit)
+pub last_items-head : (limit : ℕ) (b : List ℕ) → length b ≡ 4 → last_items limit b ≡ at_head (parse_head b limit)
 last_items-head limit [] e = absurd (omega arith)
 last_items-head limit (p ∷ []) e = absurd (omega arith)
 last_items-head limit (p ∷ q ∷ []) e = absurd (omega arith)
@@ -65,51 +65,51 @@ last_items-head limit (p ∷ q ∷ r ∷ s ∷ []) e = last_items-head4 limit p 
 last_items-head limit (p ∷ q ∷ r ∷ s ∷ t ∷ u) e = absurd (omega arith)
 
 -- what a byte of the body tells
-abbrev pub at_body : Head → List ℕ → Option ℕ → List Item
+abbrev pub at_body : Head → List ℕ → Option ℕ → List FrameEvent
 at_body head v (Some n) = cond (eqb n (length v)) (Wrong InvalidToken ∷ []) []
 at_body head v None = cond (eqb head.len (length v)) (Whole head v ∷ []) []
 
 whole_if : (head : Head) (v : List ℕ) →
-    ending_at (4 + length v)
+    events_ending_at (4 + length v)
     (cond (leb head.len (length v)) (record { item = Whole head (take head.len v); at = 4 + head.len } ∷ []) [])
     ≡ cond (eqb head.len (length v)) (Whole head v ∷ []) []
 whole_if head v = grind (arith, nat_tests, take_all)
 
-ending_at-body : (head : Head) (v : List ℕ) (o : Option ℕ) →
-    ending_at (4 + length v) (items_of_body head v o) ≡ at_body head v o
-ending_at-body head v (Some n) = grind (arith, nat_tests)
-ending_at-body head v None = whole_if head v
+events_ending_at-body : (head : Head) (v : List ℕ) (o : Option ℕ) →
+    events_ending_at (4 + length v) (items_of_body head v o) ≡ at_body head v o
+events_ending_at-body head v (Some n) = grind (arith, nat_tests)
+events_ending_at-body head v None = whole_if head v
 
-pub head_of-append4 : (limit p q r s : ℕ) (v : List ℕ) →
-    head_of (p ∷ q ∷ r ∷ s ∷ v) limit ≡ head_of (p ∷ q ∷ r ∷ s ∷ []) limit
-unfolding head_of
-head_of-append4 limit p q r s v = refl
+pub parse_head-append4 : (limit p q r s : ℕ) (v : List ℕ) →
+    parse_head (p ∷ q ∷ r ∷ s ∷ v) limit ≡ parse_head (p ∷ q ∷ r ∷ s ∷ []) limit
+unfolding parse_head
+parse_head-append4 limit p q r s v = refl
 
 -- headers say the same, whatever follows them
-pub head_of-append : (limit : ℕ) (a v : List ℕ) → length a ≡ 4 → head_of (a ++ v) limit ≡ head_of a limit
-head_of-append limit [] v e = absurd (omega arith)
-head_of-append limit (p ∷ []) v e = absurd (omega arith)
-head_of-append limit (p ∷ q ∷ []) v e = absurd (omega arith)
-head_of-append limit (p ∷ q ∷ r ∷ []) v e = absurd (omega arith)
-head_of-append limit (p ∷ q ∷ r ∷ s ∷ []) v e = head_of-append4 limit p q r s v
-head_of-append limit (p ∷ q ∷ r ∷ s ∷ t ∷ u) v e = absurd (omega arith)
+pub parse_head-append : (limit : ℕ) (a v : List ℕ) → length a ≡ 4 → parse_head (a ++ v) limit ≡ parse_head a limit
+parse_head-append limit [] v e = absurd (omega arith)
+parse_head-append limit (p ∷ []) v e = absurd (omega arith)
+parse_head-append limit (p ∷ q ∷ []) v e = absurd (omega arith)
+parse_head-append limit (p ∷ q ∷ r ∷ []) v e = absurd (omega arith)
+parse_head-append limit (p ∷ q ∷ r ∷ s ∷ []) v e = parse_head-append4 limit p q r s v
+parse_head-append limit (p ∷ q ∷ r ∷ s ∷ t ∷ u) v e = absurd (omega arith)
 
 -- a body's byte ends nothing of the header
 items_past_head : (head : Head) (v : List ℕ) (o : Option ℕ) (n : ℕ) → n ≡ 4 + length v → 0 < length v →
-    ending_at n (record { item = Begun head; at = 4 } ∷ items_of_body head v o) ≡ at_body head v o
+    events_ending_at n (record { item = Begun head; at = 4 } ∷ items_of_body head v o) ≡ at_body head v o
 items_past_head head v o n e f =
     rw (eqb_no 4 n (omega arith))
-    (subst (λ (k : ℕ). ending_at k (items_of_body head v o) ≡ at_body head v o) (sym e) (ending_at-body head v o))
+    (subst (λ (k : ℕ). events_ending_at k (items_of_body head v o) ≡ at_body head v o) (sym e) (events_ending_at-body head v o))
 
-pub last_items-body4 : (limit p q r s : ℕ) (v : List ℕ) (head : Head) → head_of (p ∷ q ∷ r ∷ s ∷ []) limit ≡ Ok head →
+pub last_items-body4 : (limit p q r s : ℕ) (v : List ℕ) (head : Head) → parse_head (p ∷ q ∷ r ∷ s ∷ []) limit ≡ Ok head →
     0 < length v → last_items limit (p ∷ q ∷ r ∷ s ∷ v) ≡ at_body head v (alien_in head v)
 unfolding last_items first_items
 last_items-body4 limit p q r s v head h f =
     rw (ltb_no (length (p ∷ q ∷ r ∷ s ∷ v)) 4 (omega arith))
-    (rw (head_of-append4 limit p q r s v)
+    (rw (parse_head-append4 limit p q r s v)
     (rw h (items_past_head head v (alien_in head v) (length (p ∷ q ∷ r ∷ s ∷ v)) (omega arith) f)))
 
-pub last_items-body : (limit : ℕ) (a v : List ℕ) (head : Head) → length a ≡ 4 → head_of a limit ≡ Ok head →
+pub last_items-body : (limit : ℕ) (a v : List ℕ) (head : Head) → length a ≡ 4 → parse_head a limit ≡ Ok head →
     0 < length v → last_items limit (a ++ v) ≡ at_body head v (alien_in head v)
 last_items-body limit [] v head e h f = absurd (omega arith)
 last_items-body limit (p ∷ []) v head e h f = absurd (omega arith)
@@ -141,7 +141,7 @@ not_dm Em h = refl
 pub alien_in-other : (head : Head) (v : List ℕ) → (head.kind ≡ Dm → ⊥) → alien_in head v ≡ None
 alien_in-other head v h = rw (not_dm head.kind h) refl
 
-pub told_whole : (head : Head) (v : List ℕ) → 0 < length v → told Bodied (Some head) v ≡ Whole head v ∷ []
+pub told_whole : (head : Head) (v : List ℕ) → 0 < length v → items_of_step Bodied (Some head) v ≡ Whole head v ∷ []
 told_whole head [] h = absurd (omega arith)
 told_whole head (x ∷ v) h = refl
 
@@ -158,11 +158,11 @@ missing-four limit header body e =
     (subst (λ (n : ℕ). drop n (header ++ body) ≡ body) e (drop-append_seam header body)))
 
 pub missing-of4 : (limit p q r s : ℕ) (w : List ℕ) →
-    missing limit (p ∷ q ∷ r ∷ s ∷ w) ≡ missing_of_body (head_part (head_of (p ∷ q ∷ r ∷ s ∷ []) limit)) w
+    missing limit (p ∷ q ∷ r ∷ s ∷ w) ≡ missing_of_body (head_part (parse_head (p ∷ q ∷ r ∷ s ∷ []) limit)) w
 missing-of4 limit p q r s w =
     missing-four limit (p ∷ q ∷ r ∷ s ∷ []) w refl
     ∙ ap (λ (o : Option Head). missing_of_body o w) (head_in-whole limit (p ∷ q ∷ r ∷ s ∷ w) (omega arith)
-    ∙ ap head_part (head_of-append4 limit p q r s w))
+    ∙ ap head_part (parse_head-append4 limit p q r s w))
 
 pub missing-short : (limit : ℕ) (b : List ℕ) → length b < 4 → missing limit b ≡ 4 - length b
 unfolding missing

@@ -8,7 +8,7 @@ use Rattle.std.proofs.lemmas.Nat.{from_be_bytes-to_be_bytes_2}
 use Rattle.daide_frame.specs.declared.head.Kind.{Kind}
 use Rattle.daide_frame.specs.declared.head.Kind.TheVariants.{Im, Rm, Dm, Fm, Em}
 use Rattle.daide_frame.specs.declared.head.Head.{Head}
-use Rattle.daide_frame.specs.Head.{kind_number, kind_of, has_right_length, is_im, judged, head_of, head_bytes}
+use Rattle.daide_frame.specs.Head.{kind_number, kind_of, has_right_length, is_im, judged, parse_head, head_bytes}
 use Rattle.daide_frame.specs.declared.code.Code.{Code}
 use Rattle.daide_frame.specs.declared.code.Code.TheVariants.{WrongEndian, UnknownMessage, WrongLength}
 use Rattle.daide_frame.proofs.ListLemmas.{ltb_no}
@@ -62,9 +62,9 @@ judged-good (Some kind) n limit head e =
       within = subst (λ (m : ℕ). m ≤ limit) h.same_len (not_above n limit h.short);
     }
 
-pub head_of-good : (b : List ℕ) (limit : ℕ) (head : Head) → head_of b limit ≡ Ok head → IsGood limit head
-unfolding head_of
-head_of-good b limit head e =
+pub parse_head-good : (b : List ℕ) (limit : ℕ) (head : Head) → parse_head b limit ≡ Ok head → IsGood limit head
+unfolding parse_head
+parse_head-good b limit head e =
     judged-good (kind_of (slice_index b 0)) (from_be_bytes w16 (slice_index b 2 ∷ slice_index b 3 ∷ [])) limit head e
 
 -- a header that was written
@@ -88,10 +88,10 @@ judged-right : (kind : Kind) (n cap : ℕ) → has_right_length kind n ≡ true 
     judged (Some kind) n cap ≡ Ok (record { kind = kind; len = n })
 judged-right kind n cap h l = rw (not_swapped kind n h) (rw h (rw (ltb_no cap n l) refl))
 
-pub head_of-head_bytes : (head : Head) (cap : ℕ) → head.len < 2 ^ 16 → has_right_length head.kind head.len ≡ true →
-    head.len ≤ cap → head_of (head_bytes head) cap ≡ Ok head
-unfolding head_of head_bytes
-head_of-head_bytes head cap b h l =
+pub parse_head-head_bytes : (head : Head) (cap : ℕ) → head.len < 2 ^ 16 → has_right_length head.kind head.len ≡ true →
+    head.len ≤ cap → parse_head (head_bytes head) cap ≡ Ok head
+unfolding parse_head head_bytes
+parse_head-head_bytes head cap b h l =
     let n : from_be_bytes w16 (to_be_bytes w16 head.len) ≡ head.len = from_be_bytes-to_be_bytes_2 head.len b in
     ap (λ (o : Option Kind). judged o (from_be_bytes w16 (to_be_bytes w16 head.len)) cap)
     (kind_of-kind_number head.kind)

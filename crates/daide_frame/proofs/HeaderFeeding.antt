@@ -3,7 +3,7 @@ use Rattle.std.proofs.Common.{◌≡◌, ℕ, inr, ◌+◌, ◌<◌, ◌≤◌, 
 use Rattle.std.proofs.Common.{arith, length-append, append_assoc, append-nil}
 use Rattle.daide_frame.specs.declared.cutter.Step.{Step}
 use Rattle.daide_frame.specs.declared.cutter.Step.TheVariants.{More, Bodied}
-use Rattle.daide_frame.specs.Frames.{last_items, fed, fed_items, answer_to, told, head_in, missing, IsEnd, IsWholeBody}
+use Rattle.daide_frame.specs.Frames.{last_items, fed, fed_items, step_of_events, items_of_step, head_in, missing, IsEnd, IsWholeBody}
 use Rattle.daide_frame.specs.Cutter.{IsFed}
 use Rattle.daide_frame.proofs.FramesLemmas.{last_items-short}
 use Rattle.daide_frame.proofs.FeedingLemmas.{fed-on, fed-one}
@@ -41,7 +41,7 @@ short_fed limit old (x ∷ piece) new e h =
     let none : fed_items limit old (x ∷ piece) ≡ [] = f.1 ∙ ap (last_items limit) (sym e) ∙ last_items-short limit new h in
     record {
       bytes = e ∙ sym f.0;
-      answer = ap answer_to (sym none);
+      answer = ap step_of_events (sym none);
       items = none;
       whole = inr e;
       full = λ k. absurd (cc);
@@ -50,8 +50,8 @@ short_fed limit old (x ∷ piece) new e h =
 
 -- where it is, and what its last byte tells is known
 pub fourth_fed : (limit : ℕ) (old piece new : List ℕ) (step : Step) → length old < 4 → new ≡ old ++ piece →
-    length new ≡ 4 → answer_to (last_items limit new) ≡ step →
-    last_items limit new ≡ told step (head_in limit new) (drop 4 new) →
+    length new ≡ 4 → step_of_events (last_items limit new) ≡ step →
+    last_items limit new ≡ items_of_step step (head_in limit new) (drop 4 new) →
     (step ≡ Bodied → IsWholeBody (head_in limit new) (drop 4 new)) → (IsEnd step → missing limit new ≡ 0) →
     IsFed limit old piece step new
 fourth_fed limit old [] new step less e h answer items full closed =
@@ -61,7 +61,7 @@ fourth_fed limit old (x ∷ piece) new step less e h answer items full closed =
     let same = f.1 ∙ ap (last_items limit) (sym e) in
     record {
       bytes = e ∙ sym f.0;
-      answer = sym answer ∙ ap answer_to (sym same);
+      answer = sym answer ∙ ap step_of_events (sym same);
       items = same ∙ items;
       whole = inr e;
       full = full;

@@ -8,12 +8,12 @@ use Rattle.std.proofs.Math.Seq.{take-append_seam, take-append-add}
 use Rattle.daide_frame.specs.declared.head.Head.{Head}
 use Rattle.daide_frame.specs.declared.code.Code.{Code}
 use Rattle.daide_frame.specs.declared.code.Code.TheVariants.{InvalidToken}
-use Rattle.daide_frame.specs.Head.{head_of}
-use Rattle.daide_frame.specs.Frames.{alien_in, Item, Begun, Whole, Wrong, Placed, items_of_body, first_items, is_whole}
-use Rattle.daide_frame.specs.Frames.{is_wrong, frame_end, any_item, placed_at, last_items, head_part, missing_of_body}
+use Rattle.daide_frame.specs.Head.{parse_head}
+use Rattle.daide_frame.specs.Frames.{alien_in, FrameEvent, Begun, Whole, Wrong, EventAtOffset, items_of_body, first_items, is_whole_frame}
+use Rattle.daide_frame.specs.Frames.{is_wrong, frame_end, any_item, event_at_offset, last_items, head_part, missing_of_body}
 use Rattle.daide_frame.specs.Frames.{missing}
 use Rattle.daide_frame.proofs.AlienLemmas.{ends_alien, first_alien-grown}
-use Rattle.daide_frame.proofs.FramesLemmas.{at_head, at_body, alien_in-nothing, head_of-append4, first_items-short}
+use Rattle.daide_frame.proofs.FramesLemmas.{at_head, at_body, alien_in-nothing, parse_head-append4, first_items-short}
 use Rattle.daide_frame.proofs.FramesLemmas.{last_items-short, last_items-head4, last_items-body4, missing-short}
 use Rattle.daide_frame.proofs.FramesLemmas.{missing-of4, wanted}
 use Rattle.daide_frame.proofs.ListLemmas.{ltb_no, leb_no, leb_yes, eqb_same, eqb_is, eqb_apart}
@@ -21,20 +21,20 @@ use Rattle.daide_frame.proofs.FeedingLemmas.{alien_by, by-grown, is_dm, alien_in
 
 -- The items of the first frame, by how far it has come
 
-abbrev begun_at : Head → Placed
+abbrev begun_at : Head → EventAtOffset
 begun_at head = record { item = Begun head; at = 4 }
 
-first_items-refused : (limit p q r s : ℕ) (w : List ℕ) (code : Code) → head_of (p ∷ q ∷ r ∷ s ∷ []) limit ≡ Err code →
+first_items-refused : (limit p q r s : ℕ) (w : List ℕ) (code : Code) → parse_head (p ∷ q ∷ r ∷ s ∷ []) limit ≡ Err code →
     first_items limit (p ∷ q ∷ r ∷ s ∷ w) ≡ record { item = Wrong code; at = 4 } ∷ []
 unfolding first_items
 first_items-refused limit p q r s w code h =
-    rw (ltb_no (length (p ∷ q ∷ r ∷ s ∷ w)) 4 (omega arith)) (rw (head_of-append4 limit p q r s w) (rw h refl))
+    rw (ltb_no (length (p ∷ q ∷ r ∷ s ∷ w)) 4 (omega arith)) (rw (parse_head-append4 limit p q r s w) (rw h refl))
 
-first_items-good : (limit p q r s : ℕ) (w : List ℕ) (head : Head) → head_of (p ∷ q ∷ r ∷ s ∷ []) limit ≡ Ok head →
+first_items-good : (limit p q r s : ℕ) (w : List ℕ) (head : Head) → parse_head (p ∷ q ∷ r ∷ s ∷ []) limit ≡ Ok head →
     first_items limit (p ∷ q ∷ r ∷ s ∷ w) ≡ begun_at head ∷ items_of_body head w (alien_in head w)
 unfolding first_items
 first_items-good limit p q r s w head h =
-    rw (ltb_no (length (p ∷ q ∷ r ∷ s ∷ w)) 4 (omega arith)) (rw (head_of-append4 limit p q r s w) (rw h refl))
+    rw (ltb_no (length (p ∷ q ∷ r ∷ s ∷ w)) 4 (omega arith)) (rw (parse_head-append4 limit p q r s w) (rw h refl))
 
 body_goes_on : (head : Head) (w : List ℕ) → alien_in head w ≡ None → length w < head.len →
     items_of_body head w (alien_in head w) ≡ []
@@ -67,9 +67,9 @@ body_fails head v more n e l =
 -- the items that end with the byte are told, and follow those that were told before
 pub record IsTold (limit : ℕ) (b : List ℕ) (x : ℕ) (wrong whole : Bool) : Type 0 where
   pub wrong_is : any_item is_wrong (last_items limit (b ++ x ∷ [])) ≡ wrong
-  pub whole_is : any_item is_whole (last_items limit (b ++ x ∷ [])) ≡ whole
+  pub whole_is : any_item is_whole_frame (last_items limit (b ++ x ∷ [])) ≡ whole
   pub items : first_items limit (b ++ x ∷ [])
-      ≡ first_items limit b ++ placed_at (length b + 1) (last_items limit (b ++ x ∷ []))
+      ≡ first_items limit b ++ event_at_offset (length b + 1) (last_items limit (b ++ x ∷ []))
 
 -- the frame goes on
 pub record GoesOn (limit : ℕ) (b : List ℕ) (x : ℕ) : Type 0 where
@@ -95,7 +95,7 @@ short limit b x h =
     inl (record {
       told = record {
         wrong_is = ap (any_item is_wrong) none;
-        whole_is = ap (any_item is_whole) none;
+        whole_is = ap (any_item is_whole_frame) none;
         items = first_items-short limit (b ++ x ∷ []) (omega arith)
             ∙ sym (rw (first_items-short limit b (omega arith), none) refl);
       };
@@ -105,7 +105,7 @@ short limit b x h =
 
 -- the fourth byte
 
-refused : (limit p q r x : ℕ) (code : Code) → head_of (p ∷ q ∷ r ∷ x ∷ []) limit ≡ Err code →
+refused : (limit p q r x : ℕ) (code : Code) → parse_head (p ∷ q ∷ r ∷ x ∷ []) limit ≡ Err code →
     ByteTells limit (p ∷ q ∷ r ∷ []) x
 refused limit p q r x code h =
     let last : last_items limit (p ∷ q ∷ r ∷ x ∷ []) ≡ Wrong code ∷ [] =
@@ -114,15 +114,15 @@ refused limit p q r x code h =
     inr (inr (record {
       told = record {
         wrong_is = ap (any_item is_wrong) last;
-        whole_is = ap (any_item is_whole) last;
+        whole_is = ap (any_item is_whole_frame) last;
         items = now ∙ sym (rw (first_items-short limit (p ∷ q ∷ r ∷ []) (omega arith), last) refl);
       };
-      loud = λ e. (let k : ◌≡◌ {A = List Item} (Wrong code ∷ []) [] = sym last ∙ e in absurd (cc));
+      loud = λ e. (let k : ◌≡◌ {A = List FrameEvent} (Wrong code ∷ []) [] = sym last ∙ e in absurd (cc));
       stays = λ more. first_items-refused limit p q r x more code h ∙ sym now;
       end_is = ap frame_end now;
     }))
 
-empty_body : (limit p q r x : ℕ) (head : Head) → head_of (p ∷ q ∷ r ∷ x ∷ []) limit ≡ Ok head → head.len ≡ 0 →
+empty_body : (limit p q r x : ℕ) (head : Head) → parse_head (p ∷ q ∷ r ∷ x ∷ []) limit ≡ Ok head → head.len ≡ 0 →
     ByteTells limit (p ∷ q ∷ r ∷ []) x
 empty_body limit p q r x head h z =
     let last : last_items limit (p ∷ q ∷ r ∷ x ∷ []) ≡ Begun head ∷ Whole head [] ∷ [] =
@@ -131,27 +131,27 @@ empty_body limit p q r x head h z =
     first_items limit (p ∷ q ∷ r ∷ x ∷ more) ≡ begun_at head ∷ record { item = Whole head []; at = 4 } ∷ [] =
     λ more.
     first_items-good limit p q r x more head h
-    ∙ ap (λ (t : List Placed). begun_at head ∷ t) (body_ends head [] more (alien_in-nothing head) (sym z)
+    ∙ ap (λ (t : List EventAtOffset). begun_at head ∷ t) (body_ends head [] more (alien_in-nothing head) (sym z)
     ∙ ap (λ (n : ℕ). record { item = Whole head []; at = n } ∷ []) (omega (arith, z))) in
     inr (inl (record {
       told = record {
         wrong_is = ap (any_item is_wrong) last;
-        whole_is = ap (any_item is_whole) last;
+        whole_is = ap (any_item is_whole_frame) last;
         items = items [] ∙ sym (rw (first_items-short limit (p ∷ q ∷ r ∷ []) (omega arith), last) refl);
       };
-      loud = λ e. (let k : ◌≡◌ {A = List Item} (Begun head ∷ Whole head [] ∷ []) [] = sym last ∙ e in absurd (cc));
+      loud = λ e. (let k : ◌≡◌ {A = List FrameEvent} (Begun head ∷ Whole head [] ∷ []) [] = sym last ∙ e in absurd (cc));
       stays = λ more. items more ∙ sym (items []);
       end_is = ap frame_end (items []);
     }))
 
-begun : (limit p q r x : ℕ) (head : Head) → head_of (p ∷ q ∷ r ∷ x ∷ []) limit ≡ Ok head → (head.len ≡ 0 → ⊥) →
+begun : (limit p q r x : ℕ) (head : Head) → parse_head (p ∷ q ∷ r ∷ x ∷ []) limit ≡ Ok head → (head.len ≡ 0 → ⊥) →
     ByteTells limit (p ∷ q ∷ r ∷ []) x
 begun limit p q r x head h z =
     let last : last_items limit (p ∷ q ∷ r ∷ x ∷ []) ≡ Begun head ∷ [] =
     last_items-head4 limit p q r x ∙ ap at_head h ∙ rw (eqb_apart head.len 0 z) refl in
     let items : first_items limit (p ∷ q ∷ r ∷ x ∷ []) ≡ begun_at head ∷ [] =
     first_items-good limit p q r x [] head h
-    ∙ ap (λ (t : List Placed). begun_at head ∷ t)
+    ∙ ap (λ (t : List EventAtOffset). begun_at head ∷ t)
     (body_goes_on head [] (alien_in-nothing head) (omega (arith, z))) in
     let open_body : missing limit (p ∷ q ∷ r ∷ x ∷ []) ≡ head.len - 0 =
     missing-of4 limit p q r x [] ∙ ap (λ (o : Result Head Code). missing_of_body (head_part o) []) h
@@ -159,14 +159,14 @@ begun limit p q r x head h z =
     inl (record {
       told = record {
         wrong_is = ap (any_item is_wrong) last;
-        whole_is = ap (any_item is_whole) last;
+        whole_is = ap (any_item is_whole_frame) last;
         items = items ∙ sym (rw (first_items-short limit (p ∷ q ∷ r ∷ []) (omega arith), last) refl);
       };
       left = omega (arith, open_body, z);
-      less = λ e. (let k : ◌≡◌ {A = List Item} (Begun head ∷ []) [] = sym last ∙ e in absurd (cc));
+      less = λ e. (let k : ◌≡◌ {A = List FrameEvent} (Begun head ∷ []) [] = sym last ∙ e in absurd (cc));
     })
 
-fourth : (limit p q r x : ℕ) (o : Result Head Code) → head_of (p ∷ q ∷ r ∷ x ∷ []) limit ≡ o →
+fourth : (limit p q r x : ℕ) (o : Result Head Code) → parse_head (p ∷ q ∷ r ∷ x ∷ []) limit ≡ o →
     ByteTells limit (p ∷ q ∷ r ∷ []) x
 fourth limit p q r x (Err code) h = refused limit p q r x code h
 fourth limit p q r x (Ok head) h = by_length (eqb_tells head.len 0)
@@ -179,7 +179,7 @@ fourth limit p q r x (Ok head) h = by_length (eqb_tells head.len 0)
 -- a byte of the body
 
 record IsOpen (limit p q r s : ℕ) (w : List ℕ) (head : Head) : Type 0 where
-  read : head_of (p ∷ q ∷ r ∷ s ∷ []) limit ≡ Ok head
+  read : parse_head (p ∷ q ∷ r ∷ s ∷ []) limit ≡ Ok head
   no_alien : alien_in head w ≡ None
   less : length w < head.len
 
@@ -187,14 +187,14 @@ open_items : (limit p q r s : ℕ) (w : List ℕ) (head : Head) → IsOpen limit
     first_items limit (p ∷ q ∷ r ∷ s ∷ w) ≡ begun_at head ∷ []
 open_items limit p q r s w head o =
     first_items-good limit p q r s w head o.read
-    ∙ ap (λ (t : List Placed). begun_at head ∷ t) (body_goes_on head w o.no_alien o.less)
+    ∙ ap (λ (t : List EventAtOffset). begun_at head ∷ t) (body_goes_on head w o.no_alien o.less)
 
 body_last : (limit p q r s : ℕ) (w : List ℕ) (x : ℕ) (head : Head) → IsOpen limit p q r s w head →
     last_items limit (p ∷ q ∷ r ∷ s ∷ (w ++ x ∷ [])) ≡ at_body head (w ++ x ∷ []) (alien_in head (w ++ x ∷ []))
 body_last limit p q r s w x head o =
     last_items-body4 limit p q r s (w ++ x ∷ []) head o.read (omega (arith, length-append w (x ∷ [])))
 
-body_missing : (limit p q r s : ℕ) (w : List ℕ) (head : Head) → head_of (p ∷ q ∷ r ∷ s ∷ []) limit ≡ Ok head →
+body_missing : (limit p q r s : ℕ) (w : List ℕ) (head : Head) → parse_head (p ∷ q ∷ r ∷ s ∷ []) limit ≡ Ok head →
     alien_in head w ≡ None → missing limit (p ∷ q ∷ r ∷ s ∷ w) ≡ head.len - length w
 body_missing limit p q r s w head h e =
     missing-of4 limit p q r s w ∙ ap (λ (o : Result Head Code). missing_of_body (head_part o) w) h
@@ -211,7 +211,7 @@ alien_byte limit p q r s w x head o e =
     first_items limit (p ∷ q ∷ r ∷ s ∷ (v ++ more))
     ≡ begun_at head ∷ record { item = Wrong InvalidToken; at = 4 + length v } ∷ [] = λ more.
     first_items-good limit p q r s (v ++ more) head o.read
-    ∙ ap (λ (t : List Placed). begun_at head ∷ t)
+    ∙ ap (λ (t : List EventAtOffset). begun_at head ∷ t)
     (body_fails head v more (length v) e (omega (arith, size, o.less))) in
     let now : first_items limit (p ∷ q ∷ r ∷ s ∷ v)
     ≡ begun_at head ∷ record { item = Wrong InvalidToken; at = length (p ∷ q ∷ r ∷ s ∷ w) + 1 } ∷ [] =
@@ -220,10 +220,10 @@ alien_byte limit p q r s w x head o e =
     inr (inr (record {
       told = record {
         wrong_is = ap (any_item is_wrong) last;
-        whole_is = ap (any_item is_whole) last;
+        whole_is = ap (any_item is_whole_frame) last;
         items = now ∙ sym (rw (open_items limit p q r s w head o, last) refl);
       };
-      loud = λ k. (let k : ◌≡◌ {A = List Item} (Wrong InvalidToken ∷ []) [] = sym last ∙ k in absurd (cc));
+      loud = λ k. (let k : ◌≡◌ {A = List FrameEvent} (Wrong InvalidToken ∷ []) [] = sym last ∙ k in absurd (cc));
       stays = λ more. items more
           ∙ ap (λ (n : ℕ). begun_at head ∷ record { item = Wrong InvalidToken; at = n } ∷ []) (omega (arith, size))
           ∙ sym now;
@@ -241,7 +241,7 @@ last_byte limit p q r s w x head o e l =
     first_items limit (p ∷ q ∷ r ∷ s ∷ (v ++ more))
     ≡ begun_at head ∷ record { item = Whole head v; at = 4 + head.len } ∷ [] = λ more.
     first_items-good limit p q r s (v ++ more) head o.read
-    ∙ ap (λ (t : List Placed). begun_at head ∷ t) (body_ends head v more e l) in
+    ∙ ap (λ (t : List EventAtOffset). begun_at head ∷ t) (body_ends head v more e l) in
     let now : first_items limit (p ∷ q ∷ r ∷ s ∷ v)
     ≡ begun_at head ∷ record { item = Whole head v; at = length (p ∷ q ∷ r ∷ s ∷ w) + 1 } ∷ [] =
     ap (λ (t : List ℕ). first_items limit (p ∷ q ∷ r ∷ s ∷ t)) (sym (append-nil v)) ∙ items []
@@ -249,10 +249,10 @@ last_byte limit p q r s w x head o e l =
     inr (inl (record {
       told = record {
         wrong_is = ap (any_item is_wrong) last;
-        whole_is = ap (any_item is_whole) last;
+        whole_is = ap (any_item is_whole_frame) last;
         items = now ∙ sym (rw (open_items limit p q r s w head o, last) refl);
       };
-      loud = λ k. (let k : ◌≡◌ {A = List Item} (Whole head v ∷ []) [] = sym last ∙ k in absurd (cc));
+      loud = λ k. (let k : ◌≡◌ {A = List FrameEvent} (Whole head v ∷ []) [] = sym last ∙ k in absurd (cc));
       stays = λ more. items more
           ∙ ap (λ (n : ℕ). begun_at head ∷ record { item = Whole head v; at = n } ∷ []) (omega (arith, size, l))
           ∙ sym now;
@@ -272,7 +272,7 @@ quiet_byte limit p q r s w x head o e l =
     inl (record {
       told = record {
         wrong_is = ap (any_item is_wrong) last;
-        whole_is = ap (any_item is_whole) last;
+        whole_is = ap (any_item is_whole_frame) last;
         items = open_items limit p q r s v head open_still ∙ sym (rw (open_items limit p q r s w head o, last) refl);
       };
       left = omega (arith, body_missing limit p q r s v head o.read e, size, o.less, l);
@@ -302,7 +302,7 @@ body_byte limit p q r s w x head o =
     by_end true e = alien_byte limit p q r s w x head o e
     by_end false e = by_length e (eqb_tells (length (w ++ x ∷ [])) head.len)
 
-read_byte : (limit p q r s : ℕ) (w : List ℕ) (x : ℕ) (o : Result Head Code) → head_of (p ∷ q ∷ r ∷ s ∷ []) limit ≡ o →
+read_byte : (limit p q r s : ℕ) (w : List ℕ) (x : ℕ) (o : Result Head Code) → parse_head (p ∷ q ∷ r ∷ s ∷ []) limit ≡ o →
     0 < missing_of_body (head_part o) w → ByteTells limit (p ∷ q ∷ r ∷ s ∷ w) x
 read_byte limit p q r s w x (Err code) e h = absurd (omega arith)
 read_byte limit p q r s w x (Ok head) e h =
@@ -314,7 +314,7 @@ pub byte_tells : (limit : ℕ) (b : List ℕ) (x : ℕ) → 0 < missing limit b 
 byte_tells limit [] x h = short limit [] x (omega arith)
 byte_tells limit (p ∷ []) x h = short limit (p ∷ []) x (omega arith)
 byte_tells limit (p ∷ q ∷ []) x h = short limit (p ∷ q ∷ []) x (omega arith)
-byte_tells limit (p ∷ q ∷ r ∷ []) x h = fourth limit p q r x (head_of (p ∷ q ∷ r ∷ x ∷ []) limit) refl
+byte_tells limit (p ∷ q ∷ r ∷ []) x h = fourth limit p q r x (parse_head (p ∷ q ∷ r ∷ x ∷ []) limit) refl
 byte_tells limit (p ∷ q ∷ r ∷ s ∷ w) x h =
-    read_byte limit p q r s w x (head_of (p ∷ q ∷ r ∷ s ∷ []) limit) refl
+    read_byte limit p q r s w x (parse_head (p ∷ q ∷ r ∷ s ∷ []) limit) refl
     (subst (λ (n : ℕ). 0 < n) (missing-of4 limit p q r s w) h)

@@ -4,9 +4,9 @@ use Rattle.daide_frame.specs.declared.code.Code.TheVariants.{WrongEndian, WrongM
 use Rattle.daide_frame.specs.declared.code.Code.TheVariants.{WrongLength, InvalidToken}
 use Rattle.daide_frame.specs.declared.head.Kind.TheVariants.{Im, Rm, Dm, Fm, Em}
 use Rattle.daide_frame.specs.declared.cutter.Step.TheVariants.{Bodied}
-use Rattle.daide_frame.specs.Head.{head_bytes, head_of}
+use Rattle.daide_frame.specs.Head.{head_bytes, parse_head}
 use Rattle.daide_frame.specs.InitialMessage.{im_of}
-use Rattle.daide_frame.specs.Frames.{answer_to, is_alien, Begun, Whole, Wrong, cut, fed, first_items, head_in}
+use Rattle.daide_frame.specs.Frames.{step_of_events, is_alien, Begun, Whole, Wrong, cut, fed, first_items, head_in}
 use Rattle.daide_frame.specs.Frames.{last_items, missing}
 
 -- a frame's items end at its header and at its body's last byte, and the next frame follows
@@ -15,7 +15,7 @@ dm_then_fm : cut 1024 (0x02 ∷ 0x00 ∷ 0x00 ∷ 0x02 ∷ 0x48 ∷ 0x0F ∷ 0x0
     ∷ record { item = Whole (record { kind = Dm; len = 2 }) (0x48 ∷ 0x0F ∷ []); at = 6 }
     ∷ record { item = Begun (record { kind = Fm; len = 0 }); at = 10 }
     ∷ record { item = Whole (record { kind = Fm; len = 0 }) []; at = 10 } ∷ []
-unfolding cut first_items head_of is_alien
+unfolding cut first_items parse_head is_alien
 dm_then_fm = refl
 
 -- an alien token is told at its second byte, and then nothing follows
@@ -25,20 +25,20 @@ alien_in_second_frame : cut 1024
     ∷ record { item = Whole (record { kind = Fm; len = 0 }) []; at = 4 }
     ∷ record { item = Begun (record { kind = Dm; len = 6 }); at = 8 }
     ∷ record { item = Wrong InvalidToken; at = 12 } ∷ []
-unfolding cut first_items head_of is_alien
+unfolding cut first_items parse_head is_alien
 alien_in_second_frame = refl
 
 -- an alien token that ends a frame is told in place of its body
 alien_at_the_end : cut 1024 (0x02 ∷ 0x00 ∷ 0x00 ∷ 0x02 ∷ 0x4C ∷ 0x00 ∷ 0x03 ∷ 0x00 ∷ 0x00 ∷ 0x00 ∷ []) ≡
     record { item = Begun (record { kind = Dm; len = 2 }); at = 4 }
     ∷ record { item = Wrong InvalidToken; at = 6 } ∷ []
-unfolding cut first_items head_of is_alien
+unfolding cut first_items parse_head is_alien
 alien_at_the_end = refl
 
 -- half a token is none
 half_an_alien : cut 1024 (0x02 ∷ 0x00 ∷ 0x00 ∷ 0x04 ∷ 0x48 ∷ 0x03 ∷ 0x58 ∷ []) ≡
     record { item = Begun (record { kind = Dm; len = 4 }); at = 4 } ∷ []
-unfolding cut first_items head_of is_alien
+unfolding cut first_items parse_head is_alien
 half_an_alien = refl
 
 -- only a DM is made of tokens
@@ -49,7 +49,7 @@ block_of_a_map : cut 1024 (0x01 ∷ 0x00 ∷ 0x00 ∷ 0x06 ∷ 0xFF ∷ 0xFF ∷
       at =
           10;
     } ∷ []
-unfolding cut first_items head_of is_alien
+unfolding cut first_items parse_head is_alien
 block_of_a_map = refl
 
 -- fewer than four bytes are no frame yet
@@ -59,39 +59,39 @@ part_of_a_header = refl
 
 -- a refused header is told at its fourth byte
 odd_length : cut 65526 (0x02 ∷ 0x00 ∷ 0x00 ∷ 0x03 ∷ 0x48 ∷ 0x0F ∷ []) ≡ record { item = Wrong WrongLength; at = 4 } ∷ []
-unfolding cut first_items head_of is_alien
+unfolding cut first_items parse_head is_alien
 odd_length = refl
 
 -- the right lengths of each kind, whatever the pad; a body may be as long as the cap
-right_lengths : (head_of (0x00 ∷ 0xFF ∷ 0x00 ∷ 0x04 ∷ []) 4 ≡ Ok (record { kind = Im; len = 4 }))
-    × (head_of (0x01 ∷ 0x00 ∷ 0x00 ∷ 0x00 ∷ []) 0 ≡ Ok (record { kind = Rm; len = 0 }))
-    × (head_of (0x02 ∷ 0x01 ∷ 0x04 ∷ 0x00 ∷ []) 1024 ≡ Ok (record { kind = Dm; len = 1024 }))
-    × (head_of (0x04 ∷ 0x00 ∷ 0x00 ∷ 0x02 ∷ []) 1024 ≡ Ok (record { kind = Em; len = 2 }))
-unfolding head_of
+right_lengths : (parse_head (0x00 ∷ 0xFF ∷ 0x00 ∷ 0x04 ∷ []) 4 ≡ Ok (record { kind = Im; len = 4 }))
+    × (parse_head (0x01 ∷ 0x00 ∷ 0x00 ∷ 0x00 ∷ []) 0 ≡ Ok (record { kind = Rm; len = 0 }))
+    × (parse_head (0x02 ∷ 0x01 ∷ 0x04 ∷ 0x00 ∷ []) 1024 ≡ Ok (record { kind = Dm; len = 1024 }))
+    × (parse_head (0x04 ∷ 0x00 ∷ 0x00 ∷ 0x02 ∷ []) 1024 ≡ Ok (record { kind = Em; len = 2 }))
+unfolding parse_head
 right_lengths = (refl, refl, refl, refl)
 
-wrong_lengths : (head_of (0x00 ∷ 0x00 ∷ 0x00 ∷ 0x06 ∷ []) 1024 ≡ Err WrongLength)
-    × (head_of (0x01 ∷ 0x00 ∷ 0x00 ∷ 0x08 ∷ []) 1024 ≡ Err WrongLength)
-    × (head_of (0x03 ∷ 0x00 ∷ 0x00 ∷ 0x02 ∷ []) 1024 ≡ Err WrongLength)
-    × (head_of (0x04 ∷ 0x00 ∷ 0x00 ∷ 0x00 ∷ []) 1024 ≡ Err WrongLength)
-unfolding head_of
+wrong_lengths : (parse_head (0x00 ∷ 0x00 ∷ 0x00 ∷ 0x06 ∷ []) 1024 ≡ Err WrongLength)
+    × (parse_head (0x01 ∷ 0x00 ∷ 0x00 ∷ 0x08 ∷ []) 1024 ≡ Err WrongLength)
+    × (parse_head (0x03 ∷ 0x00 ∷ 0x00 ∷ 0x02 ∷ []) 1024 ≡ Err WrongLength)
+    × (parse_head (0x04 ∷ 0x00 ∷ 0x00 ∷ 0x00 ∷ []) 1024 ≡ Err WrongLength)
+unfolding parse_head
 wrong_lengths = (refl, refl, refl, refl)
 
 -- the order of a header's faults
-type_before_length : head_of (0x05 ∷ 0x00 ∷ 0x04 ∷ 0x00 ∷ []) 1024 ≡ Err UnknownMessage
-unfolding head_of
+type_before_length : parse_head (0x05 ∷ 0x00 ∷ 0x04 ∷ 0x00 ∷ []) 1024 ≡ Err UnknownMessage
+unfolding parse_head
 type_before_length = refl
 
-swapped_length : head_of (0x00 ∷ 0x00 ∷ 0x04 ∷ 0x00 ∷ []) 65526 ≡ Err WrongEndian
-unfolding head_of
+swapped_length : parse_head (0x00 ∷ 0x00 ∷ 0x04 ∷ 0x00 ∷ []) 65526 ≡ Err WrongEndian
+unfolding parse_head
 swapped_length = refl
 
-odd_above_cap : head_of (0x02 ∷ 0x00 ∷ 0x04 ∷ 0x01 ∷ []) 1024 ≡ Err WrongLength
-unfolding head_of
+odd_above_cap : parse_head (0x02 ∷ 0x00 ∷ 0x04 ∷ 0x01 ∷ []) 1024 ≡ Err WrongLength
+unfolding parse_head
 odd_above_cap = refl
 
-even_above_cap : head_of (0x02 ∷ 0x00 ∷ 0x04 ∷ 0x02 ∷ []) 1024 ≡ Err UnknownMessage
-unfolding head_of
+even_above_cap : parse_head (0x02 ∷ 0x00 ∷ 0x04 ∷ 0x02 ∷ []) 1024 ≡ Err UnknownMessage
+unfolding parse_head
 even_above_cap = refl
 
 -- a header is written with pad 0, and the length's high byte first
@@ -104,18 +104,18 @@ missing_bytes : (missing 1024 [] ≡ 4)
     × (missing 1024 (0x02 ∷ 0x00 ∷ 0x00 ∷ 0x04 ∷ 0x48 ∷ []) ≡ 3)
     × (missing 1024 (0x02 ∷ 0x00 ∷ 0x00 ∷ 0x04 ∷ 0x58 ∷ 0x00 ∷ []) ≡ 0)
     × (missing 1024 (0x02 ∷ 0x00 ∷ 0x00 ∷ 0x03 ∷ []) ≡ 0)
-unfolding missing head_in head_of is_alien
+unfolding missing head_in parse_head is_alien
 missing_bytes = (refl, refl, refl, refl)
 
 -- the bytes behind a fault are not taken
 behind_a_fault : fed 1024 (0x02 ∷ 0x00 ∷ 0x00 ∷ 0x06 ∷ []) (0x58 ∷ 0x00 ∷ 0x48 ∷ 0x03 ∷ [])
     ≡ 0x02 ∷ 0x00 ∷ 0x00 ∷ 0x06 ∷ 0x58 ∷ 0x00 ∷ []
-unfolding last_items first_items head_of is_alien
+unfolding last_items first_items parse_head is_alien
 behind_a_fault = refl
 
 -- an empty frame is told as whole
-empty_frame : answer_to (last_items 1024 (0x03 ∷ 0x00 ∷ 0x00 ∷ 0x00 ∷ [])) ≡ Bodied
-unfolding last_items first_items head_of is_alien
+empty_frame : step_of_events (last_items 1024 (0x03 ∷ 0x00 ∷ 0x00 ∷ 0x00 ∷ [])) ≡ Bodied
+unfolding last_items first_items parse_head is_alien
 empty_frame = refl
 
 -- the order of an initial message's faults

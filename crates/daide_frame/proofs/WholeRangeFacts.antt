@@ -12,14 +12,14 @@ use Rattle.daide_frame.specs.declared.code.Code.TheVariants.{WrongVersion, Secon
 use Rattle.daide_frame.specs.declared.code.Code.TheVariants.{WrongLength, DmBeforeRm, RmNotFirst, SecondRm}
 use Rattle.daide_frame.specs.declared.code.Code.TheVariants.{RmFromClient, InvalidToken}
 use Rattle.daide_frame.specs.Code.{code_digits, code_number}
-use Rattle.daide_frame.specs.Head.{head_of}
+use Rattle.daide_frame.specs.Head.{parse_head}
 use Rattle.daide_frame.specs.InitialMessage.{im_of}
 
 -- ---- headers
 
 -- what a type byte and a length say, under the longest body that there is
 abbrev at_length : ℕ → ℕ → ℕ → Result Head Code
-at_length number high low = head_of (number ∷ 0x00 ∷ high ∷ low ∷ []) 65526
+at_length number high low = parse_head (number ∷ 0x00 ∷ high ∷ low ∷ []) 65526
 
 -- a type byte with each low byte of a length
 abbrev lengths : ℕ → ℕ → List (Result Head Code)
@@ -46,7 +46,7 @@ short_lengths : (lengths 0 0x00 ≡ wrong 4 ++ whole Im 4 ++ wrong 251)
     × (lengths 2 0x00 ≡ every 1 Dm 0 128)
     × (lengths 3 0x00 ≡ whole Fm 0 ++ wrong 255)
     × (lengths 4 0x00 ≡ wrong 2 ++ whole Em 2 ++ wrong 253)
-unfolding head_of
+unfolding parse_head
 short_lengths = (refl, refl, refl, refl, refl)
 
 -- from 1,024 to 1,279: only an IM's 1,024 is the other byte order
@@ -54,7 +54,7 @@ middle_lengths : (lengths 0 0x04 ≡ Err WrongEndian ∷ wrong 255)
     × (lengths 1 0x04 ≡ wrong 2 ++ every 5 Rm 1026 42 ++ whole Rm 1278 ++ wrong 1)
     × (lengths 2 0x04 ≡ every 1 Dm 1024 128)
     × (lengths 3 0x04 ≡ wrong 256) × (lengths 4 0x04 ≡ wrong 256)
-unfolding head_of
+unfolding parse_head
 middle_lengths = (refl, refl, refl, refl, refl)
 
 -- from 65,280 on: 65,526 is the longest body, and what is longer and of no wrong length is unknown
@@ -63,7 +63,7 @@ long_lengths : (lengths 0 0xFF ≡ wrong 256)
     × (lengths 2 0xFF ≡ every 1 Dm 65280 123 ++ whole Dm 65526
     ++ wrong 1 ++ unknown 1 ++ wrong 1 ++ unknown 1 ++ wrong 1 ++ unknown 1 ++ wrong 1 ++ unknown 1 ++ wrong 1)
     × (lengths 3 0xFF ≡ wrong 256) × (lengths 4 0xFF ≡ wrong 256)
-unfolding head_of
+unfolding parse_head
 long_lengths = (refl, refl, refl, refl, refl)
 
 -- no other type is a frame's, of whatever length: 5 to 255 with each length to 13, and from 65,522 on
@@ -72,27 +72,27 @@ other_types : (map (λ n. map (λ t. at_length t 0x00 n) (range_with_len 5 251))
     × (map (λ n. map (λ t. at_length t 0xFF n) (range_with_len 5 251)) (range_with_len 0xF2 14)
     ≡ replicate 14 (unknown 251))
     × (map (λ t. at_length t 0x04 0x00) (range_with_len 5 251) ≡ unknown 251)
-unfolding head_of
+unfolding parse_head
 other_types = (refl, refl, refl)
 
 -- the pad is any byte
-any_pad : (map (λ pad. head_of (0x00 ∷ pad ∷ 0x00 ∷ 0x04 ∷ []) 512) (range_with_len 0 256)
+any_pad : (map (λ pad. parse_head (0x00 ∷ pad ∷ 0x00 ∷ 0x04 ∷ []) 512) (range_with_len 0 256)
     ≡ replicate 256 (Ok (record { kind = Im; len = 4 })))
-    × (map (λ pad. head_of (0x02 ∷ pad ∷ 0x01 ∷ 0x02 ∷ []) 512) (range_with_len 0 256)
+    × (map (λ pad. parse_head (0x02 ∷ pad ∷ 0x01 ∷ 0x02 ∷ []) 512) (range_with_len 0 256)
     ≡ replicate 256 (Ok (record { kind = Dm; len = 258 })))
-unfolding head_of
+unfolding parse_head
 any_pad = (refl, refl)
 
 -- the operator's cap: a body as long as it, and the next ones, of which the wrong lengths are told first
 abbrev round_cap : ℕ → List (Result Head Code)
-round_cap number = map (λ low. head_of (number ∷ 0x00 ∷ 0x02 ∷ low ∷ []) 516) (range_with_len 0 8)
+round_cap number = map (λ low. parse_head (number ∷ 0x00 ∷ 0x02 ∷ low ∷ []) 516) (range_with_len 0 8)
 
 operators_cap : (round_cap 2 ≡ whole Dm 512 ++ wrong 1 ++ whole Dm 514 ++ wrong 1 ++ whole Dm 516 ++ wrong 1
     ++ unknown 1 ++ wrong 1)
     × (round_cap 1 ≡ wrong 4 ++ whole Rm 516 ++ wrong 3) × (round_cap 0 ≡ wrong 8)
-    × (head_of (0x01 ∷ 0x00 ∷ 0x02 ∷ 0x0A ∷ []) 516 ≡ Err UnknownMessage)
-    × (head_of (0x00 ∷ 0x00 ∷ 0x04 ∷ 0x00 ∷ []) 512 ≡ Err WrongEndian)
-unfolding head_of
+    × (parse_head (0x01 ∷ 0x00 ∷ 0x02 ∷ 0x0A ∷ []) 516 ≡ Err UnknownMessage)
+    × (parse_head (0x00 ∷ 0x00 ∷ 0x04 ∷ 0x00 ∷ []) 512 ≡ Err WrongEndian)
+unfolding parse_head
 operators_cap = (refl, refl, refl, refl, refl)
 
 -- ---- initial messages

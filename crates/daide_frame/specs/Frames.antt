@@ -9,7 +9,7 @@ use Rattle.daide_frame.specs.declared.code.Code.{Code}
 use Rattle.daide_frame.specs.declared.code.Code.TheVariants.{InvalidToken}
 use Rattle.daide_frame.specs.declared.cutter.Step.{Step}
 use Rattle.daide_frame.specs.declared.cutter.Step.TheVariants.{More, Headed, Bodied, Fault}
-use Rattle.daide_frame.specs.Head.{kind_number, has_right_length, head_of}
+use Rattle.daide_frame.specs.Head.{kind_number, has_right_length, parse_head}
 
 -- Alien tokens: those that a DM must not have
 
@@ -18,15 +18,15 @@ unfoldable pub is_alien : ℕ → ℕ → Bool
 is_alien high low = not (has_known_category (token_of_bytes (high ∷ low ∷ [])))
 
 -- a place that is counted from further on
-abbrev pub further : ℕ → Option ℕ → Option ℕ
-further by None = None
-further by (Some place) = Some (by + place)
+abbrev pub shifted_place : ℕ → Option ℕ → Option ℕ
+shifted_place by None = None
+shifted_place by (Some place) = Some (by + place)
 
 -- how many bytes there are up to the end of the first alien token, if one is whole
 abbrev pub first_alien : List ℕ → Option ℕ
 first_alien [] = None
 first_alien (high ∷ []) = None
-first_alien (high ∷ low ∷ rest) = if is_alien high low then Some 2 else further 2 (first_alien rest)
+first_alien (high ∷ low ∷ rest) = if is_alien high low then Some 2 else shifted_place 2 (first_alien rest)
 
 -- the same in the body of a frame, which more bytes may follow; only a DM is made of tokens
 abbrev pub alien_in : Head → List ℕ → Option ℕ
@@ -35,19 +35,19 @@ alien_in head bytes = if kind_number head.kind == 2 then first_alien (take head.
 -- The first frame of some bytes
 
 -- what is told of a side's bytes: a good header, a frame with its body, or a fault
-pub data Item : Type 0 where
-  Begun : Head → Item
-  Whole : Head → List ℕ → Item
-  Wrong : Code → Item
+pub data FrameEvent : Type 0 where
+  Begun : Head → FrameEvent
+  Whole : Head → List ℕ → FrameEvent
+  Wrong : Code → FrameEvent
 
 -- an item, and how many bytes there are up to its end
-pub record Placed : Type 0 where
-  pub item : Item
+pub record EventAtOffset : Type 0 where
+  pub item : FrameEvent
   pub at : ℕ
 
 -- after a good header: a fault at the second byte of the first alien token, else the body once it is whole. That the
 -- fault is told there, and not at the frame's end, is (own).
-abbrev pub items_of_body : Head → List ℕ → Option ℕ → List Placed
+abbrev pub items_of_body : Head → List ℕ → Option ℕ → List EventAtOffset
 items_of_body head bytes (Some n) = record { item = Wrong InvalidToken; at = 4 + n } ∷ []
 items_of_body head bytes None =
     if nat_le head.len (length bytes)
@@ -55,49 +55,49 @@ items_of_body head bytes None =
     else []
 
 -- a header is refused at its fourth byte, and then nothing follows; a good one is told there
-abbrev pub items_from_head : Result Head Code → List ℕ → List Placed
+abbrev pub items_from_head : Result Head Code → List ℕ → List EventAtOffset
 items_from_head (Err code) bytes = record { item = Wrong code; at = 4 } ∷ []
 items_from_head (Ok head) bytes =
     record { item = Begun head; at = 4 } ∷ items_of_body head bytes (alien_in head bytes)
 
 -- the items of the frame that the bytes begin with; fewer than four bytes have none
-unfoldable pub first_items : ℕ → List ℕ → List Placed
-first_items cap bytes = if nat_lt (length bytes) 4 then [] else items_from_head (head_of bytes cap) (drop 4 bytes)
+unfoldable pub first_items : ℕ → List ℕ → List EventAtOffset
+first_items cap bytes = if nat_lt (length bytes) 4 then [] else items_from_head (parse_head bytes cap) (drop 4 bytes)
 
 -- items without their places
-abbrev pub items_of : List Placed → List Item
-items_of [] = []
-items_of (placed ∷ more) = placed.item ∷ items_of more
+abbrev pub frame_events_of : List EventAtOffset → List FrameEvent
+frame_events_of [] = []
+frame_events_of (placed ∷ more) = placed.item ∷ frame_events_of more
 
 -- All the frames of a side's bytes
 
-abbrev pub is_whole : Item → Bool
-is_whole (Begun head) = false
-is_whole (Whole head body) = true
-is_whole (Wrong code) = false
+abbrev pub is_whole_frame : FrameEvent → Bool
+is_whole_frame (Begun head) = false
+is_whole_frame (Whole head body) = true
+is_whole_frame (Wrong code) = false
 
-abbrev pub is_wrong : Item → Bool
+abbrev pub is_wrong : FrameEvent → Bool
 is_wrong (Begun head) = false
 is_wrong (Whole head body) = false
 is_wrong (Wrong code) = true
 
 -- where a frame with these items ends, if it is whole
-abbrev pub frame_end : List Placed → Option ℕ
+abbrev pub frame_end : List EventAtOffset → Option ℕ
 frame_end [] = None
-frame_end (placed ∷ more) = if is_whole placed.item then Some placed.at else frame_end more
+frame_end (placed ∷ more) = if is_whole_frame placed.item then Some placed.at else frame_end more
 
 -- items that begin so many bytes further on
-abbrev pub moved : ℕ → List Placed → List Placed
+abbrev pub moved : ℕ → List EventAtOffset → List EventAtOffset
 moved by [] = []
 moved by (placed ∷ more) = record { item = placed.item; at = by + placed.at } ∷ moved by more
 
-abbrev pub or_nothing : (ℕ → List Placed) → Option ℕ → List Placed
+abbrev pub or_nothing : (ℕ → List EventAtOffset) → Option ℕ → List EventAtOffset
 or_nothing next None = []
 or_nothing next (Some place) = next place
 
 -- the items of at most so many frames: those of the first, then those of what follows it. After a
 -- fault, or in a frame that is not whole yet, nothing follows.
-abbrev pub cut_frames : ℕ → ℕ → List ℕ → List Placed
+abbrev pub cut_frames : ℕ → ℕ → List ℕ → List EventAtOffset
 cut_frames zero cap bytes = []
 cut_frames (suc n) cap bytes =
     first_items cap bytes
@@ -105,21 +105,21 @@ cut_frames (suc n) cap bytes =
 
 -- the frames and faults of all the bytes of one side, each with its place. A frame has four bytes at
 -- least, so there are no more frames than bytes. It is a function: each list has exactly one cut.
-unfoldable pub cut : ℕ → List ℕ → List Placed
+unfoldable pub cut : ℕ → List ℕ → List EventAtOffset
 cut cap bytes = cut_frames (length bytes) cap bytes
 
 -- What is told of the first frame as its bytes come
 
 -- those items that end at a place
-abbrev pub ending_at : ℕ → List Placed → List Item
-ending_at n [] = []
-ending_at n (placed ∷ more) = if placed.at == n then placed.item ∷ ending_at n more else ending_at n more
+abbrev pub events_ending_at : ℕ → List EventAtOffset → List FrameEvent
+events_ending_at n [] = []
+events_ending_at n (placed ∷ more) = if placed.at == n then placed.item ∷ events_ending_at n more else events_ending_at n more
 
 -- the items of the first frame that end with the last of the bytes
-unfoldable pub last_items : ℕ → List ℕ → List Item
-last_items cap bytes = ending_at (length bytes) (first_items cap bytes)
+unfoldable pub last_items : ℕ → List ℕ → List FrameEvent
+last_items cap bytes = events_ending_at (length bytes) (first_items cap bytes)
 
-abbrev pub is_nothing : List Item → Bool
+abbrev pub is_nothing : List FrameEvent → Bool
 is_nothing [] = true
 is_nothing (item ∷ items) = false
 
@@ -132,52 +132,52 @@ fed cap bytes (x ∷ piece) =
     else bytes ++ x ∷ []
 
 -- the items that end there
-abbrev pub fed_items : ℕ → List ℕ → List ℕ → List Item
+abbrev pub fed_items : ℕ → List ℕ → List ℕ → List FrameEvent
 fed_items cap bytes [] = []
 fed_items cap bytes (x ∷ piece) =
     if is_nothing (last_items cap (bytes ++ x ∷ []))
     then fed_items cap (bytes ++ x ∷ []) piece
     else last_items cap (bytes ++ x ∷ [])
 
-abbrev pub any_item : (Item → Bool) → List Item → Bool
+abbrev pub any_item : (FrameEvent → Bool) → List FrameEvent → Bool
 any_item test [] = false
 any_item test (item ∷ items) = test item || any_item test items
 
 -- items that end together, with their place
-abbrev pub placed_at : ℕ → List Item → List Placed
-placed_at place [] = []
-placed_at place (item ∷ items) = record { item = item; at = place } ∷ placed_at place items
+abbrev pub event_at_offset : ℕ → List FrameEvent → List EventAtOffset
+event_at_offset place [] = []
+event_at_offset place (item ∷ items) = record { item = item; at = place } ∷ event_at_offset place items
 
 -- the items as all the bytes of a side come one by one, after so many bytes, of which those since the
 -- last whole frame are pending; nothing after a fault
-abbrev pub items_by_byte : ℕ → ℕ → List ℕ → List ℕ → List Placed
+abbrev pub items_by_byte : ℕ → ℕ → List ℕ → List ℕ → List EventAtOffset
 items_by_byte cap place pending [] = []
 items_by_byte cap place pending (x ∷ bytes) =
     let items = last_items cap (pending ++ x ∷ []) in
-    placed_at (place + 1) items
+    event_at_offset (place + 1) items
     ++ (if any_item is_wrong items
     then []
-    else items_by_byte cap (place + 1) (if any_item is_whole items then [] else pending ++ x ∷ []) bytes)
+    else items_by_byte cap (place + 1) (if any_item is_whole_frame items then [] else pending ++ x ∷ []) bytes)
 
 -- How a cutter tells it
 
 -- the answer that tells items; of a header and a body that end together the body is told
-abbrev pub answer_to : List Item → Step
-answer_to [] = More
-answer_to (Begun head ∷ []) = Headed
-answer_to (Begun head ∷ item ∷ items) = Bodied
-answer_to (Whole head body ∷ items) = Bodied
-answer_to (Wrong code ∷ items) = Fault code
+abbrev pub step_of_events : List FrameEvent → Step
+step_of_events [] = More
+step_of_events (Begun head ∷ []) = Headed
+step_of_events (Begun head ∷ item ∷ items) = Bodied
+step_of_events (Whole head body ∷ items) = Bodied
+step_of_events (Wrong code ∷ items) = Fault code
 
 -- the items that an answer tells, by the header and the body after it
-abbrev pub told : Step → Option Head → List ℕ → List Item
-told More head body = []
-told (Fault code) head body = Wrong code ∷ []
-told Headed None body = []
-told Headed (Some head) body = Begun head ∷ []
-told Bodied None body = []
-told Bodied (Some head) [] = Begun head ∷ Whole head [] ∷ []
-told Bodied (Some head) (x ∷ body) = Whole head (x ∷ body) ∷ []
+abbrev pub items_of_step : Step → Option Head → List ℕ → List FrameEvent
+items_of_step More head body = []
+items_of_step (Fault code) head body = Wrong code ∷ []
+items_of_step Headed None body = []
+items_of_step Headed (Some head) body = Begun head ∷ []
+items_of_step Bodied None body = []
+items_of_step Bodied (Some head) [] = Begun head ∷ Whole head [] ∷ []
+items_of_step Bodied (Some head) (x ∷ body) = Whole head (x ∷ body) ∷ []
 
 abbrev pub IsFault : Step → Type 0
 IsFault More = ⊥
@@ -200,7 +200,7 @@ head_part (Err code) = None
 
 -- the header that the bytes begin with, once it is whole and good
 unfoldable pub head_in : ℕ → List ℕ → Option Head
-head_in cap bytes = if nat_lt (length bytes) 4 then None else head_part (head_of bytes cap)
+head_in cap bytes = if nat_lt (length bytes) 4 then None else head_part (parse_head bytes cap)
 
 abbrev pub announced_by : Option Head → ℕ
 announced_by None = 0

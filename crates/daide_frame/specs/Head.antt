@@ -50,8 +50,8 @@ judged (Some kind) n cap =
     else Err WrongLength
 
 -- what the first four of some bytes say; the second, the pad, is ignored
-unfoldable pub head_of : List ℕ → ℕ → Result Head Code
-head_of bytes cap =
+unfoldable pub parse_head : List ℕ → ℕ → Result Head Code
+parse_head bytes cap =
     judged (kind_of (slice_index bytes 0)) (from_be_bytes w16 (slice_index bytes 2 ∷ slice_index bytes 3 ∷ [])) cap
 
 -- the bytes of a header, with pad 0

@@ -5,7 +5,7 @@
 
 ghost use Rattle.std.specs.Prelude.{◌≡◌, ◌+◌, ◌*◌, ◌<◌, ◌≤◌, [], ◌∷◌, ◌++◌, length, take, drop, slice_index, ◌⊎◌, IfOk, OnErr, None, true};
 ghost use Rattle.daide_token.specs.Token.{token_of_bytes};
-ghost use Rattle.daide_frame.specs.Frames.{alien_in, first_alien, further, last_items, fed, fed_items, answer_to, told, IsFault, IsEnd, IsWholeBody, head_in, missing, announced};
+ghost use Rattle.daide_frame.specs.Frames.{alien_in, first_alien, shifted_place, last_items, fed, fed_items, step_of_events, items_of_step, IsFault, IsEnd, IsWholeBody, head_in, missing, announced};
 ghost use Rattle.daide_frame.specs.Cutter.{AreKnown, IsFed};
 ghost use Rattle.daide_frame.specs.declared.cutter.Step.TheVariants.{More, Bodied};
 
@@ -103,9 +103,9 @@ fn are_known(body: &[u8], first: usize) -> bool
 /// behind them, as long as all eight have one, and then the last eight at once, some of them again.
 fn known_front(body: &[u8], known: usize) -> usize
     requires counted { 2 * known ≤ length body.now }
-    requires none { first_alien body.now ≡ further (2 * known) (first_alien (drop (2 * known) body.now)) }
+    requires none { first_alien body.now ≡ shifted_place (2 * known) (first_alien (drop (2 * known) body.now)) }
     ensures counted { 2 * result ≤ length body.now }
-    ensures none { first_alien body.now ≡ further (2 * result) (first_alien (drop (2 * result) body.now)) }
+    ensures none { first_alien body.now ≡ shifted_place (2 * result) (first_alien (drop (2 * result) body.now)) }
 {
     let tokens = body.len() / 2;
     let mut i = known;
@@ -269,9 +269,9 @@ impl<A: Allocator> Cutter<A> {
         requires { length piece.now ≤ missing self.old.cap self.old.bytes }
         ensures cap { self.new.cap ≡ self.old.cap }
         ensures bytes { self.new.bytes ≡ fed self.old.cap self.old.bytes piece.now }
-        ensures step { result ≡ answer_to (fed_items self.old.cap self.old.bytes piece.now) }
+        ensures step { result ≡ step_of_events (fed_items self.old.cap self.old.bytes piece.now) }
         ensures items { fed_items self.old.cap self.old.bytes piece.now
-            ≡ told result (head_in self.new.cap self.new.bytes) (drop 4 self.new.bytes) }
+            ≡ items_of_step result (head_in self.new.cap self.new.bytes) (drop 4 self.new.bytes) }
 
         // Without a fault the whole piece is taken.
         ensures whole { IsFault result ⊎ (self.new.bytes ≡ self.old.bytes ++ piece.now) }

@@ -4,7 +4,7 @@
 //! before any of its body is kept.
 
 ghost use Rattle.std.specs.Prelude.{◌≡◌, ◌==◌, ◌%◌};
-ghost use Rattle.daide_frame.specs.Head.{has_right_length, head_of, head_bytes};
+ghost use Rattle.daide_frame.specs.Head.{has_right_length, parse_head, head_bytes};
 
 use crate::code::Code;
 
@@ -52,9 +52,9 @@ pub struct Head {
 /// Of several faults the first of this order is answered: a type that no frame has
 /// (`UnknownMessage`), an initial message whose length is in the other byte order (`WrongEndian`),
 /// a length that is wrong for the type (`WrongLength`), a length above the cap (`UnknownMessage`).
-#[tactic(auto, unfolding(crate::specs::Head::head_of))]
+#[tactic(auto, unfolding(crate::specs::Head::parse_head))]
 pub fn read_head(bytes: [u8; 4], cap: u16) -> Result<Head, Code>
-    ensures { result ≡ head_of bytes cap }
+    ensures { result ≡ parse_head bytes cap }
 {
     let kind = match bytes[0] {
         0 => Kind::Im,

@@ -2,8 +2,8 @@
 //! here is called.
 
 ghost use Rattle.std.specs.Prelude.{◌≡◌, ◌≤◌, ℕ, [], ◌∷◌, Ok};
-ghost use Rattle.daide_frame.specs.Frames.{Begun, Whole, cut, fed, fed_items, first_items, items_by_byte, items_of};
-ghost use Rattle.daide_frame.specs.Head.{head_of};
+ghost use Rattle.daide_frame.specs.Frames.{Begun, Whole, cut, fed, fed_items, first_items, items_by_byte, frame_events_of};
+ghost use Rattle.daide_frame.specs.Head.{parse_head};
 ghost use Rattle.daide_frame.specs.declared.head.Kind.TheVariants.{Dm, Fm};
 
 use crate::laws;
@@ -12,9 +12,9 @@ use crate::laws;
 /// told as the piece of two bytes; and two final messages are two frames, found at once or byte by byte.
 fn frames_at_values()
     ensures head { (cap : ℕ) → 65526 ≤ cap →
-        head_of (0x02 ∷ 0x00 ∷ 0xFF ∷ 0xF6 ∷ []) cap ≡ Ok (record { kind = Dm; len = 65526 }) }
+        parse_head (0x02 ∷ 0x00 ∷ 0xFF ∷ 0xF6 ∷ []) cap ≡ Ok (record { kind = Dm; len = 65526 }) }
     ensures pieces { (high low : ℕ) →
-        items_of (first_items 1024 (fed 1024 (0x02 ∷ 0x00 ∷ []) (high ∷ low ∷ [])))
+        frame_events_of (first_items 1024 (fed 1024 (0x02 ∷ 0x00 ∷ []) (high ∷ low ∷ [])))
         ≡ fed_items 1024 (0x02 ∷ 0x00 ∷ []) (high ∷ low ∷ []) }
     ensures follow { cut 1024 (0x03 ∷ 0x00 ∷ 0x00 ∷ 0x00 ∷ 0x03 ∷ 0x00 ∷ 0x00 ∷ 0x00 ∷ [])
         ≡ record { item = Begun (record { kind = Fm; len = 0 }); at = 4 }

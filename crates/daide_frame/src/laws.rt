@@ -2,21 +2,21 @@
 //! empty body; its `ensures` is the law.
 
 ghost use Rattle.std.specs.Prelude.{◌≡◌, ◌≤◌, ◌<◌, ◌^◌, ◌++◌, ℕ, List, [], length, drop, true, Ok};
-ghost use Rattle.daide_frame.specs.Frames.{first_items, items_of, fed, fed_items, missing, cut, items_by_byte, frame_end, moved, or_nothing};
-ghost use Rattle.daide_frame.specs.Head.{has_right_length, head_of, head_bytes};
+ghost use Rattle.daide_frame.specs.Frames.{first_items, frame_events_of, fed, fed_items, missing, cut, items_by_byte, frame_end, moved, or_nothing};
+ghost use Rattle.daide_frame.specs.Head.{has_right_length, parse_head, head_bytes};
 ghost use Rattle.daide_frame.specs.declared.head.Head.{Head};
 
 /// A header that was written is read back, if its length is right for its kind and at most the cap.
 pub fn head_comes_back()
     ensures { (head : Head) (cap : ℕ) → head.len < 2 ^ 16 → has_right_length head.kind head.len ≡ true → head.len ≤ cap
-        → head_of (head_bytes head) cap ≡ Ok head }
+        → parse_head (head_bytes head) cap ≡ Ok head }
 {}
 
 /// However a frame's bytes are cut into pieces, what is told of them is the items of the frame.
 pub fn any_pieces_agree()
     ensures { (cap : ℕ) (bytes piece : List ℕ) → length piece ≤ missing cap bytes
-        → items_of (first_items cap (fed cap bytes piece))
-        ≡ items_of (first_items cap bytes) ++ fed_items cap bytes piece }
+        → frame_events_of (first_items cap (fed cap bytes piece))
+        ≡ frame_events_of (first_items cap bytes) ++ fed_items cap bytes piece }
 {}
 
 /// The cut of some bytes is the items of their first frame, and then the cut of what follows that

@@ -1,13 +1,13 @@
 -- what the contracts of the names that are handed on speak of
-pub use Rattle.daide_machine.specs.Config
-pub use Rattle.daide_machine.specs.Wires
-pub use Rattle.daide_machine.specs.Ports
+pub use Rattle.daide_protocol.specs.Config
+pub use Rattle.daide_protocol.specs.Wires
+pub use Rattle.daide_protocol.specs.Ports
 pub use Rattle.daide_session.specs.Session
-pub use Rattle.daide_turns.specs.Record
-pub use Rattle.daide_turns.specs.Turn
-pub use Rattle.daide_turns.specs.Headline
-pub use Rattle.daide_turns.specs.Relay
-pub use Rattle.daide_turns.specs.Hub
+pub use Rattle.daide_driver.specs.Record
+pub use Rattle.daide_driver.specs.Turn
+pub use Rattle.daide_driver.specs.Headline
+pub use Rattle.daide_driver.specs.Relay
+pub use Rattle.daide_driver.specs.Hub
 pub use Rattle.daide_words.specs.Words
 pub use Rattle.daide_log.specs.RecordText
 pub use Rattle.daide_log.specs.Recording
@@ -18,6 +18,6 @@ pub use Rattle.daide_show.specs.Groups
 pub use Rattle.daide_settings.specs.WordSettings
 pub use Rattle.daide_settings.specs.Settings
 pub use Rattle.daide_settings.specs.Given
-pub use Rattle.daide_machine.specs.System
-pub use Rattle.daide_service.specs.Metered
-pub use Rattle.daide_service.specs.Serving
+pub use Rattle.daide_protocol.specs.System
+pub use Rattle.daide_event_loop.specs.QuotaPorts
+pub use Rattle.daide_event_loop.specs.Serving

@@ -3,7 +3,7 @@
 //! Nothing stands here but names. A token, a frame, the grammar and the reader; a session, what turns it, and many in
 //! one loop; and what the program does with its input. Nothing here opens a file or a socket: readers, writers, ports
 //! and the allocator are parameters, so that what is written can be stated as a function of what was read, and each
-//! refusal can be tried. The gateway over sockets is `daide_program`'s.
+//! refusal can be tried. The gateway over sockets is `daide_commands`'s.
 #![tactic(auto)]
 
 // Tokens, and their text.
@@ -22,20 +22,20 @@ pub use daide_words::{Extended, Operand, Slot, Word, WordError, Words};
 pub use daide_reader::{Reader, Verdict};
 
 // A session, and what turns it.
-pub use daide_machine::{
+pub use daide_driver::{
+    AddFault, Hub, HubError, RelayEnd, Removed, hub, relay, relaying, turn, turn_io,
+};
+pub use daide_protocol::{
     Cause, Config, ConfigError, Connect, Deed, Ending, Note, Notice, Phase, Ports, Pull, Put,
     SessionEnd, Summary, System, ports, system,
 };
 pub use daide_session::{Session, SessionError};
-pub use daide_turns::{
-    AddFault, Hub, HubError, RelayEnd, Removed, exchange, hub, relay, relaying, turn,
-};
 
 // What the program does with its input.
+pub use daide_event_loop::{ServeFault, Service, quota_ports, serve, serving};
 pub use daide_log::{
     LogFault, LogReader, Record, RecordEnd, Recording, check_log, check_stream, record,
 };
-pub use daide_service::{ServeFault, Service, metered, serve, serving};
 pub use daide_settings::{Address, Key, Settings, SettingsError, read_settings, settings};
 pub use daide_show::{
     InputNote, OddGroup, Request, ShowFault, frame_view, groups, input_note, notes, odd_group,

@@ -1,12 +1,12 @@
 //! The program `daide-gate`.
 //!
-//! `main` only gathers the words and the streams; what is done with them stands in `daide_program`, over any streams,
+//! `main` only gathers the words and the streams; what is done with them stands in `daide_commands`, over any streams,
 //! so that each run is a row of a test.
 #![tactic(auto)]
 
-use daide_program::answer;
-use daide_program::faults::{FAULT, USAGE};
-use daide_program::terminal::Asking;
+use daide_commands::answer;
+use daide_commands::faults::{FAULT, USAGE};
+use daide_commands::terminal::Asking;
 use std::io::ErrorKind;
 use std::process::ExitCode;
 use std::{env, io};

@@ -10,7 +10,7 @@ use Rattle.daide_grammar.specs.declared.level.Level.TheVariants.{L60}
 use Rattle.daide_grammar.specs.declared.side.Side2.{Side2}
 use Rattle.daide_grammar.specs.declared.side.Side2.TheVariants.{Client, ServerEnd}
 use Rattle.daide_grammar.specs.Classes.{class_number, same_class}
-use Rattle.daide_grammar.specs.Forms.{is, any_word, accepts, Slot, Name, Request_name, Send_name, Press_name}
+use Rattle.daide_grammar.specs.Forms.{is, any_but_brackets, is_of_kind, Slot, Nonterminal, Request_name, Send_name, Press_name}
 use Rattle.daide_grammar.specs.Forms.{Arrangement_name, Flat_name, Fact_name, Added, Form, one, never, empty, ◌·◌, ◌∣◌}
 use Rattle.daide_grammar.specs.Forms.{many, group, named, Dialect}
 use Rattle.daide_grammar.specs.Message.Lists.{any, anything}
@@ -20,7 +20,7 @@ use Rattle.daide_grammar.specs.Balanced.{IsBalanced}
 use Rattle.daide_grammar.specs.Balanced as Rules
 use Rattle.daide_grammar.specs.SideMessages.{message_form}
 use Rattle.daide_grammar.specs.Table.Proved.Alternatives.{both-pass}
-use Rattle.daide_grammar.specs.Table.Proved.MovesAgree.{accepts-like, not-both}
+use Rattle.daide_grammar.specs.Table.Proved.MovesAgree.{is_of_kind-like, not-both}
 use Rattle.daide_grammar.specs.Table.Proved.StacksInOrder.{number-Bra, number-Ket}
 
 -- a dialect in which a bracket is the only token of its class
@@ -30,8 +30,8 @@ pub record KeepsBrackets (d : Dialect) : Type 0 where
 
 -- a form whose brackets stand in pairs: none of its single tokens is a bracket
 unfoldable pub paired : Form → Bool
-paired (one (is c)) = accepts any_word c
-paired (one any_word) = true
+paired (one (is c)) = is_of_kind any_but_brackets c
+paired (one any_but_brackets) = true
 paired never = true
 paired empty = true
 paired (f · g) = paired f && paired g
@@ -41,7 +41,7 @@ paired (group f) = paired f
 paired (named n) = true
 
 -- a token that any word may be is no bracket
-no-bracket : (d : Dialect) → KeepsBrackets d → (t : ℕ) → accepts any_word (d.class_of t) ≡ true → (t ≢ bra) × (t ≢ ket)
+no-bracket : (d : Dialect) → KeepsBrackets d → (t : ℕ) → is_of_kind any_but_brackets (d.class_of t) ≡ true → (t ≢ bra) × (t ≢ ket)
 no-bracket d keeps t h =
     let p = both-pass (not (same_class Bra (d.class_of t))) (not (same_class Ket (d.class_of t))) h in
     (λ e. differs Bra p.0 ((keeps.bras t).1 e), λ e. differs Ket p.1 ((keeps.kets t).1 e))
@@ -52,15 +52,15 @@ no-bracket d keeps t h =
         (eq-eqb (class_number c) (class_number (d.class_of t)) (ap class_number (sym e))) p
 
 -- so it is a balanced list by itself
-word-balanced : (d : Dialect) → KeepsBrackets d → (t : ℕ) → accepts any_word (d.class_of t) ≡ true → IsBalanced (t ∷ [])
+word-balanced : (d : Dialect) → KeepsBrackets d → (t : ℕ) → is_of_kind any_but_brackets (d.class_of t) ≡ true → IsBalanced (t ∷ [])
 word-balanced d keeps t h = let p = no-bracket d keeps t h in Rules.plain t p.0 p.1
 
 -- a token of a bracket's class is the bracket
-the-bra : (d : Dialect) → KeepsBrackets d → (t : ℕ) → accepts (is Bra) (d.class_of t) ≡ true → t ≡ bra
+the-bra : (d : Dialect) → KeepsBrackets d → (t : ℕ) → is_of_kind (is Bra) (d.class_of t) ≡ true → t ≡ bra
 the-bra d keeps t h = (keeps.bras t).0 (number-Bra (d.class_of t) (sym (eqb-true 0 (class_number (d.class_of t)) h)))
 
 -- and the same for KET
-the-ket : (d : Dialect) → KeepsBrackets d → (t : ℕ) → accepts (is Ket) (d.class_of t) ≡ true → t ≡ ket
+the-ket : (d : Dialect) → KeepsBrackets d → (t : ℕ) → is_of_kind (is Ket) (d.class_of t) ≡ true → t ≡ ket
 the-ket d keeps t h = (keeps.kets t).0 (number-Ket (d.class_of t) (sym (eqb-true 1 (class_number (d.class_of t)) h)))
 
 -- a balanced list between two tokens that are the brackets
@@ -70,14 +70,14 @@ in-brackets b k u e f h =
     (subst (λ (x : ℕ). IsBalanced (bra ∷ (u ++ x ∷ []))) (sym f) (Rules.bracketed u h))
 
 -- what matches a form whose brackets stand in pairs balances
-pub matches-balance : (d : Dialect) → KeepsBrackets d → ((n : Name) → paired (rule d n) ≡ true) →
+pub matches-balance : (d : Dialect) → KeepsBrackets d → ((n : Nonterminal) → paired (rule d n) ≡ true) →
     (f : Form) (w : List ℕ) →
     paired f ≡ true → Matches d f w → IsBalanced w
 unfolding paired
 matches-balance d keeps all (one (is c)) w e (token {t = t} h) =
-    word-balanced d keeps t (sym (accepts-like any_word c (d.class_of t)
+    word-balanced d keeps t (sym (is_of_kind-like any_but_brackets c (d.class_of t)
     (eqb-true (class_number c) (class_number (d.class_of t)) h)) ∙ e)
-matches-balance d keeps all (one any_word) w e (token {t = t} h) = word-balanced d keeps t h
+matches-balance d keeps all (one any_but_brackets) w e (token {t = t} h) = word-balanced d keeps t h
 matches-balance d keeps all never w e m = elim m [ ]
 matches-balance d keeps all empty w e nothing = Rules.empty
 matches-balance d keeps all (f · g) w e (both {u = u} {v = v} m n) =
@@ -95,7 +95,7 @@ matches-balance d keeps all (group f) w e (bracketed {u = u} b k h m i) =
 matches-balance d keeps all (named n) w e (by_name m) = matches-balance d keeps all (rule d n) w (all n) m
 
 -- every rule's brackets stand in pairs, where those of the added words do
-pub rules_paired : (d : Dialect) → ((s : Slot) (l : Level) → paired (d.added s l) ≡ true) → (n : Name) →
+pub rules_paired : (d : Dialect) → ((s : Slot) (l : Level) → paired (d.added s l) ≡ true) → (n : Nonterminal) →
     paired (rule d n) ≡ true
 unfolding paired
 rules_paired d h (Added s l) = h s l
@@ -134,7 +134,7 @@ some-one : (d : Dialect) (f : Form) (u : List ℕ) → Matches d f u → Matches
 some-one d f u m = subst (Matches d (many f)) (append-nil u) (one_more m no_more)
 
 -- a token that is no bracket is a word
-any-word : (d : Dialect) → KeepsBrackets d → (t : ℕ) → t ≢ bra → t ≢ ket → accepts any_word (d.class_of t) ≡ true
+any-word : (d : Dialect) → KeepsBrackets d → (t : ℕ) → t ≢ bra → t ≢ ket → is_of_kind any_but_brackets (d.class_of t) ≡ true
 any-word d keeps t b k =
     neither (same_class Bra (d.class_of t)) (same_class Ket (d.class_of t)) (λ e. b (the-bra d keeps t e))
     (λ e. k (the-ket d keeps t e))
@@ -145,22 +145,22 @@ any-word d keeps t b k =
     neither false false f g = refl
 
 -- BRA is a token of its own class
-pub bra-accepted : (d : Dialect) → KeepsBrackets d → accepts (is Bra) (d.class_of bra) ≡ true
-bra-accepted d keeps = ap (accepts (is Bra)) ((keeps.bras bra).1 refl)
+pub bra-accepted : (d : Dialect) → KeepsBrackets d → is_of_kind (is Bra) (d.class_of bra) ≡ true
+bra-accepted d keeps = ap (is_of_kind (is Bra)) ((keeps.bras bra).1 refl)
 
 -- and so is KET
-pub ket-accepted : (d : Dialect) → KeepsBrackets d → accepts (is Ket) (d.class_of ket) ≡ true
-ket-accepted d keeps = ap (accepts (is Ket)) ((keeps.kets ket).1 refl)
+pub ket-accepted : (d : Dialect) → KeepsBrackets d → is_of_kind (is Ket) (d.class_of ket) ≡ true
+ket-accepted d keeps = ap (is_of_kind (is Ket)) ((keeps.kets ket).1 refl)
 
 -- a balanced list is words, and lists in brackets, in some order
 balanced-anything : (d : Dialect) → KeepsBrackets d → {w : List ℕ} → IsBalanced w → Matches d anything w
 balanced-anything d keeps Rules.empty = no_more
 balanced-anything d keeps (Rules.plain t b k) =
-    some-one d (one any_word ∣ group any) (t ∷ []) (first (token (any-word d keeps t b k)))
+    some-one d (one any_but_brackets ∣ group any) (t ∷ []) (first (token (any-word d keeps t b k)))
 balanced-anything d keeps (Rules.joined u v x y) =
-    many-join d (one any_word ∣ group any) u v (balanced-anything d keeps x) (balanced-anything d keeps y)
+    many-join d (one any_but_brackets ∣ group any) u v (balanced-anything d keeps x) (balanced-anything d keeps y)
 balanced-anything d keeps (Rules.bracketed u x) =
-    some-one d (one any_word ∣ group any) _
+    some-one d (one any_but_brackets ∣ group any) _
     (second (bracketed bra ket (bra-accepted d keeps) (by_name (balanced-anything d keeps x))
     (ket-accepted d keeps)))
 

@@ -2,9 +2,9 @@
 use Rattle.std.proofs.Common.{◌≡◌, ℕ, true, false, None, List, [], ◌∷◌, ◌++◌, get_or, inl, inr, refl, sym, ap}
 use Rattle.std.proofs.Common.{◌∙◌, arith}
 use Rattle.daide_token.specs.Token.{bra, ket, prn, huh}
-use Rattle.daide_grammar.specs.Paired.{IsPaired, IsPrnReport, begins_with_prn}
+use Rattle.daide_grammar.specs.Paired.{IsPaired, IsPrnWrapped, begins_with_prn}
 use Rattle.daide_grammar.specs.Depth.{open_brackets, depth_of}
-use Rattle.daide_grammar.specs.Table.Brackets.{counted}
+use Rattle.daide_grammar.specs.Table.Brackets.{excess_or_none}
 
 -- nothing is open in the empty list, and it has no depth
 nothing-open : open_brackets [] ≡ 0
@@ -27,7 +27,7 @@ side-by-side = refl
 closed-early : open_brackets (huh ∷ ket ∷ bra ∷ bra ∷ []) ≡ 0
 closed-early = refl
 
-closed-early-counts : counted (huh ∷ ket ∷ bra ∷ bra ∷ []) ≡ None
+closed-early-counts : excess_or_none (huh ∷ ket ∷ bra ∷ bra ∷ []) ≡ None
 closed-early-counts = refl
 
 closed-early-deep : depth_of (huh ∷ ket ∷ bra ∷ bra ∷ []) ≡ 1
@@ -53,7 +53,7 @@ unbalanced-report : IsPaired (prn ∷ bra ∷ ket ∷ bra ∷ bra ∷ ket ∷ []
 unbalanced-report = inl (ket ∷ bra ∷ bra ∷ [], refl)
 
 -- what begins with PRN and is no report is not paired, even where its brackets balance
-unpaired : (m : List ℕ) → begins_with_prn m ≡ true → (IsPrnReport m → ⊥) → IsPaired m → ⊥
+unpaired : (m : List ℕ) → begins_with_prn m ≡ true → (IsPrnWrapped m → ⊥) → IsPaired m → ⊥
 unpaired m begins none (inl report) = none report
 unpaired m begins none (inr other) = let never : true ≡ false = sym begins ∙ other.0 in cc
 

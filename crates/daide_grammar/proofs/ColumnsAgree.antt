@@ -6,7 +6,7 @@ use Rattle.std.proofs.lemmas.List.{get_or-drop}
 use Rattle.std.proofs.lemmas.List.FromFn.{get_or-map-range_with_len}
 use Rattle.std.specs.List.{range_with_len}
 use Rattle.std.specs.Prelude.{replicate}
-use Rattle.daide_token.specs.Class.{class_in, class_of, brackets, units, orders, commands, parameters, press, listed}
+use Rattle.daide_token.specs.Class.{class_in, class_of, brackets, units, orders, commands, parameters, press_classes, listed}
 use Rattle.daide_token.specs.declared.class.Class.{Class}
 use Rattle.daide_token.specs.declared.class.Class.TheVariants.{Num, Power, Note, Outcome, Coast, Season, Text, Province}
 use Rattle.daide_token.specs.declared.class.Class.TheVariants.{Param, Other, Alien}
@@ -22,7 +22,7 @@ classes_of code =
     replicate 64 Num
     ++ (listed brackets Other code ∷ Power ∷ listed units Other code ∷ listed orders Other code ∷ [])
     ++ (Note ∷ Outcome ∷ Coast ∷ Season ∷ [])
-    ++ (listed commands Other code ∷ listed parameters Param code ∷ listed press Other code ∷ Text ∷ [])
+    ++ (listed commands Other code ∷ listed parameters Param code ∷ listed press_classes Other code ∷ Text ∷ [])
     ++ replicate 4 Alien ++ replicate 8 Province ++ replicate 168 Alien
 
 abbrev row_of : ℕ → List ℕ

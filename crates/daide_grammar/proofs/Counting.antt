@@ -13,8 +13,8 @@ use Rattle.daide_token.specs.Token.{bra, ket}
 use Rattle.daide_grammar.specs.Balanced.{IsBalanced, empty, plain, joined, bracketed}
 use Rattle.daide_grammar.specs.Paired.{begins_with_prn}
 use Rattle.daide_grammar.specs.Table.Proved.MovesAgree.{no-yes}
-use Rattle.daide_grammar.specs.Depth.{bras, kets, excess, prefixes, closes_early, greatest, depth_of}
-use Rattle.daide_grammar.specs.Table.Brackets.{is_bra, is_ket, counted, count_one}
+use Rattle.daide_grammar.specs.Depth.{bras, kets, excess, prefixes, has_unmatched_ket, greatest, depth_of}
+use Rattle.daide_grammar.specs.Table.Brackets.{is_bra, is_ket, excess_or_none, count_one}
 
 -- an induction from the end of a list
 pub from_the_end : (P : List ℕ → Type 0) → P [] → ((p : List ℕ) (t : ℕ) → P p → P (p ++ t ∷ [])) → (p : List ℕ) → P p
@@ -32,13 +32,13 @@ prefixes-snoc (x ∷ p) t =
     ∙ ap (λ (ps : List (List ℕ)). [] ∷ ps) (map-append (λ q. x ∷ q) (prefixes p) ((p ++ t ∷ []) ∷ []))
 
 -- one more token closes early where the tokens before did, or where it makes KET outnumber BRA
-pub closes_early-snoc : (p : List ℕ) (t : ℕ) →
-    closes_early (p ++ t ∷ []) ≡ (closes_early p || nat_lt (bras (p ++ t ∷ [])) (kets (p ++ t ∷ [])))
-closes_early-snoc p t =
+pub has_unmatched_ket-snoc : (p : List ℕ) (t : ℕ) →
+    has_unmatched_ket (p ++ t ∷ []) ≡ (has_unmatched_ket p || nat_lt (bras (p ++ t ∷ [])) (kets (p ++ t ∷ [])))
+has_unmatched_ket-snoc p t =
     let early : List ℕ → Bool = λ q. nat_lt (bras q) (kets q) in
     ap (list_any early) (prefixes-snoc p t)
     ∙ (list_any-append early (prefixes p) ((p ++ t ∷ []) ∷ [])
-    ∙ ap (λ b. closes_early p || b) (or-false (early (p ++ t ∷ []))))
+    ∙ ap (λ b. has_unmatched_ket p || b) (or-false (early (p ++ t ∷ []))))
 
 -- the greatest of a list with one more number
 greatest-snoc : (ns : List ℕ) (n : ℕ) → greatest (ns ++ n ∷ []) ≡ max (greatest ns) n
@@ -67,14 +67,14 @@ pub kets-snoc : (p : List ℕ) (t : ℕ) → kets (p ++ t ∷ []) ≡ kets p + c
 kets-snoc p t = fold-append _ _ p (t ∷ [])
 
 -- no more KET than BRA where no front has
-pub kets_le_bras : (p : List ℕ) → closes_early p ≡ false → kets p ≤ bras p
-kets_le_bras p = from_the_end (λ p. closes_early p ≡ false → kets p ≤ bras p) (λ _. omega arith) (λ p t _ h. go p t h) p
+pub kets_le_bras : (p : List ℕ) → has_unmatched_ket p ≡ false → kets p ≤ bras p
+kets_le_bras p = from_the_end (λ p. has_unmatched_ket p ≡ false → kets p ≤ bras p) (λ _. omega arith) (λ p t _ h. go p t h) p
   where
-    go : (p : List ℕ) (t : ℕ) → closes_early (p ++ t ∷ []) ≡ false → kets (p ++ t ∷ []) ≤ bras (p ++ t ∷ [])
+    go : (p : List ℕ) (t : ℕ) → has_unmatched_ket (p ++ t ∷ []) ≡ false → kets (p ++ t ∷ []) ≤ bras (p ++ t ∷ [])
     go p t h =
-        let both : (closes_early p || nat_lt (bras (p ++ t ∷ [])) (kets (p ++ t ∷ []))) ≡ false =
-        sym (closes_early-snoc p t) ∙ h in
-        at_most (bras (p ++ t ∷ [])) (kets (p ++ t ∷ [])) (closes_early p) both
+        let both : (has_unmatched_ket p || nat_lt (bras (p ++ t ∷ [])) (kets (p ++ t ∷ []))) ≡ false =
+        sym (has_unmatched_ket-snoc p t) ∙ h in
+        at_most (bras (p ++ t ∷ [])) (kets (p ++ t ∷ [])) (has_unmatched_ket p) both
       where
         at_most : (a b : ℕ) (c : Bool) → (c || nat_lt a b) ≡ false → b ≤ a
         at_most a b true e = absurd cc
@@ -102,10 +102,10 @@ pub one_bracket : (t : ℕ) → is_bra t ≡ true → is_ket t ≡ false
 one_bracket t e = grind (arith, nat_tests)
 
 -- one more token counts as `count_one` says
-pub counted-snoc : (p : List ℕ) (t : ℕ) → counted (p ++ t ∷ []) ≡ count_one (is_bra t) (is_ket t) (counted p)
-counted-snoc p t =
-    rw (closes_early-snoc p t, bras-snoc p t, kets-snoc p t)
-    (counted_numbers (closes_early p) (is_bra t) (is_ket t) (bras p) (kets p) (kets_le_bras p) (one_bracket t))
+pub excess_or_none-snoc : (p : List ℕ) (t : ℕ) → excess_or_none (p ++ t ∷ []) ≡ count_one (is_bra t) (is_ket t) (excess_or_none p)
+excess_or_none-snoc p t =
+    rw (has_unmatched_ket-snoc p t, bras-snoc p t, kets-snoc p t)
+    (counted_numbers (has_unmatched_ket p) (is_bra t) (is_ket t) (bras p) (kets p) (kets_le_bras p) (one_bracket t))
 
 -- the count after more tokens
 abbrev pub count_on : Option ℕ → List ℕ → Option ℕ
@@ -123,14 +123,14 @@ count_on_none [] = refl
 count_on_none (t ∷ m) = count_on_none m
 
 -- counting by fronts is counting from left to right
-pub counted_on : (p : List ℕ) → counted p ≡ count_on (Some 0) p
+pub counted_on : (p : List ℕ) → excess_or_none p ≡ count_on (Some 0) p
 counted_on p =
-    from_the_end (λ p. counted p ≡ count_on (Some 0) p) refl more p
+    from_the_end (λ p. excess_or_none p ≡ count_on (Some 0) p) refl more p
   where
-    more : (p : List ℕ) (t : ℕ) → counted p ≡ count_on (Some 0) p →
-        counted (p ++ t ∷ []) ≡ count_on (Some 0) (p ++ t ∷ [])
+    more : (p : List ℕ) (t : ℕ) → excess_or_none p ≡ count_on (Some 0) p →
+        excess_or_none (p ++ t ∷ []) ≡ count_on (Some 0) (p ++ t ∷ [])
     more p t h =
-        counted-snoc p t ∙ (ap (count_one (is_bra t) (is_ket t)) h ∙ sym (count_on-append (Some 0) p (t ∷ [])))
+        excess_or_none-snoc p t ∙ (ap (count_one (is_bra t) (is_ket t)) h ∙ sym (count_on-append (Some 0) p (t ∷ [])))
 
 -- a token that is no bracket leaves the count as it is
 plain_counts : (t n : ℕ) → t ≢ bra → t ≢ ket → count_on (Some n) (t ∷ []) ≡ Some n
@@ -190,5 +190,5 @@ counts_parts (t ∷ m) k e = go (is_bra t) (is_ket t) refl refl k e (counts_part
         joined_parts k (t ∷ []) m word (ih k (rw (x, y, count_on) at e))
 
 -- balanced exactly where no front closes what isn't open, and nothing is left open
-pub balanced_counted : (m : List ℕ) → IsBalanced m ↔ (counted m ≡ Some 0)
+pub balanced_counted : (m : List ℕ) → IsBalanced m ↔ (excess_or_none m ≡ Some 0)
 balanced_counted m = ((λ x. counted_on m ∙ balanced_counts x 0), (λ e. counts_parts m 0 (sym (counted_on m) ∙ e)))

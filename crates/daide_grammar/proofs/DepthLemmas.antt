@@ -5,8 +5,8 @@ use Rattle.std.proofs.lemmas.List.Sums.{sum_by-cons}
 use Rattle.daide_token.specs.Token.{bra, ket, huh}
 use Rattle.daide_grammar.specs.Balanced.{IsBalanced}
 use Rattle.daide_grammar.specs.Paired.{begins_with_prn}
-use Rattle.daide_grammar.specs.Depth.{bras, kets, excess, prefixes, closes_early, greatest, depth_of}
-use Rattle.daide_grammar.proofs.Counting.{from_the_end, greatest_prefixes-snoc, closes_early-snoc, kets_le_bras}
+use Rattle.daide_grammar.specs.Depth.{bras, kets, excess, prefixes, has_unmatched_ket, greatest, depth_of}
+use Rattle.daide_grammar.proofs.Counting.{from_the_end, greatest_prefixes-snoc, has_unmatched_ket-snoc, kets_le_bras}
 use Rattle.daide_grammar.proofs.Counting.{bras-snoc, kets-snoc, balanced_counted}
 
 -- the greatest excess of all fronts
@@ -18,8 +18,8 @@ no-early : (b : Bool) (n : ℕ) → ◌≡◌ {A = Option ℕ} (if b then None e
 no-early true n e = cc
 no-early false n e = (refl, (cc))
 
-pub balanced-closes : (a : List ℕ) → IsBalanced a → (closes_early a ≡ false) × (excess a ≡ 0)
-balanced-closes a h = no-early (closes_early a) (excess a) ((balanced_counted a).0 h)
+pub balanced-closes : (a : List ℕ) → IsBalanced a → (has_unmatched_ket a ≡ false) × (excess a ≡ 0)
+balanced-closes a h = no-early (has_unmatched_ket a) (excess a) ((balanced_counted a).0 h)
 
 -- a front of a list that closes nothing early does not either
 not-early : (b c : Bool) → (b || c) ≡ false → b ≡ false
@@ -34,15 +34,15 @@ kets-bra : (p : List ℕ) → kets (bra ∷ p) ≡ kets p
 kets-bra p = refl
 
 -- a BRA in front makes every front one deeper
-pub peak-bra : (p : List ℕ) → closes_early p ≡ false → peak (bra ∷ p) ≡ peak p + 1
-peak-bra p = from_the_end (λ p. closes_early p ≡ false →
+pub peak-bra : (p : List ℕ) → has_unmatched_ket p ≡ false → peak (bra ∷ p) ≡ peak p + 1
+peak-bra p = from_the_end (λ p. has_unmatched_ket p ≡ false →
     peak (bra ∷ p) ≡ peak p + 1) (λ e. refl) (λ p t ih e. more p t ih e) p
   where
-    more : (p : List ℕ) (t : ℕ) → (closes_early p ≡ false → peak (bra ∷ p) ≡ peak p + 1) →
-        closes_early (p ++ t ∷ []) ≡ false →
+    more : (p : List ℕ) (t : ℕ) → (has_unmatched_ket p ≡ false → peak (bra ∷ p) ≡ peak p + 1) →
+        has_unmatched_ket (p ++ t ∷ []) ≡ false →
         peak (bra ∷ (p ++ t ∷ [])) ≡ peak (p ++ t ∷ []) + 1
     more p t ih e =
-        let before = not-early (closes_early p) _ (sym (closes_early-snoc p t) ∙ e) in
+        let before = not-early (has_unmatched_ket p) _ (sym (has_unmatched_ket-snoc p t) ∙ e) in
         omega (
           arith,
           greatest_prefixes-snoc (bra ∷ p) t,

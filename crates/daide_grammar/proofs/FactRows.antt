@@ -15,14 +15,14 @@ use Rattle.daide_grammar.specs.declared.side.Side2.{Side2}
 use Rattle.daide_grammar.specs.declared.symbol.Sym.{Sym}
 use Rattle.daide_grammar.specs.Level.{level_number}
 use Rattle.daide_grammar.specs.Paired.{begins_with_prn}
-use Rattle.daide_grammar.specs.Table.Symbols.{opening_of}
+use Rattle.daide_grammar.specs.Table.Symbols.{start_symbol_of}
 use Rattle.daide_grammar.specs.Table.Stacks.{StackMatches}
 use Rattle.daide_grammar.specs.SideMessages.{IsMessage}
 use Rattle.daide_grammar.specs.Table.Languages.{SymbolMatches}
 use Rattle.daide_grammar.specs.Table.Proved.Alternatives.{both-pass, either-passes}
 use Rattle.daide_grammar.specs.Table.Proved.MovesAgree.{no-yes}
 use Rattle.daide_grammar.specs.Table.Proved.PlainLaws.{plain_begins}
-use Rattle.daide_grammar.proofs.Languages.{opening-language}
+use Rattle.daide_grammar.proofs.Languages.{start_symbol-language}
 use Rattle.daide_grammar.proofs.LevelsGrow.{levels-only-add}
 use Rattle.daide_grammar.proofs.MessageText.{tokens_of_text}
 use Rattle.daide_grammar.proofs.Walks.{follows, follows-exactly}
@@ -49,7 +49,7 @@ AllHold (row ∷ rows) = Holds row × AllHold rows
 
 -- whether the table follows the list from the opening symbol to its end
 abbrev is_followed : Side2 → Level → List ℕ → Bool
-is_followed side l m = follows (opening_of side l ∷ []) m
+is_followed side l m = follows (start_symbol_of side l ∷ []) m
 
 -- the next lower level; below L0 there is none
 abbrev lower : Level → Level
@@ -95,17 +95,17 @@ alone s m = (
 -- what the table follows is a message
 followed-said : (side : Side2) (l : Level) (m : List ℕ) → is_followed side l m ≡ true → IsMessage side l m
 followed-said side l m e =
-    let s = opening_of side l in
+    let s = start_symbol_of side l in
     let walk = follows-exactly m (s ∷ []) (0, plain_begins side l) in
-    ((opening-language side l m).0 ((alone s m).0 (walk.0 e))).0
+    ((start_symbol-language side l m).0 ((alone s m).0 (walk.0 e))).0
 
 -- what it doesn't follow is none, unless it begins with PRN
 unfollowed-unsaid : (side : Side2) (l : Level) (m : List ℕ) → begins_with_prn m ≡ false → is_followed side l m ≡ false →
     ¬ IsMessage side l m
 unfollowed-unsaid side l m n e h =
-    let s = opening_of side l in
+    let s = start_symbol_of side l in
     let walk = follows-exactly m (s ∷ []) (0, plain_begins side l) in
-    no-yes (is_followed side l m) (walk.1 ((alone s m).1 ((opening-language side l m).1 (h, n)))) e
+    no-yes (is_followed side l m) (walk.1 ((alone s m).1 ((start_symbol-language side l m).1 (h, n)))) e
 
 -- no level is above the highest
 at-most-highest : (l : Level) → level_number l ≤ 60

@@ -15,9 +15,9 @@ use Rattle.daide_grammar.specs.Forms.{Form}
 use Rattle.daide_grammar.specs.Message.Lists.{any}
 use Rattle.daide_grammar.specs.Matches.{Matches, bracketed}
 use Rattle.daide_grammar.specs.Balanced.{IsBalanced}
-use Rattle.daide_grammar.specs.Paired.{begins_with_prn, IsPrnReport, IsPaired}
+use Rattle.daide_grammar.specs.Paired.{begins_with_prn, IsPrnWrapped, IsPaired}
 use Rattle.daide_grammar.specs.Table.Answers.{Take, Stop}
-use Rattle.daide_grammar.specs.Table.Symbols.{form_of, entries, may_end_of, table_answer, opening_of}
+use Rattle.daide_grammar.specs.Table.Symbols.{form_of, entries, may_end_of, table_answer, start_symbol_of}
 use Rattle.daide_grammar.specs.SideMessages.{standard, message_form, IsMessage}
 use Rattle.daide_grammar.specs.Table.Languages.{SymbolMatches}
 use Rattle.daide_grammar.specs.Table.Proved.PlainLaws.{only_bra, only_ket, plain_laws}
@@ -29,17 +29,17 @@ pub standard-brackets : KeepsBrackets standard
 standard-brackets = record { bras = only_bra; kets = only_ket }
 
 -- an opening symbol's form is that of its side's messages
-pub opening-form : (side : Side2) (l : Level) → form_of (opening_of side l) ≡ message_form side l
+pub start_symbol-form : (side : Side2) (l : Level) → form_of (start_symbol_of side l) ≡ message_form side l
 unfolding form_of
-opening-form Client l = refl
-opening-form ServerEnd l = refl
+start_symbol-form Client l = refl
+start_symbol-form ServerEnd l = refl
 
 -- PRN begins none of the forms: it is the reader's own case
-opening-stops : (side : Side2) (l : Level) → table_answer (opening_of side l) Prn ≡ Stop
+start_symbol-stops : (side : Side2) (l : Level) → table_answer (start_symbol_of side l) Prn ≡ Stop
 unfolding table_answer entries may_end_of
-opening-stops Client L60 = refl
-opening-stops ServerEnd L60 = refl
-opening-stops _ _ = refl
+start_symbol-stops Client L60 = refl
+start_symbol-stops ServerEnd L60 = refl
+start_symbol-stops _ _ = refl
 
 -- the token PRN has the class PRN
 class-prn : (t : ℕ) → (t == prn) ≡ true → class_of t ≡ Prn
@@ -51,29 +51,29 @@ begins-false true f = absurd (f refl)
 begins-false false f = refl
 
 -- so no list of an opening symbol begins with PRN
-form-not-prn : (side : Side2) (l : Level) (m : List ℕ) → SymbolMatches (opening_of side l) m → begins_with_prn m ≡ false
+form-not-prn : (side : Side2) (l : Level) (m : List ℕ) → SymbolMatches (start_symbol_of side l) m → begins_with_prn m ≡ false
 form-not-prn side l [] h = refl
 form-not-prn side l (t ∷ m) h =
-    begins-false (t == prn) (λ e. plain_laws.stops_none (opening_of side l) t
-    (ap (table_answer (opening_of side l)) (class-prn t e) ∙ opening-stops side l) m h)
+    begins-false (t == prn) (λ e. plain_laws.stops_none (start_symbol_of side l) t
+    (ap (table_answer (start_symbol_of side l)) (class-prn t e) ∙ start_symbol-stops side l) m h)
 
 -- a list of an opening symbol matches its side's form, and the other way round
-to-form : (side : Side2) (l : Level) (m : List ℕ) → SymbolMatches (opening_of side l) m →
+to-form : (side : Side2) (l : Level) (m : List ℕ) → SymbolMatches (start_symbol_of side l) m →
     Matches standard (message_form side l) m
-to-form side l m h = subst (λ (f : Form). Matches standard f m) (opening-form side l) h
+to-form side l m h = subst (λ (f : Form). Matches standard f m) (start_symbol-form side l) h
 
 from-form : (side : Side2) (l : Level) (m : List ℕ) → Matches standard (message_form side l) m →
-    SymbolMatches (opening_of side l) m
-from-form side l m h = subst (λ (f : Form). Matches standard f m) (sym (opening-form side l)) h
+    SymbolMatches (start_symbol_of side l) m
+from-form side l m h = subst (λ (f : Form). Matches standard f m) (sym (start_symbol-form side l)) h
 
 -- a report PRN begins with PRN
-pub report-begins : (m : List ℕ) → IsPrnReport m → begins_with_prn m ≡ false → ⊥
+pub report-begins : (m : List ℕ) → IsPrnWrapped m → begins_with_prn m ≡ false → ⊥
 report-begins m r e = let f : true ≡ false = sym (ap begins_with_prn r.1) ∙ e in cc
 
 -- an opening symbol stands for the messages that don't begin with PRN
-pub opening-language : (side : Side2) (l : Level) (m : List ℕ) →
-    SymbolMatches (opening_of side l) m ↔ (IsMessage side l m × (begins_with_prn m ≡ false))
-opening-language side l m = (
+pub start_symbol-language : (side : Side2) (l : Level) (m : List ℕ) →
+    SymbolMatches (start_symbol_of side l) m ↔ (IsMessage side l m × (begins_with_prn m ≡ false))
+start_symbol-language side l m = (
   λ h. (inr (to-form side l m h), form-not-prn side l m h),
   λ h. elim h.0 [
     | inl r ↦ absurd (report-begins m r h.1)
@@ -98,7 +98,7 @@ unfolding paired
 any-is-balanced m = any-balanced standard standard-brackets (λ s k. refl) m
 
 -- HUH may come at every level from either side
-huh-taken : (side : Side2) (l : Level) → table_answer (opening_of side l) Huh ≡ Take (AnyGroup ∷ [])
+huh-taken : (side : Side2) (l : Level) → table_answer (start_symbol_of side l) Huh ≡ Take (AnyGroup ∷ [])
 unfolding table_answer entries may_end_of
 huh-taken Client L60 = refl
 huh-taken ServerEnd L60 = refl
@@ -119,7 +119,7 @@ class-huh = refl
 -- HUH, and balanced tokens in brackets
 pub huh-answer : (side : Side2) (l : Level) (a : List ℕ) → IsBalanced a → IsMessage side l (huh ∷ bra ∷ (a ++ ket ∷ []))
 huh-answer side l a h =
-    let s = opening_of side l in
+    let s = start_symbol_of side l in
     let rest = bra ∷ (a ++ ket ∷ []) in
     let taken = plain_laws.takes s huh (AnyGroup ∷ []) (ap (table_answer s) class-huh ∙ huh-taken side l) rest in
     inr (to-form side l (huh ∷ rest) (taken.1 (rest, [], sym (append-nil rest), any-grouped a h, refl)))

@@ -7,10 +7,10 @@ use Rattle.daide_grammar.specs.declared.level.Level.TheVariants.{L10, L20, L30, 
 use Rattle.daide_grammar.specs.declared.side.Side2.{Side2}
 use Rattle.daide_grammar.specs.declared.side.Side2.TheVariants.{Client, ServerEnd}
 use Rattle.daide_grammar.specs.Level.{level_number}
-use Rattle.daide_grammar.specs.Forms.{Form, never, ◌·◌, ◌∣◌, many, group, named, from, Dialect}
+use Rattle.daide_grammar.specs.Forms.{Form, never, ◌·◌, ◌∣◌, many, group, named, from_level, Dialect}
 use Rattle.daide_grammar.specs.Forms.{Slot, Flat_slot, Arrangement_slot, Added}
-use Rattle.daide_grammar.specs.Forms.{Name, Arrangement_name, Flat_name, Fact_name, Press_name, Send_name, Request_name}
-use Rattle.daide_grammar.specs.Message.Arrangements.{operand, simple, joined}
+use Rattle.daide_grammar.specs.Forms.{Nonterminal, Arrangement_name, Flat_name, Fact_name, Press_name, Send_name, Request_name}
+use Rattle.daide_grammar.specs.Message.Arrangements.{joinable, simple, joined}
 use Rattle.daide_grammar.specs.Message.Press.{asking_press}
 use Rattle.daide_grammar.specs.Message.Server.{press_message}
 use Rattle.daide_grammar.specs.Matches.{rule, Matches, both, first, second, no_more, one_more, bracketed, by_name}
@@ -29,7 +29,7 @@ pub data SlotWithin : Slot → Slot → Type 0 where
   flat_slot : SlotWithin Flat_slot Arrangement_slot
 
 -- a name that stands for less than another: the same of a lower level, or a flat arrangement for any
-pub data NameWithin : Name → Name → Type 0 where
+pub data NameWithin : Nonterminal → Nonterminal → Type 0 where
   arrangements : {a b : Level} → a ⊑ b → NameWithin (Arrangement_name a) (Arrangement_name b)
   flats : {a b : Level} → a ⊑ b → NameWithin (Flat_name a) (Flat_name b)
   flat_arrangements : {a b : Level} → a ⊑ b → NameWithin (Flat_name a) (Arrangement_name b)
@@ -50,7 +50,7 @@ pub data Within : Form → Form → Type 0 where
   and_one_more : {f f' g h k : Form} → Within f f' → Within g k → Within (f ∣ g) (f' ∣ h ∣ k)
   each : {f f' : Form} → Within f f' → Within (many f) (many f')
   inside : {f f' : Form} → Within f f' → Within (group f) (group f')
-  name : {n n' : Name} → NameWithin n n' → Within (named n) (named n')
+  name : {n n' : Nonterminal} → NameWithin n n' → Within (named n) (named n')
 
 -- the words of a dialect stand at a level where they stand at a lower one
 abbrev pub WordsGrow : Dialect → Type 0
@@ -75,11 +75,11 @@ by-level n a b {f} {f'} {g} {g'} h x y z =
     go false false e = y
 
 -- what stands from a level on stands at every higher one
-pub from-within : (x a b : Level) {f g : Form} → a ⊑ b → Within f g → Within (from x a f) (from x b g)
-from-within x a b h k = by-level (level_number x) a b h k missing missing
+pub from_level-within : (x a b : Level) {f g : Form} → a ⊑ b → Within f g → Within (from_level x a f) (from_level x b g)
+from_level-within x a b h k = by-level (level_number x) a b h k missing missing
 
 -- operands are flat arrangements at first, and then any
-operand-within : (a b : Level) → a ⊑ b → Within (operand a) (operand b)
+operand-within : (a b : Level) → a ⊑ b → Within (joinable a) (joinable b)
 operand-within a b h = by-level _ a b h (name (arrangements h)) (name (flats h)) (name (flat_arrangements h))
 
 joined-within : (a b : Level) → a ⊑ b → Within (joined a) (joined b)
@@ -89,7 +89,7 @@ joined-within a b h =
 
 simple-within : (a b : Level) {f g : Form} → a ⊑ b → Within f g → Within (simple a f) (simple b g)
 simple-within a b h k =
-    same ∣∣ same ∣∣ same ∣∣ same ∣∣ same ·· inside k ∣∣ from-within L20 a b h same ∣∣ from-within L40 a b h same
+    same ∣∣ same ∣∣ same ∣∣ same ∣∣ same ·· inside k ∣∣ from_level-within L20 a b h same ∣∣ from_level-within L40 a b h same
 
 asking-within : (a b : Level) → a ⊑ b → Within (asking_press a) (asking_press b)
 asking-within a b h =
@@ -108,17 +108,17 @@ press-message-within a b h =
     same ·· same ·· same ·· inside (name (presses h)) ∣∣ same ·· same ·· send ∣∣ same ·· same ·· send
 
 -- the rule of a name is within that of every name for more
-rule-within : (d : Dialect) → WordsGrow d → {n n' : Name} → NameWithin n n' → Within (rule d n) (rule d n')
+rule-within : (d : Dialect) → WordsGrow d → {n n' : Nonterminal} → NameWithin n n' → Within (rule d n) (rule d n')
 rule-within d grow (arrangements {a} {b} h) =
     simple-within a b h (name (arrangements h))
-    ∣∣ from-within L30 a b h (joined-within a b h)
+    ∣∣ from_level-within L30 a b h (joined-within a b h)
     ∣∣ name (words same_slot h)
 rule-within d grow (flats {a} {b} h) = simple-within a b h (name (flats h)) ∣∣ name (words same_slot h)
 rule-within d grow (flat_arrangements {a} {b} h) =
     and_one_more (simple-within a b h (name (flat_arrangements h))) (name (words flat_slot h))
 rule-within d grow (facts {a} {b} h) =
     name (arrangements h)
-    ∣∣ from-within L60 a b h (same ·· inside (name (arrangements h)) ∣∣ same ·· inside (name (facts h)))
+    ∣∣ from_level-within L60 a b h (same ·· inside (name (arrangements h)) ∣∣ same ·· inside (name (facts h)))
 rule-within d grow (presses {a} {b} h) =
     let arrangement = inside (name (arrangements h)) in
     let fact = inside (name (facts h)) in
@@ -128,12 +128,12 @@ rule-within d grow (presses {a} {b} h) =
     ∣∣ same
     ∣∣ same ·· press ∣∣ same ·· press ∣∣ same ·· press
     ∣∣ same
-    ∣∣ from-within L60 a b h (asking-within a b h)
+    ∣∣ from_level-within L60 a b h (asking-within a b h)
     ∣∣ name (words same_slot h)
 rule-within d grow (sends h) = same ·· same ·· same ·· inside (name (presses h))
 rule-within d grow (requests {a} {b} h) =
     same ∣∣ same ∣∣ same ∣∣ same ∣∣ same ∣∣ same ∣∣ same ∣∣ same ∣∣ same ∣∣ same
-    ∣∣ same ∣∣ same ∣∣ same ∣∣ same ∣∣ same ∣∣ same ∣∣ same ∣∣ from-within L10 a b h (name (sends h))
+    ∣∣ same ∣∣ same ∣∣ same ∣∣ same ∣∣ same ∣∣ same ∣∣ same ∣∣ from_level-within L10 a b h (name (sends h))
 rule-within d grow (words {s} {t} {a} {b} k h) = grow s t a b k h
 
 -- so is what a side says
@@ -145,7 +145,7 @@ message-within ServerEnd a b h =
     ∣∣ same ·· request
     ∣∣ same ·· request
     ∣∣ same ∣∣ same ∣∣ same ∣∣ same ∣∣ same ∣∣ same ∣∣ same ∣∣ same ∣∣ same ∣∣ same
-    ∣∣ from-within L10 a b h (press-message-within a b h)
+    ∣∣ from_level-within L10 a b h (press-message-within a b h)
     ∣∣ same
 
 -- ---- what matches a form matches every form that it is within

@@ -14,37 +14,37 @@ use Rattle.daide_grammar.specs.declared.symbol.Sym.{Sym}
 use Rattle.daide_grammar.specs.declared.symbol.Sym.TheVariants.{PowerGroup, PowersGroup, ProvincesGroup, OrderGroup}
 use Rattle.daide_grammar.specs.declared.symbol.Sym.TheVariants.{ArrangementGroup, OperandGroup, PressGroup}
 use Rattle.daide_grammar.specs.Classes.{class_number}
-use Rattle.daide_grammar.specs.Table.Answers.{Answer, Take, Skip, Stop}
+use Rattle.daide_grammar.specs.Table.Answers.{TableEntry, Take, Skip, Stop}
 use Rattle.daide_grammar.specs.Table.Numbers.{class_at, classes, symbols}
-use Rattle.daide_grammar.specs.Table.Rules.{deed, rest_at}
+use Rattle.daide_grammar.specs.Table.ParseActions.{action, rest_of_action}
 
 -- ---- rules
 
 -- 0 stops and 1 skips
-without_a_rest : (deed STOP ≡ Stop) × (deed SKIP ≡ Skip)
-unfolding deed rest_at
+without_a_rest : (action STOP ≡ Stop) × (action SKIP ≡ Skip)
+unfolding action rest_of_action
 without_a_rest = (refl, refl)
 
 -- a power, powers, provinces or an order in brackets
-without_a_level : (deed LEAVES_POWER_GROUP ≡ Take (PowerGroup ∷ []))
-    × (deed LEAVES_POWERS_GROUP ≡ Take (PowersGroup ∷ []))
-    × (deed LEAVES_PROVINCES_GROUP ≡ Take (ProvincesGroup ∷ []))
-    × (deed LEAVES_ORDER_GROUP ≡ Take (OrderGroup ∷ []))
-unfolding deed rest_at
+without_a_level : (action LEAVES_POWER_GROUP ≡ Take (PowerGroup ∷ []))
+    × (action LEAVES_POWERS_GROUP ≡ Take (PowersGroup ∷ []))
+    × (action LEAVES_PROVINCES_GROUP ≡ Take (ProvincesGroup ∷ []))
+    × (action LEAVES_ORDER_GROUP ≡ Take (OrderGroup ∷ []))
+unfolding action rest_of_action
 without_a_level = (refl, refl, refl, refl)
 
 -- seven rules from one on, which leave a symbol of level 0, of level 10, and so on to level 60
-abbrev seven_from : ℕ → List Answer
-seven_from rule = map (λ n. deed (rule + n)) (0 ∷ 1 ∷ 2 ∷ 3 ∷ 4 ∷ 5 ∷ 6 ∷ [])
+abbrev seven_from : ℕ → List TableEntry
+seven_from rule = map (λ n. action (rule + n)) (0 ∷ 1 ∷ 2 ∷ 3 ∷ 4 ∷ 5 ∷ 6 ∷ [])
 
-abbrev leaving : (Level → Sym) → List Answer
+abbrev leaving : (Level → Sym) → List TableEntry
 leaving symbol = map (λ l. Take (symbol l ∷ [])) (L0 ∷ L10 ∷ L20 ∷ L30 ∷ L40 ∷ L50 ∷ L60 ∷ [])
 
 -- an arrangement, an operand of AND and ORR, or a press in brackets
 with_a_level : (seven_from LEAVES_ARRANGEMENT_GROUP ≡ leaving ArrangementGroup)
     × (seven_from LEAVES_OPERAND_GROUP ≡ leaving OperandGroup)
     × (seven_from LEAVES_PRESS_GROUP ≡ leaving PressGroup)
-unfolding deed rest_at
+unfolding action rest_of_action
 with_a_level = (refl, refl, refl)
 
 -- ---- classes, and how many there are

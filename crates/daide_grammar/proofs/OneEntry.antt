@@ -3,11 +3,11 @@ use Rattle.std.proofs.Common.{◌≡◌, Bool, true, false, None, List, [], ◌�
 use Rattle.std.specs.Prelude.{if◌then◌else◌}
 use Rattle.daide_token.specs.declared.class.Class.{Class}
 use Rattle.daide_grammar.specs.declared.symbol.Sym.{Sym}
-use Rattle.daide_grammar.specs.Table.Answers.{Answer, Take, Skip, Stop}
+use Rattle.daide_grammar.specs.Table.Answers.{TableEntry, Take, Skip, Stop}
 use Rattle.daide_grammar.specs.Classes.{same_class}
-use Rattle.daide_grammar.specs.Table.Symbols.{Entry, on, answer_by, entries, entry_at, may_end_of, table_answer, this_or}
+use Rattle.daide_grammar.specs.Table.Symbols.{Alternative, on, answer_by, entries, entry_at, may_end_of, table_answer, this_or}
 
-told : (b ends : Bool) (e : Entry) →
+told : (b ends : Bool) (e : Alternative) →
     (if b then Take e.rest else answer_by None ends) ≡ answer_by (this_or b e None) ends
 told true ends e = refl
 told false ends e = refl
@@ -18,18 +18,18 @@ one_told : (t : Sym) (wanted c : Class) (rest : List Sym) (ends : Bool) →
 unfolding table_answer
 one_told t wanted c rest ends one end =
     told (same_class wanted c) ends (on wanted rest)
-    ∙ ap (λ (es : List Entry). answer_by (entry_at c es) ends) (sym one)
+    ∙ ap (λ (es : List Alternative). answer_by (entry_at c es) ends) (sym one)
     ∙ ap (λ (b : Bool). answer_by (entry_at c (entries t)) b) (sym end)
 
 -- a symbol that must begin with the class
-pub must_told : {a : Answer} {s : Sym} (t : Sym) (wanted c : Class) (rest : List Sym) → s ≡ t →
+pub must_told : {a : TableEntry} {s : Sym} (t : Sym) (wanted c : Class) (rest : List Sym) → s ≡ t →
     entries t ≡ on wanted rest ∷ [] → may_end_of t ≡ false →
     a ≡ (if same_class wanted c then Take rest else Stop) → a ≡ table_answer s c
 must_told t wanted c rest is one end says =
     says ∙ one_told t wanted c rest false one end ∙ ap (λ (s : Sym). table_answer s c) (sym is)
 
 -- a symbol that may be empty
-pub may_told : {a : Answer} {s : Sym} (t : Sym) (wanted c : Class) (rest : List Sym) → s ≡ t →
+pub may_told : {a : TableEntry} {s : Sym} (t : Sym) (wanted c : Class) (rest : List Sym) → s ≡ t →
     entries t ≡ on wanted rest ∷ [] → may_end_of t ≡ true →
     a ≡ (if same_class wanted c then Take rest else Skip) → a ≡ table_answer s c
 may_told t wanted c rest is one end says =

@@ -20,32 +20,32 @@ use Rattle.daide_grammar.specs.declared.symbol.Sym.TheVariants.{SendTail, Server
 use Rattle.daide_grammar.specs.declared.symbol.Sym.TheVariants.{UnitGroups}
 use Rattle.daide_grammar.specs.Level.{level_number}
 use Rattle.daide_grammar.specs.Classes.{same_class}
-use Rattle.daide_grammar.specs.Forms.{accepts, is}
-use Rattle.daide_grammar.specs.Table.Answers.{Answer, Stop}
-use Rattle.daide_grammar.specs.Table.Symbols.{Entry, on, answer_by, asking_entries, entries, entry_at, joining_entries}
+use Rattle.daide_grammar.specs.Forms.{is_of_kind, is}
+use Rattle.daide_grammar.specs.Table.Answers.{TableEntry, Stop}
+use Rattle.daide_grammar.specs.Table.Symbols.{Alternative, on, answer_by, asking_entries, entries, entry_at, joining_entries}
 use Rattle.daide_grammar.specs.Table.Symbols.{may_end_of, only_from, request_entries, simple_entries, table_answer, this_or}
 
 -- no class of these entries is the class
-abbrev NoneTakes : Class → List Entry → Type 0
+abbrev NoneTakes : Class → List Alternative → Type 0
 NoneTakes c [] = Unit {0}
-NoneTakes c (e ∷ es) = (accepts e.kind c ≡ false) × NoneTakes c es
+NoneTakes c (e ∷ es) = (is_of_kind e.kind c ≡ false) × NoneTakes c es
 
-none_of : (c : Class) (es : List Entry) → NoneTakes c es → entry_at c es ≡ None
+none_of : (c : Class) (es : List Alternative) → NoneTakes c es → entry_at c es ≡ None
 none_of c [] h = refl
 none_of c (e ∷ es) h = ap (λ (b : Bool). this_or b e (entry_at c es)) h.0 ∙ none_of c es h.1
 
-joined : (c : Class) (xs ys : List Entry) → NoneTakes c xs → NoneTakes c ys → NoneTakes c (xs ++ ys)
+joined : (c : Class) (xs ys : List Alternative) → NoneTakes c xs → NoneTakes c ys → NoneTakes c (xs ++ ys)
 joined c [] ys h k = k
 joined c (x ∷ xs) ys h k = (h.0, joined c xs ys h.1 k)
 
-from_on : (a l : Level) (c : Class) (es : List Entry) → NoneTakes c es → NoneTakes c (only_from a l es)
+from_on : (a l : Level) (c : Class) (es : List Alternative) → NoneTakes c es → NoneTakes c (only_from a l es)
 from_on a l c es h = by_test (nat_le (level_number a) (level_number l))
   where
     by_test : (b : Bool) → NoneTakes c (elim b [ true ↦ es | false ↦ [] ])
     by_test true = h
     by_test false = tt
 
-apart : {c : Class} (k : Class) → c ≢ k → accepts (is k) c ≡ false
+apart : {c : Class} (k : Class) → c ≢ k → is_of_kind (is k) c ≡ false
 apart {c} k n = by_test (same_class k c) refl
   where
     by_test : (b : Bool) → same_class k c ≡ b → same_class k c ≡ false
@@ -53,23 +53,23 @@ apart {c} k n = by_test (same_class k c) refl
     by_test false e = e
 
 -- without an entry nothing is taken, and entries without one may be left out behind others
-stopped : (c : Class) (es : List Entry) → NoneTakes c es → Stop ≡ answer_by (entry_at c es) false
-stopped c es h = ap (λ (o : Option Entry). answer_by o false) (sym (none_of c es h))
+stopped : (c : Class) (es : List Alternative) → NoneTakes c es → Stop ≡ answer_by (entry_at c es) false
+stopped c es h = ap (λ (o : Option Alternative). answer_by o false) (sym (none_of c es h))
 
-dropped : (c : Class) (xs ys : List Entry) → entry_at c ys ≡ None → entry_at c (xs ++ ys) ≡ entry_at c xs
+dropped : (c : Class) (xs ys : List Alternative) → entry_at c ys ≡ None → entry_at c (xs ++ ys) ≡ entry_at c xs
 dropped c [] ys h = h
-dropped c (x ∷ xs) ys h = ap (λ (o : Option Entry). this_or (accepts x.kind c) x o) (dropped c xs ys h)
+dropped c (x ∷ xs) ys h = ap (λ (o : Option Alternative). this_or (is_of_kind x.kind c) x o) (dropped c xs ys h)
 
 -- an entry may stand in the place of another where neither takes the class
-in_place : (c : Class) (xs : List Entry) (e f : Entry) (ys : List Entry) → accepts e.kind c ≡ false →
-    accepts f.kind c ≡ false → entry_at c (xs ++ e ∷ ys) ≡ entry_at c (xs ++ f ∷ ys)
+in_place : (c : Class) (xs : List Alternative) (e f : Alternative) (ys : List Alternative) → is_of_kind e.kind c ≡ false →
+    is_of_kind f.kind c ≡ false → entry_at c (xs ++ e ∷ ys) ≡ entry_at c (xs ++ f ∷ ys)
 in_place c [] e f ys p q =
     ap (λ (b : Bool). this_or b e (entry_at c ys)) p ∙ sym (ap (λ (b : Bool). this_or b f (entry_at c ys)) q)
-in_place c (x ∷ xs) e f ys p q = ap (λ (o : Option Entry). this_or (accepts x.kind c) x o) (in_place c xs e f ys p q)
+in_place c (x ∷ xs) e f ys p q = ap (λ (o : Option Alternative). this_or (is_of_kind x.kind c) x o) (in_place c xs e f ys p q)
 
-left_out : {a : Answer} (c : Class) (xs ys : List Entry) → NoneTakes c ys → a ≡ answer_by (entry_at c xs) false →
+left_out : {a : TableEntry} (c : Class) (xs ys : List Alternative) → NoneTakes c ys → a ≡ answer_by (entry_at c xs) false →
     a ≡ answer_by (entry_at c (xs ++ ys)) false
-left_out c xs ys h e = e ∙ ap (λ (o : Option Entry). answer_by o false) (sym (dropped c xs ys (none_of c ys h)))
+left_out c xs ys h e = e ∙ ap (λ (o : Option Alternative). answer_by o false) (sym (dropped c xs ys (none_of c ys h)))
 
 -- ---- arrangements and facts
 
@@ -86,14 +86,14 @@ simple_other l inside c pce aly drw slo not xdo dmz scd occ =
     (apart Pce pce, (apart Aly aly, (apart Drw drw, (apart Slo slo, (apart Not not, new)))))
 
 -- an arrangement that begins with neither AND nor ORR, or at a level that has neither, is a simple one
-pub arrangement_other : {a : Answer} (l : Level) (c : Class) → c ≢ And → c ≢ Orr →
+pub arrangement_other : {a : TableEntry} (l : Level) (c : Class) → c ≢ And → c ≢ Orr →
     a ≡ answer_by (entry_at c (simple_entries l (ArrangementGroup l))) false → a ≡ table_answer (Arrangement l) c
 unfolding table_answer entries may_end_of
 arrangement_other l c and orr e =
     left_out c (simple_entries l (ArrangementGroup l)) (only_from L30 l (joining_entries l))
     (from_on L30 l c (joining_entries l) (apart And and, (apart Orr orr, tt))) e
 
-pub arrangement_below : {a : Answer} (l : Level) (c : Class) → level_number l < 30 →
+pub arrangement_below : {a : TableEntry} (l : Level) (c : Class) → level_number l < 30 →
     a ≡ answer_by (entry_at c (simple_entries l (ArrangementGroup l))) false → a ≡ table_answer (Arrangement l) c
 unfolding table_answer entries may_end_of
 arrangement_below L0 c less e = e
@@ -102,14 +102,14 @@ arrangement_below L20 c less e = e
 arrangement_below _ c less e = absurd (omega arith)
 
 -- and so is an operand
-pub operand_other : {a : Answer} (l : Level) (c : Class) → c ≢ And → c ≢ Orr →
+pub operand_other : {a : TableEntry} (l : Level) (c : Class) → c ≢ And → c ≢ Orr →
     a ≡ answer_by (entry_at c (simple_entries l (OperandGroup l))) false → a ≡ table_answer (Operand l) c
 unfolding table_answer entries may_end_of
 operand_other l c and orr e =
     left_out c (simple_entries l (OperandGroup l)) (only_from L50 l (joining_entries l))
     (from_on L50 l c (joining_entries l) (apart And and, (apart Orr orr, tt))) e
 
-pub operand_below : {a : Answer} (l : Level) (c : Class) → level_number l < 50 →
+pub operand_below : {a : TableEntry} (l : Level) (c : Class) → level_number l < 50 →
     a ≡ answer_by (entry_at c (simple_entries l (OperandGroup l))) false → a ≡ table_answer (Operand l) c
 unfolding table_answer entries may_end_of
 operand_below L50 c less e = absurd (omega arith)
@@ -117,7 +117,7 @@ operand_below L60 c less e = absurd (omega arith)
 operand_below _ c less e = e
 
 -- a fact that begins with neither NOT nor QRY, or below level 60, is an arrangement
-pub fact_other : {a : Answer} (l : Level) (c : Class) → c ≢ Not → c ≢ Qry → a ≡ table_answer (Arrangement l) c →
+pub fact_other : {a : TableEntry} (l : Level) (c : Class) → c ≢ Not → c ≢ Qry → a ≡ table_answer (Arrangement l) c →
     a ≡ table_answer (Fact l) c
 unfolding table_answer entries may_end_of
 fact_other L60 c not qry e =
@@ -129,10 +129,10 @@ fact_other L60 c not qry e =
     ∷ on Occ (UnitGroup ∷ UnitGroups ∷ []) ∷ joining_entries L60)
     (apart Not not) (apart Not not) in
     left_out c (simple_entries L60 (FactGroup L60) ++ joining_entries L60) (on Qry (ArrangementGroup L60 ∷ []) ∷ [])
-    (apart Qry qry, tt) (e ∙ ap (λ (o : Option Entry). answer_by o false) same)
+    (apart Qry qry, tt) (e ∙ ap (λ (o : Option Alternative). answer_by o false) same)
 fact_other _ c _ _ e = e
 
-pub fact_below : {a : Answer} (l : Level) (c : Class) → level_number l < 60 → a ≡ table_answer (Arrangement l) c →
+pub fact_below : {a : TableEntry} (l : Level) (c : Class) → level_number l < 60 → a ≡ table_answer (Arrangement l) c →
     a ≡ table_answer (Fact l) c
 unfolding table_answer entries may_end_of
 fact_below L60 c less e = absurd (omega arith)
@@ -226,7 +226,7 @@ request_other l c nme obs iam hlo map mdf sco now ord hst sub mis gof tme drw no
     )
 
 -- a client's message that begins with none of three classes is a request
-pub client_other : {a : Answer} (l : Level) (c : Class) → c ≢ Yes → c ≢ Rej → c ≢ Huh →
+pub client_other : {a : TableEntry} (l : Level) (c : Class) → c ≢ Yes → c ≢ Rej → c ≢ Huh →
     a ≡ table_answer (Request l) c → a ≡ table_answer (Client l) c
 unfolding table_answer entries may_end_of
 client_other l c yea rej huh e =

@@ -8,7 +8,7 @@ use Rattle.std.proofs.lemmas.Bool.Decides.{nat_tests}
 use Rattle.daide_grammar.specs.declared.symbol.Sym.{Sym}
 use Rattle.daide_grammar.specs.Table.Answers.{Take}
 use Rattle.daide_grammar.specs.Table.Numbers.{symbol_at, symbol_number}
-use Rattle.daide_grammar.specs.Table.Rules.{deed, rest_of}
+use Rattle.daide_grammar.specs.Table.ParseActions.{action, rest_of}
 use Rattle.daide_grammar.proofs.NumberLemmas.{symbol_back}
 
 -- symbols of one number are one symbol
@@ -40,16 +40,16 @@ pub all_same : (xs ys : List Sym) (place : ℕ) → length xs ≡ length ys → 
 all_same xs ys place many less same = sym (take_all place xs less) ∙ same ∙ take_all place ys (omega (arith, many))
 
 -- a rule from 2 on takes
-pub takes_rest : (n : ℕ) → 2 ≤ n → deed n ≡ Take (rest_of (deed n))
-unfolding deed
+pub takes_rest : (n : ℕ) → 2 ≤ n → action n ≡ Take (rest_of (action n))
+unfolding action
 takes_rest n h =
     let not_none : nat_eq n 0 ≡ false = grind (arith, nat_tests) in
     let not_one : nat_eq n 1 ≡ false = grind (arith, nat_tests) in
     rw not_none (rw not_one refl)
 
 -- and one that takes is from 2 on
-pub from_two : (n : ℕ) (rest : List Sym) → deed n ≡ Take rest → 2 ≤ n
-unfolding deed
+pub from_two : (n : ℕ) (rest : List Sym) → action n ≡ Take rest → 2 ≤ n
+unfolding action
 from_two zero rest e = absurd cc
 from_two (suc zero) rest e = absurd cc
 from_two (suc (suc n)) rest e = omega arith

@@ -10,9 +10,9 @@ use Rattle.daide_grammar.specs.declared.level.Level.TheVariants.{L60}
 use Rattle.daide_grammar.specs.declared.symbol.Sym.{Sym}
 use Rattle.daide_grammar.specs.declared.symbol.Sym.TheVariants.{Request, Client, MaybeSendGroup, Server, Press}
 use Rattle.daide_grammar.specs.declared.symbol.Sym.TheVariants.{Arrangement, Operand, Fact}
-use Rattle.daide_grammar.specs.Forms.{accepts}
-use Rattle.daide_grammar.specs.Table.Answers.{Answer, Take, Skip, Stop}
-use Rattle.daide_grammar.specs.Table.Symbols.{Entry, entries, entry_at, may_end_of, table_answer}
+use Rattle.daide_grammar.specs.Forms.{is_of_kind}
+use Rattle.daide_grammar.specs.Table.Answers.{TableEntry, Take, Skip, Stop}
+use Rattle.daide_grammar.specs.Table.Symbols.{Alternative, entries, entry_at, may_end_of, table_answer}
 use Rattle.daide_grammar.specs.Table.Stacks.{StackMatches, stack_after}
 use Rattle.daide_grammar.specs.Table.LawfulStack.{IsLawful}
 use Rattle.daide_grammar.specs.SideMessages.{standard}
@@ -25,36 +25,36 @@ use Rattle.daide_grammar.specs.Table.Proved.PlainLaws.{plain_laws}
 -- ---- two alternatives never begin with the same class
 
 -- how many of the entries take the class
-abbrev taking : Class → List Entry → ℕ
-taking c es = count_by (λ e. accepts e.kind c) es
+abbrev taking : Class → List Alternative → ℕ
+taking c es = count_by (λ e. is_of_kind e.kind c) es
 
 -- the count, with one more entry in front
-taking-cons : (c : Class) (e : Entry) (es : List Entry) → taking c (e ∷ es) ≡ cond (accepts e.kind c) 1 0 + taking c es
-taking-cons c e es = sum_by-cons (λ (x : Entry). cond (accepts x.kind c) 1 0) e es
+taking-cons : (c : Class) (e : Alternative) (es : List Alternative) → taking c (e ∷ es) ≡ cond (is_of_kind e.kind c) 1 0 + taking c es
+taking-cons c e es = sum_by-cons (λ (x : Alternative). cond (is_of_kind x.kind c) 1 0) e es
 
 -- where one entry takes the class, none that is apart from it does
-others-none : (c : Class) (e : Entry) (es : List Entry) → accepts e.kind c ≡ true →
+others-none : (c : Class) (e : Alternative) (es : List Alternative) → is_of_kind e.kind c ≡ true →
     list_all (λ f. apart e.kind f.kind) es ≡ true →
     taking c es ≡ 0
 others-none c e [] h a = refl
 others-none c e (f ∷ es) h a =
     let p = both-pass (apart e.kind f.kind) (list_all (λ g. apart e.kind g.kind) es) a in
-    taking-cons c f es ∙ (ap (λ n. cond (accepts f.kind c) 1 0 + n) (others-none c e es h p.1)
-    ∙ none (accepts f.kind c) (λ i. apart-sound e.kind f.kind c p.0 h i))
+    taking-cons c f es ∙ (ap (λ n. cond (is_of_kind f.kind c) 1 0 + n) (others-none c e es h p.1)
+    ∙ none (is_of_kind f.kind c) (λ i. apart-sound e.kind f.kind c p.0 h i))
   where
     none : (b : Bool) → (b ≡ true → ⊥) → cond b 1 0 + 0 ≡ 0
     none true k = absurd (k refl)
     none false k = refl
 
 -- of entries that are pairwise apart at most one takes a class
-at-most-one : (c : Class) (es : List Entry) → all_apart es ≡ true → taking c es ≤ 1
+at-most-one : (c : Class) (es : List Alternative) → all_apart es ≡ true → taking c es ≤ 1
 unfolding all_apart
 at-most-one c [] a = omega arith
 at-most-one c (e ∷ es) a =
     let p = both-pass (list_all (λ f. apart e.kind f.kind) es) (all_apart es) a in
-    one-or-none (accepts e.kind c) refl (at-most-one c es p.1) p.0
+    one-or-none (is_of_kind e.kind c) refl (at-most-one c es p.1) p.0
   where
-    one-or-none : (b : Bool) → accepts e.kind c ≡ b → taking c es ≤ 1 → list_all (λ f. apart e.kind f.kind) es ≡ true →
+    one-or-none : (b : Bool) → is_of_kind e.kind c ≡ b → taking c es ≤ 1 → list_all (λ f. apart e.kind f.kind) es ≡ true →
         taking c (e ∷ es) ≤ 1
     one-or-none true h few a =
         subst (λ (n : ℕ). n ≤ 1) (sym (taking-cons c e es ∙ ap (λ (b : Bool). cond b 1 0 + taking c es) h))
@@ -103,7 +103,7 @@ none-begins (s ∷ stack) t m e h =
   where
     by_answer : (◌≡◌ {A = Option (List Sym)} (stack_after table_answer (class_of t) stack) None →
         StackMatches SymbolMatches stack (t ∷ m) → ⊥) →
-        (a : Answer) → table_answer s (class_of t) ≡ a →
+        (a : TableEntry) → table_answer s (class_of t) ≡ a →
         ◌≡◌ {A = Option (List Sym)} (elim a [
           | Take rest ↦ Some (rest ++ stack)
           | Skip ↦ stack_after table_answer (class_of t) stack
@@ -124,7 +124,7 @@ pub neighbours-differ : (s : Sym) (below : List Sym) (k t : ℕ) (m n : List ℕ
     SymbolMatches s (t ∷ m) → StackMatches SymbolMatches below (t ∷ n) → ⊥
 neighbours-differ s below k t m n l e x = by_answer (table_answer s (class_of t)) refl
   where
-    by_answer : (a : Answer) → table_answer s (class_of t) ≡ a → StackMatches SymbolMatches below (t ∷ n) → ⊥
+    by_answer : (a : TableEntry) → table_answer s (class_of t) ≡ a → StackMatches SymbolMatches below (t ∷ n) → ⊥
     by_answer (Take rest) a = none-begins below t n (plain_laws.neighbours_differ s (class_of t) rest below k l e a)
     by_answer Skip a = absurd (plain_laws.skips_none s t a m x)
     by_answer Stop a = absurd (plain_laws.stops_none s t a m x)

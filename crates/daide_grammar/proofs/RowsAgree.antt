@@ -10,13 +10,13 @@ use Rattle.daide_token.specs.declared.class.Class.TheVariants.{Ket, Num, Other, 
 use Rattle.daide_grammar.specs.declared.symbol.Sym.{Sym}
 use Rattle.daide_grammar.specs.declared.symbol.Sym.TheVariants.{Closing}
 use Rattle.daide_grammar.specs.declared.table.rows.TheConstants.{TABLE}
-use Rattle.daide_grammar.specs.Table.Answers.{Answer, Take, Skip, Stop}
+use Rattle.daide_grammar.specs.Table.Answers.{TableEntry, Take, Skip, Stop}
 use Rattle.daide_grammar.specs.Table.Cells.{rule_at}
 use Rattle.daide_grammar.specs.Classes.{class_number, own_classes}
 use Rattle.daide_grammar.specs.Table.Numbers.{all_classes, classes, class_at, symbol_at, symbol_number, symbols}
 use Rattle.daide_grammar.specs.Words.{most_words}
-use Rattle.daide_grammar.specs.Table.Rules.{all_rules, deed, rest_at, HasRule}
-use Rattle.daide_grammar.specs.Table.Symbols.{Entry, answer_by, entries, entry_at, may_end_of, table_answer}
+use Rattle.daide_grammar.specs.Table.ParseActions.{all_rules, action, rest_of_action, HasRule}
+use Rattle.daide_grammar.specs.Table.Symbols.{Alternative, answer_by, entries, entry_at, may_end_of, table_answer}
 use Rattle.daide_grammar.proofs.Alike.{alike, passes_at}
 use Rattle.daide_grammar.proofs.NumberLemmas.{symbol_back, symbol_small}
 use Rattle.daide_grammar.proofs.WordColumns.{class_told, word_at}
@@ -27,7 +27,7 @@ same_symbols [] [] = true
 same_symbols (s ∷ ss) (t ∷ ts) = nat_eq (symbol_number s) (symbol_number t) && same_symbols ss ts
 same_symbols _ _ = false
 
-abbrev same_answer : Answer → Answer → Bool
+abbrev same_answer : TableEntry → TableEntry → Bool
 same_answer (Take ss) (Take ts) = same_symbols ss ts
 same_answer Skip Skip = true
 same_answer Stop Stop = true
@@ -39,8 +39,8 @@ same_truth false true = false
 same_truth false false = true
 
 -- whether rules do what entries say, class by class
-abbrev all_told : List Entry → Bool → List ℕ → List Class → Bool
-all_told es b (rule ∷ rules) (c ∷ cs) = same_answer (deed rule) (answer_by (entry_at c es) b) && all_told es b rules cs
+abbrev all_told : List Alternative → Bool → List ℕ → List Class → Bool
+all_told es b (rule ∷ rules) (c ∷ cs) = same_answer (action rule) (answer_by (entry_at c es) b) && all_told es b rules cs
 all_told es b [] [] = true
 all_told es b _ _ = false
 
@@ -78,7 +78,7 @@ first_wrong (s ∷ ss) columns =
 -- A test that computes: each rule of each symbol does what the entries say. A wrong cell is refused by its symbol's
 -- name.
 rows_agree : first_wrong symbols TABLE.rows ≡ None
-unfolding deed rest_at entries may_end_of
+unfolding action rest_of_action entries may_end_of
 rows_agree = refl
 
 symbols_same : (ss ts : List Sym) → same_symbols ss ts ≡ true → ss ≡ ts
@@ -92,7 +92,7 @@ symbols_same (s ∷ ss) (t ∷ ts) h =
     let others : ss ≡ ts = symbols_same ss ts parts.1 in
     cc
 
-answers_same : (a b : Answer) → same_answer a b ≡ true → a ≡ b
+answers_same : (a b : TableEntry) → same_answer a b ≡ true → a ≡ b
 answers_same (Take ss) (Take ts) h = ap Take (symbols_same ss ts h)
 answers_same Skip Skip h = refl
 answers_same Stop Stop h = refl
@@ -128,14 +128,14 @@ below_at ((rule ∷ column) ∷ columns) zero k = refl
 below_at ([] ∷ columns) (suc n) k = below_at columns n k
 below_at ((rule ∷ column) ∷ columns) (suc n) k = below_at columns n k
 
-told_at : (es : List Entry) (b : Bool) (rules : List ℕ) (cs : List Class) → all_told es b rules cs ≡ true → (n : ℕ) →
-    n < length cs → deed (get_or rules n 0) ≡ answer_by (entry_at (get_or cs n Num) es) b
+told_at : (es : List Alternative) (b : Bool) (rules : List ℕ) (cs : List Class) → all_told es b rules cs ≡ true → (n : ℕ) →
+    n < length cs → action (get_or rules n 0) ≡ answer_by (entry_at (get_or cs n Num) es) b
 told_at es b rules [] h n less = absurd (omega arith)
 told_at es b [] (c ∷ cs) h n less = absurd (cc)
 told_at es b (rule ∷ rules) (c ∷ cs) h zero less =
-    answers_same _ _ (and_parts (same_answer (deed rule) (answer_by (entry_at c es) b)) (all_told es b rules cs) h).0
+    answers_same _ _ (and_parts (same_answer (action rule) (answer_by (entry_at c es) b)) (all_told es b rules cs) h).0
 told_at es b (rule ∷ rules) (c ∷ cs) h (suc n) less =
-    let told = same_answer (deed rule) (answer_by (entry_at c es) b) in
+    let told = same_answer (action rule) (answer_by (entry_at c es) b) in
     told_at es b rules cs (and_parts told (all_told es b rules cs) h).1 n (omega arith)
 
 -- a symbol's rules, by its place in the list
@@ -160,13 +160,13 @@ right s =
     (there.0, subst (λ (x : Sym). is_right x there.0 ≡ true) (symbol_back s) there.1, there.2)
 
 -- and a look-up answers what the table of the definitions answers
-pub looked_up : (s : Sym) (n : ℕ) → n < all_classes → deed (rule_at n (symbol_number s)) ≡ table_answer s (class_at n)
+pub looked_up : (s : Sym) (n : ℕ) → n < all_classes → action (rule_at n (symbol_number s)) ≡ table_answer s (class_at n)
 unfolding table_answer
 looked_up s n less =
     let there = right s in
     let told = all_told (entries s) (may_end_of s) there.0 classes in
     let ends = same_truth (nat_eq (get_or there.0 1 0) 1) (may_end_of s) in
-    ap deed (sym (there.2 n))
+    ap action (sym (there.2 n))
     ∙ told_at (entries s) (may_end_of s) there.0 classes (and_parts told ends there.1).0 n less
 
 -- each rule has a number of one byte
@@ -208,4 +208,4 @@ word_unknown s k less =
     let row = alike (λ k. slice_index_or TABLE.rows (own_classes + k) []) (λ k. slice_index_or TABLE.rows (class_number Other) []) most_words repeated k
     less in
     ap (table_answer s) (sym (word_at k less)) ∙ sym (looked_up s (own_classes + k) (omega (arith, less)))
-    ∙ ap (λ (row : List ℕ). deed (get_or row n 0)) row ∙ looked_up s (class_number Other) (omega arith)
+    ∙ ap (λ (row : List ℕ). action (get_or row n 0)) row ∙ looked_up s (class_number Other) (omega arith)

@@ -9,18 +9,18 @@ use Rattle.daide_grammar.specs.declared.symbol.Sym.{Sym}
 use Rattle.daide_grammar.specs.declared.table.rows.TheConstants.{TABLE}
 use Rattle.daide_grammar.specs.Table.Cells.{cell_at, growth_at, length_at}
 use Rattle.daide_grammar.specs.Table.Numbers.{all_symbols, symbol_at}
-use Rattle.daide_grammar.specs.Table.Rules.{all_rules, deed, rest_at, rest_of, is_take, is_stop}
+use Rattle.daide_grammar.specs.Table.ParseActions.{all_rules, action, rest_of_action, rest_of, is_take, is_stop}
 use Rattle.daide_grammar.proofs.Alike.{alike, passes_at}
 
 -- the rule's length is that of its rest
 rest_length : ℕ → ℕ
-rest_length n = length (rest_of (deed n))
+rest_length n = length (rest_of (action n))
 
 lengths : map length_at (range_with_len 0 all_rules) ≡ map rest_length (range_with_len 0 all_rules)
-unfolding rest_length deed rest_at length_at
+unfolding rest_length action rest_of_action length_at
 lengths = refl
 
-pub length_fits : (n : ℕ) → n < all_rules → length_at n ≡ length (rest_of (deed n))
+pub length_fits : (n : ℕ) → n < all_rules → length_at n ≡ length (rest_of (action n))
 unfolding rest_length
 length_fits n less = alike length_at rest_length all_rules lengths n less
 
@@ -43,16 +43,16 @@ eight n =
     symbol_at (cell_at n 4) ∷ symbol_at (cell_at n 5) ∷ symbol_at (cell_at n 6) ∷ symbol_at (cell_at n 7) ∷ []
 
 front : ℕ → List Sym
-front n = take (length (rest_of (deed n))) (eight n)
+front n = take (length (rest_of (action n))) (eight n)
 
 turned : ℕ → List Sym
-turned n = reverse (rest_of (deed n))
+turned n = reverse (rest_of (action n))
 
 fronts : map front (range_with_len 0 all_rules) ≡ map turned (range_with_len 0 all_rules)
-unfolding front turned deed rest_at cell_at
+unfolding front turned action rest_of_action cell_at
 fronts = refl
 
-pub cells_hold : (n : ℕ) → n < all_rules → take (length (rest_of (deed n))) (eight n) ≡ reverse (rest_of (deed n))
+pub cells_hold : (n : ℕ) → n < all_rules → take (length (rest_of (action n))) (eight n) ≡ reverse (rest_of (action n))
 unfolding front turned
 cells_hold n less = alike front turned all_rules fronts n less
 
@@ -66,8 +66,8 @@ cell_small n place =
     let row = passes_at (list_all (λ n. nat_lt n all_symbols)) TABLE.rests n [] few refl in
     ltb-true (cell_at n place) all_symbols (passes_at (λ n. nat_lt n all_symbols) (slice_index_or TABLE.rests n []) place 0 row refl)
 
-pub take_told : (n : ℕ) → nat_le 2 n ≡ is_take (deed n)
-unfolding deed
+pub take_told : (n : ℕ) → nat_le 2 n ≡ is_take (action n)
+unfolding action
 take_told zero = refl
 take_told (suc zero) = refl
 take_told (suc (suc n)) =
@@ -76,8 +76,8 @@ take_told (suc (suc n)) =
     let more : nat_le 2 (suc (suc n)) ≡ true = grind (arith, nat_tests) in
     rw not_none (rw not_one (rw more refl))
 
-pub stop_told : (n : ℕ) → nat_eq n 0 ≡ is_stop (deed n)
-unfolding deed
+pub stop_told : (n : ℕ) → nat_eq n 0 ≡ is_stop (action n)
+unfolding action
 stop_told zero = refl
 stop_told (suc zero) = refl
 stop_told (suc (suc n)) =
@@ -95,7 +95,7 @@ growth_fits n less = alike growth_at (λ n. (length_at n + (2 ^ 64 - 1)) % 2 ^ 6
 
 -- the height that a growth makes of a top's place
 pub grown : (n top : ℕ) → n < all_rules → top ≤ 65535
-    → ((top + growth_at n) % 2 ^ 64 + 1) % 2 ^ 64 ≡ top + length (rest_of (deed n))
+    → ((top + growth_at n) % 2 ^ 64 + 1) % 2 ^ 64 ≡ top + length (rest_of (action n))
 grown n top less few =
     let growth = growth_fits n less in
     let small = length_small n less in

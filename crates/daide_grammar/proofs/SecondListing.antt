@@ -38,13 +38,13 @@ use Rattle.daide_grammar.specs.declared.symbol.Sym.TheVariants.{PressGroup, Pres
 use Rattle.daide_grammar.specs.declared.symbol.Sym.TheVariants.{SendTail, SendFirst, Client, RequestGroup, Request}
 use Rattle.daide_grammar.specs.declared.symbol.Sym.TheVariants.{Server}
 use Rattle.daide_grammar.specs.Classes.{same_class}
-use Rattle.daide_grammar.specs.Table.Answers.{Answer, Take, Skip, Stop}
+use Rattle.daide_grammar.specs.Table.Answers.{TableEntry, Take, Skip, Stop}
 use Rattle.daide_grammar.specs.Table.Numbers.{classes, symbols}
 use Rattle.daide_grammar.specs.Table.Symbols.{entries, may_end_of, table_answer}
 
 -- at a class: mostly, that the token is taken and these symbols must follow
 abbrev Line : Type 0
-Line = Class × Answer
+Line = Class × TableEntry
 
 abbrev on : Class → List Sym → Line
 on c rest = (c, Take rest)
@@ -55,10 +55,10 @@ each_of cs rest = map (λ c. on c rest) cs
 
 -- a symbol, what it means at every class that no line names, and its lines
 abbrev Listed : Type 0
-Listed = Sym × Answer × List Line
+Listed = Sym × TableEntry × List Line
 
 -- what the lines say of a class
-abbrev said : Answer → List Line → Class → Answer
+abbrev said : TableEntry → List Line → Class → TableEntry
 said other [] c = other
 said other (line ∷ lines) c = elim (same_class line.0 c) [ true ↦ line.1 | false ↦ said other lines c ]
 
@@ -284,7 +284,7 @@ abbrev joining_levels : List Level
 joining_levels = L30 ∷ L40 ∷ L50 ∷ L60 ∷ []
 
 -- the productions of a symbol at some levels
-abbrev at_each : List Level → (Level → Sym) → Answer → (Level → List Line) → List Listed
+abbrev at_each : List Level → (Level → Sym) → TableEntry → (Level → List Line) → List Listed
 at_each levels symbol other lines = map (λ l. (symbol l, other, lines l)) levels
 
 -- what stands in brackets, and what SND leaves

@@ -11,111 +11,111 @@ use Rattle.daide_grammar.specs.declared.symbol.Sym.TheVariants.{MaybeNumberGroup
 use Rattle.daide_grammar.specs.declared.symbol.Sym.TheVariants.{SubmitFirst, OrderGroup, NoteGroup, Arrangement}
 use Rattle.daide_grammar.specs.declared.symbol.Sym.TheVariants.{ArrangementGroup, OperandGroup, Operands, Operand, Fact}
 use Rattle.daide_grammar.specs.declared.symbol.Sym.TheVariants.{FactGroup, PressGroup, SendTail, Client, Server, Any}
-use Rattle.daide_grammar.specs.Table.Answers.{Answer, Take, Skip, Stop}
+use Rattle.daide_grammar.specs.Table.Answers.{TableEntry, Take, Skip, Stop}
 use Rattle.daide_grammar.specs.Table.Cells.{class_cell, rule_at, column_at}
 use Rattle.daide_grammar.specs.Classes.{class_number}
 use Rattle.daide_grammar.specs.Table.Numbers.{class_at, symbol_number}
-use Rattle.daide_grammar.specs.Table.Rules.{deed, rest_at}
+use Rattle.daide_grammar.specs.Table.ParseActions.{action, rest_of_action}
 
 -- what the table says to a symbol and a class
-abbrev says : Sym → Class → Answer
-says s c = deed (rule_at (class_number c) (symbol_number s))
+abbrev says : Sym → Class → TableEntry
+says s c = action (rule_at (class_number c) (symbol_number s))
 
 -- KET closes what is open, and BRA does not
 closing-ket : says Closing Ket ≡ Take []
-unfolding deed rest_at rule_at
+unfolding action rest_of_action rule_at
 closing-ket = refl
 
 closing-bra : says Closing Bra ≡ Stop
-unfolding deed rest_at rule_at
+unfolding action rest_of_action rule_at
 closing-bra = refl
 
 -- characters go on until the bracket closes
 texts-text : says Texts Text ≡ Take (Texts ∷ [])
-unfolding deed rest_at rule_at
+unfolding action rest_of_action rule_at
 texts-text = refl
 
 texts-ket : says Texts Ket ≡ Skip
-unfolding deed rest_at rule_at
+unfolding action rest_of_action rule_at
 texts-ket = refl
 
 -- AND joins from level 30 on, with what level 30 has at each level above
 and-20 : says (Arrangement L20) And ≡ Stop
-unfolding deed rest_at rule_at
+unfolding action rest_of_action rule_at
 and-20 = refl
 
 and-30 : says (Arrangement L30) And ≡ Take (OperandGroup L30 ∷ OperandGroup L30 ∷ Operands L30 ∷ [])
-unfolding deed rest_at rule_at
+unfolding action rest_of_action rule_at
 and-30 = refl
 
 and-60 : says (Arrangement L60) And ≡ Take (OperandGroup L60 ∷ OperandGroup L60 ∷ Operands L60 ∷ [])
-unfolding deed rest_at rule_at
+unfolding action rest_of_action rule_at
 and-60 = refl
 
 -- inside an AND another may stand from level 50 on
 operand-30 : says (Operand L30) And ≡ Stop
-unfolding deed rest_at rule_at
+unfolding action rest_of_action rule_at
 operand-30 = refl
 
 operand-50 : says (Operand L50) And ≡ Take (OperandGroup L50 ∷ OperandGroup L50 ∷ Operands L50 ∷ [])
-unfolding deed rest_at rule_at
+unfolding action rest_of_action rule_at
 operand-50 = refl
 
 -- a query is a fact at level 60 alone, where NOT holds a fact
 query-50 : says (Fact L50) Qry ≡ Stop
-unfolding deed rest_at rule_at
+unfolding action rest_of_action rule_at
 query-50 = refl
 
 query-60 : says (Fact L60) Qry ≡ Take (ArrangementGroup L60 ∷ [])
-unfolding deed rest_at rule_at
+unfolding action rest_of_action rule_at
 query-60 = refl
 
 not-50 : says (Fact L50) Not ≡ Take (ArrangementGroup L50 ∷ [])
-unfolding deed rest_at rule_at
+unfolding action rest_of_action rule_at
 not-50 = refl
 
 not-60 : says (Fact L60) Not ≡ Take (FactGroup L60 ∷ [])
-unfolding deed rest_at rule_at
+unfolding action rest_of_action rule_at
 not-60 = refl
 
 -- press is sent and handed on from level 10 on
 send-0 : says (Client L0) Snd ≡ Stop
-unfolding deed rest_at rule_at
+unfolding action rest_of_action rule_at
 send-0 = refl
 
 send-10 : says (Client L10) Snd ≡ Take (SendTail L10 ∷ [])
-unfolding deed rest_at rule_at
+unfolding action rest_of_action rule_at
 send-10 = refl
 
 from-60 : says (Server L60) Frm ≡ Take (PowerGroup ∷ PowersGroup ∷ PressGroup L60 ∷ [])
-unfolding deed rest_at rule_at
+unfolding action rest_of_action rule_at
 from-60 = refl
 
 -- rests without a level, and the longest
 time : says (Client L0) Tme ≡ Take (MaybeNumberGroup ∷ [])
-unfolding deed rest_at rule_at
+unfolding action rest_of_action rule_at
 time = refl
 
 thanks : says (Server L0) Thx ≡ Take (OrderGroup ∷ NoteGroup ∷ [])
-unfolding deed rest_at rule_at
+unfolding action rest_of_action rule_at
 thanks = refl
 
 first-order : says SubmitFirst Bra ≡ Take (OneUnit ∷ Closing ∷ OrderTail ∷ Closing ∷ Orders ∷ [])
-unfolding deed rest_at rule_at
+unfolding action rest_of_action rule_at
 first-order = refl
 
 -- an operator's word means what a token without a meaning does: nothing to a message, a token to any list of tokens
 word-client : says (Client L60) (Word 15) ≡ Stop
-unfolding deed rest_at rule_at
+unfolding action rest_of_action rule_at
 word-client = refl
 
 word-any : says Any (Word 0) ≡ Take (Any ∷ [])
-unfolding deed rest_at rule_at
+unfolding action rest_of_action rule_at
 word-any = refl
 
 -- PRN is the reader's own case
 prn : says (Client L60) Prn ≡ Stop
-unfolding deed rest_at rule_at
+unfolding action rest_of_action rule_at
 prn = refl
 
 -- classes by category and code: THX, a power that no map lists, a press code without a token, a character

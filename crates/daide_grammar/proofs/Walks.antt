@@ -8,7 +8,7 @@ use Rattle.daide_token.specs.declared.class.Class.TheVariants.{Bra, Ket}
 use Rattle.daide_token.specs.Class.{class_of}
 use Rattle.daide_grammar.specs.declared.symbol.Sym.{Sym}
 use Rattle.daide_grammar.specs.Classes.{class_number, same_class}
-use Rattle.daide_grammar.specs.Table.Answers.{Answer, Take, Skip, Stop}
+use Rattle.daide_grammar.specs.Table.Answers.{TableEntry, Take, Skip, Stop}
 use Rattle.daide_grammar.specs.Table.Symbols.{may_end_of, table_answer}
 use Rattle.daide_grammar.specs.Table.Stacks.{StackMatches, stack_after}
 use Rattle.daide_grammar.specs.Table.LawfulStack.{IsLawful}
@@ -89,7 +89,7 @@ arises-after c [] next l e = cc
 arises-after c (s ∷ stack) next l e = by_answer (λ h. arises-after c stack next h) (table_answer s c) refl e
   where
     by_answer : (Arises stack → ◌≡◌ {A = Option (List Sym)} (stack_after table_answer c stack) (Some next) →
-        Arises next) → (a : Answer) →
+        Arises next) → (a : TableEntry) →
         table_answer s c ≡ a →
         ◌≡◌ {A = Option (List Sym)} (elim a [
           | Take rest ↦ Some (rest ++ stack)
@@ -150,7 +150,7 @@ goes-on (s ∷ stack) next t m l e = by_answer (λ h. goes-on stack next t m h) 
   where
     by_answer : (Arises stack → ◌≡◌ {A = Option (List Sym)} (stack_after table_answer (class_of t) stack) (Some next) →
         GoesOn stack next t m) →
-        (a : Answer) → table_answer s (class_of t) ≡ a →
+        (a : TableEntry) → table_answer s (class_of t) ≡ a →
         ◌≡◌ {A = Option (List Sym)} (elim a [
           | Take rest ↦ Some (rest ++ stack)
           | Skip ↦ stack_after table_answer (class_of t) stack

@@ -8,7 +8,7 @@ use Rattle.daide_grammar.specs.Level.{level_number}
 use Rattle.daide_grammar.specs.declared.level.Level.TheVariants.{L10, L20, L30, L50}
 use Rattle.daide_grammar.specs.declared.side.Side2.TheVariants.{Client}
 use Rattle.daide_grammar.specs.Forms.{Dialect, Form, Press_slot, Arrangement_slot, Flat_slot, Added, Press_name}
-use Rattle.daide_grammar.specs.Forms.{Arrangement_name, Flat_name, Send_name, Request_name, group, some, from}
+use Rattle.daide_grammar.specs.Forms.{Arrangement_name, Flat_name, Send_name, Request_name, group, some, from_level}
 use Rattle.daide_grammar.specs.Message.Lists.{power, words}
 use Rattle.daide_grammar.specs.Message.Arrangements.{arrangement, flat_arrangement}
 use Rattle.daide_grammar.specs.Message.Press.{press, send}
@@ -86,8 +86,8 @@ send_of l p m = by_name {n = Send_name l}
 
 -- a form from a level on, at that level or a higher one
 reached : (a l : Level) (f : Form) (w : List ℕ) → nat_le (level_number a) (level_number l) ≡ true → Matches d f w →
-    Matches d (from a l f) w
-reached a l f w e m = rw (e, from) m
+    Matches d (from_level a l f) w
+reached a l f w e m = rw (e, from_level) m
 
 -- as a request, whose last alternative it is
 request_of : (l : Level) (p : List ℕ) → nat_le 10 (level_number l) ≡ true → Matches d (press l) p →

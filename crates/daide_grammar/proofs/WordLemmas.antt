@@ -11,8 +11,8 @@ use Rattle.daide_token.proofs.ClassLaws.{standard_class}
 use Rattle.daide_grammar.specs.declared.level.Level.{Level}
 use Rattle.daide_grammar.specs.declared.side.Side2.{Side2}
 use Rattle.daide_grammar.specs.Level.{level_number}
-use Rattle.daide_grammar.specs.Forms.{Slot, Press_slot, Arrangement_slot, Flat_slot, Kind, accepts, Form, never, tok}
-use Rattle.daide_grammar.specs.Forms.{from}
+use Rattle.daide_grammar.specs.Forms.{Slot, Press_slot, Arrangement_slot, Flat_slot, TokenTest, is_of_kind, Form, never, tok}
+use Rattle.daide_grammar.specs.Forms.{from_level}
 use Rattle.daide_grammar.specs.Forms.{◌·◌, group}
 use Rattle.daide_grammar.specs.Forms.{Any_name, Place_name, Unit_name, Order_name, Arrangement_name, Flat_name}
 use Rattle.daide_grammar.specs.Forms.{Fact_name, Press_name, Send_name, Request_name, Added, Dialect, is}
@@ -54,13 +54,13 @@ module _ (words : Words) where
   spoken = dialect_of words
 
   -- what a place of a form asks of a token that is no word
-  asks-the-same : (k : Kind) (t : ℕ) → not (is_code words t) ≡ true →
-      IsTrue (accepts k (class_of t)) → IsTrue (accepts k (spoken.class_of t))
-  asks-the-same k t h e = subst (λ c. IsTrue (accepts k c)) (sym (class-stays 0 words t h)) e
+  asks-the-same : (k : TokenTest) (t : ℕ) → not (is_code words t) ≡ true →
+      IsTrue (is_of_kind k (class_of t)) → IsTrue (is_of_kind k (spoken.class_of t))
+  asks-the-same k t h e = subst (λ c. IsTrue (is_of_kind k c)) (sym (class-stays 0 words t h)) e
 
-  asked-before : (k : Kind) (t : ℕ) → not (is_code words t) ≡ true →
-      IsTrue (accepts k (spoken.class_of t)) → IsTrue (accepts k (class_of t))
-  asked-before k t h e = subst (λ c. IsTrue (accepts k c)) (class-stays 0 words t h) e
+  asked-before : (k : TokenTest) (t : ℕ) → not (is_code words t) ≡ true →
+      IsTrue (is_of_kind k (spoken.class_of t)) → IsTrue (is_of_kind k (class_of t))
+  asked-before k t h e = subst (λ c. IsTrue (is_of_kind k c)) (class-stays 0 words t h) e
 
   -- a token alone, and the brackets round a list
   one-has-none : (t : ℕ) → HasNone words (t ∷ []) → not (is_code words t) ≡ true
@@ -101,7 +101,7 @@ module _ (words : Words) where
 
   -- a class that is no operator's word is none
   no-word : (place : ℕ) (t : ℕ) → not (is_code words t) ≡ true →
-      IsTrue (accepts (is (Word place)) (spoken.class_of t)) → ⊥
+      IsTrue (is_of_kind (is (Word place)) (spoken.class_of t)) → ⊥
   no-word place t h e =
       let is_word : Word place ≡ class_of t =
       (told-apart (Word place) (spoken.class_of t)).0 e ∙ class-stays 0 words t h in
@@ -109,11 +109,11 @@ module _ (words : Words) where
       absurd cc
 
   -- no form of a word takes the list
-  no-from : (place : ℕ) (b : Bool) (g : Form) (m : List ℕ) → HasNone words m →
+  no-from_level : (place : ℕ) (b : Bool) (g : Form) (m : List ℕ) → HasNone words m →
       Matches spoken (elim b [ true ↦ tok (Word place) · g | false ↦ never ]) m → ⊥
-  no-from place true g m h (both {v = v} (token {t = t} e) y) =
+  no-from_level place true g m h (both {v = v} (token {t = t} e) y) =
       no-word place t (one-has-none t (parts-have-none words (t ∷ []) v h).0) e
-  no-from place false g m h x = elim x [ ]
+  no-from_level place false g m h x = elim x [ ]
 
   no-form : (place : ℕ) (word : AddedWord) (s : Slot) (l : Level) (m : List ℕ) → HasNone words m →
       Matches spoken (word_form place word s l) m → ⊥
@@ -123,14 +123,14 @@ module _ (words : Words) where
       b = nat_le (level_number word.level) (level_number l)
 
       go : (slot : WordSlot) (t : Slot) →
-          Matches spoken (stands_in slot t (from word.level l (tok (Word place) · group (operand_in word.operand s l))))
+          Matches spoken (stands_in slot t (from_level word.level l (tok (Word place) · group (operand_in word.operand s l))))
           m → ⊥
-      go press_word Press_slot y = no-from place b (group (operand_in word.operand s l)) m h y
+      go press_word Press_slot y = no-from_level place b (group (operand_in word.operand s l)) m h y
       go press_word Arrangement_slot y = elim y [ ]
       go press_word Flat_slot y = elim y [ ]
       go arrangement_word Press_slot y = elim y [ ]
-      go arrangement_word Arrangement_slot y = no-from place b (group (operand_in word.operand s l)) m h y
-      go arrangement_word Flat_slot y = no-from place b (group (operand_in word.operand s l)) m h y
+      go arrangement_word Arrangement_slot y = no-from_level place b (group (operand_in word.operand s l)) m h y
+      go arrangement_word Flat_slot y = no-from_level place b (group (operand_in word.operand s l)) m h y
 
   no-added : (place : ℕ) (some_words : Words) (s : Slot) (l : Level) (m : List ℕ) → HasNone words m →
       Matches spoken ((dialect_from place some_words).added s l) m → ⊥

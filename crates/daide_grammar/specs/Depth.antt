@@ -21,13 +21,13 @@ prefixes [] = [] ∷ []
 prefixes (t ∷ m) = [] ∷ map (λ p. t ∷ p) (prefixes m)
 
 -- some front has more KET than BRA
-abbrev pub closes_early : List ℕ → Bool
-closes_early m = list_any (λ p. nat_lt (bras p) (kets p)) (prefixes m)
+abbrev pub has_unmatched_ket : List ℕ → Bool
+has_unmatched_ket m = list_any (λ p. nat_lt (bras p) (kets p)) (prefixes m)
 
 -- the brackets that are open after these tokens: none in a message that begins with PRN, and none once a KET came
 -- with nothing open
 abbrev pub open_brackets : List ℕ → ℕ
-open_brackets p = if begins_with_prn p || closes_early p then 0 else excess p
+open_brackets p = if begins_with_prn p || has_unmatched_ket p then 0 else excess p
 
 abbrev pub greatest : List ℕ → ℕ
 greatest [] = 0

@@ -1,7 +1,7 @@
 -- The lists of tokens that match a form.
 use Rattle.std.specs.Prelude.{◌≡◌, ℕ, List, [], ◌∷◌, ◌++◌, IsTrue}
 use Rattle.daide_token.specs.declared.class.Class.TheVariants.{Bra, Ket}
-use Rattle.daide_grammar.specs.Forms.{Kind, is, accepts, Name, Any_name, Place_name, Unit_name, Order_name}
+use Rattle.daide_grammar.specs.Forms.{TokenTest, is, is_of_kind, Nonterminal, Any_name, Place_name, Unit_name, Order_name}
 use Rattle.daide_grammar.specs.Forms.{Arrangement_name, Flat_name, Fact_name, Press_name, Send_name, Request_name}
 use Rattle.daide_grammar.specs.Forms.{Added, Form, one, empty, ◌·◌, ◌∣◌, many, group, named, Dialect}
 use Rattle.daide_grammar.specs.Message.Lists.{anything}
@@ -12,7 +12,7 @@ use Rattle.daide_grammar.specs.Message.Press.{press_rule, send_rule}
 use Rattle.daide_grammar.specs.Message.Client.{request_rule}
 
 -- what each name stands for
-abbrev pub rule : Dialect → Name → Form
+abbrev pub rule : Dialect → Nonterminal → Form
 rule d Any_name = anything
 rule d Place_name = place_rule
 rule d Unit_name = unit_rule
@@ -27,7 +27,7 @@ rule d (Added s l) = d.added s l
 
 -- in a dialect: one line for each kind of form, and no order of reading
 pub data Matches (d : Dialect) : Form → List ℕ → Type 0 where
-  token : {k : Kind} {t : ℕ} → IsTrue (accepts k (d.class_of t)) → Matches d (one k) (t ∷ [])
+  token : {k : TokenTest} {t : ℕ} → IsTrue (is_of_kind k (d.class_of t)) → Matches d (one k) (t ∷ [])
   nothing : Matches d empty []
   both : {f g : Form} {u v : List ℕ} → Matches d f u → Matches d g v → Matches d (f · g) (u ++ v)
   first : {f g : Form} {w : List ℕ} → Matches d f w → Matches d (f ∣ g) w
@@ -35,9 +35,9 @@ pub data Matches (d : Dialect) : Form → List ℕ → Type 0 where
   no_more : {f : Form} → Matches d (many f) []
   one_more : {f : Form} {u v : List ℕ} → Matches d f u → Matches d (many f) v → Matches d (many f) (u ++ v)
   bracketed : {f : Form} {u : List ℕ} (b k : ℕ) →
-      IsTrue (accepts (is Bra) (d.class_of b)) → Matches d f u → IsTrue (accepts (is Ket) (d.class_of k)) →
+      IsTrue (is_of_kind (is Bra) (d.class_of b)) → Matches d f u → IsTrue (is_of_kind (is Ket) (d.class_of k)) →
       Matches d (group f) (b ∷ (u ++ k ∷ []))
-  by_name : {n : Name} {w : List ℕ} → Matches d (rule d n) w → Matches d (named n) w
+  by_name : {n : Nonterminal} {w : List ℕ} → Matches d (rule d n) w → Matches d (named n) w
 
 -- a list in parts that match the forms one after the other
 abbrev pub MatchAll : Dialect → List Form → List ℕ → Type 0

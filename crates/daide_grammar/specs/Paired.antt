@@ -9,9 +9,9 @@ begins_with_prn [] = false
 begins_with_prn (t ∷ m) = t == prn
 
 -- PRN, and any tokens at all in brackets
-abbrev pub IsPrnReport : List ℕ → Type 0
-IsPrnReport m = (x : List ℕ) × (m ≡ prn ∷ bra ∷ x ++ ket ∷ [])
+abbrev pub IsPrnWrapped : List ℕ → Type 0
+IsPrnWrapped m = (x : List ℕ) × (m ≡ prn ∷ bra ∷ x ++ ket ∷ [])
 
 -- a message that begins with PRN is paired where it is a report, any other where its brackets balance
 abbrev pub IsPaired : List ℕ → Type 0
-IsPaired m = IsPrnReport m ⊎ ((begins_with_prn m ≡ false) × IsBalanced m)
+IsPaired m = IsPrnWrapped m ⊎ ((begins_with_prn m ≡ false) × IsBalanced m)

@@ -9,7 +9,7 @@ use Rattle.daide_grammar.specs.Forms.{Dialect, Form, never, ◌∣◌}
 use Rattle.daide_grammar.specs.Message.Client.{client}
 use Rattle.daide_grammar.specs.Message.Server.{server}
 use Rattle.daide_grammar.specs.Matches.{Matches}
-use Rattle.daide_grammar.specs.Paired.{IsPrnReport}
+use Rattle.daide_grammar.specs.Paired.{IsPrnWrapped}
 use Rattle.daide_grammar.specs.Words.{AddedWord, Words, word_form}
 
 -- the protocol's own tokens and forms, to which no operator added words
@@ -17,8 +17,8 @@ abbrev pub standard : Dialect
 standard = record { class_of = class_of; added = λ _ _. never }
 
 -- a dialect with one word more, of this place among the words: its code is its own class, and its form one more
-abbrev pub with_word : ℕ → AddedWord → Dialect → Dialect
-with_word place word d = record {
+abbrev pub dialect_with_word : ℕ → AddedWord → Dialect → Dialect
+dialect_with_word place word d = record {
   class_of = λ t. if t == word.code then Word place else d.class_of t;
   added = λ slot l. word_form place word slot l ∣ d.added slot l;
 }
@@ -26,7 +26,7 @@ with_word place word d = record {
 -- the standard with these words, the first of which has this place
 abbrev pub dialect_from : ℕ → Words → Dialect
 dialect_from place [] = standard
-dialect_from place (word ∷ words) = with_word place word (dialect_from (suc place) words)
+dialect_from place (word ∷ words) = dialect_with_word place word (dialect_from (suc place) words)
 
 -- the standard with an operator's words
 abbrev pub dialect_of : Words → Dialect
@@ -39,7 +39,7 @@ message_form ServerEnd l = server l
 
 -- the messages of a side at a level, in a dialect: those of its form, and the report PRN round any tokens at all
 abbrev pub IsMessageIn : Dialect → Side2 → Level → List ℕ → Type 0
-IsMessageIn d side l m = IsPrnReport m ⊎ Matches d (message_form side l) m
+IsMessageIn d side l m = IsPrnWrapped m ⊎ Matches d (message_form side l) m
 
 -- the messages of a side at a level, with an operator's words
 abbrev pub IsMessageOver : Words → Side2 → Level → List ℕ → Type 0

@@ -5,7 +5,7 @@ pub mod AnswersGiven
 pub mod Symbols
 pub mod Languages
 pub mod Numbers
-pub mod Rules
+pub mod ParseActions
 pub mod Cells
 pub mod Stacks
 pub mod LawfulStack

@@ -4,7 +4,7 @@ use Rattle.std.specs.List.{list_all}
 use Rattle.daide_token.specs.declared.class.Class.TheVariants.{Word}
 use Rattle.daide_grammar.specs.declared.level.Level.{Level}
 use Rattle.daide_grammar.specs.Forms.{Slot, Press_slot, Arrangement_slot, Flat_slot, Form, never, ◌·◌, group, tok}
-use Rattle.daide_grammar.specs.Forms.{some, from}
+use Rattle.daide_grammar.specs.Forms.{some, from_level}
 use Rattle.daide_grammar.specs.Message.Lists.{power, province}
 use Rattle.daide_grammar.specs.Message.Orders.{order}
 use Rattle.daide_grammar.specs.Message.Arrangements.{arrangement, flat_arrangement}
@@ -75,4 +75,4 @@ stands_in arrangement_word Flat_slot f = f
 -- the word of this place among the words, in a slot: from its level on, the word and its operand in brackets
 abbrev pub word_form : ℕ → AddedWord → Slot → Level → Form
 word_form place word slot l =
-    stands_in word.slot slot (from word.level l (tok (Word place) · group (operand_in word.operand slot l)))
+    stands_in word.slot slot (from_level word.level l (tok (Word place) · group (operand_in word.operand slot l)))

@@ -5,7 +5,7 @@
 
 ghost use Rattle.std.specs.Prelude.{◌≡◌, ◌<◌, ◌+◌, ◌%◌, ◌/◌, ◌^◌, [], slice_index_or};
 ghost use Rattle.daide_token.specs.Class.{class_of};
-ghost use Rattle.daide_grammar.specs.Table.Symbols.{may_end_of, opening_of, table_answer};
+ghost use Rattle.daide_grammar.specs.Table.Symbols.{may_end_of, start_symbol_of, table_answer};
 ghost use Rattle.daide_grammar.specs.Table.AnswersGiven.{look_ups};
 ghost use Rattle.daide_grammar.specs.Table.Cells.{class_cell, rule_at};
 ghost use Rattle.daide_grammar.specs.Table.Numbers.{all_classes, all_symbols};
@@ -90,8 +90,8 @@ fn is_optional(sym: Symbol) -> bool
 }
 
 /// The symbol of a side's messages.
-fn opening(side: Side2, level: Level) -> Symbol
-    ensures { result ≡ opening_of side level }
+fn start_symbol(side: Side2, level: Level) -> Symbol
+    ensures { result ≡ start_symbol_of side level }
 {
     match side {
         Side2::Client => Symbol::named(Sym::Client(level)),
@@ -103,7 +103,7 @@ impl Predict for Dense {
     ghost use Rattle.daide_token.specs.Class.{class_of};
     ghost use Rattle.daide_grammar.specs.Table.LawfulStack.{IsLawful};
     ghost use Rattle.daide_grammar.specs.Table.Languages.{SymbolMatches};
-    ghost use Rattle.daide_grammar.specs.Table.Symbols.{may_end_of, opening_of, table_answer};
+    ghost use Rattle.daide_grammar.specs.Table.Symbols.{may_end_of, start_symbol_of, table_answer};
     ghost use Rattle.daide_grammar.specs.Table.Proved.PlainLaws.{plain_laws, plain_begins};
     ghost use Rattle.daide_grammar.specs.Table.AnswersGiven.{look_ups};
 
@@ -117,7 +117,7 @@ impl Predict for Dense {
 
     ghost ends = { λ _. may_end_of };
 
-    ghost opening = { opening_of };
+    ghost start_symbol = { start_symbol_of };
 
     ghost lawful = { λ _. IsLawful table_answer };
 
@@ -150,7 +150,7 @@ impl Predict for Dense {
     }
 
     fn start(&self, side: Side2, level: Level) -> Symbol {
-        opening(side, level)
+        start_symbol(side, level)
     }
 
     fn asked(&self) -> u64 {

@@ -14,7 +14,7 @@ ghost use Rattle.daide_grammar.specs.Message.Lists.{any};
 ghost use Rattle.daide_grammar.specs.Matches.{Matches};
 ghost use Rattle.daide_grammar.specs.Balanced.{IsBalanced};
 ghost use Rattle.daide_grammar.specs.Depth.{depth_of};
-ghost use Rattle.daide_grammar.specs.Forms.{accepts};
+ghost use Rattle.daide_grammar.specs.Forms.{is_of_kind};
 ghost use Rattle.daide_grammar.specs.Table.Answers.{Take};
 ghost use Rattle.daide_grammar.specs.Table.Symbols.{entries, may_end_of, table_answer};
 ghost use Rattle.daide_grammar.specs.Table.Stacks.{StackMatches, skips_before, ends_asked};
@@ -29,7 +29,7 @@ use crate::laws;
 /// with GOF balances its brackets; what a server may say at level 10 it may say at level 60; and a word that isn't GOF
 /// changes nothing of GOF.
 fn messages_at_values()
-    ensures opening { (m : List ℕ) → ¬ SymbolMatches (Client L60) (prn ∷ m) }
+    ensures start_symbol { (m : List ℕ) → ¬ SymbolMatches (Client L60) (prn ∷ m) }
     ensures any { Matches standard any (bra ∷ 0x4803 ∷ ket ∷ []) }
     ensures balanced { (m : List ℕ) → Matches standard any (ket ∷ m) → IsBalanced (ket ∷ m) }
     ensures paired { (m : List ℕ) → IsMessage BotSide L60 (0x4803 ∷ m) → IsBalanced (0x4803 ∷ m) }
@@ -37,7 +37,7 @@ fn messages_at_values()
     ensures word { (word : AddedWord) → (0x4803 == word.code) ≡ false →
         IsMessageOver (word ∷ []) BotSide L0 (0x4803 ∷ []) ↔ IsMessage BotSide L0 (0x4803 ∷ []) }
 {
-    laws::opening_stands_for_messages();
+    laws::start_symbol_stands_for_messages();
     laws::any_is_balanced();
     laws::messages_are_paired();
     laws::levels_only_add();
@@ -69,7 +69,7 @@ fn moves_at_values()
     ensures stops { (m : List ℕ) → ¬ SymbolMatches Closing (bra ∷ m) }
     ensures ends { SymbolMatches (Operands L60) [] }
     ensures some { (m : List ℕ) × SymbolMatches (Press L60) m }
-    ensures alternatives { count_by (λ entry. accepts entry.kind Bra) (entries Any) ≤ 1 }
+    ensures alternatives { count_by (λ entry. is_of_kind entry.kind Bra) (entries Any) ≤ 1 }
     ensures neighbours { (brackets : ℕ) (m n : List ℕ) → IsLawful table_answer (MaybeNumber ∷ Closing ∷ []) brackets →
         SymbolMatches MaybeNumber (0x0005 ∷ m) → ¬ StackMatches SymbolMatches (Closing ∷ []) (0x0005 ∷ n) }
 {

@@ -15,9 +15,9 @@ ghost use Rattle.daide_grammar.specs.Matches.{Matches};
 ghost use Rattle.daide_grammar.specs.Balanced.{IsBalanced};
 ghost use Rattle.daide_grammar.specs.Paired.{IsPaired, begins_with_prn};
 ghost use Rattle.daide_grammar.specs.Depth.{depth_of};
-ghost use Rattle.daide_grammar.specs.Forms.{accepts};
+ghost use Rattle.daide_grammar.specs.Forms.{is_of_kind};
 ghost use Rattle.daide_grammar.specs.Table.Answers.{Take, Skip, Stop};
-ghost use Rattle.daide_grammar.specs.Table.Symbols.{entries, may_end_of, opening_of, table_answer};
+ghost use Rattle.daide_grammar.specs.Table.Symbols.{entries, may_end_of, start_symbol_of, table_answer};
 ghost use Rattle.daide_grammar.specs.Table.Stacks.{StackMatches, skips_before, ends_asked};
 ghost use Rattle.daide_grammar.specs.Table.LawfulStack.{IsLawful};
 ghost use Rattle.daide_grammar.specs.SideMessages.{IsMessage, IsMessageOver, standard};
@@ -26,9 +26,9 @@ ghost use Rattle.daide_grammar.specs.Words.{Words, has_no_word};
 
 /// The symbol that a reader starts with stands for the messages of its side and level, but for the
 /// report PRN, which is the reader's own case.
-pub fn opening_stands_for_messages()
+pub fn start_symbol_stands_for_messages()
     ensures { (side : Side2) (level : Level) (m : List ℕ) →
-        SymbolMatches (opening_of side level) m ↔ (IsMessage side level m × (begins_with_prn m ≡ false)) }
+        SymbolMatches (start_symbol_of side level) m ↔ (IsMessage side level m × (begins_with_prn m ≡ false)) }
 {}
 
 /// The form `any` is every list whose brackets balance.
@@ -94,7 +94,7 @@ pub fn no_language_is_empty()
 
 /// No two alternatives of a symbol begin with the same class.
 pub fn alternatives_differ()
-    ensures { (sym : Sym) (class : Class) → count_by (λ entry. accepts entry.kind class) (entries sym) ≤ 1 }
+    ensures { (sym : Sym) (class : Class) → count_by (λ entry. is_of_kind entry.kind class) (entries sym) ≤ 1 }
 {}
 
 /// On a stack that can arise, no token begins both a symbol that may be empty and what follows it.
@@ -107,7 +107,7 @@ pub fn neighbours_differ()
 /// A message's symbol alone is a lawful stack with no open bracket, and an answer of the table makes
 /// another of one: BRA opens a bracket, KET closes one that is open, anything else leaves the count.
 pub fn stacks_stay_lawful()
-    ensures begins { (side : Side2) (level : Level) → IsLawful table_answer (opening_of side level ∷ []) 0 }
+    ensures begins { (side : Side2) (level : Level) → IsLawful table_answer (start_symbol_of side level ∷ []) 0 }
     ensures skip { (sym : Sym) (below : List Sym) (open_brackets : ℕ) (class : Class) →
         IsLawful table_answer (sym ∷ below) open_brackets → table_answer sym class ≡ Skip →
         IsLawful table_answer below open_brackets }

@@ -1,4 +1,5 @@
-//! The numbers that definitions and table give out, by name. Printed by `daide_table`; the check is what is trusted.
+//! The numbers that definitions and table give out, by name. Printed by `daide_table_printer`; the check is what is
+//! trusted.
 
 /// How many classes there are beside an operator's words, whose numbers follow theirs.
 pub const OWN_CLASSES: usize = 79;

@@ -8,8 +8,8 @@
 ghost use Rattle.std.specs.Prelude.{◌≡◌, ◌≤◌, ◌+◌, ◌%◌, ◌^◌, [], ◌∷◌, if◌then◌else◌};
 ghost use Rattle.daide_token.specs.declared.class.Class.TheVariants.{Bra};
 ghost use Rattle.daide_grammar.specs.declared.symbol.Sym.TheVariants.{Closing};
-ghost use Rattle.daide_grammar.specs.Table.Answers.{Take, Skip, Stop, answer_of};
-ghost use Rattle.daide_grammar.specs.Table.AnswersGiven.{answers_given};
+ghost use Rattle.daide_grammar.specs.Table.Answers.{Take, Skip, Stop, entry_of_meaning};
+ghost use Rattle.daide_grammar.specs.Table.AnswersGiven.{plain_look_ups};
 ghost use Rattle.daide_grammar.specs.Classes.{same_class};
 ghost use Rattle.daide_grammar.specs.Table.Symbols.{may_end_of, table_answer};
 
@@ -44,7 +44,7 @@ pub struct Plain {
 impl Plain {
     /// A table that was never asked.
     pub fn new() -> Plain
-        ensures { answers_given result ≡ 0 }
+        ensures { plain_look_ups result ≡ 0 }
     {
         Plain { asked: 0 }
     }
@@ -59,10 +59,10 @@ fn move_of(sym: Symbol, class: Column) -> Move
 
 impl Predict for Plain {
     ghost use Rattle.daide_token.specs.Class.{class_of};
-    ghost use Rattle.daide_grammar.specs.Table.AnswersGiven.{answers_given};
+    ghost use Rattle.daide_grammar.specs.Table.AnswersGiven.{plain_look_ups};
     ghost use Rattle.daide_grammar.specs.Table.LawfulStack.{IsLawful};
     ghost use Rattle.daide_grammar.specs.Table.Languages.{SymbolMatches};
-    ghost use Rattle.daide_grammar.specs.Table.Symbols.{may_end_of, opening_of, table_answer};
+    ghost use Rattle.daide_grammar.specs.Table.Symbols.{may_end_of, start_symbol_of, table_answer};
     ghost use Rattle.daide_grammar.specs.Table.Proved.PlainLaws.{plain_laws, plain_begins};
 
     ghost words = { λ _. [] };
@@ -75,11 +75,11 @@ impl Predict for Plain {
 
     ghost ends = { λ _. may_end_of };
 
-    ghost opening = { opening_of };
+    ghost start_symbol = { start_symbol_of };
 
     ghost lawful = { λ _. IsLawful table_answer };
 
-    ghost asked = { answers_given };
+    ghost asked = { plain_look_ups };
 
     fn predict(&mut self, sym: Symbol, class: Column) -> Move {
         self.asked = self.asked.wrapping_add(1);
@@ -122,7 +122,7 @@ impl Predict for Plain {
 /// What a symbol does that must begin with one class: that class takes it, no other does.
 fn must<const N: usize>(wanted: Class, class: Class, rest: [Sym; N]) -> Meaning
     requires { N ≤ 5 }
-    ensures { answer_of result ≡ (if same_class wanted class then Take rest.entry else Stop) }
+    ensures { entry_of_meaning result ≡ (if same_class wanted class then Take rest.entry else Stop) }
 {
     if wanted.number() == class.number() {
         Meaning::Take(Rest::of(rest))
@@ -134,7 +134,7 @@ fn must<const N: usize>(wanted: Class, class: Class, rest: [Sym; N]) -> Meaning
 /// What a symbol does that may be empty: one class takes it, at any other it is skipped.
 fn may<const N: usize>(wanted: Class, class: Class, rest: [Sym; N]) -> Meaning
     requires { N ≤ 5 }
-    ensures { answer_of result ≡ (if same_class wanted class then Take rest.entry else Skip) }
+    ensures { entry_of_meaning result ≡ (if same_class wanted class then Take rest.entry else Skip) }
 {
     if wanted.number() == class.number() {
         Meaning::Take(Rest::of(rest))
@@ -145,21 +145,21 @@ fn may<const N: usize>(wanted: Class, class: Class, rest: [Sym; N]) -> Meaning
 
 /// What a symbol does that is one token.
 fn token(wanted: Class, class: Class) -> Meaning
-    ensures { answer_of result ≡ (if same_class wanted class then Take [] else Stop) }
+    ensures { entry_of_meaning result ≡ (if same_class wanted class then Take [] else Stop) }
 {
     must(wanted, class, [])
 }
 
 /// What a symbol does that is a pair of brackets with another symbol in it.
 fn group(inside: Sym, class: Class) -> Meaning
-    ensures { answer_of result ≡ (if same_class Bra class then Take (inside ∷ Closing ∷ []) else Stop) }
+    ensures { entry_of_meaning result ≡ (if same_class Bra class then Take (inside ∷ Closing ∷ []) else Stop) }
 {
     must(Class::Bra, class, [inside, Sym::Closing])
 }
 
 /// What a symbol does that is any number of such pairs: behind the first one it stands again.
 fn groups(inside: Sym, all: Sym, class: Class) -> Meaning
-    ensures { answer_of result ≡ (if same_class Bra class then Take (inside ∷ Closing ∷ all ∷ []) else Skip) }
+    ensures { entry_of_meaning result ≡ (if same_class Bra class then Take (inside ∷ Closing ∷ all ∷ []) else Skip) }
 {
     may(Class::Bra, class, [inside, Sym::Closing, all])
 }
@@ -168,7 +168,7 @@ fn groups(inside: Sym, all: Sym, class: Class) -> Meaning
 /// often, is told before the jump.
 #[tactic(auto, unfolding(crate::specs::Table::Symbols::table_answer, crate::specs::Table::Symbols::entries, crate::specs::Table::Symbols::may_end_of))]
 pub fn meaning_of(sym: Sym, class: Class) -> Meaning
-    ensures { answer_of result ≡ table_answer sym class }
+    ensures { entry_of_meaning result ≡ table_answer sym class }
 {
     match sym {
         Sym::Closing => must(Class::Ket, class, []),
@@ -192,7 +192,7 @@ pub fn meaning_of(sym: Sym, class: Class) -> Meaning
     )
 )]
 fn entry_of(sym: Sym, class: Class) -> Meaning
-    ensures { answer_of result ≡ table_answer sym class }
+    ensures { entry_of_meaning result ≡ table_answer sym class }
 {
     match sym {
         // single tokens

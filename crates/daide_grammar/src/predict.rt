@@ -11,10 +11,10 @@ ghost use Rattle.daide_token.specs.Class.{class_of as known_class};
 ghost use Rattle.daide_grammar.specs.declared.level.Level.{Level};
 ghost use Rattle.daide_grammar.specs.declared.side.Side2.{Side2};
 ghost use Rattle.daide_grammar.specs.declared.symbol.Sym.{Sym};
-ghost use Rattle.daide_grammar.specs.Table.Answers.{Answer};
+ghost use Rattle.daide_grammar.specs.Table.Answers.{TableEntry};
 ghost use Rattle.daide_grammar.specs.Words.{Words};
-ghost use Rattle.daide_grammar.specs.Table.Laws.{PredictLaws};
-ghost use Rattle.daide_grammar.specs.Table.Rules.{all_rules, deed, is_stop, is_take, rest_of};
+ghost use Rattle.daide_grammar.specs.Table.Laws.{IsCorrectPrediction};
+ghost use Rattle.daide_grammar.specs.Table.ParseActions.{all_rules, action, is_stop, is_take, rest_of};
 ghost use Rattle.daide_grammar.specs.Table.Cells.{cell_at, growth_at, length_at};
 ghost use Rattle.daide_grammar.specs.Table.Numbers.{symbol_at};
 
@@ -34,13 +34,13 @@ pub struct Move {
 }
 
 impl Model for Move {
-    ghost use Rattle.daide_grammar.specs.Table.Answers.{Answer};
-    ghost use Rattle.daide_grammar.specs.Table.Rules.{all_rules, deed};
+    ghost use Rattle.daide_grammar.specs.Table.Answers.{TableEntry};
+    ghost use Rattle.daide_grammar.specs.Table.ParseActions.{all_rules, action};
     ghost use Rattle.std.specs.Prelude.{◌<◌};
 
-    ghost Value = { Answer };
+    ghost Value = { TableEntry };
 
-    ghost view = { λ m. deed m.rule };
+    ghost view = { λ m. action m.rule };
 
     ghost invariant = { λ m. m.rule < all_rules };
 }
@@ -49,7 +49,7 @@ impl Move {
     /// The answer of a rule.
     #[inline(always)]
     pub fn of(rule: u8) -> Move
-        ensures { result ≡ deed rule }
+        ensures { result ≡ action rule }
     {
         Move {
             rule: rule as usize,
@@ -161,13 +161,13 @@ pub trait Predict {
     ghost language: { Words → Sym → List ℕ → Type 0 };
 
     /// The answer of `predict`.
-    ghost moves: { Words → Sym → Class → Answer };
+    ghost moves: { Words → Sym → Class → TableEntry };
 
     /// The answer of `may_end`.
     ghost ends: { Words → Sym → Bool };
 
     /// The answer of `start`.
-    ghost opening: { Side2 → Level → Sym };
+    ghost start_symbol: { Side2 → Level → Sym };
 
     /// The stacks that can arise, the next symbol first, each with its number of open brackets.
     ghost lawful: { Words → List Sym → ℕ → Type 0 };
@@ -210,15 +210,15 @@ pub trait Predict {
 
     /// The symbol of a side's messages at a level.
     fn start(&self, side: Side2, level: Level) -> Symbol
-        ensures { result ≡ opening side level };
+        ensures { result ≡ start_symbol side level };
 
     /// How many answers `predict`, `predict_token`, `predict_word` and `may_end` gave so far, modulo 2^64.
     fn asked(&self) -> u64
         ensures { result ≡ asked self.now };
 
     /// The answers agree with the languages, and the stacks that can arise stay small.
-    ghost laws: { (w : Words) → PredictLaws (class_of w) (language w) (moves w) (ends w) (lawful w) };
+    ghost laws: { (w : Words) → IsCorrectPrediction (class_of w) (language w) (moves w) (ends w) (lawful w) };
 
     /// A message's symbol alone is a stack that can arise.
-    ghost begins: { (w : Words) (side : Side2) (level : Level) → lawful w (opening side level ∷ []) 0 };
+    ghost begins: { (w : Words) (side : Side2) (level : Level) → lawful w (start_symbol side level ∷ []) 0 };
 }

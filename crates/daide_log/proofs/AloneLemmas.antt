@@ -9,25 +9,25 @@ use Rattle.std.proofs.lemmas.List.{length-map}
 use Rattle.std.proofs.lemmas.Option.{same_Some}
 use Rattle.daide_frame.specs.declared.side.Side.{Side}
 use Rattle.daide_frame.proofs.ListLemmas.{eqb_same}
-use Rattle.daide_machine.specs.Machine.{SessionState, Effect, Runs, opening}
-use Rattle.daide_machine.specs.declared.config.Config.{Config}
-use Rattle.daide_machine.specs.Config.{limits_with}
-use Rattle.daide_lines.specs.declared.fault.LogFault.{LogFault}
+use Rattle.daide_protocol.specs.Machine.{SessionState, Effect, Runs, initial_state}
+use Rattle.daide_protocol.specs.declared.config.Config.{Config}
+use Rattle.daide_protocol.specs.Config.{limits_with}
+use Rattle.daide_log_lines.specs.declared.fault.LogFault.{LogFault}
 use Rattle.daide_log.specs.declared.heading.Version.{Version}
 use Rattle.daide_log.specs.declared.heading.Version.TheVariants.{Single, Match}
 use Rattle.daide_log.specs.declared.config_line.MatchConfig.{MatchConfig}
-use Rattle.daide_machine.specs.declared.summary.Summary.{Summary}
-use Rattle.daide_lines.specs.LogLine.{LogEvent, Traffic, EndOf, TimeOver, Silence, Parted, is_comment, event_of_line}
-use Rattle.daide_lines.specs.LogLine.{plain_number, parted_at_space}
+use Rattle.daide_protocol.specs.declared.summary.Summary.{Summary}
+use Rattle.daide_log_lines.specs.LogLine.{LogEvent, Received, EndOf, ImTimerLine, Silence, Parted, is_comment, event_of_line}
+use Rattle.daide_log_lines.specs.LogLine.{plain_number, parted_at_space}
 use Rattle.daide_log.specs.ConfigLine.{config_of_line}
-use Rattle.daide_lines.specs.MatchLine.{MatchEvent, Of, Quiet, loud, within, event_of_session, match_event_of_parts}
-use Rattle.daide_lines.specs.MatchLine.{match_event_of_line}
+use Rattle.daide_log_lines.specs.MatchLine.{MatchEvent, Of, Quiet, loud, within, event_of_session, match_event_of_parts}
+use Rattle.daide_log_lines.specs.MatchLine.{match_event_of_line}
 use Rattle.daide_log.specs.ConfigLine.{match_config_of_line}
-use Rattle.daide_log.specs.Heading.{Preamble, Heading, Unnamed, Named, Headed, alone, heading_after}
-use Rattle.daide_machine.specs.Summary.{nothing_counted}
-use Rattle.daide_log.specs.Report.{Entry, events_of, side_of, entries_of, lines_of, counted_all, summary_line}
-use Rattle.daide_log.specs.Log.{ReportsBy, IsReportBy, LogState, Opening, Playing, begun, stage_at, source_in, IsPlayed, GoesOn, Reports, ReportsAll, IsReport}
-use Rattle.daide_log.specs.Laws.{is_number, own_of, own_line, unnumbered, own_told, SessionsAreAlone}
+use Rattle.daide_log.specs.Heading.{Preamble, Heading, Unnamed, Named, Headed, single_session, heading_after}
+use Rattle.daide_protocol.specs.Summary.{nothing_counted}
+use Rattle.daide_log.specs.Report.{ReportEntry, events_of_line, side_of, entries_of, lines_of, counted_all, summary_line}
+use Rattle.daide_log.specs.Log.{ReportsBy, IsReportBy, LogState, Opening, Playing, state_after_preamble, stage_at, source_in, IsPlayed, AdvancesByLine, Reports, ReportsAll, IsReport}
+use Rattle.daide_log.specs.Laws.{is_number, own_of, own_line, unnumbered, own_reported, SessionsAreAlone}
 use Rattle.daide_log.proofs.StepLemmas.{Steps, all_read, all_written}
 
 -- ---- what a line tells
@@ -76,9 +76,9 @@ record IsTold (sessions : ℕ) (line : List ℕ) (session : ℕ) (event : LogEve
 
 loud_event : (o : Option LogEvent) (event : LogEvent) → loud o ≡ Some event → o ≡ Some event
 loud_event None event e = absurd (cc)
-loud_event (Some (Traffic side bytes)) event e = e
+loud_event (Some (Received side bytes)) event e = e
 loud_event (Some (EndOf side)) event e = e
-loud_event (Some TimeOver) event e = e
+loud_event (Some ImTimerLine) event e = e
 loud_event (Some Silence) event e = absurd (cc)
 
 within_number : (most : ℕ) (o : Option ℕ) (n : ℕ) → within 1 most o ≡ Some n → (o ≡ Some n) × (0 < n)
@@ -90,22 +90,22 @@ within_number most (Some k) n e = go (leb 1 k) (leb k most) refl e
     go true false h w = absurd (cc)
     go false b h w = absurd (cc)
 
-both_told : (session : Option ℕ) (event : Option LogEvent) (n : ℕ) (said : LogEvent) →
+both_reported : (session : Option ℕ) (event : Option LogEvent) (n : ℕ) (said : LogEvent) →
     event_of_session session event ≡ Some (Of n said) → (session ≡ Some n) × (event ≡ Some said)
-both_told None event n said h = absurd (cc)
-both_told (Some m) None n said h = absurd (cc)
-both_told (Some m) (Some x) n said h = (cc, cc)
+both_reported None event n said h = absurd (cc)
+both_reported (Some m) None n said h = absurd (cc)
+both_reported (Some m) (Some x) n said h = (cc, cc)
 
-is_told : (sessions : ℕ) (line : List ℕ) (session : ℕ) (event : LogEvent) →
+is_reported : (sessions : ℕ) (line : List ℕ) (session : ℕ) (event : LogEvent) →
     match_event_of_line sessions line ≡ Some (Of session event) → IsTold sessions line session event
 unfolding match_event_of_line
-is_told sessions line session event e = go (is_comment line) refl e
+is_reported sessions line session event e = go (is_comment line) refl e
   where
     parts : is_comment line ≡ false → (o : Option Parted) → parted_at_space line ≡ o →
         match_event_of_parts sessions o ≡ Some (Of session event) → IsTold sessions line session event
     parts spoken None p k = absurd (cc)
     parts spoken (Some parted) p k =
-        let both = both_told (within 1 sessions (plain_number parted.word)) (loud (event_of_line parted.rest)) session event k in
+        let both = both_reported (within 1 sessions (plain_number parted.word)) (loud (event_of_line parted.rest)) session event k in
         let number = within_number sessions (plain_number parted.word) session both.0 in
         record {
           spoken = spoken;
@@ -132,40 +132,40 @@ own_is sessions line k event session t =
 
 -- ---- what is told of a session
 
-own_told-append : (session : ℕ) (a b : List Entry) → own_told session (a ++ b) ≡ own_told session a ++ own_told session b
-own_told-append session [] b = refl
-own_told-append session (entry ∷ a) b = go (is_number session entry.source.session) (own_told-append session a b)
+own_reported-append : (session : ℕ) (a b : List ReportEntry) → own_reported session (a ++ b) ≡ own_reported session a ++ own_reported session b
+own_reported-append session [] b = refl
+own_reported-append session (entry ∷ a) b = go (is_number session entry.source.session) (own_reported-append session a b)
   where
-    go : (k : Bool) → own_told session (a ++ b) ≡ own_told session a ++ own_told session b →
-        cond k (unnumbered entry ∷ own_told session (a ++ b)) (own_told session (a ++ b))
-        ≡ cond k (unnumbered entry ∷ own_told session a) (own_told session a) ++ own_told session b
-    go true later = ap (λ (l : List Entry). unnumbered entry ∷ l) later
+    go : (k : Bool) → own_reported session (a ++ b) ≡ own_reported session a ++ own_reported session b →
+        cond k (unnumbered entry ∷ own_reported session (a ++ b)) (own_reported session (a ++ b))
+        ≡ cond k (unnumbered entry ∷ own_reported session a) (own_reported session a) ++ own_reported session b
+    go true later = ap (λ (l : List ReportEntry). unnumbered entry ∷ l) later
     go false later = later
 
 own_entries : (session line : ℕ) (side : Side) (moves : List Effect) →
-    own_told session (entries_of (source_in Match line session) side moves) ≡ entries_of (source_in Single line 1) side moves
+    own_reported session (entries_of (source_in Match line session) side moves) ≡ entries_of (source_in Single line 1) side moves
 own_entries session line side [] = refl
 own_entries session line side (move ∷ moves) =
-    ap (λ (b : Bool). cond b (unnumbered here ∷ own_told session rest) (own_told session rest)) (eqb_same session)
-    ∙ ap (λ (l : List Entry). unnumbered here ∷ l) (own_entries session line side moves)
+    ap (λ (b : Bool). cond b (unnumbered here ∷ own_reported session rest) (own_reported session rest)) (eqb_same session)
+    ∙ ap (λ (l : List ReportEntry). unnumbered here ∷ l) (own_entries session line side moves)
   where
-    here : Entry
-    here = record { source = source_in Match line session; side = side; told = move.told }
+    here : ReportEntry
+    here = record { source = source_in Match line session; side = side; reported = move.reported }
 
-    rest : List Entry
+    rest : List ReportEntry
     rest = entries_of (source_in Match line session) side moves
 
 other_entries : (session k line : ℕ) (side : Side) (moves : List Effect) → eqb k session ≡ false →
-    own_told session (entries_of (source_in Match line k) side moves) ≡ []
+    own_reported session (entries_of (source_in Match line k) side moves) ≡ []
 other_entries session k line side [] e = refl
 other_entries session k line side (move ∷ moves) e =
-    ap (λ (b : Bool). cond b (unnumbered here ∷ own_told session rest) (own_told session rest)) e
+    ap (λ (b : Bool). cond b (unnumbered here ∷ own_reported session rest) (own_reported session rest)) e
     ∙ other_entries session k line side moves e
   where
-    here : Entry
-    here = record { source = source_in Match line k; side = side; told = move.told }
+    here : ReportEntry
+    here = record { source = source_in Match line k; side = side; reported = move.reported }
 
-    rest : List Entry
+    rest : List ReportEntry
     rest = entries_of (source_in Match line k) side moves
 
 -- ---- a list of sessions
@@ -190,20 +190,20 @@ get_replicate (suc n) (suc i) x h = get_replicate n i x (omega arith)
 -- ---- one line
 
 -- by a line of the match the session goes on as by its own line
-record GoesAlone (session number : ℕ) (line : List ℕ) (told : List Entry) (new : LogState) (state : SessionState) : Type 0 where
+record GoesAlone (session number : ℕ) (line : List ℕ) (reported : List ReportEntry) (new : LogState) (state : SessionState) : Type 0 where
   sessions : List SessionState
   next : SessionState
   stage : new ≡ Playing Match sessions
   place : slice_get sessions (session - 1) ≡ Some next
-  own : GoesOn number (Playing Single (state ∷ [])) (own_line session line) (own_told session told)
+  own : AdvancesByLine number (Playing Single (state ∷ [])) (own_line session line) (own_reported session reported)
       (Playing Single (next ∷ []))
 
 -- a line that tells nothing
-silent : (session number : ℕ) (line : List ℕ) (told : List Entry) (new : LogState) (states : List SessionState)
+silent : (session number : ℕ) (line : List ℕ) (reported : List ReportEntry) (new : LogState) (states : List SessionState)
     (state : SessionState) → new ≡ Playing Match states → slice_get states (session - 1) ≡ Some state →
-    event_of_line (own_line session line) ≡ Some Silence → own_told session told ≡ [] →
-    GoesAlone session number line told new state
-silent session number line told new states state e place is_silent none = record {
+    event_of_line (own_line session line) ≡ Some Silence → own_reported session reported ≡ [] →
+    GoesAlone session number line reported new state
+silent session number line reported new states state e place is_silent none = record {
   sessions = states;
   next = state;
   stage = e;
@@ -217,26 +217,26 @@ silent session number line told new states state e place is_silent none = record
   );
 }
 
-one_line_alone : (session number : ℕ) (line : List ℕ) (told : List Entry) (states : List SessionState) (new : LogState)
+one_line_alone : (session number : ℕ) (line : List ℕ) (reported : List ReportEntry) (states : List SessionState) (new : LogState)
     (state : SessionState) → 0 < session → slice_get states (session - 1) ≡ Some state →
-    GoesOn number (Playing Match states) line told new → GoesAlone session number line told new state
-one_line_alone session number line told states new state some place on = by_event on.0 on.1 on.3
+    AdvancesByLine number (Playing Match states) line reported new → GoesAlone session number line reported new state
+one_line_alone session number line reported states new state some place on = by_event on.0 on.1 on.3
   where
     by_event : (event : MatchEvent) → match_event_of_line (length states) line ≡ Some event →
-        IsPlayed Match number event states told on.2 → GoesAlone session number line told new state
+        IsPlayed Match number event states reported on.2 → GoesAlone session number line reported new state
     by_event Quiet e played =
         let comment = quiet_is_comment (length states) line e in
-        silent session number line told new states state (on.4 ∙ ap (Playing Match) played.1) place
+        silent session number line reported new states state (on.4 ∙ ap (Playing Match) played.1) place
         (ap event_of_line (ap (λ (b : Bool). cond b line (own_of session (parted_at_space line))) comment)
         ∙ comment_is_silent line comment)
-        (ap (own_told session) played.0)
+        (ap (own_reported session) played.0)
     by_event (Of k event) e played = go (eqb_tells k session)
       where
         t : IsTold (length states) line k event
-        t = is_told (length states) line k event e
+        t = is_reported (length states) line k event e
 
         go : ((eqb k session ≡ true) × (k ≡ session)) ⊎ ((eqb k session ≡ false) × (k ≢ session)) →
-            GoesAlone session number line told new state
+            GoesAlone session number line reported new state
         go (inl same) =
             let own : own_line session line ≡ t.parted.rest =
             own_is (length states) line k event session t
@@ -259,8 +259,8 @@ one_line_alone session number line told states new state some place on = by_even
                   played.1,
                   played.2,
                   refl,
-                  subst (λ (s : SessionState). Runs s (events_of event) played.2 played.1) before played.4,
-                  ap (own_told session) (played.5
+                  subst (λ (s : SessionState). Runs s (events_of_line event) played.2 played.1) before played.4,
+                  ap (own_reported session) (played.5
                       ∙ ap (λ (n : ℕ). entries_of (source_in Match number n) (side_of event) played.2) same.1)
                       ∙ own_entries session number (side_of event) played.2,
                   refl,
@@ -269,34 +269,34 @@ one_line_alone session number line told states new state some place on = by_even
               );
             }
         go (inr other) =
-            silent session number line told new on.2 state on.4
+            silent session number line reported new on.2 state on.4
             (ap (λ (l : List SessionState). slice_get l (session - 1)) played.6
             ∙ get_set_other states (k - 1) (session - 1) played.1
             (λ w. other.1 (omega (arith, w, t.some, some))) ∙ place)
             (ap event_of_line (own_is (length states) line k event session t
             ∙ ap (λ (b : Bool). cond b t.parted.rest (codes "#")) other.0) ∙ hash_is_silent [])
-            (ap (own_told session) played.5 ∙ other_entries session k number (side_of event) played.2 other.0)
+            (ap (own_reported session) played.5 ∙ other_entries session k number (side_of event) played.2 other.0)
 
 -- ---- all lines
 
-record GoAlone (session number : ℕ) (lines : List (List ℕ)) (told : List Entry) (new : LogState) (state : SessionState) : Type 0
+record GoAlone (session number : ℕ) (lines : List (List ℕ)) (reported : List ReportEntry) (new : LogState) (state : SessionState) : Type 0
   where
     sessions : List SessionState
     next : SessionState
     stage : new ≡ Playing Match sessions
-    own : Steps number (Playing Single (state ∷ [])) (map (own_line session) lines) (own_told session told)
+    own : Steps number (Playing Single (state ∷ [])) (map (own_line session) lines) (own_reported session reported)
         (Playing Single (next ∷ []))
 
-lines_alone : (lines : List (List ℕ)) (session number : ℕ) (told : List Entry) (states : List SessionState) (new : LogState)
+lines_alone : (lines : List (List ℕ)) (session number : ℕ) (reported : List ReportEntry) (states : List SessionState) (new : LogState)
     (state : SessionState) → 0 < session → slice_get states (session - 1) ≡ Some state →
-    Steps number (Playing Match states) lines told new → GoAlone session number lines told new state
-lines_alone [] session number told states new state some place steps = record {
+    Steps number (Playing Match states) lines reported new → GoAlone session number lines reported new state
+lines_alone [] session number reported states new state some place steps = record {
   sessions = states;
   next = state;
   stage = steps.1;
-  own = (ap (own_told session) steps.0, refl);
+  own = (ap (own_reported session) steps.0, refl);
 }
-lines_alone (line ∷ lines) session number told states new state some place steps =
+lines_alone (line ∷ lines) session number reported states new state some place steps =
     let here = one_line_alone session (number + 1) line steps.1 states steps.0 state some place steps.3 in
     let rest = lines_alone lines session (number + 1) steps.2 here.sessions new here.next some here.place
     (subst (λ (s : LogState). Steps (number + 1) s lines steps.2 new) here.stage steps.4) in
@@ -306,69 +306,69 @@ lines_alone (line ∷ lines) session number told states new state some place ste
       stage = rest.stage;
       own = (
         Playing Single (here.next ∷ []),
-        own_told session steps.1,
-        own_told session steps.2,
+        own_reported session steps.1,
+        own_reported session steps.2,
         here.own,
         rest.own,
-        ap (own_told session) steps.5 ∙ own_told-append session steps.1 steps.2,
+        ap (own_reported session) steps.5 ∙ own_reported-append session steps.1 steps.2,
       );
     }
 
 -- ---- the head
 
 -- the head with a line more
-opens : (number : ℕ) (old heading : Heading) (line : List ℕ) (told : List Entry) (new : LogState) →
-    GoesOn number (Opening old) line told new → heading_after old line ≡ Some heading →
-    (told ≡ []) × (new ≡ stage_at heading)
-opens number old heading line told new on e = (on.2, on.3 ∙ ap stage_at (same_Some on.0 heading (sym on.1 ∙ e)))
+opens : (number : ℕ) (old heading : Heading) (line : List ℕ) (reported : List ReportEntry) (new : LogState) →
+    AdvancesByLine number (Opening old) line reported new → heading_after old line ≡ Some heading →
+    (reported ≡ []) × (new ≡ stage_at heading)
+opens number old heading line reported new on e = (on.2, on.3 ∙ ap stage_at (same_Some on.0 heading (sym on.1 ∙ e)))
 
 -- what a match's second line sets, where there are no words
 match_head : MatchConfig → Preamble
 match_head limits = record { version = Match; limits = limits; words = [] }
 
-match_begins : (limits : MatchConfig) → limits.words ≡ 0 → stage_at (Headed (match_head limits)) ≡ begun (match_head limits)
+match_begins : (limits : MatchConfig) → limits.words ≡ 0 → stage_at (Headed (match_head limits)) ≡ state_after_preamble (match_head limits)
 unfolding match_head
-match_begins limits none = ap (λ (n : ℕ). cond (eqb 0 n) (begun (match_head limits)) (Opening (Headed (match_head limits)))) none
+match_begins limits none = ap (λ (n : ℕ). cond (eqb 0 n) (state_after_preamble (match_head limits)) (Opening (Headed (match_head limits)))) none
 
-opening_of : MatchConfig → SessionState
-opening_of limits = opening (limits_with limits.config [])
+start_symbol_of : MatchConfig → SessionState
+start_symbol_of limits = initial_state (limits_with limits.config [])
 
 -- behind the first two lines of a match without words
-match_opened : (second : List ℕ) (lines : List (List ℕ)) (limits : MatchConfig) (told : List Entry) (new : LogState) →
+match_opened : (second : List ℕ) (lines : List (List ℕ)) (limits : MatchConfig) (reported : List ReportEntry) (new : LogState) →
     match_config_of_line second ≡ Some limits → limits.words ≡ 0 →
-    Steps 0 (Opening Unnamed) (codes "daide-log 2" ∷ second ∷ lines) told new →
-    Steps 2 (Playing Match (replicate limits.sessions (opening_of limits))) lines told new
-unfolding match_head opening_of
-match_opened second lines limits told new e none steps =
+    Steps 0 (Opening Unnamed) (codes "daide-log 2" ∷ second ∷ lines) reported new →
+    Steps 2 (Playing Match (replicate limits.sessions (start_symbol_of limits))) lines reported new
+unfolding match_head start_symbol_of
+match_opened second lines limits reported new e none steps =
     let named = opens 1 Unnamed (Named Match) (codes "daide-log 2") steps.1 steps.0 steps.3 refl in
     let later : Steps 1 (Opening (Named Match)) (second ∷ lines) steps.2 new =
     subst (λ (s : LogState). Steps 1 s (second ∷ lines) steps.2 new) named.1 steps.4 in
     let headed = opens 2 (Named Match) (Headed (match_head limits)) second later.1 later.0 later.3
     (ap (option_map (λ (l : MatchConfig). Headed (record { version = Match; limits = l; words = [] }))) e) in
-    let events : Steps 2 (begun (match_head limits)) lines later.2 new =
+    let events : Steps 2 (state_after_preamble (match_head limits)) lines later.2 new =
     subst (λ (s : LogState). Steps 2 s lines later.2 new) (headed.1 ∙ match_begins limits none) later.4 in
-    subst (λ (t : List Entry). Steps 2 (begun (match_head limits)) lines t new)
-    (sym (steps.5 ∙ ap (λ (t : List Entry). t ++ steps.2) named.0 ∙ later.5 ∙ ap (λ (t : List Entry). t ++ later.2) headed.0))
+    subst (λ (t : List ReportEntry). Steps 2 (state_after_preamble (match_head limits)) lines t new)
+    (sym (steps.5 ∙ ap (λ (t : List ReportEntry). t ++ steps.2) named.0 ∙ later.5 ∙ ap (λ (t : List ReportEntry). t ++ later.2) headed.0))
     events
 
 -- the first two lines of the session's own log
-own_opened : (own_second : List ℕ) (lines : List (List ℕ)) (config : Config) (told : List Entry) (new : LogState) →
+own_opened : (own_second : List ℕ) (lines : List (List ℕ)) (config : Config) (reported : List ReportEntry) (new : LogState) →
     config_of_line own_second ≡ Some config →
-    Steps 2 (Playing Single (opening (limits_with config []) ∷ [])) lines told new →
-    Steps 0 (Opening Unnamed) (codes "daide-log 1" ∷ own_second ∷ lines) told new
-own_opened own_second lines config told new e steps = (
+    Steps 2 (Playing Single (initial_state (limits_with config []) ∷ [])) lines reported new →
+    Steps 0 (Opening Unnamed) (codes "daide-log 1" ∷ own_second ∷ lines) reported new
+own_opened own_second lines config reported new e steps = (
   Opening (Named Single),
   [],
-  told,
+  reported,
   (Named Single, refl, refl, refl),
   (
-    Playing Single (opening (limits_with config []) ∷ []),
+    Playing Single (initial_state (limits_with config []) ∷ []),
     [],
-    told,
+    reported,
     (
-      Headed (record { version = Single; limits = alone config; words = [] }),
+      Headed (record { version = Single; limits = single_session config; words = [] }),
       ap (λ (o : Option Config). option_map (λ (l : MatchConfig). Headed (record { version = Single; limits = l; words = [] }))
-          (option_map alone o)) e,
+          (option_map single_session o)) e,
       refl,
       refl,
     ),
@@ -383,48 +383,48 @@ own_opened own_second lines config told new e steps = (
 -- a report without a fault is of a log that was read to its end
 record IsWhole (log text : List ℕ) (summary : Summary) : Type 0 where
   number : ℕ
-  told : List Entry
+  reported : List ReportEntry
   version : Version
   sessions : List SessionState
-  reports : ReportsAll log number told (Playing version sessions)
-  counts : summary ≡ counted_all told nothing_counted
-  written : text ≡ lines_of told ++ summary_line summary
+  reports : ReportsAll log number reported (Playing version sessions)
+  counts : summary ≡ counted_all reported nothing_counted
+  written : text ≡ lines_of reported ++ summary_line summary
 
 is_whole_report : (log text : List ℕ) (answer : Result Summary LogFault) (summary : Summary) → IsReport log text answer →
     answer ≡ Ok summary → IsWhole log text summary
-is_whole_report _ _ _ summary (IsReportBy.whole log number told version sessions reports) e =
-    let counts : counted_all told nothing_counted ≡ summary = cc in
+is_whole_report _ _ _ summary (IsReportBy.whole log number reported version sessions reports) e =
+    let counts : counted_all reported nothing_counted ≡ summary = cc in
     record {
       number = number;
-      told = told;
+      reported = reported;
       version = version;
       sessions = sessions;
       reports = reports;
       counts = sym counts;
-      written = ap (λ (s : Summary). lines_of told ++ summary_line s) counts;
+      written = ap (λ (s : Summary). lines_of reported ++ summary_line s) counts;
     }
-is_whole_report _ _ _ summary (IsReportBy.cut_short log number told stage reports is_opening) e = absurd (cc)
-is_whole_report _ _ _ summary (IsReportBy.bad bytes number told stage reports line after few unbroken short wrong) e = absurd (cc)
-is_whole_report _ _ _ summary (IsReportBy.bad_last bytes number told stage reports line few some unbroken short wrong) e = absurd (cc)
-is_whole_report _ _ _ summary (IsReportBy.too_long bytes number told stage reports line after few unbroken long) e = absurd (cc)
-is_whole_report _ _ _ summary (IsReportBy.too_many bytes told stage reports after some) e = absurd (cc)
+is_whole_report _ _ _ summary (IsReportBy.cut_short log number reported stage reports is_opening) e = absurd (cc)
+is_whole_report _ _ _ summary (IsReportBy.bad bytes number reported stage reports line after few unbroken short wrong) e = absurd (cc)
+is_whole_report _ _ _ summary (IsReportBy.bad_last bytes number reported stage reports line few some unbroken short wrong) e = absurd (cc)
+is_whole_report _ _ _ summary (IsReportBy.too_long bytes number reported stage reports line after few unbroken long) e = absurd (cc)
+is_whole_report _ _ _ summary (IsReportBy.too_many bytes reported stage reports after some) e = absurd (cc)
 
 pub sessions_alone : SessionsAreAlone
-unfolding opening_of
+unfolding start_symbol_of
 sessions_alone log own second own_second lines limits session text summary h second_is none some few k own_is report =
     let w = is_whole_report log text (Ok summary) summary report refl in
-    let read = all_read log w.number w.told (Playing w.version w.sessions) w.reports
+    let read = all_read log w.number w.reported (Playing w.version w.sessions) w.reports
     (codes "daide-log 2" ∷ second ∷ lines) h in
-    let events = match_opened second lines limits w.told (Playing w.version w.sessions) second_is none read.0 in
-    let state : SessionState = opening_of limits in
-    let alone_steps = lines_alone lines session 2 w.told (replicate limits.sessions state) (Playing w.version w.sessions)
+    let events = match_opened second lines limits w.reported (Playing w.version w.sessions) second_is none read.0 in
+    let state : SessionState = start_symbol_of limits in
+    let alone_steps = lines_alone lines session 2 w.reported (replicate limits.sessions state) (Playing w.version w.sessions)
     state some (get_replicate limits.sessions (session - 1) state (omega (arith, some, few))) events in
-    let own_steps = own_opened own_second (map (own_line session) lines) limits.config (own_told session w.told)
+    let own_steps = own_opened own_second (map (own_line session) lines) limits.config (own_reported session w.reported)
     (Playing Single (alone_steps.next ∷ [])) own_is alone_steps.own in
     let all = all_written (codes "daide-log 1" ∷ own_second ∷ map (own_line session) lines) own [] 0 []
-    (own_told session w.told) (Opening Unnamed) (Playing Single (alone_steps.next ∷ [])) k ReportsBy.none own_steps
+    (own_reported session w.reported) (Opening Unnamed) (Playing Single (alone_steps.next ∷ [])) k ReportsBy.none own_steps
     (omega (arith, read.1, length-map lines (own_line session))) in (
-      w.told,
+      w.reported,
       w.written,
-      IsReportBy.whole own all.0 (own_told session w.told) Single (alone_steps.next ∷ []) all.1,
+      IsReportBy.whole own all.0 (own_reported session w.reported) Single (alone_steps.next ∷ []) all.1,
     )

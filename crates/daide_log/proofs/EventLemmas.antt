@@ -8,35 +8,35 @@ use Rattle.std.proofs.lemmas.List.{get_or-set_same, get_or-set_other}
 use Rattle.std.proofs.lemmas.List.{length-map, map-set, map-append, replicate_more}
 use Rattle.std.proofs.lemmas.Option.{slice_get-map, slice_get_read}
 use Rattle.std.specs.Io.KnownBytes.{Keeps, Appends}
-use Rattle.daide_machine.specs.Machine.{Limits, SessionState, opening}
-use Rattle.daide_machine.specs.Wires.{SessionView, IsNew}
+use Rattle.daide_protocol.specs.Machine.{Limits, SessionState, initial_state}
+use Rattle.daide_protocol.specs.Wires.{SessionView, IsNew}
 use Rattle.daide_log.specs.declared.heading.Version.{Version}
-use Rattle.daide_log.specs.declared.report.Source.{Source}
-use Rattle.daide_machine.specs.declared.summary.Summary.{Summary}
-use Rattle.daide_lines.specs.declared.lines.Found.{Found}
-use Rattle.daide_lines.specs.declared.lines.Found.TheVariants.{Held, Line, Last, End}
-use Rattle.daide_lines.specs.declared.fault.LogFault.{LogFault}
-use Rattle.daide_lines.specs.declared.fault.LogFault.TheVariants as Faults
-use Rattle.daide_lines.specs.LogLine.{LogEvent}
-use Rattle.daide_lines.specs.MatchLine.{Of, Quiet}
-use Rattle.daide_machine.specs.Summary.{nothing_counted}
+use Rattle.daide_log.specs.declared.report.ReportKey.{ReportKey}
+use Rattle.daide_protocol.specs.declared.summary.Summary.{Summary}
+use Rattle.daide_log_lines.specs.declared.lines.LineEnd.{LineEnd}
+use Rattle.daide_log_lines.specs.declared.lines.LineEnd.TheVariants.{Held, Line, Last, End}
+use Rattle.daide_log_lines.specs.declared.fault.LogFault.{LogFault}
+use Rattle.daide_log_lines.specs.declared.fault.LogFault.TheVariants as Faults
+use Rattle.daide_log_lines.specs.LogLine.{LogEvent}
+use Rattle.daide_log_lines.specs.MatchLine.{Of, Quiet}
+use Rattle.daide_protocol.specs.Summary.{nothing_counted}
 use Rattle.daide_words.specs.declared.word.Word.{Word}
-use Rattle.daide_machine.specs.declared.config.Config.{Config}
-use Rattle.daide_machine.specs.Config.{config_fault, limits_with}
+use Rattle.daide_protocol.specs.declared.config.Config.{Config}
+use Rattle.daide_protocol.specs.Config.{config_fault, limits_with}
 use Rattle.daide_log.specs.declared.page.Unreported.{Unreported}
 use Rattle.daide_log.specs.declared.page.Unreported.TheVariants as Unreporteds
-use Rattle.daide_log.specs.Form.{Form, IsLawful}
+use Rattle.daide_log.specs.ReportForm.{ReportForm, IsWritableForm}
 use Rattle.daide_log.specs.Explained.{explained}
-use Rattle.daide_log.specs.Report.{events_of, side_of, texts_of, counted_by}
-use Rattle.daide_lines.specs.LogLine.{most_lines}
+use Rattle.daide_log.specs.Report.{events_of_line, side_of, texts_of, counted_over}
+use Rattle.daide_log_lines.specs.LogLine.{most_lines}
 use Rattle.daide_log.specs.Log.{Playing, event_in, source_in}
-use Rattle.daide_lines.specs.Reader.{Reader}
-use Rattle.daide_lines.specs.Lines.{IsFound, is_end, is_last}
-use Rattle.daide_machine.specs.Summary.{IsMoreBy}
-use Rattle.daide_log.specs.Told.{IsReady, IsQuietWith, IsCauseIn, IsLateFault, Tells, fault_of}
-use Rattle.daide_log.specs.Progress.{Begins, IsFaultOf, IsFaultAfter, IsFinished, Reported, IsPlaying, Judges, states_of}
-use Rattle.daide_lines.proofs.PageLemmas.{appends_and_keeps, keeps_appends}
-use Rattle.daide_log.proofs.PlayLemmas.{appends_more, texts_of-append, counted_by-append}
+use Rattle.daide_log_lines.specs.Reader.{Reader}
+use Rattle.daide_log_lines.specs.Lines.{IsFound, is_end_of_log, is_last_line}
+use Rattle.daide_protocol.specs.Summary.{IsMoreBy}
+use Rattle.daide_log.specs.Reporting.{IsReady, IsQuietWith, IsCauseIn, IsLateFault, ReportsEvents, fault_of_unreported}
+use Rattle.daide_log.specs.Progress.{StartsReport, IsFaultOf, IsFaultAfter, IsFinished, Reported, IsPlaying, Judges, states_of}
+use Rattle.daide_log_lines.proofs.PageLemmas.{appends_and_keeps, keeps_appends}
+use Rattle.daide_log.proofs.PlayLemmas.{appends_more, texts_of-append, counted_over-append}
 use Rattle.daide_log.proofs.LogLemmas.{line_read, last_read, end_read, bad_line, bad_last, fault_found, fault_after, finished}
 use Rattle.daide_log.proofs.LogLemmas.{found_given, write_failed, late_fault}
 
@@ -45,13 +45,13 @@ on_ok (Ok x) P Q h f = f h
 on_ok (Err e) P Q h f = tt
 
 -- why a line is missing, as a fault of the log
-pub as_told : (told : Result Unit Unreported) (answer : Result Unit LogFault) (P : Type 0) →
-    MatchResult told (λ _. answer ≡ Ok tt) (λ fault. answer ≡ Err (fault_of fault)) → OnOk told P → OnOk answer P
-as_told (Ok x) answer P e h = subst (λ (r : Result Unit LogFault). OnOk r P) (sym e) h
-as_told (Err f) answer P e h = subst (λ (r : Result Unit LogFault). OnOk r P) (sym e) tt
+pub as_reported : (reported : Result Unit Unreported) (answer : Result Unit LogFault) (P : Type 0) →
+    MatchResult reported (λ _. answer ≡ Ok tt) (λ fault. answer ≡ Err (fault_of_unreported fault)) → OnOk reported P → OnOk answer P
+as_reported (Ok x) answer P e h = subst (λ (r : Result Unit LogFault). OnOk r P) (sym e) h
+as_reported (Err f) answer P e h = subst (λ (r : Result Unit LogFault). OnOk r P) (sym e) tt
 
-pub late_of : {Answer : Type 0} → (form : Form Answer) (fault : Unreported) → IsCauseIn form fault →
-    IsLateFault form (fault_of fault)
+pub late_of : {Answer : Type 0} → (form : ReportForm Answer) (fault : Unreported) → IsCauseIn form fault →
+    IsLateFault form (fault_of_unreported fault)
 late_of form Unreporteds.Write h = inl refl
 late_of form Unreporteds.Memory h = inr (refl, h)
 
@@ -61,8 +61,8 @@ any_cause words (Ok x) = tt
 any_cause words (Err Unreporteds.Write) = tt
 any_cause words (Err Unreporteds.Memory) = refl
 
-pub refused_late : {Answer : Type 0} → (form : Form Answer) (told : Result Unit Unreported) (answer : Result Unit LogFault) →
-    MatchResult told (λ _. answer ≡ Ok tt) (λ fault. answer ≡ Err (fault_of fault)) → IfErr told (IsCauseIn form) →
+pub refused_late : {Answer : Type 0} → (form : ReportForm Answer) (reported : Result Unit Unreported) (answer : Result Unit LogFault) →
+    MatchResult reported (λ _. answer ≡ Ok tt) (λ fault. answer ≡ Err (fault_of_unreported fault)) → IfErr reported (IsCauseIn form) →
     IfErr answer (IsLateFault form)
 refused_late form (Ok x) answer e h =
     subst (λ (r : Result Unit LogFault). IfErr r (IsLateFault form)) (sym e) tt
@@ -93,51 +93,51 @@ new_is_ready config words session new right = record {
 
 -- one session more was made
 pub one_more_opened : (limits : Limits) (items : List SessionView) (n : ℕ) (session : SessionView) →
-    states_of items ≡ replicate n (opening limits) → IsNew limits session →
-    states_of (items ++ session ∷ []) ≡ replicate (n + 1) (opening limits)
+    states_of items ≡ replicate n (initial_state limits) → IsNew limits session →
+    states_of (items ++ session ∷ []) ≡ replicate (n + 1) (initial_state limits)
 one_more_opened limits items n session h new =
     map-append (λ (g : SessionView). g.state) items (session ∷ [])
     ∙ ap (λ (l : List SessionState). l ++ session.state ∷ []) h
-    ∙ ap (λ (s : SessionState). replicate n (opening limits) ++ s ∷ []) new.state
-    ∙ replicate_more n (opening limits)
+    ∙ ap (λ (s : SessionState). replicate n (initial_state limits) ++ s ∷ []) new.state
+    ∙ replicate_more n (initial_state limits)
 
 -- ---- what was found
 
-pub at_end : (found : Found) → is_end found ≡ true → found ≡ End
+pub at_end : (found : LineEnd) → is_end_of_log found ≡ true → found ≡ End
 at_end (Held n) e = absurd (cc)
 at_end Line e = absurd (cc)
 at_end Last e = absurd (cc)
 at_end End e = refl
 
-pub at_last_line : (found : Found) → is_last found ≡ true → found ≡ Last
+pub at_last_line : (found : LineEnd) → is_last_line found ≡ true → found ≡ Last
 at_last_line (Held n) e = absurd (cc)
 at_last_line Line e = absurd (cc)
 at_last_line Last e = refl
 at_last_line End e = absurd (cc)
 
 -- any other that was found is a line with its line feed
-pub as_line : (all : Option (List ℕ)) (now new : Reader) (held rest line : List ℕ) (n : ℕ) (found : Found) → is_end found ≡ false →
-    is_last found ≡ false → IsFound all now held n (Ok found) line new rest → IsFound all now held n (Ok Line) line new rest
+pub as_line : (all : Option (List ℕ)) (now new : Reader) (held rest line : List ℕ) (n : ℕ) (found : LineEnd) → is_end_of_log found ≡ false →
+    is_last_line found ≡ false → IsFound all now held n (Ok found) line new rest → IsFound all now held n (Ok Line) line new rest
 as_line all now new held rest line n (Held k) e l f = f
 as_line all now new held rest line n Line e l f = f
 as_line all now new held rest line n Last e l f = absurd (cc)
 as_line all now new held rest line n End e l f = absurd (cc)
 
-module _ {Answer : Type 0} (form : Form Answer) where
+module _ {Answer : Type 0} (form : ReportForm Answer) where
   -- ---- one line
 
   -- a session was told what a line tells it
-  pub session_judged : (words : List Word) → IsLawful words form → (version : Version) (number session : ℕ) (event : LogEvent)
-      (line : List ℕ) (items : List SessionView) (old new : SessionView) (source : Source) (s t : Summary)
+  pub session_judged : (words : List Word) → IsWritableForm words form → (version : Version) (number session : ℕ) (event : LogEvent)
+      (line : List ℕ) (items : List SessionView) (old new : SessionView) (source : ReportKey) (s t : Summary)
       (a b c : Option (List ℕ)) (quoted : List ℕ) →
       event_in version (length items) line ≡ Some (Of session event) → 0 < session → session ≤ length items →
       old ≡ get_or items (session - 1) old → source ≡ source_in version number session →
       IsQuietWith form line quoted → Appends a b quoted →
-      Tells form source (side_of event) old.state (events_of event) new.state s t b c →
+      ReportsEvents form source (side_of event) old.state (events_of_line event) new.state s t b c →
       Judges form version number (states_of items) line (states_of (set items (session - 1) new)) s t a c
   session_judged words lawful version number session event line items old new source s t a b c quoted is_event some few read
-      is_source quiet written told = (
-        quiet.0 ++ told.1,
+      is_source quiet written reported = (
+        quiet.0 ++ reported.1,
         (
           Of session event,
           ap (λ (n : ℕ). event_in version n line) (length-map items (λ (g : SessionView). g.state)) ∙ is_event,
@@ -145,21 +145,21 @@ module _ {Answer : Type 0} (form : Form Answer) where
           (
             old.state,
             new.state,
-            told.0,
+            reported.0,
             slice_get-map (λ (g : SessionView). g.state) items (session - 1)
                 ∙ ap (option_map (λ (g : SessionView). g.state))
                 (slice_get_read items (length items) (session - 1) old refl (omega arith) read),
-            told.2,
-            subst (λ (k : Source). form.line line k event old.state told.0 new.state (quiet.0 ++ told.1)) is_source
-                (lawful.of_line line source event old.state told.0 new.state quiet.0 told.1 quiet.1 told.3),
+            reported.2,
+            subst (λ (k : ReportKey). form.line line k event old.state reported.0 new.state (quiet.0 ++ reported.1)) is_source
+                (lawful.of_line line source event old.state reported.0 new.state quiet.0 reported.1 quiet.1 reported.3),
             map-set (λ (g : SessionView). g.state) items (session - 1) new,
           ),
           refl,
         ),
-        told.4 ∙ ap (counted_by form.counted told.1) (sym (quiet.3 s)) ∙ sym (counted_by-append form.counted quiet.0 told.1 s),
+        reported.4 ∙ ap (counted_over form.counted reported.1) (sym (quiet.3 s)) ∙ sym (counted_over-append form.counted quiet.0 reported.1 s),
         subst (Appends a c)
-            (ap (λ (l : List ℕ). l ++ texts_of form.text told.1) (sym quiet.2) ∙ sym (texts_of-append form.text quiet.0 told.1))
-            (appends_more a b c quoted (texts_of form.text told.1) written told.5),
+            (ap (λ (l : List ℕ). l ++ texts_of form.text reported.1) (sym quiet.2) ∙ sym (texts_of-append form.text quiet.0 reported.1))
+            (appends_more a b c quoted (texts_of form.text reported.1) written reported.5),
       )
 
   -- a line tells nothing
@@ -194,7 +194,7 @@ module _ {Answer : Type 0} (form : Form Answer) where
 
   pub plays_first : (P : SessionView → Type 0) (now : Reader) (held : List ℕ) (number : ℕ) (version : Version) (sessions : List SessionView)
       (summary : Summary) (a : Option (List ℕ)) → All P sessions → number ≤ most_lines → summary ≡ nothing_counted →
-      Plays P (Begins form now held number version (states_of sessions) a) now held number version sessions (length sessions) summary
+      Plays P (StartsReport form now held number version (states_of sessions) a) now held number version sessions (length sessions) summary
       a
   plays_first P now held number version sessions summary a ready fits e = record {
     ready = ready;
@@ -203,7 +203,7 @@ module _ {Answer : Type 0} (form : Form Answer) where
         (record { relayed = omega arith; prn = omega arith; huh = omega arith; faults = omega arith });
     fits = fits;
     playing = λ origin before h.
-        record { told = []; has_read = h.0; counts = e; written = keeps_appends before a h.1 };
+        record { reported = []; has_read = h.0; counts = e; written = keeps_appends before a h.1 };
   }
 
   more_few : (n : ℕ) (s t : Summary) → IsMoreBy (1024 * n) nothing_counted s → IsMoreBy 1024 s t →
@@ -211,14 +211,14 @@ module _ {Answer : Type 0} (form : Form Answer) where
   more_few n s t h k = record { relayed = omega arith; prn = omega arith; huh = omega arith; faults = omega arith }
 
   -- what was told so far, with what a line told
-  more_counts : (told more : List form.Entry) (s t : Summary) → s ≡ counted_by form.counted told nothing_counted → t ≡ counted_by form.counted more s →
-      t ≡ counted_by form.counted (told ++ more) nothing_counted
-  more_counts told more s t h k = k ∙ ap (counted_by form.counted more) h ∙ sym (counted_by-append form.counted told more nothing_counted)
+  more_counts : (reported more : List form.Entry) (s t : Summary) → s ≡ counted_over form.counted reported nothing_counted → t ≡ counted_over form.counted more s →
+      t ≡ counted_over form.counted (reported ++ more) nothing_counted
+  more_counts reported more s t h k = k ∙ ap (counted_over form.counted more) h ∙ sym (counted_over-append form.counted reported more nothing_counted)
 
-  more_text : (told more : List form.Entry) (a b c : Option (List ℕ)) → Appends a b (texts_of form.text told) → Appends b c (texts_of form.text more) →
-      Appends a c (texts_of form.text (told ++ more))
-  more_text told more a b c h k =
-      subst (Appends a c) (sym (texts_of-append form.text told more)) (appends_more a b c (texts_of form.text told) (texts_of form.text more) h k)
+  more_text : (reported more : List form.Entry) (a b c : Option (List ℕ)) → Appends a b (texts_of form.text reported) → Appends b c (texts_of form.text more) →
+      Appends a c (texts_of form.text (reported ++ more))
+  more_text reported more a b c h k =
+      subst (Appends a c) (sym (texts_of-append form.text reported more)) (appends_more a b c (texts_of form.text reported) (texts_of form.text more) h k)
 
   -- a line was judged
   pub plays_more : (P : SessionView → Type 0) (start : Reader → Option (List ℕ) → Type 0) (now new : Reader) (held rest line : List ℕ) (n : ℕ)
@@ -232,11 +232,11 @@ module _ {Answer : Type 0} (form : Form Answer) where
     few = more_few n s t p.few few;
     fits = omega (arith, f.4);
     playing = λ origin before h. let q = p.playing origin before h in record {
-      told = q.told ++ j.0;
-      has_read = line_read form before all origin now new held rest line n q.told j.0 (Playing version (states_of sessions))
+      reported = q.reported ++ j.0;
+      has_read = line_read form before all origin now new held rest line n q.reported j.0 (Playing version (states_of sessions))
           (Playing version (states_of next)) q.has_read q.written f j.1;
-      counts = more_counts q.told j.0 s t q.counts j.2;
-      written = more_text q.told j.0 before b c (appends_and_keeps before all b (texts_of form.text q.told) q.written k) j.3;
+      counts = more_counts q.reported j.0 s t q.counts j.2;
+      written = more_text q.reported j.0 before b c (appends_and_keeps before all b (texts_of form.text q.reported) q.written k) j.3;
     };
   }
 
@@ -251,9 +251,9 @@ module _ {Answer : Type 0} (form : Form Answer) where
       IfOk result (λ answer. Reported form origin new before c answer)
   finished_at_end P start now new held rest line n version sessions count s all b c result p f k r origin before h =
       let q = p.playing origin before h in
-      finished form origin new n q.told version (states_of sessions) s before b c result
-      (end_read form before all origin now new held rest line n q.told (Playing version (states_of sessions)) q.has_read q.written f)
-      q.counts (appends_and_keeps before all b (texts_of form.text q.told) q.written k) r
+      finished form origin new n q.reported version (states_of sessions) s before b c result
+      (end_read form before all origin now new held rest line n q.reported (Playing version (states_of sessions)) q.has_read q.written f)
+      q.counts (appends_and_keeps before all b (texts_of form.text q.reported) q.written k) r
 
   pub finished_at_last : (P : SessionView → Type 0) (start : Reader → Option (List ℕ) → Type 0) (now new : Reader) (held rest line : List ℕ) (n : ℕ)
       (version : Version) (sessions next : List SessionView) (count : ℕ) (s t : Summary) (all b c d : Option (List ℕ))
@@ -265,15 +265,15 @@ module _ {Answer : Type 0} (form : Form Answer) where
       IfOk result (λ answer. Reported form origin new before d answer)
   finished_at_last P start now new held rest line n version sessions next count s t all b c d result p f k j r origin before h =
       let q = p.playing origin before h in
-      finished form origin new (n + 1) (q.told ++ j.0) version (states_of next) t before c d result
-      (last_read form before all origin now new held rest line n q.told j.0 (Playing version (states_of sessions))
+      finished form origin new (n + 1) (q.reported ++ j.0) version (states_of next) t before c d result
+      (last_read form before all origin now new held rest line n q.reported j.0 (Playing version (states_of sessions))
       (Playing version (states_of next)) q.has_read q.written f j.1)
-      (more_counts q.told j.0 s t q.counts j.2)
-      (more_text q.told j.0 before b c (appends_and_keeps before all b (texts_of form.text q.told) q.written k) j.3) r
+      (more_counts q.reported j.0 s t q.counts j.2)
+      (more_text q.reported j.0 before b c (appends_and_keeps before all b (texts_of form.text q.reported) q.written k) j.3) r
 
   -- the counts could not be written
   pub unfinished : (P : SessionView → Type 0) (start : Reader → Option (List ℕ) → Type 0) (now new : Reader) (held rest line : List ℕ) (n : ℕ)
-      (version : Version) (sessions : List SessionView) (count : ℕ) (s : Summary) (all c : Option (List ℕ)) (found : Found)
+      (version : Version) (sessions : List SessionView) (count : ℕ) (s : Summary) (all c : Option (List ℕ)) (found : LineEnd)
       (result : Result Answer LogFault) → Plays P start now held n version sessions count s all →
       IsFound all now held n (Ok found) line new rest → IfErr result (IsLateFault form) →
       (origin : Reader) (before : Option (List ℕ)) → start origin before →
@@ -281,7 +281,7 @@ module _ {Answer : Type 0} (form : Form Answer) where
   unfinished P start now new held rest line n version sessions count s all c found result p f e origin before h =
       let q = p.playing origin before h in
       write_failed form origin new before c result
-      (found_given form before all origin now new held rest line n q.told (Playing version (states_of sessions)) found q.has_read
+      (found_given form before all origin now new held rest line n q.reported (Playing version (states_of sessions)) found q.has_read
       q.written f)
       e
 
@@ -294,41 +294,41 @@ module _ {Answer : Type 0} (form : Form Answer) where
       IsFaultAfter form origin new before c fault
   fault_in_play P start now new held rest line n version sessions count s all c fault p f k origin before h =
       let q = p.playing origin before h in
-      fault_after form origin new q.told before c fault
-      (fault_found form before all origin now new held rest line n q.told (Playing version (states_of sessions)) fault q.has_read
+      fault_after form origin new q.reported before c fault
+      (fault_found form before all origin now new held rest line n q.reported (Playing version (states_of sessions)) fault q.has_read
       q.written f)
-      (λ other. appends_and_keeps before all c (texts_of form.text q.told) q.written (k other))
+      (λ other. appends_and_keeps before all c (texts_of form.text q.reported) q.written (k other))
 
   -- and so at a fault that `?` hands on
   pub fault_handed_on : (start : Reader → Option (List ℕ) → Type 0) (new : Reader) (c : Option (List ℕ)) (fault : LogFault)
-      (result : Result Answer LogFault) → IsErrAnd result (λ told. told ≡ fault) →
+      (result : Result Answer LogFault) → IsErrAnd result (λ reported. reported ≡ fault) →
       ((origin : Reader) (before : Option (List ℕ)) → start origin before → IsFaultAfter form origin new before c fault) →
       (origin : Reader) (before : Option (List ℕ)) → start origin before →
       IfErr result (IsFaultAfter form origin new before c)
   fault_handed_on start new c fault (Ok summary) e h origin before begins = tt
-  fault_handed_on start new c fault (Err told) e h origin before begins =
+  fault_handed_on start new c fault (Err reported) e h origin before begins =
       subst (IsFaultAfter form origin new before c) (sym e) (h origin before begins)
 
   -- a line of another form, or a failed write
   pub bad_in_play : (P : SessionView → Type 0) (start : Reader → Option (List ℕ) → Type 0) (now new : Reader) (held rest line : List ℕ) (n : ℕ)
-      (version : Version) (sessions : List SessionView) (count : ℕ) (s : Summary) (all b c : Option (List ℕ)) (found : Found)
+      (version : Version) (sessions : List SessionView) (count : ℕ) (s : Summary) (all b c : Option (List ℕ)) (found : LineEnd)
       (fault : LogFault) → Plays P start now held n version sessions count s all →
-      IsFound all now held n (Ok found) line new rest → is_end found ≡ false → Keeps all b →
+      IsFound all now held n (Ok found) line new rest → is_end_of_log found ≡ false → Keeps all b →
       IsLateFault form fault ⊎ ((fault ≡ Faults.BadLine (n + 1)) × (event_in version (length sessions) line ≡ None)
       × (c ≡ b)) → (origin : Reader) (before : Option (List ℕ)) → start origin before →
       IsFaultAfter form origin new before c fault
   bad_in_play P start now new held rest line n version sessions count s all b c found fault p f other k (inl e) origin before h =
       let q = p.playing origin before h in
       late_fault form origin new before c fault
-      (found_given form before all origin now new held rest line n q.told (Playing version (states_of sessions)) found q.has_read
+      (found_given form before all origin now new held rest line n q.reported (Playing version (states_of sessions)) found q.has_read
       q.written f)
       e
   bad_in_play P start now new held rest line n version sessions count s all b c found fault p f other k (inr r) origin before h =
       subst (IsFaultAfter form origin new before c) (sym r.0) (
-        q.told,
+        q.reported,
         is_fault found f other,
-        subst (λ (w : Option (List ℕ)). Appends before w (texts_of form.text q.told)) (sym r.2)
-            (appends_and_keeps before all b (texts_of form.text q.told) q.written k),
+        subst (λ (w : Option (List ℕ)). Appends before w (texts_of form.text q.reported)) (sym r.2)
+            (appends_and_keeps before all b (texts_of form.text q.reported) q.written k),
       )
     where
       q : IsPlaying form origin now held n version (states_of sessions) s before all
@@ -337,15 +337,15 @@ module _ {Answer : Type 0} (form : Form Answer) where
       is_bad : event_in version (length (states_of sessions)) line ≡ None
       is_bad = ap (λ (k : ℕ). event_in version k line) (length-map sessions (λ (g : SessionView). g.state)) ∙ r.1
 
-      is_fault : (found : Found) → IsFound all now held n (Ok found) line new rest → is_end found ≡ false →
-          IsFaultOf form before origin new q.told (Faults.BadLine (n + 1))
+      is_fault : (found : LineEnd) → IsFound all now held n (Ok found) line new rest → is_end_of_log found ≡ false →
+          IsFaultOf form before origin new q.reported (Faults.BadLine (n + 1))
       is_fault (Held k) f other =
-          bad_line form before all origin now new held rest line n q.told (Playing version (states_of sessions)) q.has_read q.written
+          bad_line form before all origin now new held rest line n q.reported (Playing version (states_of sessions)) q.has_read q.written
           f is_bad
       is_fault Line f other =
-          bad_line form before all origin now new held rest line n q.told (Playing version (states_of sessions)) q.has_read q.written
+          bad_line form before all origin now new held rest line n q.reported (Playing version (states_of sessions)) q.has_read q.written
           f is_bad
       is_fault Last f other =
-          bad_last form before all origin now new held rest line n q.told (Playing version (states_of sessions)) q.has_read q.written
+          bad_last form before all origin now new held rest line n q.reported (Playing version (states_of sessions)) q.has_read q.written
           f is_bad
       is_fault End f other = absurd (cc)

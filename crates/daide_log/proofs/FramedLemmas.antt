@@ -5,14 +5,14 @@ use Rattle.std.proofs.lemmas.Bool.{eqb-true}
 use Rattle.daide_frame.specs.declared.head.Head.{Head}
 use Rattle.daide_frame.specs.declared.code.Code.{Code}
 use Rattle.daide_frame.specs.declared.code.Code.TheVariants.{InvalidToken}
-use Rattle.daide_frame.specs.Head.{head_of}
-use Rattle.daide_frame.specs.Frames.{Item, Begun, Whole, Wrong, alien_in, last_items}
+use Rattle.daide_frame.specs.Head.{parse_head}
+use Rattle.daide_frame.specs.Frames.{FrameEvent, Begun, Whole, Wrong, alien_in, last_items}
 use Rattle.daide_frame.proofs.FramesLemmas.{last_items-short, at_head, alien_in-nothing, last_items-head4, at_body}
 use Rattle.daide_frame.proofs.FramesLemmas.{last_items-body4}
-use Rattle.daide_frame.proofs.HeadLemmas.{head_of-good}
-use Rattle.daide_machine.proofs.FrameShapes.{IsWholeFrame, refused}
+use Rattle.daide_frame.proofs.HeadLemmas.{parse_head-good}
+use Rattle.daide_protocol.proofs.FrameShapes.{IsWholeFrame, refused}
 
-pub data Framed (cap : ℕ) (rest : List ℕ) : List Item → Type 0 where
+pub data Framed (cap : ℕ) (rest : List ℕ) : List FrameEvent → Type 0 where
   quiet : Framed cap rest []
   headed : (head : Head) → Framed cap rest (Begun head ∷ [])
   at_once : (head : Head) → IsWholeFrame cap head [] → rest ≡ [] → Framed cap rest (Begun head ∷ Whole head [] ∷ [])
@@ -20,13 +20,13 @@ pub data Framed (cap : ℕ) (rest : List ℕ) : List Item → Type 0 where
   wrong : (code : Code) → Framed cap rest (Wrong code ∷ [])
 
 -- the fourth byte
-head_framed : (cap : ℕ) (b : List ℕ) (r : Result Head Code) → head_of b cap ≡ r → Framed cap [] (at_head r)
+head_framed : (cap : ℕ) (b : List ℕ) (r : Result Head Code) → parse_head b cap ≡ r → Framed cap [] (at_head r)
 head_framed cap b (Err code) e = Framed.wrong code
 head_framed cap b (Ok head) e = go (eqb head.len 0) refl
   where
     go : (k : Bool) → eqb head.len 0 ≡ k → Framed cap [] (Begun head ∷ (cond k (Whole head [] ∷ []) []))
     go true k =
-        let good = head_of-good b cap head e in
+        let good = parse_head-good b cap head e in
         Framed.at_once head (record {
           right = good.right;
           within = good.within;
@@ -36,7 +36,7 @@ head_framed cap b (Ok head) e = go (eqb head.len 0) refl
     go false k = Framed.headed head
 
 -- a later one
-body_framed : (cap : ℕ) (b v : List ℕ) (head : Head) → head_of b cap ≡ Ok head → (alien : Option ℕ) →
+body_framed : (cap : ℕ) (b v : List ℕ) (head : Head) → parse_head b cap ≡ Ok head → (alien : Option ℕ) →
     alien_in head v ≡ alien → Framed cap v (at_body head v alien)
 body_framed cap b v head e (Some n) a = go (eqb n (length v))
   where
@@ -47,7 +47,7 @@ body_framed cap b v head e None a = go (eqb head.len (length v)) refl
   where
     go : (k : Bool) → eqb head.len (length v) ≡ k → Framed cap v (cond k (Whole head v ∷ []) [])
     go true k =
-        let good = head_of-good b cap head e in
+        let good = parse_head-good b cap head e in
         Framed.whole head (record {
           right = good.right;
           within = good.within;
@@ -56,7 +56,7 @@ body_framed cap b v head e None a = go (eqb head.len (length v)) refl
         })
     go false k = Framed.quiet
 
-later_framed : (cap p q r s y : ℕ) (w : List ℕ) (o : Result Head Code) → head_of (p ∷ q ∷ r ∷ s ∷ []) cap ≡ o →
+later_framed : (cap p q r s y : ℕ) (w : List ℕ) (o : Result Head Code) → parse_head (p ∷ q ∷ r ∷ s ∷ []) cap ≡ o →
     Framed cap (y ∷ w) (last_items cap (p ∷ q ∷ r ∷ s ∷ y ∷ w))
 later_framed cap p q r s y w (Ok head) e =
     subst (Framed cap (y ∷ w)) (sym (last_items-body4 cap p q r s (y ∷ w) head e (omega arith)))
@@ -73,5 +73,5 @@ framed cap (p ∷ q ∷ []) = no_items cap (p ∷ q ∷ []) [] (last_items-short
 framed cap (p ∷ q ∷ r ∷ []) = no_items cap (p ∷ q ∷ r ∷ []) [] (last_items-short cap (p ∷ q ∷ r ∷ []) (omega arith))
 framed cap (p ∷ q ∷ r ∷ s ∷ []) =
     subst (Framed cap []) (sym (last_items-head4 cap p q r s))
-    (head_framed cap (p ∷ q ∷ r ∷ s ∷ []) (head_of (p ∷ q ∷ r ∷ s ∷ []) cap) refl)
-framed cap (p ∷ q ∷ r ∷ s ∷ y ∷ w) = later_framed cap p q r s y w (head_of (p ∷ q ∷ r ∷ s ∷ []) cap) refl
+    (head_framed cap (p ∷ q ∷ r ∷ s ∷ []) (parse_head (p ∷ q ∷ r ∷ s ∷ []) cap) refl)
+framed cap (p ∷ q ∷ r ∷ s ∷ y ∷ w) = later_framed cap p q r s y w (parse_head (p ∷ q ∷ r ∷ s ∷ []) cap) refl

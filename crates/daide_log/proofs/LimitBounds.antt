@@ -3,11 +3,11 @@ use Rattle.std.proofs.Common.{◌≡◌, ℕ, ◌≤◌, Bool, true, false, cond
 use Rattle.std.proofs.Common.{leb}
 use Rattle.std.specs.Prelude.{◌&&◌, ◌==◌, ◌%◌}
 use Rattle.std.proofs.lemmas.Bool.{and_parts, leb-true}
-use Rattle.daide_machine.specs.declared.config.Config.{Config}
-use Rattle.daide_machine.specs.declared.config.ConfigError.{ConfigError}
-use Rattle.daide_machine.specs.declared.config.ConfigError.TheVariants as errors
-use Rattle.daide_machine.specs.Bounds.{least_depth, greatest_depth, longest_body}
-use Rattle.daide_machine.specs.Config.{config_fault, is_level, is_body, is_depth}
+use Rattle.daide_protocol.specs.declared.config.Config.{Config}
+use Rattle.daide_protocol.specs.declared.config.ConfigError.{ConfigError}
+use Rattle.daide_protocol.specs.declared.config.ConfigError.TheVariants as errors
+use Rattle.daide_protocol.specs.Bounds.{least_depth, greatest_depth, longest_body}
+use Rattle.daide_protocol.specs.Config.{config_fault, is_level, is_body, is_depth}
 
 record AreWithin (config : Config) : Type 0 where
   pub low : least_depth ≤ config.max_depth

@@ -3,64 +3,64 @@ use Rattle.std.specs.Bool.{MatchBool}
 use Rattle.std.proofs.Common.{◌≡◌, ℕ, ◌+◌, ◌<◌, ◌≤◌, List, [], ◌∷◌, ◌++◌, length, Option, Some, None, Result, Ok, Err}
 use Rattle.std.proofs.Common.{Bool, true, false, refl, sym, ap, ◌∙◌, subst, arith, append-nil, append_assoc, length-append, ◌≢◌, IfSome, IfOk, IfErr, inl, inr}
 use Rattle.std.specs.Io.KnownBytes.{Consumes, Keeps, Appends, IsAtEnd, append_known}
-use Rattle.daide_machine.specs.Machine.{SessionState}
+use Rattle.daide_protocol.specs.Machine.{SessionState}
 use Rattle.daide_log.specs.declared.heading.Version.{Version}
-use Rattle.daide_machine.specs.declared.summary.Summary.{Summary}
-use Rattle.daide_lines.specs.declared.lines.Found.{Found}
-use Rattle.daide_lines.specs.declared.lines.Found.TheVariants.{Held, Line, Last, End}
-use Rattle.daide_lines.specs.declared.fault.LogFault.{LogFault}
-use Rattle.daide_lines.specs.declared.fault.LogFault.TheVariants as Faults
+use Rattle.daide_protocol.specs.declared.summary.Summary.{Summary}
+use Rattle.daide_log_lines.specs.declared.lines.LineEnd.{LineEnd}
+use Rattle.daide_log_lines.specs.declared.lines.LineEnd.TheVariants.{Held, Line, Last, End}
+use Rattle.daide_log_lines.specs.declared.fault.LogFault.{LogFault}
+use Rattle.daide_log_lines.specs.declared.fault.LogFault.TheVariants as Faults
 use Rattle.daide_log.specs.Heading.{Unnamed}
-use Rattle.daide_machine.specs.Summary.{nothing_counted}
-use Rattle.daide_log.specs.Form.{Form}
-use Rattle.daide_log.specs.Told.{IsLateFault}
+use Rattle.daide_protocol.specs.Summary.{nothing_counted}
+use Rattle.daide_log.specs.ReportForm.{ReportForm}
+use Rattle.daide_log.specs.Reporting.{IsLateFault}
 use Rattle.daide_log.specs.declared.opening.Opened.{Opened}
-use Rattle.daide_log.specs.Report.{texts_of, counted_by, summary_line}
-use Rattle.daide_lines.specs.LogLine.{longest_line}
+use Rattle.daide_log.specs.Report.{texts_of, counted_over, summary_line}
+use Rattle.daide_log_lines.specs.LogLine.{longest_line}
 use Rattle.daide_log.specs.Log.{plain, LogState, Opening, Playing, GoesOnBy, IsBad, IsOpening, ReportsBy, ReportsAllBy, IsReportBy}
-use Rattle.daide_lines.specs.Reader.{Reader}
-use Rattle.daide_lines.specs.Lines.{LooksAt, IsFound, IsInLine, block_size}
+use Rattle.daide_log_lines.specs.Reader.{Reader}
+use Rattle.daide_log_lines.specs.Lines.{LooksAt, IsFound, IsInLine, block_size}
 use Rattle.daide_log.specs.Progress.{HasRead, HasReadAll, StopsBehind, IsFaultOf, IsFaultAfter, Reported}
 use Rattle.daide_log.specs.Progress.{IsInTime, GivesInTime, StopsAtLine, IsOpened, IsOpenedBy, IsFinished, IsAnswered}
 use Rattle.daide_words.specs.declared.word.Word.{Word}
-use Rattle.daide_log.specs.Held.{head_of}
-use Rattle.daide_lines.proofs.LineLemmas.{gives_none, gives_on}
-use Rattle.daide_lines.proofs.PageLemmas.{keeps_more, keeps_appends, appends_and_keeps, none_held}
+use Rattle.daide_log.specs.PreambleKnown.{preamble_of}
+use Rattle.daide_log_lines.proofs.LineLemmas.{gives_none, gives_on}
+use Rattle.daide_log_lines.proofs.PageLemmas.{keeps_more, keeps_appends, appends_and_keeps, none_held}
 use Rattle.daide_log.proofs.PlayLemmas.{appends_more}
 
-module _ {Answer : Type 0} (form : Form Answer) where
+module _ {Answer : Type 0} (form : ReportForm Answer) where
   -- ---- what was looked at
 
   -- all that was given, up to behind the bytes that were looked at
-  looked : (before all : Option (List ℕ)) (old now new : Reader) (held line rest : List ℕ) (n : ℕ) (told : List form.Entry) (stage : LogState)
-      (h : HasRead form before old now held n told stage) (k : LooksAt all now held n line new rest) →
+  looked : (before all : Option (List ℕ)) (old now new : Reader) (held line rest : List ℕ) (n : ℕ) (reported : List form.Entry) (stage : LogState)
+      (h : HasRead form before old now held n reported stage) (k : LooksAt all now held n line new rest) →
       h.given ++ k.0 ≡ (h.bytes ++ line) ++ rest
-  looked before all old now new held line rest n told stage h k =
+  looked before all old now new held line rest n reported stage h k =
       ap (λ (l : List ℕ). l ++ k.0) h.whole ∙ append_assoc h.bytes held k.0 ∙ ap (λ (l : List ℕ). h.bytes ++ l) k.2
       ∙ sym (append_assoc h.bytes line rest)
 
   -- a read within the next line is in time
-  in_time : (before all : Option (List ℕ)) (old now : Reader) (held : List ℕ) (n : ℕ) (told : List form.Entry) (stage : LogState)
-      (h : HasRead form before old now held n told stage) → Appends before all (texts_of form.text told) → (came : List ℕ)
+  in_time : (before all : Option (List ℕ)) (old now : Reader) (held : List ℕ) (n : ℕ) (reported : List form.Entry) (stage : LogState)
+      (h : HasRead form before old now held n reported stage) → Appends before all (texts_of form.text reported) → (came : List ℕ)
       (written : Option (List ℕ)) → IsInLine all held n came written → IsInTime form before (h.given ++ came) written
-  in_time before all old now held n told stage h w came written q = record {
+  in_time before all old now held n reported stage h w came written q = record {
     bytes = h.bytes;
     line = held ++ came;
     whole = ap (λ (l : List ℕ). l ++ came) h.whole ∙ append_assoc h.bytes held came;
     number = n;
-    told = told;
+    reported = reported;
     stage = stage;
     reports = h.reports;
     begun = q.0;
-    reported = appends_and_keeps before all written (texts_of form.text told) w q.1;
+    appended = appends_and_keeps before all written (texts_of form.text reported) w q.1;
   }
 
-  all_given : (before all : Option (List ℕ)) (old now new : Reader) (held line rest : List ℕ) (n : ℕ) (told : List form.Entry)
-      (stage : LogState) (h : HasRead form before old now held n told stage) → Appends before all (texts_of form.text told) →
+  all_given : (before all : Option (List ℕ)) (old now new : Reader) (held line rest : List ℕ) (n : ℕ) (reported : List form.Entry)
+      (stage : LogState) (h : HasRead form before old now held n reported stage) → Appends before all (texts_of form.text reported) →
       (k : LooksAt all now held n line new rest) → GivesInTime form before old new (h.given ++ k.0)
-  all_given before all old now new held line rest n told stage h w k =
+  all_given before all old now new held line rest n reported stage h w k =
       gives_on (IsInTime form before) (IsInLine all held n) old now new h.given k.0 h.gives k.1
-      (λ came written q. in_time before all old now held n told stage h w came written q)
+      (λ came written q. in_time before all old now held n reported stage h w came written q)
 
   given_bytes : (before : Option (List ℕ)) (old new : Reader) (given : List ℕ) → GivesInTime form before old new given →
       Consumes old.remaining new.remaining given
@@ -93,70 +93,70 @@ module _ {Answer : Type 0} (form : Form Answer) where
 
   -- what was given, and by reads in time, up to behind what was found
   pub found_given : (before all : Option (List ℕ)) (old now new : Reader) (held rest line : List ℕ) (n : ℕ)
-      (told : List form.Entry) (stage : LogState) (found : Found) → HasRead form before old now held n told stage →
-      Appends before all (texts_of form.text told) → IsFound all now held n (Ok found) line new rest →
+      (reported : List form.Entry) (stage : LogState) (found : LineEnd) → HasRead form before old now held n reported stage →
+      Appends before all (texts_of form.text reported) → IsFound all now held n (Ok found) line new rest →
       (given : List ℕ) × GivesInTime form before old new given
-  found_given before all old now new held rest line n told stage (Held k) h w f =
-      (h.given ++ f.1.0, all_given before all old now new held (f.0 ++ 10 ∷ []) rest n told stage h w f.1)
-  found_given before all old now new held rest line n told stage Line h w f =
-      (h.given ++ f.1.0, all_given before all old now new held (f.0 ++ 10 ∷ []) rest n told stage h w f.1)
-  found_given before all old now new held rest line n told stage Last h w f =
-      (h.given ++ f.0.0, all_given before all old now new held line rest n told stage h w f.0)
-  found_given before all old now new held rest line n told stage End h w f =
-      (h.given ++ f.0.0, all_given before all old now new held [] rest n told stage h w f.0)
+  found_given before all old now new held rest line n reported stage (Held k) h w f =
+      (h.given ++ f.1.0, all_given before all old now new held (f.0 ++ 10 ∷ []) rest n reported stage h w f.1)
+  found_given before all old now new held rest line n reported stage Line h w f =
+      (h.given ++ f.1.0, all_given before all old now new held (f.0 ++ 10 ∷ []) rest n reported stage h w f.1)
+  found_given before all old now new held rest line n reported stage Last h w f =
+      (h.given ++ f.0.0, all_given before all old now new held line rest n reported stage h w f.0)
+  found_given before all old now new held rest line n reported stage End h w f =
+      (h.given ++ f.0.0, all_given before all old now new held [] rest n reported stage h w f.0)
 
-  pub line_read : (before all : Option (List ℕ)) (old now new : Reader) (held rest line : List ℕ) (n : ℕ) (told more : List form.Entry)
-      (stage after : LogState) → HasRead form before old now held n told stage → Appends before all (texts_of form.text told) →
+  pub line_read : (before all : Option (List ℕ)) (old now new : Reader) (held rest line : List ℕ) (n : ℕ) (reported more : List form.Entry)
+      (stage after : LogState) → HasRead form before old now held n reported stage → Appends before all (texts_of form.text reported) →
       IsFound all now held n (Ok Line) line new rest → GoesOnBy form (n + 1) stage line more after →
-      HasRead form before old new rest (n + 1) (told ++ more) after
-  line_read before all old now new held rest line n told more stage after h w f on = record {
+      HasRead form before old new rest (n + 1) (reported ++ more) after
+  line_read before all old now new held rest line n reported more stage after h w f on = record {
     given = h.given ++ f.1.0;
-    gives = all_given before all old now new held (f.0 ++ 10 ∷ []) rest n told stage h w f.1;
+    gives = all_given before all old now new held (f.0 ++ 10 ∷ []) rest n reported stage h w f.1;
     bytes = h.bytes ++ f.0 ++ 10 ∷ [];
-    whole = looked before all old now new held (f.0 ++ 10 ∷ []) rest n told stage h f.1 ∙ simp append_assoc;
-    reports = ReportsBy.line h.bytes n told stage h.reports f.0 more after f.4 f.2 f.3
+    whole = looked before all old now new held (f.0 ++ 10 ∷ []) rest n reported stage h f.1 ∙ simp append_assoc;
+    reports = ReportsBy.line h.bytes n reported stage h.reports f.0 more after f.4 f.2 f.3
         (subst (λ (l : List ℕ). GoesOnBy form (n + 1) stage l more after) f.5 on);
   }
 
-  pub last_read : (before all : Option (List ℕ)) (old now new : Reader) (held rest line : List ℕ) (n : ℕ) (told more : List form.Entry)
-      (stage after : LogState) → HasRead form before old now held n told stage → Appends before all (texts_of form.text told) →
+  pub last_read : (before all : Option (List ℕ)) (old now new : Reader) (held rest line : List ℕ) (n : ℕ) (reported more : List form.Entry)
+      (stage after : LogState) → HasRead form before old now held n reported stage → Appends before all (texts_of form.text reported) →
       IsFound all now held n (Ok Last) line new rest → GoesOnBy form (n + 1) stage line more after →
-      HasReadAll form before old new (n + 1) (told ++ more) after
-  last_read before all old now new held rest line n told more stage after h w f on = record {
+      HasReadAll form before old new (n + 1) (reported ++ more) after
+  last_read before all old now new held rest line n reported more stage after h w f on = record {
     given = h.bytes ++ line;
     gives = subst (GivesInTime form before old new)
-        (looked before all old now new held line rest n told stage h f.0 ∙ ap (λ (l : List ℕ). (h.bytes ++ line) ++ l) f.1
+        (looked before all old now new held line rest n reported stage h f.0 ∙ ap (λ (l : List ℕ). (h.bytes ++ line) ++ l) f.1
         ∙ append-nil (h.bytes ++ line))
-        (all_given before all old now new held line rest n told stage h w f.0);
+        (all_given before all old now new held line rest n reported stage h w f.0);
     ended = f.2;
-    reports = ReportsAllBy.unended h.bytes n told stage h.reports line more after f.6 f.5 f.3 f.4 on;
+    reports = ReportsAllBy.unended h.bytes n reported stage h.reports line more after f.6 f.5 f.3 f.4 on;
   }
 
-  pub end_read : (before all : Option (List ℕ)) (old now new : Reader) (held rest line : List ℕ) (n : ℕ) (told : List form.Entry)
-      (stage : LogState) → HasRead form before old now held n told stage → Appends before all (texts_of form.text told) →
-      IsFound all now held n (Ok End) line new rest → HasReadAll form before old new n told stage
-  end_read before all old now new held rest line n told stage h w f = record {
+  pub end_read : (before all : Option (List ℕ)) (old now new : Reader) (held rest line : List ℕ) (n : ℕ) (reported : List form.Entry)
+      (stage : LogState) → HasRead form before old now held n reported stage → Appends before all (texts_of form.text reported) →
+      IsFound all now held n (Ok End) line new rest → HasReadAll form before old new n reported stage
+  end_read before all old now new held rest line n reported stage h w f = record {
     given = h.bytes;
     gives = subst (GivesInTime form before old new)
-        (looked before all old now new held [] rest n told stage h f.0 ∙ ap (λ (l : List ℕ). (h.bytes ++ []) ++ l) f.1
+        (looked before all old now new held [] rest n reported stage h f.0 ∙ ap (λ (l : List ℕ). (h.bytes ++ []) ++ l) f.1
         ∙ append-nil (h.bytes ++ []) ∙ append-nil h.bytes)
-        (all_given before all old now new held [] rest n told stage h w f.0);
+        (all_given before all old now new held [] rest n reported stage h w f.0);
     ended = f.2;
-    reports = ReportsAllBy.ended h.bytes n told stage h.reports;
+    reports = ReportsAllBy.ended h.bytes n reported stage h.reports;
   }
 
   -- ---- a fault
 
-  stops : (before all : Option (List ℕ)) (old now new : Reader) (held start beyond : List ℕ) (n : ℕ) (told : List form.Entry)
-      (stage : LogState) (count : ℕ) (h : HasRead form before old now held n told stage) → Appends before all (texts_of form.text told) → LooksAt all now held n start new beyond →
-      length start ≡ count → length beyond < block_size → StopsBehind form before old new told n count
-  stops before all old now new held start beyond n told stage count h w k started few = record {
+  stops : (before all : Option (List ℕ)) (old now new : Reader) (held start beyond : List ℕ) (n : ℕ) (reported : List form.Entry)
+      (stage : LogState) (count : ℕ) (h : HasRead form before old now held n reported stage) → Appends before all (texts_of form.text reported) → LooksAt all now held n start new beyond →
+      length start ≡ count → length beyond < block_size → StopsBehind form before old new reported n count
+  stops before all old now new held start beyond n reported stage count h w k started few = record {
     given = h.given ++ k.0;
-    gives = all_given before all old now new held start beyond n told stage h w k;
+    gives = all_given before all old now new held start beyond n reported stage h w k;
     bytes = h.bytes;
     start = start;
     beyond = beyond;
-    whole = looked before all old now new held start beyond n told stage h k;
+    whole = looked before all old now new held start beyond n reported stage h k;
     started = started;
     few = few;
     stage = stage;
@@ -164,29 +164,29 @@ module _ {Answer : Type 0} (form : Form Answer) where
   }
 
   -- at the first byte of what is held
-  stops_at_first : (before all : Option (List ℕ)) (old now new : Reader) (held rest : List ℕ) (n : ℕ) (told : List form.Entry)
-      (stage : LogState) (h : HasRead form before old now held n told stage) → Appends before all (texts_of form.text told) → LooksAt all now held n [] new rest → 0 < length rest →
-      length rest ≤ block_size → StopsBehind form before old new told n 1
-  stops_at_first before all old now new held [] n told stage h w k some few = absurd (omega arith)
-  stops_at_first before all old now new held (x ∷ rest) n told stage h w k some few =
-      stops before all old now new held (x ∷ []) rest n told stage 1 h w (k.0, k.1, k.2) refl (omega arith)
+  stops_at_first : (before all : Option (List ℕ)) (old now new : Reader) (held rest : List ℕ) (n : ℕ) (reported : List form.Entry)
+      (stage : LogState) (h : HasRead form before old now held n reported stage) → Appends before all (texts_of form.text reported) → LooksAt all now held n [] new rest → 0 < length rest →
+      length rest ≤ block_size → StopsBehind form before old new reported n 1
+  stops_at_first before all old now new held [] n reported stage h w k some few = absurd (omega arith)
+  stops_at_first before all old now new held (x ∷ rest) n reported stage h w k some few =
+      stops before all old now new held (x ∷ []) rest n reported stage 1 h w (k.0, k.1, k.2) refl (omega arith)
 
-  pub bad_line : (before all : Option (List ℕ)) (old now new : Reader) (held rest line : List ℕ) (n : ℕ) (told : List form.Entry)
-      (stage : LogState) → HasRead form before old now held n told stage → Appends before all (texts_of form.text told) →
-      IsFound all now held n (Ok Line) line new rest → IsBad stage line → IsFaultOf form before old new told (Faults.BadLine (n + 1))
-  bad_line before all old now new held rest line n told stage h w f wrong = (
-    of_log (λ log. IsReportBy form log (texts_of form.text told) (Err (Faults.BadLine (n + 1)))) old.remaining new.remaining (h.given ++ f.1.0)
-        (given_bytes before old new _ (all_given before all old now new held (f.0 ++ 10 ∷ []) rest n told stage h w f.1))
-        (λ more. subst (λ (log : List ℕ). IsReportBy form log (texts_of form.text told) (Err (Faults.BadLine (n + 1)))) (same more)
-        (IsReportBy.bad h.bytes n told stage h.reports f.0 (rest ++ more) f.4 f.2 f.3
+  pub bad_line : (before all : Option (List ℕ)) (old now new : Reader) (held rest line : List ℕ) (n : ℕ) (reported : List form.Entry)
+      (stage : LogState) → HasRead form before old now held n reported stage → Appends before all (texts_of form.text reported) →
+      IsFound all now held n (Ok Line) line new rest → IsBad stage line → IsFaultOf form before old new reported (Faults.BadLine (n + 1))
+  bad_line before all old now new held rest line n reported stage h w f wrong = (
+    of_log (λ log. IsReportBy form log (texts_of form.text reported) (Err (Faults.BadLine (n + 1)))) old.remaining new.remaining (h.given ++ f.1.0)
+        (given_bytes before old new _ (all_given before all old now new held (f.0 ++ 10 ∷ []) rest n reported stage h w f.1))
+        (λ more. subst (λ (log : List ℕ). IsReportBy form log (texts_of form.text reported) (Err (Faults.BadLine (n + 1)))) (same more)
+        (IsReportBy.bad h.bytes n reported stage h.reports f.0 (rest ++ more) f.4 f.2 f.3
         (subst (IsBad stage) f.5 wrong))),
     inl (record {
       given = h.given ++ f.1.0;
-      gives = all_given before all old now new held (f.0 ++ 10 ∷ []) rest n told stage h w f.1;
+      gives = all_given before all old now new held (f.0 ++ 10 ∷ []) rest n reported stage h w f.1;
       bytes = h.bytes;
       line = f.0;
       beyond = rest;
-      whole = looked before all old now new held (f.0 ++ 10 ∷ []) rest n told stage h f.1 ∙ simp append_assoc;
+      whole = looked before all old now new held (f.0 ++ 10 ∷ []) rest n reported stage h f.1 ∙ simp append_assoc;
       unbroken = f.2;
       few = f.6;
       number = n;
@@ -197,16 +197,16 @@ module _ {Answer : Type 0} (form : Form Answer) where
   )
     where
       same : (more : List ℕ) → h.bytes ++ f.0 ++ 10 ∷ (rest ++ more) ≡ (h.given ++ f.1.0) ++ more
-      same more = sym (ap (λ (l : List ℕ). l ++ more) (looked before all old now new held (f.0 ++ 10 ∷ []) rest n told stage h f.1)
+      same more = sym (ap (λ (l : List ℕ). l ++ more) (looked before all old now new held (f.0 ++ 10 ∷ []) rest n reported stage h f.1)
           ∙ simp append_assoc)
 
-  pub bad_last : (before all : Option (List ℕ)) (old now new : Reader) (held rest line : List ℕ) (n : ℕ) (told : List form.Entry)
-      (stage : LogState) → HasRead form before old now held n told stage → Appends before all (texts_of form.text told) →
-      IsFound all now held n (Ok Last) line new rest → IsBad stage line → IsFaultOf form before old new told (Faults.BadLine (n + 1))
-  bad_last before all old now new held rest line n told stage h w f wrong = (
-    of_ended_log (λ log. IsReportBy form log (texts_of form.text told) (Err (Faults.BadLine (n + 1)))) old.remaining new.remaining (h.bytes ++ line)
+  pub bad_last : (before all : Option (List ℕ)) (old now new : Reader) (held rest line : List ℕ) (n : ℕ) (reported : List form.Entry)
+      (stage : LogState) → HasRead form before old now held n reported stage → Appends before all (texts_of form.text reported) →
+      IsFound all now held n (Ok Last) line new rest → IsBad stage line → IsFaultOf form before old new reported (Faults.BadLine (n + 1))
+  bad_last before all old now new held rest line n reported stage h w f wrong = (
+    of_ended_log (λ log. IsReportBy form log (texts_of form.text reported) (Err (Faults.BadLine (n + 1)))) old.remaining new.remaining (h.bytes ++ line)
         (given_bytes before old new _ got) f.2
-        (IsReportBy.bad_last h.bytes n told stage h.reports line f.6 f.5 f.3 f.4 wrong),
+        (IsReportBy.bad_last h.bytes n reported stage h.reports line f.6 f.5 f.3 f.4 wrong),
     inr (inl (record {
       given = h.bytes ++ line;
       gives = got;
@@ -224,112 +224,112 @@ module _ {Answer : Type 0} (form : Form Answer) where
     where
       got : GivesInTime form before old new (h.bytes ++ line)
       got = subst (GivesInTime form before old new)
-          (looked before all old now new held line rest n told stage h f.0 ∙ ap (λ (l : List ℕ). (h.bytes ++ line) ++ l) f.1
+          (looked before all old now new held line rest n reported stage h f.0 ∙ ap (λ (l : List ℕ). (h.bytes ++ line) ++ l) f.1
           ∙ append-nil (h.bytes ++ line))
-          (all_given before all old now new held line rest n told stage h w f.0)
+          (all_given before all old now new held line rest n reported stage h w f.0)
 
-  pub ends_early : (before : Option (List ℕ)) (old new : Reader) (n : ℕ) (told : List form.Entry) (stage : LogState) →
-      HasReadAll form before old new n told stage → IsOpening stage → IsFaultOf form before old new told (Faults.BadLine (n + 1))
-  ends_early before old new n told stage h is_opening = (
-    of_ended_log (λ log. IsReportBy form log (texts_of form.text told) (Err (Faults.BadLine (n + 1)))) old.remaining new.remaining h.given
+  pub ends_early : (before : Option (List ℕ)) (old new : Reader) (n : ℕ) (reported : List form.Entry) (stage : LogState) →
+      HasReadAll form before old new n reported stage → IsOpening stage → IsFaultOf form before old new reported (Faults.BadLine (n + 1))
+  ends_early before old new n reported stage h is_opening = (
+    of_ended_log (λ log. IsReportBy form log (texts_of form.text reported) (Err (Faults.BadLine (n + 1)))) old.remaining new.remaining h.given
         (given_bytes before old new h.given h.gives) h.ended
-        (IsReportBy.cut_short h.given n told stage h.reports is_opening),
+        (IsReportBy.cut_short h.given n reported stage h.reports is_opening),
     inr (inr (n, stage, refl, h)),
   )
 
-  pub fault_found : (before all : Option (List ℕ)) (old now new : Reader) (held rest line : List ℕ) (n : ℕ) (told : List form.Entry) (stage : LogState)
-      (fault : LogFault) → HasRead form before old now held n told stage → Appends before all (texts_of form.text told) →
-      IsFound all now held n (Err fault) line new rest → IsFaultOf form before old new told fault
-  fault_found before all old now new held rest line n told stage (Faults.BadLine k) h w f = absurd f
-  fault_found before all old now new held rest line n told stage (Faults.LineTooLong k) h w f = (
-    of_log (λ log. IsReportBy form log (texts_of form.text told) (Err (Faults.LineTooLong k))) old.remaining new.remaining (h.given ++ f.1.0)
-        (given_bytes before old new _ (all_given before all old now new held f.0 rest n told stage h w f.1))
-        (λ more. subst (λ (log : List ℕ). IsReportBy form log (texts_of form.text told) (Err (Faults.LineTooLong k))) (same more)
-        (subst (λ (m : ℕ). IsReportBy form (h.bytes ++ f.0 ++ (rest ++ more)) (texts_of form.text told) (Err (Faults.LineTooLong m))) (sym f.5)
-        (IsReportBy.too_long h.bytes n told stage h.reports f.0 (rest ++ more) f.4 f.2 (omega (arith, f.3))))),
+  pub fault_found : (before all : Option (List ℕ)) (old now new : Reader) (held rest line : List ℕ) (n : ℕ) (reported : List form.Entry) (stage : LogState)
+      (fault : LogFault) → HasRead form before old now held n reported stage → Appends before all (texts_of form.text reported) →
+      IsFound all now held n (Err fault) line new rest → IsFaultOf form before old new reported fault
+  fault_found before all old now new held rest line n reported stage (Faults.BadLine k) h w f = absurd f
+  fault_found before all old now new held rest line n reported stage (Faults.LineTooLong k) h w f = (
+    of_log (λ log. IsReportBy form log (texts_of form.text reported) (Err (Faults.LineTooLong k))) old.remaining new.remaining (h.given ++ f.1.0)
+        (given_bytes before old new _ (all_given before all old now new held f.0 rest n reported stage h w f.1))
+        (λ more. subst (λ (log : List ℕ). IsReportBy form log (texts_of form.text reported) (Err (Faults.LineTooLong k))) (same more)
+        (subst (λ (m : ℕ). IsReportBy form (h.bytes ++ f.0 ++ (rest ++ more)) (texts_of form.text reported) (Err (Faults.LineTooLong m))) (sym f.5)
+        (IsReportBy.too_long h.bytes n reported stage h.reports f.0 (rest ++ more) f.4 f.2 (omega (arith, f.3))))),
     n,
     f.5,
-    stops before all old now new held f.0 rest n told stage (longest_line + 1) h w f.1 f.3 f.6,
+    stops before all old now new held f.0 rest n reported stage (longest_line + 1) h w f.1 f.3 f.6,
   )
     where
       same : (more : List ℕ) → h.bytes ++ f.0 ++ (rest ++ more) ≡ (h.given ++ f.1.0) ++ more
-      same more = sym (ap (λ (l : List ℕ). l ++ more) (looked before all old now new held f.0 rest n told stage h f.1)
+      same more = sym (ap (λ (l : List ℕ). l ++ more) (looked before all old now new held f.0 rest n reported stage h f.1)
           ∙ simp append_assoc)
-  fault_found before all old now new held rest line n told stage Faults.TooManyLines h w f = (
-    of_log (λ log. IsReportBy form log (texts_of form.text told) (Err Faults.TooManyLines)) old.remaining new.remaining (h.given ++ f.0.0)
-        (given_bytes before old new _ (all_given before all old now new held [] rest n told stage h w f.0))
-        (λ more. subst (λ (log : List ℕ). IsReportBy form log (texts_of form.text told) (Err Faults.TooManyLines)) (same more)
-        (IsReportBy.too_many h.bytes told stage
-        (subst (λ (m : ℕ). ReportsBy form h.bytes m told stage) f.2 h.reports) (rest ++ more)
+  fault_found before all old now new held rest line n reported stage Faults.TooManyLines h w f = (
+    of_log (λ log. IsReportBy form log (texts_of form.text reported) (Err Faults.TooManyLines)) old.remaining new.remaining (h.given ++ f.0.0)
+        (given_bytes before old new _ (all_given before all old now new held [] rest n reported stage h w f.0))
+        (λ more. subst (λ (log : List ℕ). IsReportBy form log (texts_of form.text reported) (Err Faults.TooManyLines)) (same more)
+        (IsReportBy.too_many h.bytes reported stage
+        (subst (λ (m : ℕ). ReportsBy form h.bytes m reported stage) f.2 h.reports) (rest ++ more)
         (omega (arith, f.1, length-append rest more)))),
-    subst (λ (m : ℕ). StopsBehind form before old new told m 1) f.2
-        (stops_at_first before all old now new held rest n told stage h w f.0 f.1 f.3),
+    subst (λ (m : ℕ). StopsBehind form before old new reported m 1) f.2
+        (stops_at_first before all old now new held rest n reported stage h w f.0 f.1 f.3),
   )
     where
       same : (more : List ℕ) → h.bytes ++ (rest ++ more) ≡ (h.given ++ f.0.0) ++ more
-      same more = sym (ap (λ (l : List ℕ). l ++ more) (looked before all old now new held [] rest n told stage h f.0)
+      same more = sym (ap (λ (l : List ℕ). l ++ more) (looked before all old now new held [] rest n reported stage h f.0)
           ∙ ap (λ (l : List ℕ). (l ++ rest) ++ more) (append-nil h.bytes) ∙ simp append_assoc)
-  fault_found before all old now new held rest line n told stage Faults.Read h w f = record {
+  fault_found before all old now new held rest line n reported stage Faults.Read h w f = record {
     given = h.given ++ f.1.0;
-    gives = all_given before all old now new held f.0 rest n told stage h w f.1;
+    gives = all_given before all old now new held f.0 rest n reported stage h w f.1;
     bytes = h.bytes;
     line = f.0;
-    whole = looked before all old now new held f.0 rest n told stage h f.1
+    whole = looked before all old now new held f.0 rest n reported stage h f.1
         ∙ ap (λ (l : List ℕ). (h.bytes ++ f.0) ++ l) f.2 ∙ append-nil (h.bytes ++ f.0);
     number = n;
     stage = stage;
     reports = h.reports;
     begun = f.3;
   }
-  fault_found before all old now new held rest line n told stage Faults.Write h w f = (
+  fault_found before all old now new held rest line n reported stage Faults.Write h w f = (
     h.given ++ f.0,
     gives_on (IsInTime form before) (IsInLine all held n) old now new h.given f.0 h.gives f.1
-        (λ came written q. in_time before all old now held n told stage h w came written q),
+        (λ came written q. in_time before all old now held n reported stage h w came written q),
   )
-  fault_found before all old now new held rest line n told stage Faults.Memory h w f = absurd f
+  fault_found before all old now new held rest line n reported stage Faults.Memory h w f = absurd f
 
   -- ---- the whole log
 
-  pub log_reported : (old new : Reader) (n : ℕ) (told : List form.Entry) (version : Version) (sessions : List SessionState)
-      (summary : Summary) (a b c : Option (List ℕ)) → HasReadAll form a old new n told (Playing version sessions) →
-      summary ≡ counted_by form.counted told nothing_counted → Appends a b (texts_of form.text told) →
+  pub log_reported : (old new : Reader) (n : ℕ) (reported : List form.Entry) (version : Version) (sessions : List SessionState)
+      (summary : Summary) (a b c : Option (List ℕ)) → HasReadAll form a old new n reported (Playing version sessions) →
+      summary ≡ counted_over form.counted reported nothing_counted → Appends a b (texts_of form.text reported) →
       Appends b c (form.closing version sessions ++ summary_line summary) →
       Reported form old new a c (form.answer summary version sessions)
-  log_reported old new n told version sessions summary a b c h e w l = (
+  log_reported old new n reported version sessions summary a b c h e w l = (
     h.given,
     h.gives,
     of_ended_log (λ log. (t : List ℕ) × IsReportBy form log t (Ok (form.answer summary version sessions)) × Appends a c t)
         old.remaining new.remaining h.given
         (given_bytes a old new h.given h.gives) h.ended (
-          texts_of form.text told ++ (form.closing version sessions ++ summary_line summary),
+          texts_of form.text reported ++ (form.closing version sessions ++ summary_line summary),
           subst (λ (s : Summary). IsReportBy form h.given
-              (texts_of form.text told ++ (form.closing version sessions ++ summary_line s))
+              (texts_of form.text reported ++ (form.closing version sessions ++ summary_line s))
               (Ok (form.answer s version sessions))) (sym e)
-              (IsReportBy.whole h.given n told version sessions h.reports),
-          appends_more a b c (texts_of form.text told) (form.closing version sessions ++ summary_line summary) w l,
+              (IsReportBy.whole h.given n reported version sessions h.reports),
+          appends_more a b c (texts_of form.text reported) (form.closing version sessions ++ summary_line summary) w l,
         ),
   )
 
   -- the counts were written behind all lines
-  pub finished : (old new : Reader) (n : ℕ) (told : List form.Entry) (version : Version) (sessions : List SessionState)
+  pub finished : (old new : Reader) (n : ℕ) (reported : List form.Entry) (version : Version) (sessions : List SessionState)
       (summary : Summary) (a b c : Option (List ℕ)) (result : Result Answer LogFault) →
-      HasReadAll form a old new n told (Playing version sessions) → summary ≡ counted_by form.counted told nothing_counted →
-      Appends a b (texts_of form.text told) → IfOk result (λ answer. IsFinished form version sessions summary b c answer) →
+      HasReadAll form a old new n reported (Playing version sessions) → summary ≡ counted_over form.counted reported nothing_counted →
+      Appends a b (texts_of form.text reported) → IfOk result (λ answer. IsFinished form version sessions summary b c answer) →
       IfOk result (λ answer. Reported form old new a c answer)
-  finished old new n told version sessions summary a b c (Ok answer) h e w r =
-      subst (Reported form old new a c) (sym r.0) (log_reported old new n told version sessions summary a b c h e w r.1)
-  finished old new n told version sessions summary a b c (Err fault) h e w r = tt
+  finished old new n reported version sessions summary a b c (Ok answer) h e w r =
+      subst (Reported form old new a c) (sym r.0) (log_reported old new n reported version sessions summary a b c h e w r.1)
+  finished old new n reported version sessions summary a b c (Err fault) h e w r = tt
 
   -- ---- faults, with what was written
 
-  pub fault_after : (old new : Reader) (told : List form.Entry) (a b : Option (List ℕ)) (fault : LogFault) →
-      IsFaultOf form a old new told fault → (fault ≢ Faults.Write → Appends a b (texts_of form.text told)) → IsFaultAfter form old new a b fault
-  fault_after old new told a b (Faults.BadLine n) h w = (told, h, w (λ e. absurd (cc)))
-  fault_after old new told a b (Faults.LineTooLong n) h w = (told, h, w (λ e. absurd (cc)))
-  fault_after old new told a b Faults.TooManyLines h w = (told, h, w (λ e. absurd (cc)))
-  fault_after old new told a b Faults.Read h w = (told, h, w (λ e. absurd (cc)))
-  fault_after old new told a b Faults.Write h w = h
-  fault_after old new told a b Faults.Memory h w = absurd h
+  pub fault_after : (old new : Reader) (reported : List form.Entry) (a b : Option (List ℕ)) (fault : LogFault) →
+      IsFaultOf form a old new reported fault → (fault ≢ Faults.Write → Appends a b (texts_of form.text reported)) → IsFaultAfter form old new a b fault
+  fault_after old new reported a b (Faults.BadLine n) h w = (reported, h, w (λ e. absurd (cc)))
+  fault_after old new reported a b (Faults.LineTooLong n) h w = (reported, h, w (λ e. absurd (cc)))
+  fault_after old new reported a b Faults.TooManyLines h w = (reported, h, w (λ e. absurd (cc)))
+  fault_after old new reported a b Faults.Read h w = (reported, h, w (λ e. absurd (cc)))
+  fault_after old new reported a b Faults.Write h w = h
+  fault_after old new reported a b Faults.Memory h w = absurd h
 
   -- ---- what is held back
 
@@ -405,7 +405,7 @@ module _ {Answer : Type 0} (form : Form Answer) where
   fault_given old new a b Faults.Memory h = by_late form.late h
     where
       go : (b : Bool) (opened : Opened) (held : List ℕ) →
-          IsOpenedBy form b (head_of opened.head) opened.lines a old new held →
+          IsOpenedBy form b (preamble_of opened.head) opened.lines a old new held →
           (given : List ℕ) × GivesInTime form a old new given
       go true opened held k = (k.given, k.gives)
       go false opened held k = (k.given, k.gives)
@@ -485,7 +485,7 @@ module _ {Answer : Type 0} (form : Form Answer) where
   write_failed old new a b (Err fault) g e = late_fault old new a b fault g e
 
 -- of the same bytes the same is said
-pub answered_alike : {Answer : Type 0} (form : List Word → Form Answer) (old new : Reader) (a b : Option (List ℕ))
+pub answered_alike : {Answer : Type 0} (form : List Word → ReportForm Answer) (old new : Reader) (a b : Option (List ℕ))
     (old2 new2 : Reader) (a2 b2 : Option (List ℕ)) (answer : Result Answer LogFault) →
     (words : List Word) × IsAnswered (form words) old2 new2 a2 b2 answer → old2 ≡ old → new2 ≡ new → a2 ≡ a → b2 ≡ b →
     (words : List Word) × IsAnswered (form words) old new a b answer

@@ -5,19 +5,19 @@ use Rattle.daide_frame.specs.declared.side.Side.{Side}
 use Rattle.daide_frame.specs.declared.side.Side.TheVariants.{Bot, Server}
 use Rattle.daide_frame.specs.declared.head.Head.{Head}
 use Rattle.daide_frame.specs.declared.code.Code.{Code}
-use Rattle.daide_frame.specs.Frames.{Item, Begun, Whole, Wrong, last_items, missing, fed, is_nothing}
-use Rattle.daide_machine.specs.Events.{Event, Comes, bytes_come}
-use Rattle.daide_machine.specs.Machine.{SessionState, Effect, Outcome, Transition, Runs, coming, with_pending, is_over}
-use Rattle.daide_machine.specs.Machine.{items_outcome}
-use Rattle.daide_machine.proofs.PieceRuns.{over_stays}
-use Rattle.daide_machine.proofs.OneRun.{one_run}
+use Rattle.daide_frame.specs.Frames.{FrameEvent, Begun, Whole, Wrong, last_items, missing, fed, is_nothing}
+use Rattle.daide_protocol.specs.Events.{Event, Comes, bytes_come}
+use Rattle.daide_protocol.specs.Machine.{SessionState, Effect, Successor, Transition, Runs, coming, with_pending, is_over}
+use Rattle.daide_protocol.specs.Machine.{items_outcome}
+use Rattle.daide_protocol.proofs.PieceRuns.{over_stays}
+use Rattle.daide_protocol.proofs.OneRun.{one_run}
 use Rattle.std.proofs.Common.{◌%◌, drop}
 use Rattle.std.specs.Bool.{MatchBool}
 use Rattle.daide_token.specs.Token.{tokens_of}
 use Rattle.daide_grammar.specs.declared.level.Level.{Level}
 use Rattle.daide_grammar.specs.SideMessages.{IsMessageOver}
 use Rattle.daide_reader.specs.Verdict.{HasVerdict}
-use Rattle.daide_machine.specs.declared.note.Deed.{Deed}
+use Rattle.daide_protocol.specs.declared.note.Deed.{Deed}
 use Rattle.std.proofs.Common.{cond, ◌⊎◌, Result, Ok, Err}
 use Rattle.std.specs.Prelude.{⊤, is_some}
 use Rattle.daide_frame.specs.declared.head.Kind.{Kind}
@@ -26,35 +26,35 @@ use Rattle.daide_frame.specs.Head.{is_im, has_right_length}
 use Rattle.daide_frame.specs.InitialMessage.{im_of}
 use Rattle.daide_reader.specs.declared.verdict.Verdict.{Verdict}
 use Rattle.daide_reader.specs.declared.verdict.Verdict.TheVariants.{Relay, Prn, Huh}
-use Rattle.daide_machine.specs.declared.phase.Phase.{Phase}
-use Rattle.daide_machine.specs.declared.note.Note.{Note}
-use Rattle.daide_machine.specs.declared.note.Note.TheVariants as Notes
-use Rattle.daide_machine.specs.Machine.{Question, IsRight, is_dm, side2_of, question_of, asked_by, question, deed_of, is_sent}
-use Rattle.daide_machine.specs.Machine.{destination, answered, im_answered, whole, begun, untimely, with_noted}
-use Rattle.daide_machine.proofs.FrameShapes.{IsWholeFrame}
-use Rattle.daide_machine.proofs.AnswerBytes.{even_right}
+use Rattle.daide_protocol.specs.declared.phase.Phase.{Phase}
+use Rattle.daide_protocol.specs.declared.note.Note.{Note}
+use Rattle.daide_protocol.specs.declared.note.Note.TheVariants as Notes
+use Rattle.daide_protocol.specs.Machine.{Question, IsCorrectVerdict, is_dm, side2_of, question_of, asked_by, question, deed_of, is_sent}
+use Rattle.daide_protocol.specs.Machine.{destination, answered, im_answered, frame_outcome, header_outcome, untimely, with_noted}
+use Rattle.daide_protocol.proofs.FrameShapes.{IsWholeFrame}
+use Rattle.daide_protocol.proofs.AnswerBytes.{even_right}
 use Rattle.daide_log.proofs.FramedLemmas.{Framed, framed}
 use Rattle.daide_frame.specs.declared.code.Code.TheVariants.{ImTimeout}
 use Rattle.daide_words.specs.declared.word.Word.{Word}
 use Rattle.daide_words.specs.Word.{grammar_words}
 use Rattle.daide_reader.proofs.BodyLemmas.{place_in}
-use Rattle.daide_machine.specs.declared.config.Config.{Config}
-use Rattle.daide_machine.specs.declared.phase.Phase.TheVariants.{WaitIm, WaitRm, Open, Over}
-use Rattle.daide_machine.specs.Config.{limits_with}
-use Rattle.daide_machine.specs.Events.{Ends, TimerExpires}
-use Rattle.daide_machine.specs.Machine.{Limits, event_outcome, popped}
-use Rattle.daide_machine.specs.Wires.{SessionView, holding, held_after}
-use Rattle.daide_machine.proofs.LimitsKept.{runs_limits}
-use Rattle.daide_log.specs.Told.{IsCaused, IsMade, IsUnder}
-use Rattle.daide_machine.specs.declared.summary.Summary.{Summary}
-use Rattle.daide_machine.specs.Summary.{counted}
-use Rattle.daide_machine.proofs.WireLemmas.{bytes_come-append}
-use Rattle.daide_log.specs.declared.report.Source.{Source}
-use Rattle.daide_log.specs.Report.{move_line, texts_of, counted_by}
-use Rattle.daide_log.specs.Explained.{Shown, Moved, AreShownBy, AreLines, AreFrameLines, AreMessageLines, bytes_at}
+use Rattle.daide_protocol.specs.declared.config.Config.{Config}
+use Rattle.daide_protocol.specs.declared.phase.Phase.TheVariants.{WaitIm, WaitRm, Open, Over}
+use Rattle.daide_protocol.specs.Config.{limits_with}
+use Rattle.daide_protocol.specs.Events.{Ends, ImTimerExpired}
+use Rattle.daide_protocol.specs.Machine.{Limits, event_outcome, im_timer_expired}
+use Rattle.daide_protocol.specs.Wires.{SessionView, holding, held_after}
+use Rattle.daide_protocol.proofs.LimitsKept.{runs_limits}
+use Rattle.daide_log.specs.Reporting.{IsCaused, IsMade, IsUnder}
+use Rattle.daide_protocol.specs.declared.summary.Summary.{Summary}
+use Rattle.daide_protocol.specs.Summary.{count_note}
+use Rattle.daide_protocol.proofs.WireLemmas.{bytes_come-append}
+use Rattle.daide_log.specs.declared.report.ReportKey.{ReportKey}
+use Rattle.daide_log.specs.Report.{move_line, texts_of, counted_over}
+use Rattle.daide_log.specs.Explained.{ExplainedEntry, Moved, AreShownBy, ExplainsMove, ExplainsFrame, AreMessageLines, bytes_at}
 use Rattle.daide_log.specs.Explained.{fault_lines, indented, shown_text, shown_counted}
 use Rattle.daide_log.specs.Lawful.{silent, in_a_row}
-use Rattle.daide_log.specs.Explaining.{IsRightFate, IsRightlyTold, AreLinesBy}
+use Rattle.daide_log.specs.Explaining.{IsRightFate, IsRightlyReported, AreLinesBy}
 use Rattle.daide_log.proofs.PlayLemmas.{room_is_missing}
 use Rattle.daide_log.proofs.LimitBounds.{depth_within, body_within}
 use Rattle.daide_log.specs.Explained.{verdict_by}
@@ -139,14 +139,14 @@ move_found (x ∷ piece) s side move new room run =
         rw e (next_fed s side (b ++ x ∷ []) piece
         ∙ ap (λ (m : SessionState). fed m.limits.cap (coming m side).pending piece) is_next)
 
-    by_ending : (items : List Item) → last_items cap (b ++ x ∷ []) ≡ items → Ending cap b items → is_over s.phase ≡ false →
+    by_ending : (items : List FrameEvent) → last_items cap (b ++ x ∷ []) ≡ items → Ending cap b items → is_over s.phase ≡ false →
         Later → Found s side (x ∷ piece) move new
     by_ending _ e Ending.quiet live later =
-        let done : Outcome = record { state = run.0; effects = run.1 } in
-        let same : ◌≡◌ {A = Outcome} (record { state = next; effects = [] }) done = sym (rw e refl) ∙ made live in
+        let done : Successor = record { state = run.0; effects = run.1 } in
+        let same : ◌≡◌ {A = Successor} (record { state = next; effects = [] }) done = sym (rw e refl) ∙ made live in
         let less = less_missing cap b x (omega arith) e in
-        let no_move : [] ≡ run.1 = ap (λ (o : Outcome). o.effects) same in
-        let is_next : next ≡ run.0 = ap (λ (o : Outcome). o.state) same in
+        let no_move : [] ≡ run.1 = ap (λ (o : Successor). o.effects) same in
+        let is_next : next ≡ run.0 = ap (λ (o : Successor). o.state) same in
         let found = later run.0
         (subst (λ (m : SessionState). length piece ≤ missing m.limits.cap (coming m side).pending) is_next
         (omega (arith, less, pending_missing s side (b ++ x ∷ []), room)))
@@ -173,7 +173,7 @@ move_found (x ∷ piece) s side move new room run =
           held = fed_next e is_next ∙ found.held;
         }
     by_ending _ e (Ending.refused code) live later =
-        let over : is_over run.0.phase ≡ true = sym (ap (λ (o : Outcome). is_over o.state.phase) (made live)) ∙ rw e (rw (ap is_over (pending_phase s side (b ++ x ∷ [])) ∙ live) refl) in
+        let over : is_over run.0.phase ≡ true = sym (ap (λ (o : Successor). is_over o.state.phase) (made live)) ∙ rw e (rw (ap is_over (pending_phase s side (b ++ x ∷ [])) ∙ live) refl) in
         here (rw e refl) (over_moves run.0 (bytes_come side piece) run.2 new over run.4)
         (one_run (bytes_come side piece) run.0 run.2 [] new run.0 run.4 (over_stays run.0 (bytes_come side piece) over)).1
     by_ending _ e (Ending.headed head one) live later =
@@ -209,11 +209,11 @@ abbrev pub IsAsked : SessionState → Side → List ℕ → Option Question → 
 IsAsked before side bytes q level head deed =
     MatchBool (is_dm head.kind) (IsFate before side bytes q level deed) (q ≡ None)
 
-deed_told : (sent : Bool) (v : Verdict) → sent ≡ true → verdict_by (deed_of sent v) ≡ v
-deed_told true Relay e = refl
-deed_told true Prn e = refl
-deed_told true (Huh place) e = refl
-deed_told false v e = absurd (cc)
+deed_reported : (sent : Bool) (v : Verdict) → sent ≡ true → verdict_by (deed_of sent v) ≡ v
+deed_reported true Relay e = refl
+deed_reported true Prn e = refl
+deed_reported true (Huh place) e = refl
+deed_reported false v e = absurd (cc)
 
 dm_is : (kind : Kind) → is_dm kind ≡ true → kind ≡ Dm
 dm_is Im e = absurd (cc)
@@ -224,7 +224,7 @@ dm_is Em e = absurd (cc)
 
 fate : (before : SessionState) (side : Side) (bytes : List ℕ) (h : Head) (level : Level) (v : Verdict) (phase : Phase)
     (to : Side) (deed : Deed) → IsWholeFrame before.limits.cap h (drop 4 bytes) →
-    IsRight before.limits.words before.limits.max_depth (question_of side level h (drop 4 bytes)) v →
+    IsCorrectVerdict before.limits.words before.limits.max_depth (question_of side level h (drop 4 bytes)) v →
     deed ≡ deed_of (is_sent phase h.kind to) v →
     IsAsked before side bytes (question_of side level h (drop 4 bytes)) level h deed
 fate before side bytes h level v phase to deed w right e = go (is_dm h.kind) refl
@@ -241,7 +241,7 @@ fate before side bytes h level v phase to deed w right e = go (is_dm h.kind) ref
           asked = refl;
           verdict = subst (HasVerdict (IsMessageOver before.limits.words (side2_of side) level) before.limits.max_depth
               (tokens_of (drop 4 bytes)))
-              (sym (ap verdict_by e ∙ deed_told (is_sent phase h.kind to) v sent))
+              (sym (ap verdict_by e ∙ deed_reported (is_sent phase h.kind to) v sent))
               (let r = rw dm at right in r);
           even = ap (λ (n : ℕ). n % 2) w.long ∙ even_right h.len (ap (λ (k : Kind). has_right_length k h.len) (sym kind) ∙ w.right);
           capped = omega (arith, w.long, w.within);
@@ -251,31 +251,31 @@ fate before side bytes h level v phase to deed w right e = go (is_dm h.kind) ref
     go false dm = refl
 
 -- what the moves tell first
-abbrev first_told : List Effect → Note
-first_told [] = Notes.Nothing
-first_told (effect ∷ effects) = effect.told
+abbrev first_reported : List Effect → Note
+first_reported [] = Notes.Nothing
+first_reported (effect ∷ effects) = effect.reported
 
 -- a frame was answered
 pub record IsWholeTold (s : SessionState) (side : Side) (h : Head) (body : List ℕ) (v : Verdict) (head : Head)
     (deed : Deed) : Type 0 where
   pub same_head : head ≡ h
   pub same_deed : deed ≡ deed_of (is_sent s.phase h.kind (destination side v)) v
-  pub state : (whole s side h body v).state ≡ (answered s side h body v).state
+  pub state : (frame_outcome s side h body v).state ≡ (answered s side h body v).state
 
 frame_parts : (h head : Head) (a deed : Deed) → Notes.Frame h a ≡ Notes.Frame head deed → (head ≡ h) × (deed ≡ a)
 frame_parts h head a deed e = (sym (cc), sym (cc))
 
-whole_told : (s : SessionState) (side : Side) (h : Head) (body : List ℕ) (v : Verdict) (head : Head) (deed : Deed) →
-    first_told (whole s side h body v).effects ≡ Notes.Frame head deed → IsWholeTold s side h body v head deed
-whole_told s side h body v head deed e = by_kind (is_im h.kind) refl
+whole_reported : (s : SessionState) (side : Side) (h : Head) (body : List ℕ) (v : Verdict) (head : Head) (deed : Deed) →
+    first_reported (frame_outcome s side h body v).effects ≡ Notes.Frame head deed → IsWholeTold s side h body v head deed
+whole_reported s side h body v head deed e = by_kind (is_im h.kind) refl
   where
-    good : Outcome
+    good : Successor
     good = answered s side h body v
 
     sent : Deed
     sent = deed_of (is_sent s.phase h.kind (destination side v)) v
 
-    by_check : (r : Result (Unit {0}) Code) → first_told (im_answered good s side r).effects ≡ Notes.Frame head deed →
+    by_check : (r : Result (Unit {0}) Code) → first_reported (im_answered good s side r).effects ≡ Notes.Frame head deed →
         (head ≡ h) × (deed ≡ sent) × ((im_answered good s side r).state ≡ good.state)
     by_check (Ok fine) t = let p = frame_parts h head sent deed t in (p.0, p.1, refl)
     by_check (Err code) t = absurd (cc)
@@ -311,7 +311,7 @@ noted_phase s Bot level = refl
 noted_phase s Server level = refl
 
 module _ (before : SessionState) (side : Side) (bytes : List ℕ) (v : Verdict) (after : SessionState) (move : Effect)
-    (head : Head) (deed : Deed) (told : move.told ≡ Notes.Frame head deed) (live : is_over before.phase ≡ false) where
+    (head : Head) (deed : Deed) (reported : move.reported ≡ Notes.Frame head deed) (live : is_over before.phase ≡ false) where
   abbrev next : SessionState
   next = with_pending before side bytes
 
@@ -321,16 +321,16 @@ module _ (before : SessionState) (side : Side) (bytes : List ℕ) (v : Verdict) 
   -- the outcome of a frame that was whole
   of_whole : (s : SessionState) (h : Head) (level : Level) (body : List ℕ) → (coming s side).noted ≡ level →
       body ≡ drop 4 bytes →
-      ◌≡◌ {A = Outcome} (record { state = (whole s side h body v).state; effects = (whole s side h body v).effects ++ [] })
+      ◌≡◌ {A = Successor} (record { state = (frame_outcome s side h body v).state; effects = (frame_outcome s side h body v).effects ++ [] })
       (record { state = after; effects = move ∷ [] }) →
       IsWholeFrame before.limits.cap h body →
-      IsRight before.limits.words before.limits.max_depth (question_of side level h body) v →
+      IsCorrectVerdict before.limits.words before.limits.max_depth (question_of side level h body) v →
       IsAsked before side bytes (question_of side level h body) (coming after side).noted head deed
   of_whole s h level body noted same e w right =
-      let effects : (whole s side h body v).effects ≡ move ∷ [] =
-      sym (append-nil (whole s side h body v).effects) ∙ ap (λ (o : Outcome). o.effects) e in
-      let state : (whole s side h body v).state ≡ after = ap (λ (o : Outcome). o.state) e in
-      let t = whole_told s side h body v head deed (ap first_told effects ∙ told) in
+      let effects : (frame_outcome s side h body v).effects ≡ move ∷ [] =
+      sym (append-nil (frame_outcome s side h body v).effects) ∙ ap (λ (o : Successor). o.effects) e in
+      let state : (frame_outcome s side h body v).state ≡ after = ap (λ (o : Successor). o.state) e in
+      let t = whole_reported s side h body v head deed (ap first_reported effects ∙ reported) in
       let level_is : level ≡ (coming after side).noted =
       sym noted ∙ sym (answered_noted s side h body v)
       ∙ ap (λ (m : SessionState). (coming m side).noted) (sym t.state ∙ state) in
@@ -341,55 +341,55 @@ module _ (before : SessionState) (side : Side) (bytes : List ℕ) (v : Verdict) 
       (subst (λ (l : Level). IsAsked before side bytes (question_of side level h (drop 4 bytes)) l h deed) level_is
       (fate before side bytes h level v s.phase (destination side v) deed
       (subst (IsWholeFrame before.limits.cap h) same w)
-      (subst (λ (b : List ℕ). IsRight before.limits.words before.limits.max_depth (question_of side level h b) v) same right)
+      (subst (λ (b : List ℕ). IsCorrectVerdict before.limits.words before.limits.max_depth (question_of side level h b) v) same right)
       t.same_deed)))
 
-  by_items : (rest : List ℕ) (items : List Item) → Framed before.limits.cap rest items → rest ≡ drop 4 bytes →
-      ◌≡◌ {A = Outcome} (items_outcome next side items v) (record { state = after; effects = move ∷ [] }) →
-      IsRight before.limits.words before.limits.max_depth (asked_by before side items) v →
+  by_items : (rest : List ℕ) (items : List FrameEvent) → Framed before.limits.cap rest items → rest ≡ drop 4 bytes →
+      ◌≡◌ {A = Successor} (items_outcome next side items v) (record { state = after; effects = move ∷ [] }) →
+      IsCorrectVerdict before.limits.words before.limits.max_depth (asked_by before side items) v →
       IsAsked before side bytes (asked_by before side items) (coming after side).noted head deed
   by_items rest _ Framed.quiet same e right =
-      let none : Notes.Nothing ≡ Notes.Frame head deed = ap (λ (o : Outcome). first_told o.effects) e ∙ told in
+      let none : Notes.Nothing ≡ Notes.Frame head deed = ap (λ (o : Successor). first_reported o.effects) e ∙ reported in
       absurd (cc)
   by_items rest _ (Framed.wrong code) same e right =
       let h = rw next_live at e in
-      let none : Notes.Fault code ≡ Notes.Frame head deed = ap (λ (o : Outcome). first_told o.effects) h ∙ told in
+      let none : Notes.Fault code ≡ Notes.Frame head deed = ap (λ (o : Successor). first_reported o.effects) h ∙ reported in
       absurd (cc)
   by_items rest _ (Framed.headed h) same e right = absurd (go (untimely next.phase side h.kind) (rw next_live at e))
     where
       go : (o : Option Code) →
-          ◌≡◌ {A = Outcome} (record {
-            state = (items_outcome (begun next side o).state side [] v).state;
-            effects = (begun next side o).effects ++ (items_outcome (begun next side o).state side [] v).effects;
+          ◌≡◌ {A = Successor} (record {
+            state = (items_outcome (header_outcome next side o).state side [] v).state;
+            effects = (header_outcome next side o).effects ++ (items_outcome (header_outcome next side o).state side [] v).effects;
           })
           (record { state = after; effects = move ∷ [] }) → ⊥
       go None e =
-          let none : Notes.Nothing ≡ Notes.Frame head deed = ap (λ (o : Outcome). first_told o.effects) e ∙ told in
+          let none : Notes.Nothing ≡ Notes.Frame head deed = ap (λ (o : Successor). first_reported o.effects) e ∙ reported in
           absurd (cc)
       go (Some code) e =
-          let none : Notes.Fault code ≡ Notes.Frame head deed = ap (λ (o : Outcome). first_told o.effects) e ∙ told in
+          let none : Notes.Fault code ≡ Notes.Frame head deed = ap (λ (o : Successor). first_reported o.effects) e ∙ reported in
           absurd (cc)
   by_items rest _ (Framed.whole h w) same e right =
       of_whole next h (coming before side).noted rest (pending_noted before side bytes) same (rw next_live at e) w right
   by_items rest _ (Framed.at_once h w nil) same e right =
       go (untimely before.phase side h.kind)
       (subst (λ (p : Phase).
-      ◌≡◌ {A = Outcome}
+      ◌≡◌ {A = Successor}
       (record {
-        state = (items_outcome (begun next side (untimely p side h.kind)).state side (Whole h [] ∷ []) v).state;
-        effects = (begun next side (untimely p side h.kind)).effects
-            ++ (items_outcome (begun next side (untimely p side h.kind)).state side (Whole h [] ∷ []) v).effects;
+        state = (items_outcome (header_outcome next side (untimely p side h.kind)).state side (Whole h [] ∷ []) v).state;
+        effects = (header_outcome next side (untimely p side h.kind)).effects
+            ++ (items_outcome (header_outcome next side (untimely p side h.kind)).state side (Whole h [] ∷ []) v).effects;
       })
       (record { state = after; effects = move ∷ [] })) (pending_phase before side bytes) (rw next_live at e)) right
     where
       go : (o : Option Code) →
-          ◌≡◌ {A = Outcome} (record {
-            state = (items_outcome (begun next side o).state side (Whole h [] ∷ []) v).state;
-            effects = (begun next side o).effects
-                ++ (items_outcome (begun next side o).state side (Whole h [] ∷ []) v).effects;
+          ◌≡◌ {A = Successor} (record {
+            state = (items_outcome (header_outcome next side o).state side (Whole h [] ∷ []) v).state;
+            effects = (header_outcome next side o).effects
+                ++ (items_outcome (header_outcome next side o).state side (Whole h [] ∷ []) v).effects;
           })
           (record { state = after; effects = move ∷ [] }) →
-          IsRight before.limits.words before.limits.max_depth
+          IsCorrectVerdict before.limits.words before.limits.max_depth
           (cond (is_some o) None (question_of side before.level h [])) v →
           IsAsked before side bytes (cond (is_some o) None (question_of side before.level h [])) (coming after side).noted
           head deed
@@ -398,14 +398,14 @@ module _ (before : SessionState) (side : Side) (bytes : List ℕ) (v : Verdict) 
           (noted_noted next side next.level ∙ pending_level before side bytes) (sym nil ∙ same)
           (let k = rw (ap is_over (noted_phase next side next.level) ∙ next_live) at e in k) w right
       go (Some code) e right =
-          let none : Notes.Fault code ≡ Notes.Frame head deed = ap (λ (o : Outcome). first_told o.effects) e ∙ told in
+          let none : Notes.Fault code ≡ Notes.Frame head deed = ap (λ (o : Successor). first_reported o.effects) e ∙ reported in
           absurd (cc)
 
 pub frame_asked : (before after : SessionState) (side : Side) (byte : ℕ) (move : Effect) (head : Head) (deed : Deed) →
-    Transition before (Comes side byte) (move ∷ []) after → move.told ≡ Notes.Frame head deed →
+    Transition before (Comes side byte) (move ∷ []) after → move.reported ≡ Notes.Frame head deed →
     IsAsked before side ((coming before side).pending ++ byte ∷ []) (question before (Comes side byte))
     (coming after side).noted head deed
-frame_asked before after side byte move head deed step told = by_phase (is_over before.phase) refl
+frame_asked before after side byte move head deed step reported = by_phase (is_over before.phase) refl
   where
     bytes : List ℕ
     bytes = (coming before side).pending ++ byte ∷ []
@@ -414,9 +414,9 @@ frame_asked before after side byte move head deed step told = by_phase (is_over 
         IsAsked before side bytes (question before (Comes side byte)) (coming after side).noted head deed
     by_phase true over =
         let h = rw over at step.outcome in
-        absurd (some_move move (sym (ap (λ (o : Outcome). o.effects) h)))
+        absurd (some_move move (sym (ap (λ (o : Successor). o.effects) h)))
     by_phase false live =
-        rw live (by_items before side bytes step.verdict after move head deed told live (drop 4 bytes)
+        rw live (by_items before side bytes step.verdict after move head deed reported live (drop 4 bytes)
         (last_items before.limits.cap bytes) (framed before.limits.cap bytes) refl
         (let h = rw live at step.outcome in h)
         (let r = rw live at step.right in r))
@@ -428,29 +428,29 @@ kept_by head Relay bytes = refl
 kept_by head Prn bytes = refl
 kept_by head (Huh place) bytes = refl
 
-end_told : (old : SessionState) (side : Side) (move : Effect) (new : SessionState) →
-    Runs old (Ends side ∷ []) (move ∷ []) new → move.told ≡ Notes.Nothing
-end_told old side move new run = by_phase (is_over old.phase) refl
+end_reported : (old : SessionState) (side : Side) (move : Effect) (new : SessionState) →
+    Runs old (Ends side ∷ []) (move ∷ []) new → move.reported ≡ Notes.Nothing
+end_reported old side move new run = by_phase (is_over old.phase) refl
   where
     effects : (event_outcome old (Ends side) run.3.verdict).effects ≡ move ∷ []
-    effects = ap (λ (o : Outcome). o.effects) run.3.outcome ∙ sym (append-nil run.1)
+    effects = ap (λ (o : Successor). o.effects) run.3.outcome ∙ sym (append-nil run.1)
         ∙ ap (λ (m : List Effect). run.1 ++ m) (sym run.4.0) ∙ sym run.5
 
-    by_phase : (o : Bool) → is_over old.phase ≡ o → move.told ≡ Notes.Nothing
+    by_phase : (o : Bool) → is_over old.phase ≡ o → move.reported ≡ Notes.Nothing
     by_phase true over = absurd (some_move move (sym (let h = rw over at effects in h)))
-    by_phase false live = sym (ap first_told (let h = rw live at effects in h))
+    by_phase false live = sym (ap first_reported (let h = rw live at effects in h))
 
-timer_told : (old : SessionState) (move : Effect) (new : SessionState) (head : Head) (deed : Deed) →
-    Runs old (TimerExpires ∷ []) (move ∷ []) new → move.told ≡ Notes.Frame head deed → ⊥
-timer_told old move new head deed run told = by_phase old.phase effects
+timer_reported : (old : SessionState) (move : Effect) (new : SessionState) (head : Head) (deed : Deed) →
+    Runs old (ImTimerExpired ∷ []) (move ∷ []) new → move.reported ≡ Notes.Frame head deed → ⊥
+timer_reported old move new head deed run reported = by_phase old.phase effects
   where
-    effects : (popped old.phase old).effects ≡ move ∷ []
-    effects = ap (λ (o : Outcome). o.effects) run.3.outcome ∙ sym (append-nil run.1)
+    effects : (im_timer_expired old.phase old).effects ≡ move ∷ []
+    effects = ap (λ (o : Successor). o.effects) run.3.outcome ∙ sym (append-nil run.1)
         ∙ ap (λ (m : List Effect). run.1 ++ m) (sym run.4.0) ∙ sym run.5
 
-    by_phase : (p : Phase) → (popped p old).effects ≡ move ∷ [] → ⊥
+    by_phase : (p : Phase) → (im_timer_expired p old).effects ≡ move ∷ [] → ⊥
     by_phase WaitIm e =
-        let none : Notes.Fault ImTimeout ≡ Notes.Frame head deed = ap first_told e ∙ told in absurd (cc)
+        let none : Notes.Fault ImTimeout ≡ Notes.Frame head deed = ap first_reported e ∙ reported in absurd (cc)
     by_phase WaitRm e = some_move move (sym e)
     by_phase Open e = some_move move (sym e)
     by_phase Over e = some_move move (sym e)
@@ -465,11 +465,11 @@ module _ (config : Config) (words : List Word) (old : SessionView) (side : Side)
       ∙ sym (runs_limits events old.state new.state moves run) ∙ under.limits
 
   -- a message that is held was judged rightly
-  pub rightly_told : (events : List Event) (told : Note) → IsMade old events side told new →
-      IsRightlyTold words config side told new
-  rightly_told events Notes.Nothing made = tt
-  rightly_told events (Notes.Fault code) made = tt
-  rightly_told events (Notes.Frame head deed) made = by_cause made.caused
+  pub rightly_reported : (events : List Event) (reported : Note) → IsMade old events side reported new →
+      IsRightlyReported words config side reported new
+  rightly_reported events Notes.Nothing made = tt
+  rightly_reported events (Notes.Fault code) made = tt
+  rightly_reported events (Notes.Frame head deed) made = by_cause made.caused
     where
       of_fate : (k : Bool) (before after : SessionState) (bytes : List ℕ) (q : Option Question) →
           before.limits ≡ limits_with config words → after ≡ new.state →
@@ -478,13 +478,13 @@ module _ (config : Config) (words : List Word) (old : SessionView) (side : Side)
           MatchBool k (IsRightFate words config side deed new) ⊤
       of_fate false before after bytes q limits same held h = tt
       of_fate true before after bytes q limits same held h =
-          let whole : bytes ≡ (holding new side).held =
+          let frame_outcome : bytes ≡ (holding new side).held =
           sym (held ∙ ap (λ (d : Deed). held_after (Notes.Frame head d) bytes) h.made ∙ kept_by head h.by bytes) in
           let verdict = subst (λ (l : Limits). HasVerdict (IsMessageOver l.words (side2_of side) (coming after side).noted)
           l.max_depth (tokens_of (drop 4 bytes)) (verdict_by deed)) limits h.verdict in
           let level = ap (λ (s : SessionState). (coming s side).noted) same in
           let right = subst (λ (b : List ℕ). HasVerdict (IsMessageOver (grammar_words words) (side2_of side)
-          (coming new.state side).noted) config.max_depth (tokens_of (drop 4 b)) (verdict_by deed)) whole
+          (coming new.state side).noted) config.max_depth (tokens_of (drop 4 b)) (verdict_by deed)) frame_outcome
           (subst (λ (l : Level). HasVerdict (IsMessageOver (grammar_words words) (side2_of side) l)
           config.max_depth (tokens_of (drop 4 bytes)) (verdict_by deed)) level verdict) in
           record {
@@ -496,9 +496,9 @@ module _ (config : Config) (words : List Word) (old : SessionView) (side : Side)
                 h.capped,
                 ap (λ (l : Limits). l.cap) limits,
                 body_within config under.accepted,
-                ap (λ (b : List ℕ). length (drop 4 b)) whole,
+                ap (λ (b : List ℕ). length (drop 4 b)) frame_outcome,
               );
-              even = ap (λ (b : List ℕ). length (drop 4 b) % 2) (sym whole) ∙ h.even;
+              even = ap (λ (b : List ℕ). length (drop 4 b) % 2) (sym frame_outcome) ∙ h.even;
             };
             within = place_in (IsMessageOver (grammar_words words) (side2_of side) (coming new.state side).noted)
                 config.max_depth (drop 4 (holding new side).held) (verdict_by deed) right;
@@ -518,22 +518,22 @@ module _ (config : Config) (words : List Word) (old : SessionView) (side : Side)
           (frame_asked f.before f.after side f.byte made.move head deed f.step made.same)
       by_cause (IsCaused.by_end e) =
           let none : Notes.Nothing ≡ Notes.Frame head deed =
-          sym (end_told old.state side made.move new.state
+          sym (end_reported old.state side made.move new.state
           (subst (λ (es : List Event). Runs old.state es (made.move ∷ []) new.state) e made.run)) ∙ made.same in
           absurd (cc)
       by_cause (IsCaused.by_timer e bot held) =
-          absurd (timer_told old.state made.move new.state head deed
+          absurd (timer_reported old.state made.move new.state head deed
           (subst (λ (es : List Event). Runs old.state es (made.move ∷ []) new.state) e made.run) made.same)
 
   -- ---- the entries of a move
 
-  abbrev shown_as : Source → Effect → List ℕ → List Shown
-  shown_as source move lines = Moved (record { source = source; side = side; told = move.told }) (indented lines) ∷ []
+  abbrev shown_as : ReportKey → Effect → List ℕ → List ExplainedEntry
+  shown_as source move lines = Moved (record { source = source; side = side; reported = move.reported }) (indented lines) ∷ []
 
   -- a move that one byte of a piece made
-  shown_by_bytes : (source : Source) (piece : List ℕ) (move : Effect) (lines : List ℕ) →
+  shown_by_bytes : (source : ReportKey) (piece : List ℕ) (move : Effect) (lines : List ℕ) →
       (f : Found old.state side piece move new.state) →
-      AreLines words side f.before (Comes side f.byte) move.told lines →
+      ExplainsMove words side f.before (Comes side f.byte) move.reported lines →
       AreShownBy words source side old.state (bytes_come side piece) (move ∷ []) new.state (shown_as source move lines)
   shown_by_bytes source piece move lines f are =
       subst (λ (p : List ℕ). AreShownBy words source side old.state (bytes_come side p) (move ∷ []) new.state
@@ -556,8 +556,8 @@ module _ (config : Config) (words : List Word) (old : SessionView) (side : Side)
       )))
 
   -- or one event alone
-  shown_by_one : (source : Source) (event : Event) (move : Effect) (lines : List ℕ) →
-      Runs old.state (event ∷ []) (move ∷ []) new.state → AreLines words side old.state event move.told lines →
+  shown_by_one : (source : ReportKey) (event : Event) (move : Effect) (lines : List ℕ) →
+      Runs old.state (event ∷ []) (move ∷ []) new.state → ExplainsMove words side old.state event move.reported lines →
       AreShownBy words source side old.state (event ∷ []) (move ∷ []) new.state (shown_as source move lines)
   shown_by_one source event move lines run are =
       let only : run.1 ≡ move ∷ [] =
@@ -574,23 +574,23 @@ module _ (config : Config) (words : List Word) (old : SessionView) (side : Side)
         refl,
       )
 
-  text_as : (source : Source) (move : Effect) (told : Note) (lines : List ℕ) → move.told ≡ told →
-      texts_of shown_text (shown_as source move lines) ≡ move_line source side told ++ indented lines
-  text_as source move told lines e =
-      append-nil (move_line source side move.told ++ indented lines)
+  text_as : (source : ReportKey) (move : Effect) (reported : Note) (lines : List ℕ) → move.reported ≡ reported →
+      texts_of shown_text (shown_as source move lines) ≡ move_line source side reported ++ indented lines
+  text_as source move reported lines e =
+      append-nil (move_line source side move.reported ++ indented lines)
       ∙ ap (λ (n : Note). move_line source side n ++ indented lines) e
 
   -- what is written of a frame that is held is what its move is told with
-  pub told_with : (events : List Event) (told : Note) (lines : List ℕ) (source : Source) →
-      (made : IsMade old events side told new) → AreLinesBy words config.max_depth side told new lines →
-      (entries : List Shown) × AreShownBy words source side old.state events (made.move ∷ []) new.state entries
-      × (texts_of shown_text entries ≡ move_line source side told ++ indented lines)
-      × ((before : Summary) → counted_by shown_counted entries before ≡ counted told before)
-  told_with events told lines source made are = (
+  pub reported_with : (events : List Event) (reported : Note) (lines : List ℕ) (source : ReportKey) →
+      (made : IsMade old events side reported new) → AreLinesBy words config.max_depth side reported new lines →
+      (entries : List ExplainedEntry) × AreShownBy words source side old.state events (made.move ∷ []) new.state entries
+      × (texts_of shown_text entries ≡ move_line source side reported ++ indented lines)
+      × ((before : Summary) → counted_over shown_counted entries before ≡ count_note reported before)
+  reported_with events reported lines source made are = (
     shown_as source made.move lines,
     by_cause made.caused,
-    text_as source made.move told lines made.same,
-    λ before. ap (λ (n : Note). counted n before) made.same,
+    text_as source made.move reported lines made.same,
+    λ before. ap (λ (n : Note). count_note n before) made.same,
   )
     where
       of_asked : (k : Bool) (head : Head) (deed : Deed) (before after : SessionState) (event : Event) →
@@ -601,15 +601,15 @@ module _ (config : Config) (words : List Word) (old : SessionView) (side : Side)
           (question before event ≡ None) →
           MatchBool k (AreMessageLines words (side2_of side) (coming new.state side).noted config.max_depth
           (drop 4 (holding new side).held) (verdict_by deed) lines) (lines ≡ []) →
-          AreLines words side before event (Notes.Frame head deed) lines
+          ExplainsMove words side before event (Notes.Frame head deed) lines
       of_asked false head deed before after event k limits same held h l =
-          subst (λ (q : Option Question). AreFrameLines words before.limits.max_depth q
+          subst (λ (q : Option Question). ExplainsFrame words before.limits.max_depth q
           (drop 4 (bytes_at before side event)) deed lines) (sym h) l
       of_asked true head deed before after event k limits same held h l =
           let bytes = bytes_at before side event in
-          let whole : (holding new side).held ≡ bytes =
+          let frame_outcome : (holding new side).held ≡ bytes =
           held ∙ ap (λ (d : Deed). held_after (Notes.Frame head d) bytes) h.made ∙ kept_by head h.by bytes in
-          subst (λ (q : Option Question). AreFrameLines words before.limits.max_depth q (drop 4 bytes) deed lines)
+          subst (λ (q : Option Question). ExplainsFrame words before.limits.max_depth q (drop 4 bytes) deed lines)
           (sym h.asked) (
             refl,
             subst (λ (n : ℕ). AreMessageLines words (side2_of side) (coming after side).noted n (drop 4 bytes)
@@ -617,17 +617,17 @@ module _ (config : Config) (words : List Word) (old : SessionView) (side : Side)
                 (subst (λ (s : SessionState). AreMessageLines words (side2_of side) (coming s side).noted config.max_depth
                 (drop 4 bytes) (verdict_by deed) lines) (sym same)
                 (subst (λ (b : List ℕ). AreMessageLines words (side2_of side) (coming new.state side).noted config.max_depth
-                (drop 4 b) (verdict_by deed) lines) whole l)),
+                (drop 4 b) (verdict_by deed) lines) frame_outcome l)),
           )
 
       Run : List Event → Type 0
       Run es = Runs old.state es (made.move ∷ []) new.state
 
-      of_bytes : (note : Note) (piece : List ℕ) (f : Found old.state side piece made.move new.state) → made.move.told ≡ note →
+      of_bytes : (note : Note) (piece : List ℕ) (f : Found old.state side piece made.move new.state) → made.move.reported ≡ note →
           Runs old.state (bytes_come side piece) (made.move ∷ []) new.state →
           (holding new side).held ≡ held_after note ((coming f.before side).pending ++ f.byte ∷ []) →
           AreLinesBy words config.max_depth side note new lines →
-          AreLines words side f.before (Comes side f.byte) note lines
+          ExplainsMove words side f.before (Comes side f.byte) note lines
       of_bytes Notes.Nothing piece f e run held l = l
       of_bytes (Notes.Fault code) piece f e run held l = l ∙ ap (fault_lines code) held
       of_bytes (Notes.Frame head deed) piece f e run held l =
@@ -635,29 +635,29 @@ module _ (config : Config) (words : List Word) (old : SessionView) (side : Side)
           (limits_before (bytes_come side piece) (made.move ∷ []) f.front f.before run f.first) (sym f.last) held
           (frame_asked f.before f.after side f.byte made.move head deed f.step e) l
 
-      of_timer : (note : Note) → made.move.told ≡ note → Runs old.state (TimerExpires ∷ []) (made.move ∷ []) new.state →
+      of_timer : (note : Note) → made.move.reported ≡ note → Runs old.state (ImTimerExpired ∷ []) (made.move ∷ []) new.state →
           (holding new side).held ≡ (coming old.state side).pending → AreLinesBy words config.max_depth side note new lines →
-          AreLines words side old.state TimerExpires note lines
+          ExplainsMove words side old.state ImTimerExpired note lines
       of_timer Notes.Nothing e run held l = l
       of_timer (Notes.Fault code) e run held l = l ∙ ap (fault_lines code) held
       of_timer (Notes.Frame head deed) e run held l =
-          absurd (timer_told old.state made.move new.state head deed run e)
+          absurd (timer_reported old.state made.move new.state head deed run e)
 
-      of_end : (note : Note) → made.move.told ≡ note → Runs old.state (Ends side ∷ []) (made.move ∷ []) new.state →
-          AreLinesBy words config.max_depth side note new lines → AreLines words side old.state (Ends side) note lines
+      of_end : (note : Note) → made.move.reported ≡ note → Runs old.state (Ends side ∷ []) (made.move ∷ []) new.state →
+          AreLinesBy words config.max_depth side note new lines → ExplainsMove words side old.state (Ends side) note lines
       of_end Notes.Nothing e run l = l
       of_end (Notes.Fault code) e run l =
-          let none : Notes.Nothing ≡ Notes.Fault code = sym (end_told old.state side made.move new.state run) ∙ e in
+          let none : Notes.Nothing ≡ Notes.Fault code = sym (end_reported old.state side made.move new.state run) ∙ e in
           absurd (cc)
       of_end (Notes.Frame head deed) e run l =
-          let none : Notes.Nothing ≡ Notes.Frame head deed = sym (end_told old.state side made.move new.state run) ∙ e in
+          let none : Notes.Nothing ≡ Notes.Frame head deed = sym (end_reported old.state side made.move new.state run) ∙ e in
           absurd (cc)
 
-      own : (event : Event) (state : SessionState) → AreLines words side state event told lines →
-          AreLines words side state event made.move.told lines
-      own event state l = subst (λ (n : Note). AreLines words side state event n lines) (sym made.same) l
+      own : (event : Event) (state : SessionState) → ExplainsMove words side state event reported lines →
+          ExplainsMove words side state event made.move.reported lines
+      own event state l = subst (λ (n : Note). ExplainsMove words side state event n lines) (sym made.same) l
 
-      by_cause : IsCaused old events side told new →
+      by_cause : IsCaused old events side reported new →
           AreShownBy words source side old.state events (made.move ∷ []) new.state (shown_as source made.move lines)
       by_cause (IsCaused.by_bytes piece e room tied takes) =
           let run = subst Run e made.run in
@@ -665,15 +665,15 @@ module _ (config : Config) (words : List Word) (old : SessionView) (side : Side)
           subst (λ (es : List Event). AreShownBy words source side old.state es (made.move ∷ []) new.state
           (shown_as source made.move lines)) (sym e)
           (shown_by_bytes source piece made.move lines f
-          (own (Comes side f.byte) f.before (of_bytes told piece f made.same run
-          (takes.bytes ∙ ap (held_after told) (ap (λ (b : List ℕ). fed old.state.limits.cap b piece) tied ∙ f.held)) are)))
+          (own (Comes side f.byte) f.before (of_bytes reported piece f made.same run
+          (takes.bytes ∙ ap (held_after reported) (ap (λ (b : List ℕ). fed old.state.limits.cap b piece) tied ∙ f.held)) are)))
       by_cause (IsCaused.by_end e) =
           let run = subst Run e made.run in
           subst (λ (es : List Event). AreShownBy words source side old.state es (made.move ∷ []) new.state
           (shown_as source made.move lines)) (sym e)
-          (shown_by_one source (Ends side) made.move lines run (own (Ends side) old.state (of_end told made.same run are)))
+          (shown_by_one source (Ends side) made.move lines run (own (Ends side) old.state (of_end reported made.same run are)))
       by_cause (IsCaused.by_timer e bot held) =
           let run = subst Run e made.run in
           subst (λ (es : List Event). AreShownBy words source side old.state es (made.move ∷ []) new.state
           (shown_as source made.move lines)) (sym e)
-          (shown_by_one source TimerExpires made.move lines run (own TimerExpires old.state (of_timer told made.same run held are)))
+          (shown_by_one source ImTimerExpired made.move lines run (own ImTimerExpired old.state (of_timer reported made.same run held are)))

@@ -3,16 +3,16 @@ use Rattle.std.proofs.Common.{◌≡◌, [], ◌∷◌, ◌++◌, Some, None, re
 use Rattle.std.specs.Fmt.{digits}
 use Rattle.daide_frame.specs.declared.side.Side.TheVariants.{Bot, Server}
 use Rattle.daide_frame.specs.declared.head.Kind.TheVariants.{Im}
-use Rattle.daide_machine.specs.declared.note.Deed.TheVariants.{Relayed}
-use Rattle.daide_machine.specs.declared.note.Note.TheVariants.{Nothing, Frame}
-use Rattle.daide_machine.specs.declared.config.Config.{Config}
+use Rattle.daide_protocol.specs.declared.note.Deed.TheVariants.{Relayed}
+use Rattle.daide_protocol.specs.declared.note.Note.TheVariants.{Nothing, Frame}
+use Rattle.daide_protocol.specs.declared.config.Config.{Config}
 use Rattle.daide_token.specs.Names.{name_of, token_named, names}
 use Rattle.daide_log.specs.declared.heading.Version.TheVariants.{Single, Match}
-use Rattle.daide_lines.specs.LogLine.{parted_at_space, plain_number}
-use Rattle.daide_lines.proofs.LineFacts.{xyz, gof}
+use Rattle.daide_log_lines.specs.LogLine.{parted_at_space, plain_number}
+use Rattle.daide_log_lines.proofs.LineFacts.{xyz, gof}
 use Rattle.daide_log.specs.ConfigLine.{match_config_of_line}
-use Rattle.daide_log.specs.Heading.{version_of, with_word}
-use Rattle.daide_log.specs.Report.{source_text, told_text, move_line}
+use Rattle.daide_log.specs.Heading.{version_of, append_word}
+use Rattle.daide_log.specs.Report.{source_text, reported_text, move_line}
 use Rattle.daide_log.specs.Laws.{own_line}
 
 -- ---- the head
@@ -42,8 +42,8 @@ sessions_and_words = (refl, refl, refl, refl, refl, refl, refl, refl, refl, refl
 -- ---- words
 
 -- a name of the protocol's is no operator's, and a word stands once
-accepted : (with_word [] (Some xyz) ≡ Some (xyz ∷ [])) × (with_word [] (Some gof) ≡ None)
-    × (with_word (xyz ∷ []) (Some xyz) ≡ None)
+accepted : (append_word [] (Some xyz) ≡ Some (xyz ∷ [])) × (append_word [] (Some gof) ≡ None)
+    × (append_word (xyz ∷ []) (Some xyz) ≡ None)
 unfolding name_of token_named names xyz gof
 accepted = (refl, refl, refl)
 
@@ -58,10 +58,10 @@ own_lines = (refl, refl, refl, refl, refl)
 
 -- ---- the report
 
-moves_told :
+moves_reported :
     (move_line (record { line = 4; session = Some 1 }) Bot (Frame (record { kind = Im; len = 4 }) Relayed)
     ≡ codes "4 1 bot IM 4 relay" ++ 10 ∷ [])
     × (move_line (record { line = 4; session = Some 256 }) Server Nothing ≡ codes "4 256 server end" ++ 10 ∷ [])
     × (move_line (record { line = 4; session = None }) Server Nothing ≡ codes "4 server end" ++ 10 ∷ [])
-unfolding move_line source_text told_text digits
-moves_told = (refl, refl, refl)
+unfolding move_line source_text reported_text digits
+moves_reported = (refl, refl, refl)

@@ -5,31 +5,31 @@ use Rattle.std.proofs.Common.{Some, Ok, Err, refl, arith}
 use Rattle.std.specs.Fmt.{digits}
 use Rattle.hex.specs.Hex.{decode_pairs, encode_with}
 use Rattle.daide_frame.specs.declared.side.Side.TheVariants.{Bot}
-use Rattle.daide_frame.specs.Head.{head_of}
+use Rattle.daide_frame.specs.Head.{parse_head}
 use Rattle.daide_frame.specs.InitialMessage.{im_of}
 use Rattle.daide_frame.specs.Frames.{is_alien, first_items, last_items}
 use Rattle.daide_token.specs.Names.{name_of, token_named, names}
 use Rattle.daide_frame.specs.declared.head.Kind.TheVariants.{Im}
 use Rattle.daide_frame.specs.declared.code.Code.TheVariants.{ImTimeout}
-use Rattle.daide_machine.specs.declared.note.Deed.TheVariants.{Relayed}
-use Rattle.daide_machine.specs.declared.note.Note.TheVariants.{Frame, Fault}
-use Rattle.daide_machine.specs.declared.phase.Phase.{Phase}
-use Rattle.daide_machine.specs.declared.ending.Ending.{Ending}
-use Rattle.daide_machine.specs.declared.ending.Ending.TheVariants as Endings
-use Rattle.daide_machine.specs.declared.phase.Phase.TheVariants.{WaitIm, WaitRm}
-use Rattle.daide_machine.specs.Machine.{SessionState, over}
-use Rattle.daide_machine.specs.Config.{limits_with}
+use Rattle.daide_protocol.specs.declared.note.Deed.TheVariants.{Relayed}
+use Rattle.daide_protocol.specs.declared.note.Note.TheVariants.{Frame, Fault}
+use Rattle.daide_protocol.specs.declared.phase.Phase.{Phase}
+use Rattle.daide_protocol.specs.declared.ending.Ending.{Ending}
+use Rattle.daide_protocol.specs.declared.ending.Ending.TheVariants as Endings
+use Rattle.daide_protocol.specs.declared.phase.Phase.TheVariants.{WaitIm, WaitRm}
+use Rattle.daide_protocol.specs.Machine.{SessionState, over}
+use Rattle.daide_protocol.specs.Config.{limits_with}
 use Rattle.daide_words.specs.declared.word.Word.{Word}
-use Rattle.daide_lines.specs.declared.fault.LogFault.TheVariants.{BadLine}
+use Rattle.daide_log_lines.specs.declared.fault.LogFault.TheVariants.{BadLine}
 use Rattle.daide_log.specs.declared.heading.Version.TheVariants.{Match}
-use Rattle.daide_lines.specs.LogLine.{LogEvent, Traffic, TimeOver, parted_at_space, plain_number, event_of_line}
-use Rattle.daide_lines.specs.MatchLine.{match_event_of_line}
+use Rattle.daide_log_lines.specs.LogLine.{LogEvent, Received, ImTimerLine, parted_at_space, plain_number, event_of_line}
+use Rattle.daide_log_lines.specs.MatchLine.{match_event_of_line}
 use Rattle.daide_log.specs.ConfigLine.{match_config_of_line}
-use Rattle.daide_lines.specs.WordLine.{word_of_line}
+use Rattle.daide_log_lines.specs.WordLine.{word_of_line}
 use Rattle.daide_log.specs.Heading.{Preamble, Unnamed, Named, Headed}
-use Rattle.daide_log.specs.Report.{Entry, source_text, told_text, move_line, summary_line, events_of}
+use Rattle.daide_log.specs.Report.{ReportEntry, source_text, reported_text, move_line, summary_line, events_of_line}
 use Rattle.daide_log.specs.Log.{ReportsBy, ReportsAllBy, IsReportBy, Opening, Playing, source_in, Reports, ReportsAll, IsReport}
-use Rattle.daide_lines.proofs.LineFacts.{xyz}
+use Rattle.daide_log_lines.proofs.LineFacts.{xyz}
 use Rattle.daide_log.proofs.MatchFacts.{limits}
 use Rattle.daide_log.proofs.Played.{Played, state_at, played, verdict_on, entries_by}
 use Rattle.daide_log.proofs.Played.{has_no_feed, unbroken, line_played}
@@ -82,23 +82,23 @@ opened =
 -- ---- its lines
 
 im : LogEvent
-im = Traffic Bot (0 ∷ 0 ∷ 0 ∷ 4 ∷ 0 ∷ 1 ∷ 218 ∷ 16 ∷ [])
+im = Received Bot (0 ∷ 0 ∷ 0 ∷ 4 ∷ 0 ∷ 1 ∷ 218 ∷ 16 ∷ [])
 
 after_im : List ℕ
 after_im = head_lines ++ codes "1 bot 000000040001DA10" ++ 10 ∷ []
 
 im_passes : Played
-im_passes = record { state = session_in WaitRm; told = Frame (record { kind = Im; len = 4 }) Relayed ∷ [] }
+im_passes = record { state = session_in WaitRm; reported = Frame (record { kind = Im; len = 4 }) Relayed ∷ [] }
 
-im_played : played (events_of im) (session_in WaitIm) ≡ Some im_passes
-unfolding im im_passes limits xyz played verdict_on last_items first_items head_of is_alien im_of
+im_played : played (events_of_line im) (session_in WaitIm) ≡ Some im_passes
+unfolding im im_passes limits xyz played verdict_on last_items first_items parse_head is_alien im_of
 im_played = refl
 
-im_told : List Entry
-im_told = entries_by (source_in Match 4 1) Bot im_passes.told
+im_reported : List ReportEntry
+im_reported = entries_by (source_in Match 4 1) Bot im_passes.reported
 
-im_relayed : Reports after_im 4 im_told (Playing Match (session_in WaitRm ∷ session_in WaitIm ∷ []))
-unfolding im im_told im_passes after_im match_event_of_line parted_at_space plain_number event_of_line decode_pairs
+im_relayed : Reports after_im 4 im_reported (Playing Match (session_in WaitRm ∷ session_in WaitIm ∷ []))
+unfolding im im_reported im_passes after_im match_event_of_line parted_at_space plain_number event_of_line decode_pairs
     has_no_feed
 im_relayed =
     line_played head_lines 3 [] Match (session_in WaitIm ∷ session_in WaitIm ∷ []) opened
@@ -110,23 +110,23 @@ two_sessions : IsReport (after_im ++ codes "2 timer" ++ 10 ∷ [])
     (((codes "4 1 bot IM 4 relay" ++ 10 ∷ []) ++ codes "5 2 bot fault 01" ++ 10 ∷ [])
     ++ codes "relayed 1 prn 0 huh 0 faults 1" ++ 10 ∷ [])
     (Ok (record { relayed = 1; prn = 0; huh = 0; faults = 1 }))
-unfolding im_told im_passes match_event_of_line parted_at_space plain_number event_of_line move_line source_text
-    told_text summary_line digits encode_with entries_by played verdict_on has_no_feed
+unfolding im_reported im_passes match_event_of_line parted_at_space plain_number event_of_line move_line source_text
+    reported_text summary_line digits encode_with entries_by played verdict_on has_no_feed
 two_sessions =
-    let late : Played = record { state = session_ended (Endings.Fault Bot ImTimeout); told = Fault ImTimeout ∷ [] } in
+    let late : Played = record { state = session_ended (Endings.Fault Bot ImTimeout); reported = Fault ImTimeout ∷ [] } in
     let states : List SessionState = session_in WaitRm ∷ session_ended (Endings.Fault Bot ImTimeout) ∷ [] in
-    let told : List Entry = im_told ++ entries_by (source_in Match 5 2) Bot late.told in
-    IsReportBy.whole (after_im ++ codes "2 timer" ++ 10 ∷ []) 5 told Match states
-    (ReportsAllBy.ended (after_im ++ codes "2 timer" ++ 10 ∷ []) 5 told (Playing Match states)
-    (line_played after_im 4 im_told Match (session_in WaitRm ∷ session_in WaitIm ∷ []) im_relayed (codes "2 timer") 2
-    TimeOver (session_in WaitIm) late refl (omega arith) (omega arith) refl refl refl))
+    let reported : List ReportEntry = im_reported ++ entries_by (source_in Match 5 2) Bot late.reported in
+    IsReportBy.whole (after_im ++ codes "2 timer" ++ 10 ∷ []) 5 reported Match states
+    (ReportsAllBy.ended (after_im ++ codes "2 timer" ++ 10 ∷ []) 5 reported (Playing Match states)
+    (line_played after_im 4 im_reported Match (session_in WaitRm ∷ session_in WaitIm ∷ []) im_relayed (codes "2 timer") 2
+    ImTimerLine (session_in WaitIm) late refl (omega arith) (omega arith) refl refl refl))
 
 -- a third session there is none, and the report of the lines before is out
 third_session : IsReport (after_im ++ codes "3 timer" ++ 10 ∷ []) (codes "4 1 bot IM 4 relay" ++ 10 ∷ []) (Err (BadLine 5))
-unfolding im_told im_passes match_event_of_line parted_at_space plain_number move_line source_text told_text digits
+unfolding im_reported im_passes match_event_of_line parted_at_space plain_number move_line source_text reported_text digits
     entries_by has_no_feed
 third_session =
-    IsReportBy.bad after_im 4 im_told (Playing Match (session_in WaitRm ∷ session_in WaitIm ∷ [])) im_relayed
+    IsReportBy.bad after_im 4 im_reported (Playing Match (session_in WaitRm ∷ session_in WaitIm ∷ [])) im_relayed
     (codes "3 timer") [] (omega arith) (unbroken (codes "3 timer") refl) (omega arith) refl
 
 -- the word is missing

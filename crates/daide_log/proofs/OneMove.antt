@@ -9,9 +9,9 @@ use Rattle.daide_frame.specs.declared.side.Side.TheVariants.{Bot, Server}
 use Rattle.daide_frame.specs.declared.head.Head.{Head}
 use Rattle.daide_frame.specs.declared.code.Code.{Code}
 use Rattle.daide_frame.specs.declared.code.Code.TheVariants.{InvalidToken}
-use Rattle.daide_frame.specs.Head.{head_of, is_im}
+use Rattle.daide_frame.specs.Head.{parse_head, is_im}
 use Rattle.daide_frame.specs.InitialMessage.{im_of}
-use Rattle.daide_frame.specs.Frames.{Item, Begun, Whole, Wrong, last_items, missing, missing_of_body, head_part, alien_in}
+use Rattle.daide_frame.specs.Frames.{FrameEvent, Begun, Whole, Wrong, last_items, missing, missing_of_body, head_part, alien_in}
 use Rattle.daide_frame.proofs.AlienLemmas.{ends_alien}
 use Rattle.daide_frame.proofs.FramesLemmas.{at_head, at_body, last_items-short, last_items-head4, last_items-body4}
 use Rattle.daide_frame.proofs.FramesLemmas.{missing-short, missing-of4, wanted}
@@ -19,20 +19,20 @@ use Rattle.daide_frame.proofs.ListLemmas.{eqb_same}
 use Rattle.daide_frame.proofs.FeedingLemmas.{is_dm, alien_in-push}
 use Rattle.daide_frame.proofs.OneByte.{byte_tells, ByteTells}
 use Rattle.daide_reader.specs.declared.verdict.Verdict.{Verdict}
-use Rattle.daide_machine.specs.declared.phase.Phase.{Phase}
-use Rattle.daide_machine.specs.declared.phase.Phase.TheVariants.{WaitIm, WaitRm, Open, Over}
-use Rattle.daide_machine.specs.Events.{Event, TimerExpires, bytes_come}
-use Rattle.daide_machine.specs.Machine.{SessionState, Effect, Outcome, Runs, coming, with_pending, with_noted}
-use Rattle.daide_machine.specs.Machine.{items_outcome, is_over, untimely, whole, answered, begun}
-use Rattle.daide_machine.specs.Machine.{im_answered, popped}
-use Rattle.daide_machine.specs.Wires.{note_of}
-use Rattle.daide_machine.proofs.PieceRuns.{over_stays}
-use Rattle.daide_machine.proofs.OneRun.{one_run}
-use Rattle.daide_log.specs.Told.{IsOneMove}
+use Rattle.daide_protocol.specs.declared.phase.Phase.{Phase}
+use Rattle.daide_protocol.specs.declared.phase.Phase.TheVariants.{WaitIm, WaitRm, Open, Over}
+use Rattle.daide_protocol.specs.Events.{Event, ImTimerExpired, bytes_come}
+use Rattle.daide_protocol.specs.Machine.{SessionState, Effect, Successor, Runs, coming, with_pending, with_noted}
+use Rattle.daide_protocol.specs.Machine.{items_outcome, is_over, untimely, frame_outcome, answered, header_outcome}
+use Rattle.daide_protocol.specs.Machine.{im_answered, im_timer_expired}
+use Rattle.daide_protocol.specs.Wires.{note_of}
+use Rattle.daide_protocol.proofs.PieceRuns.{over_stays}
+use Rattle.daide_protocol.proofs.OneRun.{one_run}
+use Rattle.daide_log.specs.Reporting.{IsOneEffect}
 
 -- ---- the items that end with a byte
 
-pub data Ending (limit : ℕ) (b : List ℕ) : List Item → Type 0 where
+pub data Ending (limit : ℕ) (b : List ℕ) : List FrameEvent → Type 0 where
   quiet : Ending limit b []
   refused : (code : Code) → Ending limit b (Wrong code ∷ [])
   headed : (head : Head) → missing limit b ≡ 1 → Ending limit b (Begun head ∷ [])
@@ -48,7 +48,7 @@ short limit b x h =
 
 fourth : (limit p q r x : ℕ) → EndingAt limit (p ∷ q ∷ r ∷ []) x
 fourth limit p q r x =
-    subst (Ending limit (p ∷ q ∷ r ∷ [])) (sym (last_items-head4 limit p q r x)) (go (head_of (p ∷ q ∷ r ∷ x ∷ []) limit))
+    subst (Ending limit (p ∷ q ∷ r ∷ [])) (sym (last_items-head4 limit p q r x)) (go (parse_head (p ∷ q ∷ r ∷ x ∷ []) limit))
   where
     one : missing limit (p ∷ q ∷ r ∷ []) ≡ 1
     one = omega (arith, missing-short limit (p ∷ q ∷ r ∷ []) (omega arith))
@@ -61,7 +61,7 @@ fourth limit p q r x =
     go (Err code) = refused code
     go (Ok head) = by head (eqb head.len 0)
 
-body_byte : (limit p q r s : ℕ) (w : List ℕ) (x : ℕ) (o : Result Head Code) → head_of (p ∷ q ∷ r ∷ s ∷ []) limit ≡ o →
+body_byte : (limit p q r s : ℕ) (w : List ℕ) (x : ℕ) (o : Result Head Code) → parse_head (p ∷ q ∷ r ∷ s ∷ []) limit ≡ o →
     0 < missing_of_body (head_part o) w → EndingAt limit (p ∷ q ∷ r ∷ s ∷ w) x
 body_byte limit p q r s w x (Err code) e h = absurd (omega arith)
 body_byte limit p q r s w x (Ok head) e h =
@@ -97,7 +97,7 @@ ending_at limit (p ∷ []) x h = short limit (p ∷ []) x (omega arith)
 ending_at limit (p ∷ q ∷ []) x h = short limit (p ∷ q ∷ []) x (omega arith)
 ending_at limit (p ∷ q ∷ r ∷ []) x h = fourth limit p q r x
 ending_at limit (p ∷ q ∷ r ∷ s ∷ w) x h =
-    body_byte limit p q r s w x (head_of (p ∷ q ∷ r ∷ s ∷ []) limit) refl
+    body_byte limit p q r s w x (parse_head (p ∷ q ∷ r ∷ s ∷ []) limit) refl
     (subst (λ (n : ℕ). 0 < n) (missing-of4 limit p q r s w) h)
 
 -- a byte that ends nothing leaves one byte less to come
@@ -114,14 +114,14 @@ less_missing limit b x h e = go (byte_tells limit b x h)
 
 -- at most one move, which tells something
 abbrev pub IsSingle : List Effect → Type 0
-IsSingle moves = IsOneMove moves (note_of moves)
+IsSingle moves = IsOneEffect moves (note_of moves)
 
 answered_single : (s : SessionState) (side : Side) (head : Head) (body : List ℕ) (v : Verdict) →
     IsSingle (answered s side head body v).effects
 answered_single s side head body v = (refl, λ e. absurd (cc))
 
 whole_single : (s : SessionState) (side : Side) (head : Head) (body : List ℕ) (v : Verdict) →
-    IsSingle (whole s side head body v).effects
+    IsSingle (frame_outcome s side head body v).effects
 whole_single s side head body v = by_kind (is_im head.kind)
   where
     by_check : (r : Result (Unit {0}) Code) → IsSingle (im_answered (answered s side head body v) s side r).effects
@@ -134,31 +134,31 @@ whole_single s side head body v = by_kind (is_im head.kind)
     by_kind false = answered_single s side head body v
 
 -- what one item makes, by itself
-alone : (o : Outcome) → IsSingle o.effects → IsSingle (o.effects ++ [])
+alone : (o : Successor) → IsSingle o.effects → IsSingle (o.effects ++ [])
 alone o h = subst IsSingle (sym (append-nil o.effects)) h
 
 noted_live : (s : SessionState) (side : Side) → is_over s.phase ≡ false → is_over (with_noted s side s.level).phase ≡ false
 noted_live s Bot e = e
 noted_live s Server e = e
 
-items_single : (limit : ℕ) (b : List ℕ) (items : List Item) → Ending limit b items → (s : SessionState) (side : Side)
+items_single : (limit : ℕ) (b : List ℕ) (items : List FrameEvent) → Ending limit b items → (s : SessionState) (side : Side)
     (v : Verdict) → is_over s.phase ≡ false → IsSingle (items_outcome s side items v).effects
 items_single limit b _ quiet s side v live = refl
 items_single limit b _ (refused code) s side v live = rw live (refl, λ e. absurd (cc))
 items_single limit b _ (headed head one) s side v live = rw live (go (untimely s.phase side head.kind))
   where
-    go : (o : Option Code) → IsSingle ((begun s side o).effects ++ (items_outcome (begun s side o).state side [] v).effects)
+    go : (o : Option Code) → IsSingle ((header_outcome s side o).effects ++ (items_outcome (header_outcome s side o).state side [] v).effects)
     go None = refl
     go (Some code) = (refl, λ e. absurd (cc))
 items_single limit b _ (empty head one) s side v live = rw live (go (untimely s.phase side head.kind))
   where
-    go : (o : Option Code) → IsSingle ((begun s side o).effects
-        ++ (items_outcome (begun s side o).state side (Whole head [] ∷ []) v).effects)
+    go : (o : Option Code) → IsSingle ((header_outcome s side o).effects
+        ++ (items_outcome (header_outcome s side o).state side (Whole head [] ∷ []) v).effects)
     go None = rw (noted_live s side live)
-        (alone (whole (with_noted s side s.level) side head [] v) (whole_single (with_noted s side s.level) side head [] v))
+        (alone (frame_outcome (with_noted s side s.level) side head [] v) (whole_single (with_noted s side s.level) side head [] v))
     go (Some code) = (refl, λ e. absurd (cc))
 items_single limit b _ (full head body one) s side v live =
-    rw live (alone (whole s side head body v) (whole_single s side head body v))
+    rw live (alone (frame_outcome s side head body v) (whole_single s side head body v))
 
 -- ---- the moves of bytes
 
@@ -210,23 +210,23 @@ one_move_a_piece (x ∷ piece) s side moves new room run =
     last_one : is_over s.phase ≡ false → run.2 ≡ [] → Ending cap b (last_items cap (b ++ x ∷ [])) → IsSingle moves
     last_one live none ending =
         subst IsSingle (sym (run.5 ∙ ap (λ (m : List Effect). run.1 ++ m) none ∙ append-nil run.1))
-        (subst IsSingle (ap (λ (o : Outcome). o.effects) (made live))
+        (subst IsSingle (ap (λ (o : Successor). o.effects) (made live))
         (items_single cap b _ ending next side run.3.verdict (ap is_over (pending_phase s side (b ++ x ∷ [])) ∙ live)))
 
-    by_ending : (items : List Item) → last_items cap (b ++ x ∷ []) ≡ items → Ending cap b items → is_over s.phase ≡ false →
+    by_ending : (items : List FrameEvent) → last_items cap (b ++ x ∷ []) ≡ items → Ending cap b items → is_over s.phase ≡ false →
         Later → IsSingle moves
     by_ending _ e quiet live later =
-        let done : Outcome = record { state = run.0; effects = run.1 } in
-        let same : ◌≡◌ {A = Outcome} (record { state = next; effects = [] }) done = sym (rw e refl) ∙ made live in
+        let done : Successor = record { state = run.0; effects = run.1 } in
+        let same : ◌≡◌ {A = Successor} (record { state = next; effects = [] }) done = sym (rw e refl) ∙ made live in
         let less = less_missing cap b x (omega arith) e in
         let rest = later run.0 run.2 new
         (subst (λ (m : SessionState). length piece ≤ missing m.limits.cap (coming m side).pending)
-        (ap (λ (o : Outcome). o.state) same)
+        (ap (λ (o : Successor). o.state) same)
         (omega (arith, less, pending_missing s side (b ++ x ∷ []), room)))
         run.4 in
-        subst IsSingle (sym (run.5 ∙ ap (λ (m : List Effect). m ++ run.2) (sym (ap (λ (o : Outcome). o.effects) same)))) rest
+        subst IsSingle (sym (run.5 ∙ ap (λ (m : List Effect). m ++ run.2) (sym (ap (λ (o : Successor). o.effects) same)))) rest
     by_ending _ e (refused code) live later =
-        let over : is_over run.0.phase ≡ true = sym (ap (λ (o : Outcome). is_over o.state.phase) (made live)) ∙ rw e (rw (ap is_over (pending_phase s side (b ++ x ∷ [])) ∙ live) refl) in
+        let over : is_over run.0.phase ≡ true = sym (ap (λ (o : Successor). is_over o.state.phase) (made live)) ∙ rw e (rw (ap is_over (pending_phase s side (b ++ x ∷ [])) ∙ live) refl) in
         last_one live (over_moves run.0 (bytes_come side piece) run.2 new over run.4) (subst (Ending cap b) (sym e) (refused code))
     by_ending _ e (headed head one) live later =
         last_one live (no_more run.0 side piece run.2 new (omega (arith, one, room)) run.4) (subst (Ending cap b) (sym e) (headed head one))
@@ -243,13 +243,13 @@ one_move_a_piece (x ∷ piece) s side moves new room run =
 
 -- ---- the moves of the timer
 
-pub one_move_a_timer : (s : SessionState) (moves : List Effect) (new : SessionState) → Runs s (TimerExpires ∷ []) moves new →
+pub one_move_a_timer : (s : SessionState) (moves : List Effect) (new : SessionState) → Runs s (ImTimerExpired ∷ []) moves new →
     IsSingle moves
 one_move_a_timer s moves new run =
     subst IsSingle (sym (run.5 ∙ ap (λ (m : List Effect). run.1 ++ m) run.4.0 ∙ append-nil run.1))
-    (subst IsSingle (ap (λ (o : Outcome). o.effects) run.3.outcome) (by_phase s.phase))
+    (subst IsSingle (ap (λ (o : Successor). o.effects) run.3.outcome) (by_phase s.phase))
   where
-    by_phase : (p : Phase) → IsSingle (popped p s).effects
+    by_phase : (p : Phase) → IsSingle (im_timer_expired p s).effects
     by_phase WaitIm = (refl, λ e. absurd (cc))
     by_phase WaitRm = refl
     by_phase Open = refl

@@ -3,38 +3,38 @@ use Rattle.std.proofs.Common.{◌≡◌, ℕ, ◌+◌, ◌-◌, ◌<◌, ◌≤�
 use Rattle.std.proofs.Common.{Result, Ok, Err, refl, sym, ap, ◌∙◌, subst, arith, append-nil, append_assoc, length-append}
 use Rattle.std.specs.Prelude.{slice_set}
 use Rattle.std.proofs.lemmas.Option.{same_Some}
-use Rattle.daide_machine.specs.Machine.{SessionState, Effect, Runs}
-use Rattle.daide_machine.proofs.OneRun.{one_run}
-use Rattle.daide_lines.specs.declared.fault.LogFault.{LogFault}
-use Rattle.daide_lines.specs.declared.fault.LogFault.TheVariants.{BadLine, LineTooLong, TooManyLines}
-use Rattle.daide_lines.specs.LogLine.{IsUnbroken, longest_line, most_lines, without_cr}
-use Rattle.daide_lines.specs.MatchLine.{MatchEvent, Of, Quiet}
+use Rattle.daide_protocol.specs.Machine.{SessionState, Effect, Runs}
+use Rattle.daide_protocol.proofs.OneRun.{one_run}
+use Rattle.daide_log_lines.specs.declared.fault.LogFault.{LogFault}
+use Rattle.daide_log_lines.specs.declared.fault.LogFault.TheVariants.{BadLine, LineTooLong, TooManyLines}
+use Rattle.daide_log_lines.specs.LogLine.{IsUnbroken, longest_line, most_lines, without_cr}
+use Rattle.daide_log_lines.specs.MatchLine.{MatchEvent, Of, Quiet}
 use Rattle.daide_log.specs.declared.heading.Version.{Version}
-use Rattle.daide_machine.specs.declared.summary.Summary.{Summary}
+use Rattle.daide_protocol.specs.declared.summary.Summary.{Summary}
 use Rattle.daide_log.specs.Heading.{Heading, Unnamed}
-use Rattle.daide_machine.specs.Summary.{nothing_counted}
-use Rattle.daide_log.specs.Report.{Entry, events_of, side_of, entries_of, lines_of, counted_all, summary_line}
-use Rattle.daide_log.specs.Log.{ReportsBy, ReportsAllBy, IsReportBy, LogState, Opening, Playing, stage_at, source_in, IsPlayed, GoesOn, IsBad, IsOpening}
+use Rattle.daide_protocol.specs.Summary.{nothing_counted}
+use Rattle.daide_log.specs.Report.{ReportEntry, events_of_line, side_of, entries_of, lines_of, counted_all, summary_line}
+use Rattle.daide_log.specs.Log.{ReportsBy, ReportsAllBy, IsReportBy, LogState, Opening, Playing, stage_at, source_in, IsPlayed, AdvancesByLine, IsBad, IsOpening}
 use Rattle.daide_log.specs.Log.{Reports, ReportsAll, IsReport}
 use Rattle.daide_log.proofs.StepLemmas.{no_feed, one_end}
 
 -- ---- one line
 
-one_played : (version : Version) (line : ℕ) (event : MatchEvent) (old : List SessionState) (a b : List Entry)
+one_played : (version : Version) (line : ℕ) (event : MatchEvent) (old : List SessionState) (a b : List ReportEntry)
     (new other : List SessionState) → IsPlayed version line event old a new → IsPlayed version line event old b other →
     (a ≡ b) × (new ≡ other)
 one_played version line Quiet old a b new other p q = (p.0 ∙ sym q.0, p.1 ∙ sym q.1)
 one_played version line (Of session event) old a b new other p q =
     let before : p.0 ≡ q.0 = same_Some p.0 q.0 (sym p.3 ∙ q.3) in
-    let run = one_run (events_of event) q.0 p.2 q.2 p.1 q.1
-    (subst (λ (s : SessionState). Runs s (events_of event) p.2 p.1) before p.4) q.4 in (
+    let run = one_run (events_of_line event) q.0 p.2 q.2 p.1 q.1
+    (subst (λ (s : SessionState). Runs s (events_of_line event) p.2 p.1) before p.4) q.4 in (
       p.5 ∙ ap (λ (moves : List Effect). entries_of (source_in version line session) (side_of event) moves) run.0
           ∙ sym q.5,
       p.6 ∙ ap (λ (s : SessionState). slice_set old (session - 1) s) run.1 ∙ sym q.6,
     )
 
-one_step : (number : ℕ) (old : LogState) (line : List ℕ) (a b : List Entry) (new other : LogState) →
-    GoesOn number old line a new → GoesOn number old line b other → (a ≡ b) × (new ≡ other)
+one_step : (number : ℕ) (old : LogState) (line : List ℕ) (a b : List ReportEntry) (new other : LogState) →
+    AdvancesByLine number old line a new → AdvancesByLine number old line b other → (a ≡ b) × (new ≡ other)
 one_step number (Opening heading) line a b new other p q =
     (p.2 ∙ sym q.2, p.3 ∙ ap stage_at (same_Some p.0 q.0 (sym p.1 ∙ q.1)) ∙ sym q.3)
 one_step number (Playing version old) line a b new other p q =
@@ -43,11 +43,11 @@ one_step number (Playing version old) line a b new other p q =
     (subst (λ (e : MatchEvent). IsPlayed version number e old a p.2) event p.3) q.3 in
     (both.0, p.4 ∙ ap (Playing version) both.1 ∙ sym q.4)
 
-not_bad : (number : ℕ) (old : LogState) (line : List ℕ) (told : List Entry) (new : LogState) → GoesOn number old line told new →
+not_bad : (number : ℕ) (old : LogState) (line : List ℕ) (reported : List ReportEntry) (new : LogState) → AdvancesByLine number old line reported new →
     IsBad old line → ⊥
-not_bad number (Opening heading) line told new p bad =
+not_bad number (Opening heading) line reported new p bad =
     let e : ◌≡◌ {A = Option Heading} (Some p.0) None = sym p.1 ∙ bad in absurd cc
-not_bad number (Playing version old) line told new p bad =
+not_bad number (Playing version old) line reported new p bad =
     let e : ◌≡◌ {A = Option MatchEvent} (Some p.0) None = sym p.1 ∙ bad in absurd cc
 
 -- ---- the lines that have their line feed
@@ -57,30 +57,30 @@ feeds [] = []
 feeds (line ∷ lines) = line ++ 10 ∷ feeds lines
 
 -- by these lines, behind so many, a log goes on, with these moves told
-abbrev pub Goes : ℕ → LogState → List (List ℕ) → List Entry → LogState → Type 0
-Goes number old [] told new = (told ≡ []) × (new ≡ old)
-Goes number old (line ∷ lines) told new =
-    (mid : LogState) × (first : List Entry) × (later : List Entry) × (number < most_lines) × IsUnbroken line
-    × (length line ≤ longest_line) × GoesOn (number + 1) old (without_cr line) first mid
-    × Goes (number + 1) mid lines later new × (told ≡ first ++ later)
+abbrev pub Goes : ℕ → LogState → List (List ℕ) → List ReportEntry → LogState → Type 0
+Goes number old [] reported new = (reported ≡ []) × (new ≡ old)
+Goes number old (line ∷ lines) reported new =
+    (mid : LogState) × (first : List ReportEntry) × (later : List ReportEntry) × (number < most_lines) × IsUnbroken line
+    × (length line ≤ longest_line) × AdvancesByLine (number + 1) old (without_cr line) first mid
+    × Goes (number + 1) mid lines later new × (reported ≡ first ++ later)
 
-goes_then : (lines : List (List ℕ)) (number count : ℕ) (line : List ℕ) (told more : List Entry) (old mid new : LogState) →
-    Goes number old lines told mid → number + length lines ≡ count → count < most_lines → IsUnbroken line →
-    length line ≤ longest_line → GoesOn (count + 1) mid (without_cr line) more new →
-    Goes number old (lines ++ line ∷ []) (told ++ more) new
-goes_then [] number count line told more old mid new h e few unbroken short on = (
+goes_then : (lines : List (List ℕ)) (number count : ℕ) (line : List ℕ) (reported more : List ReportEntry) (old mid new : LogState) →
+    Goes number old lines reported mid → number + length lines ≡ count → count < most_lines → IsUnbroken line →
+    length line ≤ longest_line → AdvancesByLine (count + 1) mid (without_cr line) more new →
+    Goes number old (lines ++ line ∷ []) (reported ++ more) new
+goes_then [] number count line reported more old mid new h e few unbroken short on = (
   new,
   more,
   [],
   omega (arith, e, few),
   unbroken,
   short,
-  subst (λ (stage : LogState). GoesOn (number + 1) stage (without_cr line) more new) h.1
-      (subst (λ (n : ℕ). GoesOn (n + 1) mid (without_cr line) more new) (omega (arith, e)) on),
+  subst (λ (stage : LogState). AdvancesByLine (number + 1) stage (without_cr line) more new) h.1
+      (subst (λ (n : ℕ). AdvancesByLine (n + 1) mid (without_cr line) more new) (omega (arith, e)) on),
   (refl, refl),
-  ap (λ (l : List Entry). l ++ more) h.0 ∙ sym (append-nil more),
+  ap (λ (l : List ReportEntry). l ++ more) h.0 ∙ sym (append-nil more),
 )
-goes_then (l ∷ lines) number count line told more old mid new h e few unbroken short on = (
+goes_then (l ∷ lines) number count line reported more old mid new h e few unbroken short on = (
   h.0,
   h.1,
   h.2 ++ more,
@@ -89,7 +89,7 @@ goes_then (l ∷ lines) number count line told more old mid new h e few unbroken
   h.5,
   h.6,
   goes_then lines (number + 1) count line h.2 more h.0 mid new h.7 (omega (arith, e)) few unbroken short on,
-  ap (λ (l : List Entry). l ++ more) h.8 ∙ append_assoc h.1 h.2 more,
+  ap (λ (l : List ReportEntry). l ++ more) h.8 ∙ append_assoc h.1 h.2 more,
 )
 
 feeds-append : (lines : List (List ℕ)) (line : List ℕ) → feeds (lines ++ line ∷ []) ≡ feeds lines ++ (line ++ 10 ∷ [])
@@ -98,23 +98,23 @@ feeds-append (l ∷ lines) line =
     ap (λ (r : List ℕ). l ++ 10 ∷ r) (feeds-append lines line)
     ∙ sym (append_assoc l (10 ∷ feeds lines) (line ++ 10 ∷ []))
 
-pub record FromFront (bytes : List ℕ) (number : ℕ) (told : List Entry) (stage : LogState) : Type 0 where
+pub record FromFront (bytes : List ℕ) (number : ℕ) (reported : List ReportEntry) (stage : LogState) : Type 0 where
   pub lines : List (List ℕ)
   pub whole : bytes ≡ feeds lines
   pub count : length lines ≡ number
-  pub goes : Goes 0 (Opening Unnamed) lines told stage
+  pub goes : Goes 0 (Opening Unnamed) lines reported stage
 
-pub from_front : (bytes : List ℕ) (number : ℕ) (told : List Entry) (stage : LogState) → Reports bytes number told stage →
-    FromFront bytes number told stage
+pub from_front : (bytes : List ℕ) (number : ℕ) (reported : List ReportEntry) (stage : LogState) → Reports bytes number reported stage →
+    FromFront bytes number reported stage
 from_front _ _ _ _ ReportsBy.none = record { lines = []; whole = refl; count = refl; goes = (refl, refl) }
-from_front _ _ _ _ (ReportsBy.line bytes number told old reports line more new few unbroken short on) =
-    let before = from_front bytes number told old reports in
+from_front _ _ _ _ (ReportsBy.line bytes number reported old reports line more new few unbroken short on) =
+    let before = from_front bytes number reported old reports in
     record {
       lines = before.lines ++ line ∷ [];
       whole = ap (λ (l : List ℕ). l ++ line ++ 10 ∷ []) before.whole
           ∙ (append_assoc (feeds before.lines) line (10 ∷ []) ∙ sym (feeds-append before.lines line));
       count = length-append before.lines (line ∷ []) ∙ ap (λ (n : ℕ). n + 1) before.count;
-      goes = goes_then before.lines 0 number line told more (Opening Unnamed) old new before.goes
+      goes = goes_then before.lines 0 number line reported more (Opening Unnamed) old new before.goes
           (omega (arith, before.count)) few unbroken short on;
     }
 
@@ -126,13 +126,13 @@ Closes n (Opening heading) fault = fault ≡ Some (BadLine (n + 1))
 Closes n (Playing version sessions) fault = fault ≡ None
 
 -- the last line, which lacks its line feed
-abbrev LastOf : ℕ → LogState → List ℕ → List Entry → Option LogFault → Type 0
+abbrev LastOf : ℕ → LogState → List ℕ → List ReportEntry → Option LogFault → Type 0
 LastOf n stage line more fault =
-    ((new : LogState) × GoesOn (n + 1) stage line more new × Closes (n + 1) new fault)
+    ((new : LogState) × AdvancesByLine (n + 1) stage line more new × Closes (n + 1) new fault)
     ⊎ (IsBad stage line × (more ≡ []) × (fault ≡ Some (BadLine (n + 1))))
 
 -- what is left behind so many lines, what is told of it, and the fault, if it has one
-data End (n : ℕ) (stage : LogState) (rest : List ℕ) (more : List Entry) (fault : Option LogFault) : Type 0 where
+data End (n : ℕ) (stage : LogState) (rest : List ℕ) (more : List ReportEntry) (fault : Option LogFault) : Type 0 where
   at_end : rest ≡ [] → more ≡ [] → Closes n stage fault → End n stage rest more fault
   at_last : n < most_lines → 0 < length rest → IsUnbroken rest → length rest ≤ longest_line →
       LastOf n stage rest more fault → End n stage rest more fault
@@ -147,7 +147,7 @@ one_close : (n : ℕ) (stage : LogState) (f g : Option LogFault) → Closes n st
 one_close n (Opening heading) f g p q = p ∙ sym q
 one_close n (Playing version sessions) f g p q = p ∙ sym q
 
-one_last : (n : ℕ) (stage : LogState) (line : List ℕ) (a b : List Entry) (f g : Option LogFault) →
+one_last : (n : ℕ) (stage : LogState) (line : List ℕ) (a b : List ReportEntry) (f g : Option LogFault) →
     LastOf n stage line a f → LastOf n stage line b g → (a ≡ b) × (f ≡ g)
 one_last n stage line a b f g (inl p) (inl q) =
     let both = one_step (n + 1) stage line a b p.0 q.0 p.1 q.1 in (
@@ -169,9 +169,9 @@ feed_within (x ∷ k) [] a b h longer e = absurd (h.0 (cc))
 feed_within (x ∷ k) (y ∷ l) a b h longer e = feed_within k l a b h.1 (omega (arith, longer)) (cc)
 
 -- where a line that goes on stands next, a log does not stop
-goes_past : (n : ℕ) (stage : LogState) (rest : List ℕ) (more : List Entry) (fault : Option LogFault)
-    (line after : List ℕ) (first : List Entry) (mid : LogState) → n < most_lines → IsUnbroken line →
-    length line ≤ longest_line → GoesOn (n + 1) stage (without_cr line) first mid → rest ≡ line ++ 10 ∷ after →
+goes_past : (n : ℕ) (stage : LogState) (rest : List ℕ) (more : List ReportEntry) (fault : Option LogFault)
+    (line after : List ℕ) (first : List ReportEntry) (mid : LogState) → n < most_lines → IsUnbroken line →
+    length line ≤ longest_line → AdvancesByLine (n + 1) stage (without_cr line) first mid → rest ≡ line ++ 10 ∷ after →
     End n stage rest more fault → ⊥
 goes_past n stage rest more fault line after first mid few unbroken short on e (at_end none _ _) =
     not_empty line after (sym e ∙ none)
@@ -187,7 +187,7 @@ goes_past n stage rest more fault line after first mid few unbroken short on e (
     absurd (omega (arith, few, all))
 
 -- a log stops in one way
-module _ (n : ℕ) (stage : LogState) (rest : List ℕ) (a b : List Entry) (f g : Option LogFault) where
+module _ (n : ℕ) (stage : LogState) (rest : List ℕ) (a b : List ReportEntry) (f g : Option LogFault) where
   empty_ends : rest ≡ [] → a ≡ [] → Closes n stage f → End n stage rest b g → (a ≡ b) × (f ≡ g)
   empty_ends none lack closes (at_end _ k other) = (lack ∙ sym k, one_close n stage f g closes other)
   empty_ends none lack closes (at_last _ some _ _ _) = absurd (omega (arith, some, ap length none))
@@ -243,73 +243,73 @@ module _ (n : ℕ) (stage : LogState) (rest : List ℕ) (a b : List Entry) (f g 
 
 -- ---- all lines
 
-same_walk : (lines others : List (List ℕ)) (n count number : ℕ) (old : LogState) (told other : List Entry)
-    (stage last : LogState) (rest left : List ℕ) (a b : List Entry) (f g : Option LogFault) →
-    feeds lines ++ rest ≡ feeds others ++ left → Goes n old lines told stage → Goes n old others other last →
+same_walk : (lines others : List (List ℕ)) (n count number : ℕ) (old : LogState) (reported other : List ReportEntry)
+    (stage last : LogState) (rest left : List ℕ) (a b : List ReportEntry) (f g : Option LogFault) →
+    feeds lines ++ rest ≡ feeds others ++ left → Goes n old lines reported stage → Goes n old others other last →
     count ≡ n + length lines → number ≡ n + length others → End count stage rest a f → End number last left b g →
-    (told ++ a ≡ other ++ b) × (f ≡ g)
-same_walk [] [] n count number old told other stage last rest left a b f g e p q c d x y =
+    (reported ++ a ≡ other ++ b) × (f ≡ g)
+same_walk [] [] n count number old reported other stage last rest left a b f g e p q c d x y =
     let same : count ≡ number = omega (arith, c, d) in
     let both = one_way_to_end number old left a b f g
     (subst (λ (k : ℕ). End k old left a f) same (subst (λ (r : List ℕ). End count old r a f) e
     (subst (λ (s : LogState). End count s rest a f) p.1 x)))
     (subst (λ (s : LogState). End number s left b g) q.1 y) in
-    (ap (λ (t : List Entry). t ++ a) p.0 ∙ both.0 ∙ sym (ap (λ (t : List Entry). t ++ b) q.0), both.1)
-same_walk [] (k ∷ ks) n count number old told other stage last rest left a b f g e p q c d x y =
+    (ap (λ (t : List ReportEntry). t ++ a) p.0 ∙ both.0 ∙ sym (ap (λ (t : List ReportEntry). t ++ b) q.0), both.1)
+same_walk [] (k ∷ ks) n count number old reported other stage last rest left a b f g e p q c d x y =
     let here : count ≡ n = omega (arith, c) in
     absurd (goes_past n old rest a f k (feeds ks ++ left) q.1 q.0 q.3 q.4 q.5 q.6
     (e ∙ append_assoc k (10 ∷ feeds ks) left)
     (subst (λ (m : ℕ). End m old rest a f) here (subst (λ (s : LogState). End count s rest a f) p.1 x)))
-same_walk (l ∷ ls) [] n count number old told other stage last rest left a b f g e p q c d x y =
+same_walk (l ∷ ls) [] n count number old reported other stage last rest left a b f g e p q c d x y =
     let here : number ≡ n = omega (arith, d) in
     absurd (goes_past n old left b g l (feeds ls ++ rest) p.1 p.0 p.3 p.4 p.5 p.6
     (sym e ∙ append_assoc l (10 ∷ feeds ls) rest)
     (subst (λ (m : ℕ). End m old left b g) here (subst (λ (s : LogState). End number s left b g) q.1 y)))
-same_walk (l ∷ ls) (k ∷ ks) n count number old told other stage last rest left a b f g e p q c d x y =
+same_walk (l ∷ ls) (k ∷ ks) n count number old reported other stage last rest left a b f g e p q c d x y =
     let line = one_end l k (feeds ls ++ rest) (feeds ks ++ left) p.4 q.4
     (sym (append_assoc l (10 ∷ feeds ls) rest) ∙ (e ∙ append_assoc k (10 ∷ feeds ks) left)) in
     let step = one_step (n + 1) old (without_cr k) p.1 q.1 p.0 q.0
-    (subst (λ (r : List ℕ). GoesOn (n + 1) old (without_cr r) p.1 p.0) line.0 p.6) q.6 in
+    (subst (λ (r : List ℕ). AdvancesByLine (n + 1) old (without_cr r) p.1 p.0) line.0 p.6) q.6 in
     let later = same_walk ls ks (n + 1) count number q.0 p.2 q.2 stage last rest left a b f g line.1
     (subst (λ (s : LogState). Goes (n + 1) s ls p.2 stage) step.1 p.7) q.7 (omega (arith, c)) (omega (arith, d)) x y in (
-      ap (λ (t : List Entry). t ++ a) p.8 ∙ append_assoc p.1 p.2 a
-          ∙ (ap (λ (t : List Entry). t ++ (p.2 ++ a)) step.0 ∙ ap (λ (t : List Entry). q.1 ++ t) later.0)
-          ∙ sym (append_assoc q.1 q.2 b) ∙ sym (ap (λ (t : List Entry). t ++ b) q.8),
+      ap (λ (t : List ReportEntry). t ++ a) p.8 ∙ append_assoc p.1 p.2 a
+          ∙ (ap (λ (t : List ReportEntry). t ++ (p.2 ++ a)) step.0 ∙ ap (λ (t : List ReportEntry). q.1 ++ t) later.0)
+          ∙ sym (append_assoc q.1 q.2 b) ∙ sym (ap (λ (t : List ReportEntry). t ++ b) q.8),
       later.1,
     )
 
 -- ---- the whole log
 
-abbrev text_by : List Entry → Option LogFault → List ℕ
-text_by told None = lines_of told ++ summary_line (counted_all told nothing_counted)
-text_by told (Some fault) = lines_of told
+abbrev text_by : List ReportEntry → Option LogFault → List ℕ
+text_by reported None = lines_of reported ++ summary_line (counted_all reported nothing_counted)
+text_by reported (Some fault) = lines_of reported
 
-abbrev answer_by : List Entry → Option LogFault → Result Summary LogFault
-answer_by told None = Ok (counted_all told nothing_counted)
-answer_by told (Some fault) = Err fault
+abbrev answer_by : List ReportEntry → Option LogFault → Result Summary LogFault
+answer_by reported None = Ok (counted_all reported nothing_counted)
+answer_by reported (Some fault) = Err fault
 
 record Walk (log text : List ℕ) (answer : Result Summary LogFault) : Type 0 where
   lines : List (List ℕ)
-  told : List Entry
+  reported : List ReportEntry
   stage : LogState
   rest : List ℕ
-  more : List Entry
+  more : List ReportEntry
   fault : Option LogFault
   whole : log ≡ feeds lines ++ rest
-  goes : Goes 0 (Opening Unnamed) lines told stage
+  goes : Goes 0 (Opening Unnamed) lines reported stage
   ends : End (length lines) stage rest more fault
-  written : text_by (told ++ more) fault ≡ text
-  answered : answer_by (told ++ more) fault ≡ answer
+  written : text_by (reported ++ more) fault ≡ text
+  answered : answer_by (reported ++ more) fault ≡ answer
 
 -- lines were read, and then it stops with nothing told of what is left
-stopped : (bytes : List ℕ) (number : ℕ) (told : List Entry) (stage : LogState) (rest : List ℕ) (fault : Option LogFault) →
-    Reports bytes number told stage → End number stage rest [] fault →
-    Walk (bytes ++ rest) (text_by told fault) (answer_by told fault)
-stopped bytes number told stage rest fault reports how =
-    let r = from_front bytes number told stage reports in
+stopped : (bytes : List ℕ) (number : ℕ) (reported : List ReportEntry) (stage : LogState) (rest : List ℕ) (fault : Option LogFault) →
+    Reports bytes number reported stage → End number stage rest [] fault →
+    Walk (bytes ++ rest) (text_by reported fault) (answer_by reported fault)
+stopped bytes number reported stage rest fault reports how =
+    let r = from_front bytes number reported stage reports in
     record {
       lines = r.lines;
-      told = told;
+      reported = reported;
       stage = stage;
       rest = rest;
       more = [];
@@ -317,21 +317,21 @@ stopped bytes number told stage rest fault reports how =
       whole = ap (λ (l : List ℕ). l ++ rest) r.whole;
       goes = r.goes;
       ends = subst (λ (n : ℕ). End n stage rest [] fault) (sym r.count) how;
-      written = ap (λ (t : List Entry). text_by t fault) (append-nil told);
-      answered = ap (λ (t : List Entry). answer_by t fault) (append-nil told);
+      written = ap (λ (t : List ReportEntry). text_by t fault) (append-nil reported);
+      answered = ap (λ (t : List ReportEntry). answer_by t fault) (append-nil reported);
     }
 
-all_walked : (log : List ℕ) (number : ℕ) (told : List Entry) (stage : LogState) (fault : Option LogFault) →
-    ReportsAll log number told stage → Closes number stage fault → Walk log (text_by told fault) (answer_by told fault)
-all_walked _ _ _ _ fault (ReportsAllBy.ended bytes number told stage reports) closes =
-    subst (λ (l : List ℕ). Walk l (text_by told fault) (answer_by told fault)) (append-nil bytes)
-    (stopped bytes number told stage [] fault reports (at_end refl refl closes))
+all_walked : (log : List ℕ) (number : ℕ) (reported : List ReportEntry) (stage : LogState) (fault : Option LogFault) →
+    ReportsAll log number reported stage → Closes number stage fault → Walk log (text_by reported fault) (answer_by reported fault)
+all_walked _ _ _ _ fault (ReportsAllBy.ended bytes number reported stage reports) closes =
+    subst (λ (l : List ℕ). Walk l (text_by reported fault) (answer_by reported fault)) (append-nil bytes)
+    (stopped bytes number reported stage [] fault reports (at_end refl refl closes))
 all_walked _ _ _ _ fault
-    (ReportsAllBy.unended bytes number told old reports line more new few some unbroken short on) closes =
-    let r = from_front bytes number told old reports in
+    (ReportsAllBy.unended bytes number reported old reports line more new few some unbroken short on) closes =
+    let r = from_front bytes number reported old reports in
     record {
       lines = r.lines;
-      told = told;
+      reported = reported;
       stage = old;
       rest = line;
       more = more;
@@ -349,35 +349,35 @@ opening_closes number (Opening heading) h = refl
 opening_closes number (Playing version sessions) h = absurd h
 
 walk : (log text : List ℕ) (answer : Result Summary LogFault) → IsReport log text answer → Walk log text answer
-walk _ _ _ (IsReportBy.whole log number told version sessions all) =
-    all_walked log number told (Playing version sessions) None all refl
-walk _ _ _ (IsReportBy.cut_short log number told stage all is_opening) =
-    all_walked log number told stage (Some (BadLine (number + 1))) all (opening_closes number stage is_opening)
-walk _ _ _ (IsReportBy.bad bytes number told stage reports line after few unbroken short bad) =
-    subst (λ (l : List ℕ). Walk l (lines_of told) (Err (BadLine (number + 1))))
+walk _ _ _ (IsReportBy.whole log number reported version sessions all) =
+    all_walked log number reported (Playing version sessions) None all refl
+walk _ _ _ (IsReportBy.cut_short log number reported stage all is_opening) =
+    all_walked log number reported stage (Some (BadLine (number + 1))) all (opening_closes number stage is_opening)
+walk _ _ _ (IsReportBy.bad bytes number reported stage reports line after few unbroken short bad) =
+    subst (λ (l : List ℕ). Walk l (lines_of reported) (Err (BadLine (number + 1))))
     (sym (append_assoc bytes line (10 ∷ after)))
-    (stopped bytes number told stage (line ++ 10 ∷ after) (Some (BadLine (number + 1))) reports
+    (stopped bytes number reported stage (line ++ 10 ∷ after) (Some (BadLine (number + 1))) reports
     (at_bad line after refl few unbroken short bad refl refl))
-walk _ _ _ (IsReportBy.bad_last bytes number told stage reports line few some unbroken short bad) =
-    stopped bytes number told stage line (Some (BadLine (number + 1))) reports
+walk _ _ _ (IsReportBy.bad_last bytes number reported stage reports line few some unbroken short bad) =
+    stopped bytes number reported stage line (Some (BadLine (number + 1))) reports
     (at_last few some unbroken short (inr (bad, refl, refl)))
-walk _ _ _ (IsReportBy.too_long bytes number told stage reports line after few unbroken longer) =
-    subst (λ (l : List ℕ). Walk l (lines_of told) (Err (LineTooLong (number + 1)))) (sym (append_assoc bytes line after))
-    (stopped bytes number told stage (line ++ after) (Some (LineTooLong (number + 1))) reports
+walk _ _ _ (IsReportBy.too_long bytes number reported stage reports line after few unbroken longer) =
+    subst (λ (l : List ℕ). Walk l (lines_of reported) (Err (LineTooLong (number + 1)))) (sym (append_assoc bytes line after))
+    (stopped bytes number reported stage (line ++ after) (Some (LineTooLong (number + 1))) reports
     (at_long line after refl few unbroken longer refl refl))
-walk _ _ _ (IsReportBy.too_many bytes told stage reports after some) =
-    stopped bytes most_lines told stage after (Some TooManyLines) reports (at_many refl some refl refl)
+walk _ _ _ (IsReportBy.too_many bytes reported stage reports after some) =
+    stopped bytes most_lines reported stage after (Some TooManyLines) reports (at_many refl some refl refl)
 
 pub one_report : (log text other : List ℕ) (answer another : Result Summary LogFault) → IsReport log text answer →
     IsReport log other another → (text ≡ other) × (answer ≡ another)
 one_report log text other answer another p q =
     let v = walk log text answer p in
     let w = walk log other another q in
-    let same = same_walk v.lines w.lines 0 (length v.lines) (length w.lines) (Opening Unnamed) v.told w.told
+    let same = same_walk v.lines w.lines 0 (length v.lines) (length w.lines) (Opening Unnamed) v.reported w.reported
     v.stage w.stage v.rest w.rest v.more w.more v.fault w.fault (sym v.whole ∙ w.whole) v.goes w.goes
     (omega arith) (omega arith) v.ends w.ends in (
-      sym v.written ∙ (ap (λ (t : List Entry). text_by t v.fault) same.0
-          ∙ ap (text_by (w.told ++ w.more)) same.1) ∙ w.written,
-      sym v.answered ∙ (ap (λ (t : List Entry). answer_by t v.fault) same.0
-          ∙ ap (answer_by (w.told ++ w.more)) same.1) ∙ w.answered,
+      sym v.written ∙ (ap (λ (t : List ReportEntry). text_by t v.fault) same.0
+          ∙ ap (text_by (w.reported ++ w.more)) same.1) ∙ w.written,
+      sym v.answered ∙ (ap (λ (t : List ReportEntry). answer_by t v.fault) same.0
+          ∙ ap (answer_by (w.reported ++ w.more)) same.1) ∙ w.answered,
     )

@@ -21,13 +21,13 @@ use Rattle.daide_words.specs.declared.word.Word.{Word}
 use Rattle.daide_words.specs.declared.word.WordError.{WordError}
 use Rattle.daide_words.specs.declared.word.WordError.TheVariants as faults
 use Rattle.daide_reader.specs.declared.verdict.Verdict.TheVariants.{Relay}
-use Rattle.daide_machine.specs.Machine.{is_dm}
-use Rattle.daide_machine.specs.Wires.{SessionView, holding}
-use Rattle.daide_machine.specs.declared.config.Config.{Config}
-use Rattle.daide_machine.specs.declared.note.Deed.{Deed}
-use Rattle.daide_machine.specs.declared.note.Note.TheVariants as Notes
-use Rattle.daide_log.specs.Explained.{indented, indented_from, line, printed, verdict_by}
-use Rattle.daide_log.specs.Explaining.{AreLinesBy, IsRightlyTold}
+use Rattle.daide_protocol.specs.Machine.{is_dm}
+use Rattle.daide_protocol.specs.Wires.{SessionView, holding}
+use Rattle.daide_protocol.specs.declared.config.Config.{Config}
+use Rattle.daide_protocol.specs.declared.note.Deed.{Deed}
+use Rattle.daide_protocol.specs.declared.note.Note.TheVariants as Notes
+use Rattle.daide_log.specs.Explained.{indented, indented_from, with_line_feed, message_text, verdict_by}
+use Rattle.daide_log.specs.Explaining.{AreLinesBy, IsRightlyReported}
 use Rattle.daide_log.proofs.PlayLemmas.{appends_more}
 
 -- ---- the names of accepted words
@@ -75,29 +75,29 @@ behind_first (c ∷ text) e =
     let p = and_parts (is_inner c) (are_inner text) e in
     rw (inner_false c p.0) (ap (λ (l : List ℕ). c ∷ l) (behind_first text p.1))
 
-one_line : (text : List ℕ) → are_inner text ≡ true → indented_from true (line text) ≡ codes "    " ++ line text
+one_line : (text : List ℕ) → are_inner text ≡ true → indented_from true (with_line_feed text) ≡ codes "    " ++ with_line_feed text
 one_line [] e = refl
 one_line (c ∷ text) e =
     let p = and_parts (is_inner c) (are_inner text) e in
     rw (inner_false c p.0) (ap (λ (l : List ℕ). codes "    " ++ c ∷ l) (behind_first text p.1))
 
 pub message_line : (words : List Word) (tokens : List ℕ) → are_accepted words ≡ true →
-    indented (line (printed words tokens)) ≡ codes "    " ++ line (printed words tokens)
+    indented (with_line_feed (message_text words tokens)) ≡ codes "    " ++ with_line_feed (message_text words tokens)
 unfolding indented
 message_line words tokens e =
-    one_line (printed words tokens) (text_inner (names_of words) tokens (accepted_inner words e))
+    one_line (message_text words tokens) (text_inner (names_of words) tokens (accepted_inner words e))
 
 -- ---- a message of which nothing is said but its text
 
 pub text_alone : (words : List Word) (max_depth : ℕ) (side : Side) (head : Head) (deed : Deed) (new : SessionView)
     (body : List ℕ) → is_dm head.kind ≡ true → verdict_by deed ≡ Relay → body ≡ drop 4 (holding new side).held →
-    AreLinesBy words max_depth side (Notes.Frame head deed) new (line (printed words (tokens_of body)))
+    AreLinesBy words max_depth side (Notes.Frame head deed) new (with_line_feed (message_text words (tokens_of body)))
 text_alone words max_depth side head deed new body k v b =
-    rw k (rw v (ap (λ (l : List ℕ). line (printed words (tokens_of l))) b))
+    rw k (rw v (ap (λ (l : List ℕ). with_line_feed (message_text words (tokens_of l))) b))
 
 pub body_even : (words : List Word) (config : Config) (side : Side) (head : Head) (deed : Deed) (new : SessionView)
     (body : List ℕ) → is_dm head.kind ≡ true → body ≡ drop 4 (holding new side).held →
-    IsRightlyTold words config side (Notes.Frame head deed) new → length body % 2 ≡ 0
+    IsRightlyReported words config side (Notes.Frame head deed) new → length body % 2 ≡ 0
 body_even words config side head deed new body k b right =
     let right = rw k at right in ap (λ (l : List ℕ). length l % 2) b ∙ right.ruled.even
 
@@ -105,21 +105,21 @@ body_even words config side head deed new body k b right =
 
 parts_line : (words : List Word) (tokens : List ℕ) (place : PrinterState) → are_accepted words ≡ true →
     place ≡ place_past Start tokens →
-    codes "    " ++ (some_text (names_of words) Start tokens ++ line (end_text place)) ≡ indented (line (printed words tokens))
+    codes "    " ++ (some_text (names_of words) Start tokens ++ with_line_feed (end_text place)) ≡ indented (with_line_feed (message_text words tokens))
 parts_line words tokens place e at =
     let names = names_of words in
     let some = some_text names Start tokens in
-    ap (λ (p : PrinterState). codes "    " ++ (some ++ line (end_text p))) at
+    ap (λ (p : PrinterState). codes "    " ++ (some ++ with_line_feed (end_text p))) at
     ∙ ap (λ (l : List ℕ). codes "    " ++ l) (sym (append_assoc some (end_text (place_past Start tokens)) (10 ∷ [])))
-    ∙ ap (λ (l : List ℕ). codes "    " ++ line l) (sym (text_by_parts names tokens))
+    ∙ ap (λ (l : List ℕ). codes "    " ++ with_line_feed l) (sym (text_by_parts names tokens))
     ∙ sym (message_line words tokens e)
 
 pub parts_put : (words : List Word) (tokens : List ℕ) (place : PrinterState) (a b c d : Option (List ℕ)) →
     are_accepted words ≡ true → place ≡ place_past Start tokens → Appends a b (codes "    ") →
-    Appends b c (some_text (names_of words) Start tokens) → Appends c d (line (end_text place)) →
-    Appends a d (indented (line (printed words tokens)))
+    Appends b c (some_text (names_of words) Start tokens) → Appends c d (with_line_feed (end_text place)) →
+    Appends a d (indented (with_line_feed (message_text words tokens)))
 parts_put words tokens place a b c d e at margin some end =
     let names = names_of words in
     subst (Appends a d) (parts_line words tokens place e at)
-    (appends_more a b d (codes "    ") (some_text names Start tokens ++ line (end_text place)) margin
-    (appends_more b c d (some_text names Start tokens) (line (end_text place)) some end))
+    (appends_more a b d (codes "    ") (some_text names Start tokens ++ with_line_feed (end_text place)) margin
+    (appends_more b c d (some_text names Start tokens) (with_line_feed (end_text place)) some end))

@@ -1,10 +1,10 @@
 -- The lines of frames that are not whole, one after the other.
 use Rattle.std.proofs.Common.{◌≡◌, ℕ, ◌+◌, List, [], ◌∷◌, ◌++◌, length, Option, refl, sym, ap, ◌∙◌, subst, arith}
 use Rattle.std.proofs.Common.{append_assoc, append-nil, length-append, zero, suc, ◌-◌, ◌≤◌, get_or, All}
-use Rattle.daide_machine.specs.Wires.{SessionView}
+use Rattle.daide_protocol.specs.Wires.{SessionView}
 use Rattle.daide_log.specs.declared.heading.Version.{Version}
 use Rattle.daide_log.specs.Progress.{states_of}
-use Rattle.daide_log.specs.Told.{IsIdle}
+use Rattle.daide_log.specs.Reporting.{IsIdle}
 use Rattle.std.specs.Io.KnownBytes.{Appends}
 use Rattle.daide_log.specs.Report.{texts_of}
 use Rattle.std.proofs.Common.{Bool, true, false, cond, take, drop, Some, None}
@@ -13,7 +13,7 @@ use Rattle.daide_frame.proofs.ListLemmas.{ltb_no}
 use Rattle.daide_frame.specs.declared.side.Side.{Side}
 use Rattle.daide_frame.specs.Frames.{announced, announced_by, head_in}
 use Rattle.daide_log.specs.declared.report.Part as reports
-use Rattle.daide_log.specs.Explained.{Part, part_of, part_text, parts_of, parts_from, number_in}
+use Rattle.daide_log.specs.Explained.{Part, part_of, part_text, unfinished_parts, parts_from, session_number}
 use Rattle.daide_log.specs.Explaining.{HasPut, part_by, part_with}
 use Rattle.daide_log.proofs.PlayLemmas.{appends_more, appends_none, texts_of-append}
 
@@ -95,15 +95,15 @@ take_all {A} (suc n) (x ∷ v) h = ap (λ (l : List A). x ∷ l) (take_all n v (
 
 pub parts_next : (version : Version) (number n m k : ℕ) (all : List Part) (rest : List SessionView) (session : SessionView)
     (a b c : Option (List ℕ)) → PutsParts all (parts_from version number (states_of rest)) m a b → 1 ≤ length rest →
-    length rest - 1 ≤ n → session ≡ get_or rest 0 session → HasPut (parts_of (number_in version number) session.state) k b c →
+    length rest - 1 ≤ n → session ≡ get_or rest 0 session → HasPut (unfinished_parts (session_number version number) session.state) k b c →
     PutsParts all (parts_from version (number + 1) (states_of (take n (drop 1 rest)))) (m + k) a c
 parts_next version number n m k all [] session a b c p some long is put = absurd (omega arith)
 parts_next version number n m k all (x ∷ rest) session a b c p some long is put =
     subst (λ (l : List SessionView). PutsParts all (parts_from version (number + 1) (states_of l)) (m + k) a c)
     (sym (take_all n rest (omega (arith, long))))
-    (more_parts all (parts_from version number (states_of (x ∷ rest))) (parts_of (number_in version number) x.state)
+    (more_parts all (parts_from version number (states_of (x ∷ rest))) (unfinished_parts (session_number version number) x.state)
     (parts_from version (number + 1) (states_of rest)) m k a b c p refl
-    (subst (λ (s : SessionView). HasPut (parts_of (number_in version number) s.state) k b c) is put))
+    (subst (λ (s : SessionView). HasPut (unfinished_parts (session_number version number) s.state) k b c) is put))
 
 pub idle_next : (rest : List SessionView) (n : ℕ) → All IsIdle rest → 1 ≤ length rest → length rest - 1 ≤ n →
     All IsIdle (take n (drop 1 rest))

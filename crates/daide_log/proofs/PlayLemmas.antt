@@ -7,26 +7,26 @@ use Rattle.std.specs.Io.KnownBytes.{Appends}
 use Rattle.daide_frame.specs.declared.side.Side.{Side}
 use Rattle.daide_frame.specs.declared.side.Side.TheVariants.{Bot, Server}
 use Rattle.daide_frame.specs.Frames.{missing}
-use Rattle.daide_machine.specs.declared.note.Note.{Note}
-use Rattle.daide_machine.specs.declared.note.Note.TheVariants as Notes
-use Rattle.daide_machine.specs.Events.{Event, Ends, TimerExpires, bytes_come, other}
-use Rattle.daide_machine.specs.Machine.{SessionState, Effect, Outcome, Sent, Runs, coming, fm_to, is_over, event_outcome}
-use Rattle.daide_machine.specs.Wires.{SessionView, Goes, Takes, Holding, HoldsTheSame, holding, sent_to, waiting}
-use Rattle.daide_machine.specs.Wires.{room_of, is_awaited}
-use Rattle.daide_machine.proofs.OneRun.{runs_join}
-use Rattle.daide_machine.proofs.PieceRuns.{over_stays}
-use Rattle.daide_machine.proofs.WireLemmas.{bytes_come-append}
-use Rattle.daide_log.specs.declared.report.Source.{Source}
-use Rattle.daide_machine.specs.declared.summary.Summary.{Summary}
-use Rattle.daide_machine.specs.Summary.{counted}
+use Rattle.daide_protocol.specs.declared.note.Note.{Note}
+use Rattle.daide_protocol.specs.declared.note.Note.TheVariants as Notes
+use Rattle.daide_protocol.specs.Events.{Event, Ends, ImTimerExpired, bytes_come, other}
+use Rattle.daide_protocol.specs.Machine.{SessionState, Effect, Successor, Sent, Runs, coming, fm_to, is_over, event_outcome}
+use Rattle.daide_protocol.specs.Wires.{SessionView, Refines, ReceivesBytes, Holding, HoldsTheSame, holding, sent_to, queued}
+use Rattle.daide_protocol.specs.Wires.{room_of, is_awaited}
+use Rattle.daide_protocol.proofs.OneRun.{runs_join}
+use Rattle.daide_protocol.proofs.PieceRuns.{over_stays}
+use Rattle.daide_protocol.proofs.WireLemmas.{bytes_come-append}
+use Rattle.daide_log.specs.declared.report.ReportKey.{ReportKey}
+use Rattle.daide_protocol.specs.declared.summary.Summary.{Summary}
+use Rattle.daide_protocol.specs.Summary.{count_note}
 use Rattle.daide_words.specs.declared.word.Word.{Word}
-use Rattle.daide_machine.specs.declared.config.Config.{Config}
-use Rattle.daide_machine.proofs.LimitsKept.{runs_limits}
-use Rattle.daide_log.specs.Form.{Form, IsLawful}
-use Rattle.daide_log.specs.Report.{Entry, move_line, entries_of, lines_of, counted_all, texts_of, counted_by}
-use Rattle.daide_machine.specs.Summary.{HasRoom, IsMoreBy}
-use Rattle.daide_log.specs.Told.{IsIdle, IsOneMove, Tells, IsMade, IsToldWith, IsReady, IsUnder}
-use Rattle.daide_log.specs.Told.{IsCaused}
+use Rattle.daide_protocol.specs.declared.config.Config.{Config}
+use Rattle.daide_protocol.proofs.LimitsKept.{runs_limits}
+use Rattle.daide_log.specs.ReportForm.{ReportForm, IsWritableForm}
+use Rattle.daide_log.specs.Report.{ReportEntry, move_line, entries_of, lines_of, counted_all, texts_of, counted_over}
+use Rattle.daide_protocol.specs.Summary.{HasRoom, IsMoreBy}
+use Rattle.daide_log.specs.Reporting.{IsIdle, IsOneEffect, ReportsEvents, IsMade, IsReportedWith, IsReady, IsUnder}
+use Rattle.daide_log.specs.Reporting.{IsCaused}
 use Rattle.daide_log.proofs.OneMove.{one_move_a_piece, one_move_a_timer}
 
 -- ---- one piece
@@ -34,7 +34,7 @@ use Rattle.daide_log.proofs.OneMove.{one_move_a_piece, one_move_a_timer}
 pub room_is_missing : (g : SessionView) (side : Side) (n : ℕ) → n ≤ room_of g side →
     n ≤ missing g.state.limits.cap (coming g.state side).pending
 unfolding room_of
-room_is_missing g side n h = go (is_over g.state.phase) (is_awaited (waiting g) side) h
+room_is_missing g side n h = go (is_over g.state.phase) (is_awaited (queued g) side) h
   where
     go : (a b : Bool) → n ≤ cond (a || b) 0 (missing g.state.limits.cap (coming g.state side).pending) →
         n ≤ missing g.state.limits.cap (coming g.state side).pending
@@ -42,46 +42,46 @@ room_is_missing g side n h = go (is_over g.state.phase) (is_awaited (waiting g) 
     go false true h = omega arith
     go false false h = h
 
-no_move : (effects : List Effect) (told : Note) → IsOneMove effects told → told ≡ Notes.Nothing → effects ≡ []
-no_move [] told one e = refl
-no_move (move ∷ []) told one e = absurd (one.1 e)
-no_move (move ∷ another ∷ moves) told one e = absurd one
+no_move : (effects : List Effect) (reported : Note) → IsOneEffect effects reported → reported ≡ Notes.Nothing → effects ≡ []
+no_move [] reported one e = refl
+no_move (move ∷ []) reported one e = absurd (one.1 e)
+no_move (move ∷ another ∷ moves) reported one e = absurd one
 
 -- where a piece made no move, nothing was answered
-pub idle_still : (old new : SessionView) (side : Side) (piece : List ℕ) (told : Note) → length piece ≤ room_of old side →
-    Goes old (bytes_come side piece) told new → IsIdle old → told ≡ Notes.Nothing → IsIdle new
-idle_still old new side piece told room g idle e =
+pub idle_still : (old new : SessionView) (side : Side) (piece : List ℕ) (reported : Note) → length piece ≤ room_of old side →
+    Refines old (bytes_come side piece) reported new → IsIdle old → reported ≡ Notes.Nothing → IsIdle new
+idle_still old new side piece reported room g idle e =
     let few = room_is_missing old side (length piece) room in
     let one = one_move_a_piece piece old.state side g.effects new.state few g.run in
-    let none : g.effects ≡ [] = no_move g.effects told (subst (IsOneMove g.effects) (sym g.note) one) e in
+    let none : g.effects ≡ [] = no_move g.effects reported (subst (IsOneEffect g.effects) (sym g.note) one) e in
     record {
-      bot = g.kept Bot ∙ ap (λ (moves : List Effect). waiting old Bot ++ sent_to Bot moves) none
+      bot = g.kept Bot ∙ ap (λ (moves : List Effect). queued old Bot ++ sent_to Bot moves) none
           ∙ ap (λ (l : List Sent). l ++ []) idle.bot;
-      server = g.kept Server ∙ ap (λ (moves : List Effect). waiting old Server ++ sent_to Server moves) none
+      server = g.kept Server ∙ ap (λ (moves : List Effect). queued old Server ++ sent_to Server moves) none
           ∙ ap (λ (l : List Sent). l ++ []) idle.server;
     }
 
 -- a move that was told is the only one
-pub record IsOnly (effects : List Effect) (told : Note) : Type 0 where
+pub record IsOnly (effects : List Effect) (reported : Note) : Type 0 where
   pub move : Effect
   pub only : effects ≡ move ∷ []
-  pub same : move.told ≡ told
+  pub same : move.reported ≡ reported
 
-pub only_one : (effects : List Effect) (told : Note) → IsOneMove effects told → (told ≡ Notes.Nothing → ⊥) →
-    IsOnly effects told
-only_one [] told one some = absurd (some one)
-only_one (move ∷ []) told one some = record { move = move; only = refl; same = one.0 }
-only_one (move ∷ another ∷ moves) told one some = absurd one
+pub only_one : (effects : List Effect) (reported : Note) → IsOneEffect effects reported → (reported ≡ Notes.Nothing → ⊥) →
+    IsOnly effects reported
+only_one [] reported one some = absurd (some one)
+only_one (move ∷ []) reported one some = record { move = move; only = refl; same = one.0 }
+only_one (move ∷ another ∷ moves) reported one some = absurd one
 
 -- bytes that make a move
-pub piece_made : (old new : SessionView) (side : Side) (piece : List ℕ) (told : Note) → length piece ≤ room_of old side →
-    (holding old side).held ≡ (coming old.state side).pending → Goes old (bytes_come side piece) told new →
-    Takes old side piece told new → (told ≡ Notes.Nothing → ⊥) → IsMade old (bytes_come side piece) side told new
-piece_made old new side piece told room tied g takes some =
+pub piece_made : (old new : SessionView) (side : Side) (piece : List ℕ) (reported : Note) → length piece ≤ room_of old side →
+    (holding old side).held ≡ (coming old.state side).pending → Refines old (bytes_come side piece) reported new →
+    ReceivesBytes old side piece reported new → (reported ≡ Notes.Nothing → ⊥) → IsMade old (bytes_come side piece) side reported new
+piece_made old new side piece reported room tied g takes some =
     let few = room_is_missing old side (length piece) room in
-    let one = subst (IsOneMove g.effects) (sym g.note)
+    let one = subst (IsOneEffect g.effects) (sym g.note)
     (one_move_a_piece piece old.state side g.effects new.state few g.run) in
-    let only = only_one g.effects told one some in
+    let only = only_one g.effects reported one some in
     record {
       move = only.move;
       run = subst (λ (moves : List Effect). Runs old.state (bytes_come side piece) moves new.state) only.only g.run;
@@ -90,46 +90,46 @@ piece_made old new side piece told room tied g takes some =
     }
 
 -- and bytes that make none
-pub piece_silent : (old new : SessionView) (side : Side) (piece : List ℕ) (told : Note) → length piece ≤ room_of old side →
-    Goes old (bytes_come side piece) told new → told ≡ Notes.Nothing → Runs old.state (bytes_come side piece) [] new.state
-piece_silent old new side piece told room g e =
+pub piece_silent : (old new : SessionView) (side : Side) (piece : List ℕ) (reported : Note) → length piece ≤ room_of old side →
+    Refines old (bytes_come side piece) reported new → reported ≡ Notes.Nothing → Runs old.state (bytes_come side piece) [] new.state
+piece_silent old new side piece reported room g e =
     let few = room_is_missing old side (length piece) room in
     let one = one_move_a_piece piece old.state side g.effects new.state few g.run in
     subst (λ (moves : List Effect). Runs old.state (bytes_come side piece) moves new.state)
-    (no_move g.effects told (subst (IsOneMove g.effects) (sym g.note) one) e) g.run
+    (no_move g.effects reported (subst (IsOneEffect g.effects) (sym g.note) one) e) g.run
 
 -- the timer
-pub timer_made : (old new : SessionView) (told : Note) → (holding old Bot).held ≡ (coming old.state Bot).pending →
-    Goes old (TimerExpires ∷ []) told new → HoldsTheSame old new → (told ≡ Notes.Nothing → ⊥) →
-    IsMade old (TimerExpires ∷ []) Bot told new
-timer_made old new told tied g holds some =
-    let one = subst (IsOneMove g.effects) (sym g.note) (one_move_a_timer old.state g.effects new.state g.run) in
-    let only = only_one g.effects told one some in
+pub timer_made : (old new : SessionView) (reported : Note) → (holding old Bot).held ≡ (coming old.state Bot).pending →
+    Refines old (ImTimerExpired ∷ []) reported new → HoldsTheSame old new → (reported ≡ Notes.Nothing → ⊥) →
+    IsMade old (ImTimerExpired ∷ []) Bot reported new
+timer_made old new reported tied g holds some =
+    let one = subst (IsOneEffect g.effects) (sym g.note) (one_move_a_timer old.state g.effects new.state g.run) in
+    let only = only_one g.effects reported one some in
     record {
       move = only.move;
-      run = subst (λ (moves : List Effect). Runs old.state (TimerExpires ∷ []) moves new.state) only.only g.run;
+      run = subst (λ (moves : List Effect). Runs old.state (ImTimerExpired ∷ []) moves new.state) only.only g.run;
       same = only.same;
       caused = IsCaused.by_timer refl refl (ap (λ (h : Holding). h.held) holds.0 ∙ tied);
     }
 
-pub timer_silent : (old new : SessionView) (told : Note) → Goes old (TimerExpires ∷ []) told new → told ≡ Notes.Nothing →
-    Runs old.state (TimerExpires ∷ []) [] new.state
-timer_silent old new told g e =
-    subst (λ (moves : List Effect). Runs old.state (TimerExpires ∷ []) moves new.state)
-    (no_move g.effects told (subst (IsOneMove g.effects) (sym g.note)
+pub timer_silent : (old new : SessionView) (reported : Note) → Refines old (ImTimerExpired ∷ []) reported new → reported ≡ Notes.Nothing →
+    Runs old.state (ImTimerExpired ∷ []) [] new.state
+timer_silent old new reported g e =
+    subst (λ (moves : List Effect). Runs old.state (ImTimerExpired ∷ []) moves new.state)
+    (no_move g.effects reported (subst (IsOneEffect g.effects) (sym g.note)
     (one_move_a_timer old.state g.effects new.state g.run)) e) g.run
 
 -- the end of a side
-end_effects : (old new : SessionView) (side : Side) (g : Goes old (Ends side ∷ []) Notes.Nothing new) →
+end_effects : (old new : SessionView) (side : Side) (g : Refines old (Ends side ∷ []) Notes.Nothing new) →
     g.effects ≡ (event_outcome old.state (Ends side) g.run.3.verdict).effects
 end_effects old new side g =
     g.run.5 ∙ ap (λ (m : List Effect). g.run.1 ++ m) g.run.4.0 ∙ append-nil g.run.1
-    ∙ sym (ap (λ (o : Outcome). o.effects) g.run.3.outcome)
+    ∙ sym (ap (λ (o : Successor). o.effects) g.run.3.outcome)
 
-pub end_made : (old new : SessionView) (side : Side) → Goes old (Ends side ∷ []) Notes.Nothing new →
+pub end_made : (old new : SessionView) (side : Side) → Refines old (Ends side ∷ []) Notes.Nothing new →
     is_over old.state.phase ≡ false → IsMade old (Ends side ∷ []) side Notes.Nothing new
 end_made old new side g live =
-    let move : Effect = record { told = Notes.Nothing; sent = fm_to old.state.phase (other side) } in
+    let move : Effect = record { reported = Notes.Nothing; sent = fm_to old.state.phase (other side) } in
     let only : g.effects ≡ move ∷ [] = end_effects old new side g ∙ rw live refl in
     record {
       move = move;
@@ -138,7 +138,7 @@ end_made old new side g live =
       caused = IsCaused.by_end refl;
     }
 
-pub end_silent : (old new : SessionView) (side : Side) → Goes old (Ends side ∷ []) Notes.Nothing new →
+pub end_silent : (old new : SessionView) (side : Side) → Refines old (Ends side ∷ []) Notes.Nothing new →
     is_over old.state.phase ≡ true → Runs old.state (Ends side ∷ []) [] new.state
 end_silent old new side g over =
     subst (λ (moves : List Effect). Runs old.state (Ends side ∷ []) moves new.state)
@@ -146,9 +146,9 @@ end_silent old new side g over =
 
 -- ---- sessions between two lines
 
-pub under_after : (config : Config) (words : List Word) (old new : SessionView) (events : List Event) (told : Note) →
-    IsUnder config words old → Goes old events told new → IsUnder config words new
-under_after config words old new events told under g = record {
+pub under_after : (config : Config) (words : List Word) (old new : SessionView) (events : List Event) (reported : Note) →
+    IsUnder config words old → Refines old events reported new → IsUnder config words new
+under_after config words old new events reported under g = record {
   limits = runs_limits events old.state new.state g.effects g.run ∙ under.limits;
   accepted = under.accepted;
 }
@@ -163,10 +163,10 @@ ready_again config words mid new under same idle = record {
   };
 }
 
-pub ready_after : (config : Config) (words : List Word) (old mid new : SessionView) (events : List Event) (told : Note) →
-    IsReady config words old → Goes old events told mid → new.state ≡ mid.state → IsIdle new → IsReady config words new
-ready_after config words old mid new events told ready g same idle =
-    ready_again config words mid new (under_after config words old mid events told ready.under g) same idle
+pub ready_after : (config : Config) (words : List Word) (old mid new : SessionView) (events : List Event) (reported : Note) →
+    IsReady config words old → Refines old events reported mid → new.state ≡ mid.state → IsIdle new → IsReady config words new
+ready_after config words old mid new events reported ready g same idle =
+    ready_again config words mid new (under_after config words old mid events reported ready.under g) same idle
 
 -- ---- one after another
 
@@ -177,16 +177,16 @@ texts_of-append text (entry ∷ a) b =
     ap (λ (t : List ℕ). text entry ++ t) (texts_of-append text a b)
     ∙ sym (append_assoc (text entry) (texts_of text a) (texts_of text b))
 
-pub counted_by-append : {E : Type 0} → (count : E → Summary → Summary) (a b : List E) (s : Summary) →
-    counted_by count (a ++ b) s ≡ counted_by count b (counted_by count a s)
-counted_by-append count [] b s = refl
-counted_by-append count (entry ∷ a) b s = counted_by-append count a b (count entry s)
+pub counted_over-append : {E : Type 0} → (count : E → Summary → Summary) (a b : List E) (s : Summary) →
+    counted_over count (a ++ b) s ≡ counted_over count b (counted_over count a s)
+counted_over-append count [] b s = refl
+counted_over-append count (entry ∷ a) b s = counted_over-append count a b (count entry s)
 
-pub lines_of-append : (a b : List Entry) → lines_of (a ++ b) ≡ lines_of a ++ lines_of b
-lines_of-append a b = texts_of-append (λ (e : Entry). move_line e.source e.side e.told) a b
+pub lines_of-append : (a b : List ReportEntry) → lines_of (a ++ b) ≡ lines_of a ++ lines_of b
+lines_of-append a b = texts_of-append (λ (e : ReportEntry). move_line e.source e.side e.reported) a b
 
-pub counted_all-append : (a b : List Entry) (s : Summary) → counted_all (a ++ b) s ≡ counted_all b (counted_all a s)
-counted_all-append a b s = counted_by-append (λ (e : Entry) (before : Summary). counted e.told before) a b s
+pub counted_all-append : (a b : List ReportEntry) (s : Summary) → counted_all (a ++ b) s ≡ counted_all b (counted_all a s)
+counted_all-append a b s = counted_over-append (λ (e : ReportEntry) (before : Summary). count_note e.reported before) a b s
 
 pub appends_more : (a b c : Option (List ℕ)) (x y : List ℕ) → Appends a b x → Appends b c y → Appends a c (x ++ y)
 appends_more None b c x y h k = tt
@@ -198,7 +198,7 @@ pub appends_none : (a : Option (List ℕ)) → Appends a a []
 appends_none None = tt
 appends_none (Some p) = sym (append-nil p)
 
-pub idle_free : (g : SessionView) (side : Side) → IsIdle g → is_awaited (waiting g) side ≡ false
+pub idle_free : (g : SessionView) (side : Side) → IsIdle g → is_awaited (queued g) side ≡ false
 idle_free g side idle = rw (idle.bot, idle.server) refl
 
 -- ---- counts
@@ -222,35 +222,35 @@ less_room m n s h less = record {
   faults = omega (arith, h.faults, less);
 }
 
-module _ {Answer : Type 0} (form : Form Answer) where
+module _ {Answer : Type 0} (form : ReportForm Answer) where
   -- events in a row
-  pub tells_more : (words : List Word) → IsLawful words form → (source : Source) (side : Side) (old mid new : SessionState)
-      (events more : List Event) (r s t : Summary) (a b c : Option (List ℕ)) → Tells form source side old events mid r s a b →
-      Tells form source side mid more new s t b c → Tells form source side old (events ++ more) new r t a c
+  pub tells_more : (words : List Word) → IsWritableForm words form → (source : ReportKey) (side : Side) (old mid new : SessionState)
+      (events more : List Event) (r s t : Summary) (a b c : Option (List ℕ)) → ReportsEvents form source side old events mid r s a b →
+      ReportsEvents form source side mid more new s t b c → ReportsEvents form source side old (events ++ more) new r t a c
   tells_more words lawful source side old mid new events more r s t a b c h k = (
     h.0 ++ k.0,
     h.1 ++ k.1,
     runs_join events more old mid new h.0 k.0 h.2 k.2,
     lawful.more source side old mid new events more h.0 k.0 h.1 k.1 h.3 k.3,
-    k.4 ∙ ap (counted_by form.counted k.1) h.4 ∙ sym (counted_by-append form.counted h.1 k.1 r),
+    k.4 ∙ ap (counted_over form.counted k.1) h.4 ∙ sym (counted_over-append form.counted h.1 k.1 r),
     subst (Appends a c) (sym (texts_of-append form.text h.1 k.1))
         (appends_more a b c (texts_of form.text h.1) (texts_of form.text k.1) h.5 k.5),
   )
 
   -- where no move is made nothing is told
-  pub tells_none : (words : List Word) → IsLawful words form → (source : Source) (side : Side) (old new : SessionState)
+  pub tells_none : (words : List Word) → IsWritableForm words form → (source : ReportKey) (side : Side) (old new : SessionState)
       (events : List Event) (s : Summary) (a : Option (List ℕ)) → Runs old events [] new →
-      Tells form source side old events new s s a a
+      ReportsEvents form source side old events new s s a a
   tells_none words lawful source side old new events s a run =
       ([], [], run, lawful.silent source side old new events run, refl, appends_none a)
 
   -- a move was told
-  pub tells_one : (source : Source) (old : SessionView) (events : List Event) (side : Side) (told : Note) (mid : SessionView)
+  pub tells_one : (source : ReportKey) (old : SessionView) (events : List Event) (side : Side) (reported : Note) (mid : SessionView)
       (new : SessionState) (added : List ℕ) (before after : Summary) (a b : Option (List ℕ)) →
-      IsMade old events side told mid → new ≡ mid.state → IsToldWith form side told mid added →
-      after ≡ counted told before → Appends a b (move_line source side told ++ added) →
-      Tells form source side old.state events new before after a b
-  tells_one source old events side told mid new added before after a b made same with c w =
+      IsMade old events side reported mid → new ≡ mid.state → IsReportedWith form side reported mid added →
+      after ≡ count_note reported before → Appends a b (move_line source side reported ++ added) →
+      ReportsEvents form source side old.state events new before after a b
+  tells_one source old events side reported mid new added before after a b made same with c w =
       let entries = with source old events made in (
         made.move ∷ [],
         entries.0,
@@ -263,16 +263,16 @@ module _ {Answer : Type 0} (form : Form Answer) where
   -- ---- bytes in pieces
 
   -- the bytes so far were fed, and told of
-  pub record HasFed (config : Config) (words : List Word) (source : Source) (side : Side) (bytes rest : List ℕ)
+  pub record HasFed (config : Config) (words : List Word) (source : ReportKey) (side : Side) (bytes rest : List ℕ)
       (old : SessionState) (new : SessionView) (before after : Summary) (a b : Option (List ℕ)) : Type 0 where
     pub done : List ℕ
     pub whole : done ++ rest ≡ bytes
     pub ready : IsReady config words new
     pub room : HasRoom (length rest) after
     pub few : IsMoreBy (length done) before after
-    pub told : Tells form source side old (bytes_come side done) new.state before after a b
+    pub reported : ReportsEvents form source side old (bytes_come side done) new.state before after a b
 
-  pub nothing_fed : (config : Config) (words : List Word) → IsLawful words form → (source : Source) (side : Side)
+  pub nothing_fed : (config : Config) (words : List Word) → IsWritableForm words form → (source : ReportKey) (side : Side)
       (bytes : List ℕ) (g : SessionView) (s : Summary) (a : Option (List ℕ)) →
       IsReady config words g → HasRoom (length bytes) s → HasFed config words source side bytes bytes g.state g s s a a
   nothing_fed config words lawful source side bytes g s a ready room = record {
@@ -281,13 +281,13 @@ module _ {Answer : Type 0} (form : Form Answer) where
     ready = ready;
     room = room;
     few = record { relayed = omega arith; prn = omega arith; huh = omega arith; faults = omega arith };
-    told = tells_none words lawful source side g.state g.state [] s a (refl, refl);
+    reported = tells_none words lawful source side g.state g.state [] s a (refl, refl);
   }
 
-  pub piece_fed : (config : Config) (words : List Word) → IsLawful words form → (source : Source) (side : Side)
+  pub piece_fed : (config : Config) (words : List Word) → IsWritableForm words form → (source : ReportKey) (side : Side)
       (bytes rest piece more : List ℕ) (old : SessionState) (mid new : SessionView)
       (r s t : Summary) (a b c : Option (List ℕ)) → HasFed config words source side bytes rest old mid r s a b →
-      rest ≡ piece ++ more → 0 < length piece → Tells form source side mid.state (bytes_come side piece) new.state s t b c →
+      rest ≡ piece ++ more → 0 < length piece → ReportsEvents form source side mid.state (bytes_come side piece) new.state s t b c →
       IsReady config words new → IsMoreBy 1 s t → HasFed config words source side bytes more old new r t a c
   piece_fed config words lawful source side bytes rest piece more old mid new r s t a b c h split some tells ready one =
       let size = ap length split ∙ length-append piece more in
@@ -300,22 +300,22 @@ module _ {Answer : Type 0} (form : Form Answer) where
         ready = ready;
         room = record { relayed = omega arith; prn = omega arith; huh = omega arith; faults = omega arith };
         few = record { relayed = omega arith; prn = omega arith; huh = omega arith; faults = omega arith };
-        told = subst (λ (es : List Event). Tells form source side old es new.state r t a c)
+        reported = subst (λ (es : List Event). ReportsEvents form source side old es new.state r t a c)
             (sym (bytes_come-append side h.done piece))
             (tells_more words lawful source side old mid.state new.state (bytes_come side h.done) (bytes_come side piece)
-            r s t a b c h.told tells);
+            r s t a b c h.reported tells);
       }
 
   -- all was fed, or the session is over, and what is left changes nothing
-  pub all_fed : (config : Config) (words : List Word) → IsLawful words form → (source : Source) (side : Side)
+  pub all_fed : (config : Config) (words : List Word) → IsWritableForm words form → (source : ReportKey) (side : Side)
       (bytes rest : List ℕ) (old : SessionState) (new : SessionView) (r s : Summary)
       (a b : Option (List ℕ)) → HasFed config words source side bytes rest old new r s a b →
-      (length rest ≡ 0) ⊎ (is_over new.state.phase ≡ true) → Tells form source side old (bytes_come side bytes) new.state r s a b
+      (length rest ≡ 0) ⊎ (is_over new.state.phase ≡ true) → ReportsEvents form source side old (bytes_come side bytes) new.state r s a b
   all_fed config words lawful source side bytes rest old new r s a b h end =
-      subst (λ (es : List Event). Tells form source side old es new.state r s a b)
+      subst (λ (es : List Event). ReportsEvents form source side old es new.state r s a b)
       (sym (bytes_come-append side h.done rest) ∙ ap (bytes_come side) h.whole)
       (tells_more words lawful source side old new.state new.state (bytes_come side h.done) (bytes_come side rest) r s s a b b
-      h.told (tells_none words lawful source side new.state new.state (bytes_come side rest) s b (left rest end)))
+      h.reported (tells_none words lawful source side new.state new.state (bytes_come side rest) s b (left rest end)))
     where
       left : (l : List ℕ) → (length l ≡ 0) ⊎ (is_over new.state.phase ≡ true) → Runs new.state (bytes_come side l) [] new.state
       left [] end = (refl, refl)
@@ -323,18 +323,18 @@ module _ {Answer : Type 0} (form : Form Answer) where
       left (x ∷ l) (inr e) = over_stays new.state (bytes_come side (x ∷ l)) e
 
   -- of all bytes no more was told
-  pub fed_few : (config : Config) (words : List Word) (source : Source) (side : Side) (bytes rest : List ℕ)
+  pub fed_few : (config : Config) (words : List Word) (source : ReportKey) (side : Side) (bytes rest : List ℕ)
       (old : SessionState) (new : SessionView) (r s : Summary)
       (a b : Option (List ℕ)) → HasFed config words source side bytes rest old new r s a b → IsMoreBy (length bytes) r s
   fed_few config words source side bytes rest old new r s a b h =
       more_by (length h.done) (length bytes) r s h.few (omega (arith, ap length h.whole, length-append h.done rest))
 
   -- nor with one move more, while a byte is left
-  pub told_few : (config : Config) (words : List Word) (source : Source) (side : Side) (bytes rest : List ℕ)
+  pub reported_few : (config : Config) (words : List Word) (source : ReportKey) (side : Side) (bytes rest : List ℕ)
       (old : SessionState) (new : SessionView)
       (r s t : Summary) (a b : Option (List ℕ)) → HasFed config words source side bytes rest old new r s a b →
       0 < length rest → IsMoreBy 1 s t → IsMoreBy (length bytes) r t
-  told_few config words source side bytes rest old new r s t a b h some k =
+  reported_few config words source side bytes rest old new r s t a b h some k =
       let size : length h.done + length rest ≡ length bytes = sym (length-append h.done rest) ∙ ap length h.whole in
       record {
         relayed = omega (arith, h.few.relayed, k.relayed, size, some);

@@ -13,16 +13,16 @@ use Rattle.daide_grammar.specs.Words.{Words}
 use Rattle.daide_reader.specs.declared.verdict.Verdict.{Verdict}
 use Rattle.daide_reader.specs.declared.verdict.Verdict.TheVariants.{Relay}
 use Rattle.daide_reader.proofs.SomeVerdict.{plain_verdict, plain_verdict_right}
-use Rattle.daide_machine.specs.declared.note.Note.{Note}
-use Rattle.daide_machine.specs.declared.phase.Phase.{Phase}
-use Rattle.daide_machine.specs.Events.{Event}
-use Rattle.daide_machine.specs.Machine.{Limits, SessionState, Effect, Outcome, Question, Runs, IsRight, event_outcome}
-use Rattle.daide_machine.specs.Machine.{question, side2_of}
-use Rattle.daide_lines.specs.LogLine.{LogEvent, IsUnbroken, without_cr}
-use Rattle.daide_lines.specs.MatchLine.{Of}
+use Rattle.daide_protocol.specs.declared.note.Note.{Note}
+use Rattle.daide_protocol.specs.declared.phase.Phase.{Phase}
+use Rattle.daide_protocol.specs.Events.{Event}
+use Rattle.daide_protocol.specs.Machine.{Limits, SessionState, Effect, Successor, Question, Runs, IsCorrectVerdict, event_outcome}
+use Rattle.daide_protocol.specs.Machine.{question, side2_of}
+use Rattle.daide_log_lines.specs.LogLine.{LogEvent, IsUnbroken, without_cr}
+use Rattle.daide_log_lines.specs.MatchLine.{Of}
 use Rattle.daide_log.specs.declared.heading.Version.{Version}
-use Rattle.daide_log.specs.declared.report.Source.{Source}
-use Rattle.daide_log.specs.Report.{Entry, entries_of, events_of, side_of}
+use Rattle.daide_log.specs.declared.report.ReportKey.{ReportKey}
+use Rattle.daide_log.specs.Report.{ReportEntry, entries_of, events_of_line, side_of}
 use Rattle.daide_log.specs.Log.{ReportsBy, Playing, Reports, event_in, source_in}
 
 -- a session between two messages, of which no level but 0 was told
@@ -45,33 +45,33 @@ verdict_on [] depth (Some q) = Some (plain_verdict (side2_of q.side) q.level dep
 verdict_on (word ∷ words) depth (Some q) = None
 
 verdict_right : (words : Words) (depth : ℕ) (q : Option Question) (v : Verdict) → verdict_on words depth q ≡ Some v →
-    IsRight words depth q v
+    IsCorrectVerdict words depth q v
 unfolding verdict_on
 verdict_right words depth None v e = sym (same_Some Relay v e)
 verdict_right [] depth (Some q) v e =
-    subst (λ (verdict : Verdict). IsRight [] depth (Some q) verdict) (same_Some _ v e)
+    subst (λ (verdict : Verdict). IsCorrectVerdict [] depth (Some q) verdict) (same_Some _ v e)
     (plain_verdict_right (side2_of q.side) q.level depth q.message)
 verdict_right (word ∷ words) depth (Some q) v e = absurd (cc)
 
 -- the state after a run, and what is told of its moves
 pub record Played : Type 0 where
   pub state : SessionState
-  pub told : List Note
+  pub reported : List Note
 
-abbrev told_first : List Effect → Option Played → Option Played
-told_first moves None = None
-told_first moves (Some later) =
-    Some (record { state = later.state; told = map (λ move. move.told) moves ++ later.told })
+abbrev reported_first : List Effect → Option Played → Option Played
+reported_first moves None = None
+reported_first moves (Some later) =
+    Some (record { state = later.state; reported = map (λ move. move.reported) moves ++ later.reported })
 
-abbrev then_played : (SessionState → Option Played) → Outcome → Option Played
-then_played later outcome = told_first outcome.effects (later outcome.state)
+abbrev then_played : (SessionState → Option Played) → Successor → Option Played
+then_played later outcome = reported_first outcome.effects (later outcome.state)
 
 abbrev played_by : (SessionState → Option Played) → SessionState → Event → Option Verdict → Option Played
 played_by later s event None = None
 played_by later s event (Some v) = then_played later (event_outcome s event v)
 
 unfoldable pub played : List Event → SessionState → Option Played
-played [] s = Some (record { state = s; told = [] })
+played [] s = Some (record { state = s; reported = [] })
 played (event ∷ events) s =
     played_by (played events) s event (verdict_on s.limits.words s.limits.max_depth (question s event))
 
@@ -79,26 +79,26 @@ played (event ∷ events) s =
 abbrev pub AreRuns : List Event → Type 0
 AreRuns events =
     (s : SessionState) (p : Played) → played events s ≡ Some p →
-    (moves : List Effect) × Runs s events moves p.state × (map (λ move. move.told) moves ≡ p.told)
+    (moves : List Effect) × Runs s events moves p.state × (map (λ move. move.reported) moves ≡ p.reported)
 
 pub played_runs : (events : List Event) → AreRuns events
 unfolding played
 played_runs [] s p e =
-    let same : record { state = s; told = [] } ≡ p = same_Some _ p e in
-    ([], (refl, ap (λ (q : Played). q.state) (sym same)), ap (λ (q : Played). q.told) same)
+    let same : record { state = s; reported = [] } ≡ p = same_Some _ p e in
+    ([], (refl, ap (λ (q : Played). q.state) (sym same)), ap (λ (q : Played). q.reported) same)
 played_runs (event ∷ events) s p e =
     by_verdict (λ t q was. played_runs events t q was)
     (verdict_on s.limits.words s.limits.max_depth (question s event)) refl e
   where
     behind : AreRuns events → (v : Verdict) → verdict_on s.limits.words s.limits.max_depth (question s event) ≡ Some v →
         (o : Option Played) → played events (event_outcome s event v).state ≡ o →
-        told_first (event_outcome s event v).effects o ≡ Some p →
-        (moves : List Effect) × Runs s (event ∷ events) moves p.state × (map (λ move. move.told) moves ≡ p.told)
+        reported_first (event_outcome s event v).effects o ≡ Some p →
+        (moves : List Effect) × Runs s (event ∷ events) moves p.state × (map (λ move. move.reported) moves ≡ p.reported)
     behind runs v is None was e = absurd (cc)
     behind runs v is (Some later) was e =
-        let out : Outcome = event_outcome s event v in
+        let out : Successor = event_outcome s event v in
         let rest = runs out.state later was in
-        let same : record { state = later.state; told = map (λ move. move.told) out.effects ++ later.told } ≡ p =
+        let same : record { state = later.state; reported = map (λ move. move.reported) out.effects ++ later.reported } ≡ p =
         same_Some _ p e in (
           out.effects ++ rest.0,
           (
@@ -113,33 +113,33 @@ played_runs (event ∷ events) s p e =
             subst (λ (new : SessionState). Runs out.state events rest.0 new) (ap (λ (q : Played). q.state) same) rest.1,
             refl,
           ),
-          map-append (λ (move : Effect). move.told) out.effects rest.0
-              ∙ ap (λ (l : List Note). map (λ move. move.told) out.effects ++ l) rest.2
-              ∙ ap (λ (q : Played). q.told) same,
+          map-append (λ (move : Effect). move.reported) out.effects rest.0
+              ∙ ap (λ (l : List Note). map (λ move. move.reported) out.effects ++ l) rest.2
+              ∙ ap (λ (q : Played). q.reported) same,
         )
 
     by_verdict : AreRuns events → (o : Option Verdict) →
         verdict_on s.limits.words s.limits.max_depth (question s event) ≡ o →
         played_by (played events) s event o ≡ Some p →
-        (moves : List Effect) × Runs s (event ∷ events) moves p.state × (map (λ move. move.told) moves ≡ p.told)
+        (moves : List Effect) × Runs s (event ∷ events) moves p.state × (map (λ move. move.reported) moves ≡ p.reported)
     by_verdict runs None is e = absurd (cc)
     by_verdict runs (Some v) is e = behind runs v is (played events (event_outcome s event v).state) refl e
 
 -- ---- what is told of it
 
 -- these moves of a side
-unfoldable pub entries_by : Source → Side → List Note → List Entry
+unfoldable pub entries_by : ReportKey → Side → List Note → List ReportEntry
 entries_by source side [] = []
-entries_by source side (told ∷ notes) =
-    record { source = source; side = side; told = told } ∷ entries_by source side notes
+entries_by source side (reported ∷ notes) =
+    record { source = source; side = side; reported = reported } ∷ entries_by source side notes
 
-entries_told : (source : Source) (side : Side) (moves : List Effect) →
-    entries_by source side (map (λ move. move.told) moves) ≡ entries_of source side moves
+entries_reported : (source : ReportKey) (side : Side) (moves : List Effect) →
+    entries_by source side (map (λ move. move.reported) moves) ≡ entries_of source side moves
 unfolding entries_by
-entries_told source side [] = refl
-entries_told source side (move ∷ moves) =
-    ap (λ (l : List Entry). record { source = source; side = side; told = move.told } ∷ l)
-    (entries_told source side moves)
+entries_reported source side [] = refl
+entries_reported source side (move ∷ moves) =
+    ap (λ (l : List ReportEntry). record { source = source; side = side; reported = move.reported } ∷ l)
+    (entries_reported source side moves)
 
 -- ---- a line more
 
@@ -157,19 +157,19 @@ unbroken (b ∷ bytes) h = go (eqb_tells b 10) (unbroken bytes)
     go (inl t) later = let wrong : false ≡ true = (rw t.0 at h) in absurd (cc)
     go (inr t) later = (t.1, later (rw t.0 at h))
 
-pub line_played : (bytes : List ℕ) (number : ℕ) (told : List Entry) (version : Version) (states : List SessionState) →
-    Reports bytes number told (Playing version states) → (line : List ℕ) (session : ℕ) (event : LogEvent)
+pub line_played : (bytes : List ℕ) (number : ℕ) (reported : List ReportEntry) (version : Version) (states : List SessionState) →
+    Reports bytes number reported (Playing version states) → (line : List ℕ) (session : ℕ) (event : LogEvent)
     (state : SessionState) (p : Played) → has_no_feed line ≡ true → length line ≤ 2100 → number < 1000000 →
     event_in version (length states) (without_cr line) ≡ Some (Of session event) →
-    slice_get states (session - 1) ≡ Some state → played (events_of event) state ≡ Some p →
+    slice_get states (session - 1) ≡ Some state → played (events_of_line event) state ≡ Some p →
     Reports (bytes ++ line ++ 10 ∷ []) (number + 1)
-    (told ++ entries_by (source_in version (number + 1) session) (side_of event) p.told)
+    (reported ++ entries_by (source_in version (number + 1) session) (side_of event) p.reported)
     (Playing version (slice_set states (session - 1) p.state))
-line_played bytes number told version states reports line session event state p whole short few is_event place is =
-    let run = played_runs (events_of event) state p is in
-    let source : Source = source_in version (number + 1) session in
-    ReportsBy.line bytes number told (Playing version states) reports line
-    (entries_by source (side_of event) p.told) (Playing version (slice_set states (session - 1) p.state)) few
+line_played bytes number reported version states reports line session event state p whole short few is_event place is =
+    let run = played_runs (events_of_line event) state p is in
+    let source : ReportKey = source_in version (number + 1) session in
+    ReportsBy.line bytes number reported (Playing version states) reports line
+    (entries_by source (side_of event) p.reported) (Playing version (slice_set states (session - 1) p.state)) few
     (unbroken line whole) short (
       Of session event,
       is_event,
@@ -180,7 +180,7 @@ line_played bytes number told version states reports line session event state p 
         run.0,
         place,
         run.1,
-        ap (entries_by source (side_of event)) (sym run.2) ∙ entries_told source (side_of event) run.0,
+        ap (entries_by source (side_of event)) (sym run.2) ∙ entries_reported source (side_of event) run.0,
         refl,
       ),
       refl,

@@ -4,73 +4,73 @@ use Rattle.std.proofs.Common.{◌≡◌, ℕ, zero, suc, ◌+◌, ◌≤◌, Boo
 use Rattle.std.proofs.Common.{◌∷◌, length, Option, Some, None, Result, Ok, Err}
 use Rattle.std.proofs.Common.{refl, sym, ap, subst, arith, ◌≢◌, OnOk, IfErr, IfSome}
 use Rattle.std.specs.Prelude.{option_map, not, replicate}
-use Rattle.daide_machine.specs.Machine.{SessionState}
-use Rattle.daide_machine.specs.Wires.{SessionView}
+use Rattle.daide_protocol.specs.Machine.{SessionState}
+use Rattle.daide_protocol.specs.Wires.{SessionView}
 use Rattle.std.proofs.lemmas.Option.{same_Some}
-use Rattle.daide_lines.specs.declared.lines.Found.{Found}
-use Rattle.daide_lines.specs.declared.lines.Found.TheVariants.{Held, Line, Last, End}
-use Rattle.daide_lines.specs.declared.fault.LogFault.{LogFault}
-use Rattle.daide_lines.specs.declared.fault.LogFault.TheVariants as Faults
+use Rattle.daide_log_lines.specs.declared.lines.LineEnd.{LineEnd}
+use Rattle.daide_log_lines.specs.declared.lines.LineEnd.TheVariants.{Held, Line, Last, End}
+use Rattle.daide_log_lines.specs.declared.fault.LogFault.{LogFault}
+use Rattle.daide_log_lines.specs.declared.fault.LogFault.TheVariants as Faults
 use Rattle.daide_log.specs.declared.opening.Opened.{Opened}
 use Rattle.daide_log.specs.declared.opening.PreambleProgress.{PreambleProgress}
 use Rattle.daide_log.specs.declared.opening.PreambleProgress.TheVariants.{More}
 use Rattle.daide_log.specs.declared.heading.Preamble as heads
 use Rattle.daide_log.specs.declared.heading.Heading as headings
 use Rattle.daide_log.specs.declared.heading.Heading.TheVariants as Variants
-use Rattle.daide_log.specs.Heading.{Headed, heading_after, is_whole}
-use Rattle.daide_log.specs.Held.{head_of, heading_of, IsHeld, whole, further, at_last, after_line}
+use Rattle.daide_log.specs.Heading.{Headed, heading_after, has_all_words}
+use Rattle.daide_log.specs.PreambleKnown.{preamble_of, heading_of, IsPreambleKnown, whole_preamble, preamble_after, at_last, after_line}
 use Rattle.std.specs.Io.KnownBytes.{Keeps}
-use Rattle.daide_lines.specs.LogLine.{most_lines}
-use Rattle.daide_log.specs.Log.{Opening, stage_at, begun}
-use Rattle.daide_lines.specs.Reader.{Reader}
-use Rattle.daide_lines.specs.Lines.{IsFound}
-use Rattle.daide_lines.proofs.PageLemmas.{keeps_appends}
+use Rattle.daide_log_lines.specs.LogLine.{most_lines}
+use Rattle.daide_log.specs.Log.{Opening, stage_at, state_after_preamble}
+use Rattle.daide_log_lines.specs.Reader.{Reader}
+use Rattle.daide_log_lines.specs.Lines.{IsFound}
+use Rattle.daide_log_lines.proofs.PageLemmas.{keeps_appends}
 use Rattle.std.specs.Prelude.{⊤}
 use Rattle.daide_words.specs.declared.word.Word.{Word}
 use Rattle.daide_words.specs.Words.{words_of}
-use Rattle.daide_log.specs.Form.{Form, IsLawful, HasWords}
+use Rattle.daide_log.specs.ReportForm.{ReportForm, IsWritableForm, HasWords}
 use Rattle.daide_log.specs.Progress.{HasRead, HasReadAll, GivesInTime, IsPreambleProgress, IsOpened, IsOpenedBy, IsFaultAfter, states_of}
 use Rattle.daide_log.proofs.LogLemmas.{line_read, last_read, end_read, bad_line, bad_last, ends_early, fault_found}
 
 -- where a head is not whole a line of it is to come
-pub more_to_come : (heading : headings.Heading) → whole heading ≡ None →
+pub more_to_come : (heading : headings.Heading) → whole_preamble heading ≡ None →
     stage_at (heading_of heading) ≡ Opening (heading_of heading)
 more_to_come Variants.Unnamed e = refl
 more_to_come (Variants.Named version) e = refl
-more_to_come (Variants.Headed head) e = go (is_whole (head_of head)) e
+more_to_come (Variants.Headed head) e = go (has_all_words (preamble_of head)) e
   where
     go : (b : Bool) → cond b (Some head) None ≡ None →
-        cond b (begun (head_of head)) (Opening (Headed (head_of head))) ≡ Opening (Headed (head_of head))
+        cond b (state_after_preamble (preamble_of head)) (Opening (Headed (preamble_of head))) ≡ Opening (Headed (preamble_of head))
     go true e = absurd (cc)
     go false e = refl
 
 -- where it is the sessions begin
-pub whole_begun : (heading : headings.Heading) (head : heads.Preamble) → whole heading ≡ Some head →
-    stage_at (heading_of heading) ≡ begun (head_of head)
+pub whole_begun : (heading : headings.Heading) (head : heads.Preamble) → whole_preamble heading ≡ Some head →
+    stage_at (heading_of heading) ≡ state_after_preamble (preamble_of head)
 whole_begun Variants.Unnamed head e = absurd (cc)
 whole_begun (Variants.Named version) head e = absurd (cc)
-whole_begun (Variants.Headed held) head e = go (is_whole (head_of held)) e
+whole_begun (Variants.Headed held) head e = go (has_all_words (preamble_of held)) e
   where
     go : (b : Bool) → cond b (Some held) None ≡ Some head →
-        cond b (begun (head_of held)) (Opening (Headed (head_of held))) ≡ begun (head_of head)
-    go true e = ap (λ (h : heads.Preamble). begun (head_of h)) (same_Some held head e)
+        cond b (state_after_preamble (preamble_of held)) (Opening (Headed (preamble_of held))) ≡ state_after_preamble (preamble_of head)
+    go true e = ap (λ (h : heads.Preamble). state_after_preamble (preamble_of h)) (same_Some held head e)
     go false e = absurd (cc)
 
 -- where a head is not whole it has any words, and else its own
-any_words : (words : List Word) (heading : headings.Heading) → whole heading ≡ None → HasWords words (heading_of heading)
+any_words : (words : List Word) (heading : headings.Heading) → whole_preamble heading ≡ None → HasWords words (heading_of heading)
 any_words words Variants.Unnamed e = tt
 any_words words (Variants.Named version) e = tt
-any_words words (Variants.Headed head) e = go (is_whole (head_of head)) e
+any_words words (Variants.Headed head) e = go (has_all_words (preamble_of head)) e
   where
     go : (b : Bool) → cond b (Some head) None ≡ None → MatchBool b (words_of head.words ≡ words) ⊤
     go true e = absurd (cc)
     go false e = tt
 
-own_words : (heading : headings.Heading) (head : heads.Preamble) → whole heading ≡ Some head →
+own_words : (heading : headings.Heading) (head : heads.Preamble) → whole_preamble heading ≡ Some head →
     HasWords (words_of head.words) (heading_of heading)
 own_words Variants.Unnamed head e = absurd (cc)
 own_words (Variants.Named version) head e = absurd (cc)
-own_words (Variants.Headed held) head e = go (is_whole (head_of held)) e
+own_words (Variants.Headed held) head e = go (has_all_words (preamble_of held)) e
   where
     go : (b : Bool) → cond b (Some held) None ≡ Some head → MatchBool b (words_of held.words ≡ words_of head.words) ⊤
     go true e = ap (λ (h : heads.Preamble). words_of h.words) (same_Some held head e)
@@ -78,31 +78,31 @@ own_words (Variants.Headed held) head e = go (is_whole (head_of held)) e
 
 -- ---- what was kept, and what is held
 
-pub step_kept : (found : Result Found LogFault) (next : Option headings.Heading) (n : ℕ) (step : PreambleProgress) (P : Type 0) →
+pub step_kept : (found : Result LineEnd LogFault) (next : Option headings.Heading) (n : ℕ) (step : PreambleProgress) (P : Type 0) →
     after_line found next n ≡ Ok step → OnOk found P → P
 step_kept (Err fault) next n step P e h = absurd (cc)
 step_kept (Ok found) next n step P e h = h
 
-pub fault_keeps : (found : Result Found LogFault) (next : Option headings.Heading) (n : ℕ) (fault : LogFault) (P : Type 0) →
+pub fault_keeps : (found : Result LineEnd LogFault) (next : Option headings.Heading) (n : ℕ) (fault : LogFault) (P : Type 0) →
     after_line found next n ≡ Err fault → OnOk found P → IfErr found (λ f. f ≢ Faults.Write → P) →
     fault ≢ Faults.Write → P
 fault_keeps (Err f) next n fault P e h k other = k (λ w. other (cc))
 fault_keeps (Ok found) next n fault P e h k other = h
 
 next_of : (next heading : headings.Heading) (n : ℕ) (o : Option heads.Preamble) →
-    ◌≡◌ {A = Result PreambleProgress LogFault} (Ok (further next (n + 1) o)) (Ok (More heading)) → Some next ≡ Some heading
+    ◌≡◌ {A = Result PreambleProgress LogFault} (Ok (preamble_after next (n + 1) o)) (Ok (More heading)) → Some next ≡ Some heading
 next_of next heading n None w = cc
 next_of next heading n (Some head) w = absurd (cc)
 
-pub next_is : (found : Result Found LogFault) (next : Option headings.Heading) (n : ℕ) (heading : headings.Heading) →
+pub next_is : (found : Result LineEnd LogFault) (next : Option headings.Heading) (n : ℕ) (heading : headings.Heading) →
     after_line found next n ≡ Ok (More heading) → next ≡ Some heading
 next_is (Err fault) next n heading e = absurd (cc)
 next_is (Ok (Held k)) None n heading e = absurd (cc)
-next_is (Ok (Held k)) (Some next) n heading e = next_of next heading n (whole next) e
+next_is (Ok (Held k)) (Some next) n heading e = next_of next heading n (whole_preamble next) e
 next_is (Ok Line) None n heading e = absurd (cc)
-next_is (Ok Line) (Some next) n heading e = next_of next heading n (whole next) e
+next_is (Ok Line) (Some next) n heading e = next_of next heading n (whole_preamble next) e
 next_is (Ok Last) None n heading e = absurd (cc)
-next_is (Ok Last) (Some next) n heading e = go (whole next) e
+next_is (Ok Last) (Some next) n heading e = go (whole_preamble next) e
   where
     go : (o : Option heads.Preamble) → at_last (n + 1) o ≡ Ok (More heading) → Some next ≡ Some heading
     go None w = absurd (cc)
@@ -110,8 +110,8 @@ next_is (Ok Last) (Some next) n heading e = go (whole next) e
 next_is (Ok End) next n heading e = absurd (cc)
 
 pub next_held : (next : Option headings.Heading) (heading : headings.Heading) → next ≡ Some heading →
-    IfSome next IsHeld → IsHeld heading
-next_held next heading e h = subst (λ (o : Option headings.Heading). IfSome o IsHeld) e h
+    IfSome next IsPreambleKnown → IsPreambleKnown heading
+next_held next heading e h = subst (λ (o : Option headings.Heading). IfSome o IsPreambleKnown) e h
 
 -- as many sessions were made as the head says
 pub as_many : (sessions : List SessionView) (n : ℕ) (state : SessionState) → states_of sessions ≡ replicate n state →
@@ -123,24 +123,24 @@ as_many (session ∷ sessions) (suc n) state e =
     let others : states_of sessions ≡ replicate n state = cc in
     ap suc (as_many sessions n state others)
 
-module _ {Answer : Type 0} (form : Form Answer) where
+module _ {Answer : Type 0} (form : ReportForm Answer) where
   -- where the head ends
 
   pub opened_more : (opened : Opened) (before : Option (List ℕ)) (old new : Reader) (held : List ℕ) → not opened.is_ended ≡ false →
-      IsOpened form opened before old new held → HasRead form before old new held opened.lines [] (begun (head_of opened.head))
+      IsOpened form opened before old new held → HasRead form before old new held opened.lines [] (state_after_preamble (preamble_of opened.head))
   opened_more opened before old new held e h = go opened.is_ended e h.0
     where
-      go : (b : Bool) → not b ≡ false → IsOpenedBy form b (head_of opened.head) opened.lines before old new held →
-          HasRead form before old new held opened.lines [] (begun (head_of opened.head))
+      go : (b : Bool) → not b ≡ false → IsOpenedBy form b (preamble_of opened.head) opened.lines before old new held →
+          HasRead form before old new held opened.lines [] (state_after_preamble (preamble_of opened.head))
       go true e k = k
       go false e k = absurd (cc)
 
   pub opened_last : (opened : Opened) (before : Option (List ℕ)) (old new : Reader) (held : List ℕ) → not opened.is_ended ≡ true →
-      IsOpened form opened before old new held → HasReadAll form before old new opened.lines [] (begun (head_of opened.head))
+      IsOpened form opened before old new held → HasReadAll form before old new opened.lines [] (state_after_preamble (preamble_of opened.head))
   opened_last opened before old new held e h = go opened.is_ended e h.0
     where
-      go : (b : Bool) → not b ≡ true → IsOpenedBy form b (head_of opened.head) opened.lines before old new held →
-          HasReadAll form before old new opened.lines [] (begun (head_of opened.head))
+      go : (b : Bool) → not b ≡ true → IsOpenedBy form b (preamble_of opened.head) opened.lines before old new held →
+          HasReadAll form before old new opened.lines [] (state_after_preamble (preamble_of opened.head))
       go true e k = absurd (cc)
       go false e k = k
 
@@ -150,7 +150,7 @@ module _ {Answer : Type 0} (form : Form Answer) where
   memory_wanted opened old new held a b fault e h k =
       subst (IsFaultAfter form old new a b) (sym e) (by_late form.late)
     where
-      given : (b : Bool) → IsOpenedBy form b (head_of opened.head) opened.lines a old new held →
+      given : (b : Bool) → IsOpenedBy form b (preamble_of opened.head) opened.lines a old new held →
           (given : List ℕ) × GivesInTime form a old new given
       given true k = (k.given, k.gives)
       given false k = (k.given, k.gives)
@@ -161,19 +161,19 @@ module _ {Answer : Type 0} (form : Form Answer) where
       by_late true = given opened.is_ended h.0
       by_late false = (opened, held, h, k)
 
-module _ {Answer : Type 0} (form : List Word → Form Answer) where
+module _ {Answer : Type 0} (form : List Word → ReportForm Answer) where
   -- so many lines of the head were read, and nothing was written
   pub record IsReading (old now : Reader) (held : List ℕ) (number : ℕ) (heading : headings.Heading)
       (before after : Option (List ℕ)) : Type 0 where
     pub has_read : (words : List Word) → HasRead (form words) before old now held number [] (Opening (heading_of heading))
-    pub held_well : IsHeld heading
+    pub held_well : IsPreambleKnown heading
     pub fits : number ≤ most_lines
     pub kept : Keeps before after
 
   -- ---- a line
 
   -- a line with its line feed
-  line_judged : ((words : List Word) → IsLawful words (form words)) → (before all : Option (List ℕ)) (old now new : Reader)
+  line_judged : ((words : List Word) → IsWritableForm words (form words)) → (before all : Option (List ℕ)) (old now new : Reader)
       (held line rest : List ℕ) (n : ℕ) (heading : headings.Heading) (next : Option headings.Heading) →
       ((words : List Word) → HasRead (form words) before old now held n [] (Opening (heading_of heading))) → Keeps before all →
       IsFound all now held n (Ok Line) line new rest → option_map heading_of next ≡ heading_after (heading_of heading) line →
@@ -181,7 +181,7 @@ module _ {Answer : Type 0} (form : List Word → Form Answer) where
   line_judged lawful before all old now new held line rest n heading None h k f e = λ words.
       bad_line (form words) before all old now new held rest line n [] (Opening (heading_of heading)) (h words)
       (keeps_appends before all k) f (sym e)
-  line_judged lawful before all old now new held line rest n heading (Some next) h k f e = go (whole next) refl
+  line_judged lawful before all old now new held line rest n heading (Some next) h k f e = go (whole_preamble next) refl
     where
       read : (words : List Word) → HasWords words (heading_of next) →
           HasRead (form words) before old new rest (n + 1) [] (stage_at (heading_of next))
@@ -189,8 +189,8 @@ module _ {Answer : Type 0} (form : List Word → Form Answer) where
           (stage_at (heading_of next)) (h words) (keeps_appends before all k) f
           (heading_of next, sym e, (lawful words).of_head (heading_of next) has, refl)
 
-      go : (o : Option heads.Preamble) → whole next ≡ o →
-          IsPreambleProgress form before old new rest n (Ok (further next (n + 1) o))
+      go : (o : Option heads.Preamble) → whole_preamble next ≡ o →
+          IsPreambleProgress form before old new rest n (Ok (preamble_after next (n + 1) o))
       go None w = (
         λ words. subst (HasRead (form words) before old new rest (n + 1) []) (more_to_come next w)
             (read words (any_words words next w)),
@@ -203,8 +203,8 @@ module _ {Answer : Type 0} (form : List Word → Form Answer) where
       )
 
   -- one line of the head more
-  pub head_judged : ((words : List Word) → IsLawful words (form words)) → (before all : Option (List ℕ))
-      (old now new : Reader) (held line rest : List ℕ) (n : ℕ) (found : Result Found LogFault)
+  pub head_judged : ((words : List Word) → IsWritableForm words (form words)) → (before all : Option (List ℕ))
+      (old now new : Reader) (held line rest : List ℕ) (n : ℕ) (found : Result LineEnd LogFault)
       (heading : headings.Heading) (next : Option headings.Heading) →
       ((words : List Word) → HasRead (form words) before old now held n [] (Opening (heading_of heading))) → Keeps before all →
       IsFound all now held n found line new rest → option_map heading_of next ≡ heading_after (heading_of heading) line →
@@ -221,7 +221,7 @@ module _ {Answer : Type 0} (form : List Word → Form Answer) where
   head_judged lawful before all old now new held line rest n (Ok Last) heading None h k f e = λ words.
       bad_last (form words) before all old now new held rest line n [] (Opening (heading_of heading)) (h words)
       (keeps_appends before all k) f (sym e)
-  head_judged lawful before all old now new held line rest n (Ok Last) heading (Some next) h k f e = go (whole next) refl
+  head_judged lawful before all old now new held line rest n (Ok Last) heading (Some next) h k f e = go (whole_preamble next) refl
     where
       read : (words : List Word) → HasWords words (heading_of next) →
           HasReadAll (form words) before old new (n + 1) [] (stage_at (heading_of next))
@@ -229,7 +229,7 @@ module _ {Answer : Type 0} (form : List Word → Form Answer) where
           (stage_at (heading_of next)) (h words) (keeps_appends before all k) f
           (heading_of next, sym e, (lawful words).of_head (heading_of next) has, refl)
 
-      go : (o : Option heads.Preamble) → whole next ≡ o →
+      go : (o : Option heads.Preamble) → whole_preamble next ≡ o →
           IsPreambleProgress form before old new rest n (at_last (n + 1) o)
       go None w = λ words. ends_early (form words) before old new (n + 1) [] (Opening (heading_of next))
           (subst (HasReadAll (form words) before old new (n + 1) []) (more_to_come next w)

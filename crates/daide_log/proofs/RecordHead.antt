@@ -9,7 +9,7 @@ use Rattle.std.proofs.lemmas.Bool.{and_parts, leb-true}
 use Rattle.std.proofs.lemmas.Bool.Decides.{nat_tests}
 use Rattle.hex.specs.Hex.{IsBytes, encode_upper, upper_digits, decode_of}
 use Rattle.hex.proofs.HexLemmas.{decode_of-encode_upper, length-encode_with}
-use Rattle.daide_token.specs.Token.{bytes_of}
+use Rattle.daide_token.specs.Token.{token_bytes}
 use Rattle.daide_grammar.specs.declared.level.Level.{Level}
 use Rattle.daide_grammar.specs.declared.level.Level.TheVariants.{L0, L10, L20, L30, L40, L50, L60}
 use Rattle.daide_grammar.specs.Level.{level_number, level_of_number}
@@ -21,14 +21,14 @@ use Rattle.daide_words.specs.declared.word.Word.{Word}
 use Rattle.daide_words.specs.WordNames.{slot_named, operand_named}
 use Rattle.daide_words.specs.Words.{word_at}
 use Rattle.daide_words.specs.Accepted.{is_capital}
-use Rattle.daide_machine.specs.declared.config.Config.{Config}
-use Rattle.daide_machine.specs.declared.config.ConfigError.{ConfigError}
-use Rattle.daide_machine.specs.declared.config.ConfigError.TheVariants as errors
-use Rattle.daide_machine.specs.Config.{config_fault, is_level, is_body, is_depth}
-use Rattle.daide_lines.specs.LogLine.{plain_number, number_on, parted_at_space, longest_line}
-use Rattle.daide_lines.specs.MatchLine.{within}
-use Rattle.daide_lines.specs.WordLine.{name_of, code_of, code_of_bytes, level_of, level_of_option, word_of_parts, word_of_level}
-use Rattle.daide_lines.specs.WordLine.{word_of_slot, word_of_code, word_of_name, word_of_line}
+use Rattle.daide_protocol.specs.declared.config.Config.{Config}
+use Rattle.daide_protocol.specs.declared.config.ConfigError.{ConfigError}
+use Rattle.daide_protocol.specs.declared.config.ConfigError.TheVariants as errors
+use Rattle.daide_protocol.specs.Config.{config_fault, is_level, is_body, is_depth}
+use Rattle.daide_log_lines.specs.LogLine.{plain_number, number_on, parted_at_space, longest_line}
+use Rattle.daide_log_lines.specs.MatchLine.{within}
+use Rattle.daide_log_lines.specs.WordLine.{parse_name, parse_code, code_of_bytes, parse_level, level_of_option, word_of_line_parts, word_of_level}
+use Rattle.daide_log_lines.specs.WordLine.{word_of_slot, word_of_code, word_of_name, word_of_line}
 use Rattle.daide_log.specs.ConfigLine.{right_or_none, config_of_numbers, match_config_of_numbers, match_config_of_counts}
 use Rattle.daide_log.specs.ConfigLine.{match_config_of_depth, match_config_of_body, match_config_of_level, match_config_of_line}
 use Rattle.daide_log.specs.RecordText.{spaced, name_of_slot, name_of_operand, word_text, config_text, lines_of_words}
@@ -241,22 +241,22 @@ letters_visible (letter ∷ name) h =
     let both = and_parts (is_capital letter) (list_all is_capital name) h in
     ap (λ (b : Bool). b && list_all is_visible name) (capital_visible letter both.0) ∙ letters_visible name both.1
 
-name_back : (name : List ℕ) → length name ≡ 3 → name_of name ≡ Some name
+name_back : (name : List ℕ) → length name ≡ 3 → parse_name name ≡ Some name
 name_back name three = ap (λ (n : ℕ). cond (n == 3) (Some name) None) three
 
-code_bytes : (code : ℕ) → code < 65536 → IsBytes (bytes_of code)
+code_bytes : (code : ℕ) → code < 65536 → IsBytes (token_bytes code)
 code_bytes code fits zero = omega arith
 code_bytes code fits (suc zero) = omega arith
 code_bytes code fits (suc (suc k)) = omega arith
 
-code_size : (code : ℕ) → length (encode_upper (bytes_of code)) ≡ 4
-code_size code = length-encode_with upper_digits (bytes_of code)
+code_size : (code : ℕ) → length (encode_upper (token_bytes code)) ≡ 4
+code_size code = length-encode_with upper_digits (token_bytes code)
 
-code_back : (code : ℕ) → code < 65536 → code_of (encode_upper (bytes_of code)) ≡ Some code
+code_back : (code : ℕ) → code < 65536 → parse_code (encode_upper (token_bytes code)) ≡ Some code
 code_back code fits =
     let whole : code / 256 * 256 + code % 256 ≡ code = omega arith in
-    ap (λ (n : ℕ). cond (n == 4) (code_of_bytes (decode_of (encode_upper (bytes_of code)))) None) (code_size code)
-    ∙ ap code_of_bytes (decode_of-encode_upper (bytes_of code) (code_bytes code fits)) ∙ ap Some whole
+    ap (λ (n : ℕ). cond (n == 4) (code_of_bytes (decode_of (encode_upper (token_bytes code)))) None) (code_size code)
+    ∙ ap code_of_bytes (decode_of-encode_upper (token_bytes code) (code_bytes code fits)) ∙ ap Some whole
 
 slot_back : (slot : Slot) → slot_named (name_of_slot slot) ≡ Some slot
 slot_back slots.Press = refl
@@ -288,7 +288,7 @@ level_same L40 = refl
 level_same L50 = refl
 level_same L60 = refl
 
-level_back : (level : Level) → level_of (decimal (level_number level)) ≡ Some level
+level_back : (level : Level) → parse_level (decimal (level_number level)) ≡ Some level
 level_back level =
     ap level_of_option (number_back (level_number level) (omega (arith, level_small level))) ∙ level_same level
 
@@ -307,36 +307,36 @@ operand_visible operands.Press = refl
 pub word_back : (word : Word) → IsWord word → word_of_line (word_text word) ≡ Some word
 unfolding word_of_line word_text
 word_back word h =
-    let code = encode_upper (bytes_of word.code) in
+    let code = encode_upper (token_bytes word.code) in
     let slot = name_of_slot word.slot in
     let level = decimal (level_number word.level) in
     let operand = name_of_operand word.operand in
     ap word_of_name
     (parted_word word.name (spaced (code ∷ slot ∷ level ∷ operand ∷ [])) (letters_visible word.name h.letters))
     ∙ ap (word_of_code word.name)
-    (parted_word code (spaced (slot ∷ level ∷ operand ∷ [])) (encode_visible (bytes_of word.code) (code_bytes word.code h.code)))
+    (parted_word code (spaced (slot ∷ level ∷ operand ∷ [])) (encode_visible (token_bytes word.code) (code_bytes word.code h.code)))
     ∙ ap (word_of_slot word.name code) (parted_word slot (spaced (level ∷ operand ∷ [])) (slot_visible word.slot))
     ∙ ap (word_of_level word.name code slot)
     (parted_word level operand (decimal_visible (level_number word.level) (omega (arith, level_small word.level))))
-    ∙ ap (λ o. word_of_parts o (code_of code) (slot_named slot) (level_of level) (operand_named operand))
+    ∙ ap (λ o. word_of_line_parts o (parse_code code) (slot_named slot) (parse_level level) (operand_named operand))
     (name_back word.name h.three)
-    ∙ ap (λ o. word_of_parts (Some word.name) o (slot_named slot) (level_of level) (operand_named operand))
+    ∙ ap (λ o. word_of_line_parts (Some word.name) o (slot_named slot) (parse_level level) (operand_named operand))
     (code_back word.code h.code)
-    ∙ ap (λ o. word_of_parts (Some word.name) (Some word.code) o (level_of level) (operand_named operand)) (slot_back word.slot)
-    ∙ ap (λ o. word_of_parts (Some word.name) (Some word.code) (Some word.slot) o (operand_named operand)) (level_back word.level)
-    ∙ ap (λ o. word_of_parts (Some word.name) (Some word.code) (Some word.slot) (Some word.level) o) (operand_back word.operand)
+    ∙ ap (λ o. word_of_line_parts (Some word.name) (Some word.code) o (parse_level level) (operand_named operand)) (slot_back word.slot)
+    ∙ ap (λ o. word_of_line_parts (Some word.name) (Some word.code) (Some word.slot) o (operand_named operand)) (level_back word.level)
+    ∙ ap (λ o. word_of_line_parts (Some word.name) (Some word.code) (Some word.slot) (Some word.level) o) (operand_back word.operand)
 
 pub word_plain : (word : Word) → IsWord word → list_all is_plain (word_text word) ≡ true
 unfolding word_text
 word_plain word h =
-    let code = encode_upper (bytes_of word.code) in
+    let code = encode_upper (token_bytes word.code) in
     let slot = name_of_slot word.slot in
     let level = decimal (level_number word.level) in
     let operand = name_of_operand word.operand in
     both_all is_plain word.name (32 ∷ spaced (code ∷ slot ∷ level ∷ operand ∷ []))
     (visible_plain word.name (letters_visible word.name h.letters))
     (both_all is_plain code (32 ∷ spaced (slot ∷ level ∷ operand ∷ []))
-    (visible_plain code (encode_visible (bytes_of word.code) (code_bytes word.code h.code)))
+    (visible_plain code (encode_visible (token_bytes word.code) (code_bytes word.code h.code)))
     (both_all is_plain slot (32 ∷ spaced (level ∷ operand ∷ [])) (visible_plain slot (slot_visible word.slot))
     (both_all is_plain level (32 ∷ operand)
     (visible_plain level (decimal_visible (level_number word.level) (omega (arith, level_small word.level))))
@@ -357,7 +357,7 @@ operand_short operands.Press = omega arith
 pub word_short : (word : Word) → IsWord word → length (word_text word) ≤ longest_line
 unfolding word_text
 word_short word h =
-    let code = encode_upper (bytes_of word.code) in
+    let code = encode_upper (token_bytes word.code) in
     let slot = name_of_slot word.slot in
     let level = decimal (level_number word.level) in
     let operand = name_of_operand word.operand in
@@ -410,7 +410,7 @@ no_word [] place e = omega arith
 no_word (first ∷ words) zero e = absurd (cc)
 no_word (first ∷ words) (suc place) e = omega (arith, no_word words place e)
 
-pub word_put : (word : Word) (old a b c d e f new bytes slot operand : List ℕ) (level : ℕ) → bytes ≡ bytes_of word.code →
+pub word_put : (word : Word) (old a b c d e f new bytes slot operand : List ℕ) (level : ℕ) → bytes ≡ token_bytes word.code →
     slot ≡ 32 ∷ name_of_slot word.slot ++ 32 ∷ [] → level ≡ level_number word.level →
     operand ≡ 32 ∷ name_of_operand word.operand ++ 10 ∷ [] → a ≡ old ++ codes "word " → b ≡ a ++ word.name →
     c ≡ b ++ codes " " → d ≡ c ++ encode_upper bytes → e ≡ d ++ slot → f ≡ e ++ decimal level → new ≡ f ++ operand →
@@ -425,11 +425,11 @@ word_put word old a b c d e f new bytes slot operand level code_is slot_is level
     (q ∙ ap (λ (l : List ℕ). l ++ word.name) p)))))
     ∙ ap (λ (l : List ℕ). ((((((old ++ codes "word ") ++ word.name) ++ codes " ") ++ encode_upper l) ++ slot)
     ++ decimal level) ++ operand) code_is
-    ∙ ap (λ (l : List ℕ). ((((((old ++ codes "word ") ++ word.name) ++ codes " ") ++ encode_upper (bytes_of word.code)) ++ l)
+    ∙ ap (λ (l : List ℕ). ((((((old ++ codes "word ") ++ word.name) ++ codes " ") ++ encode_upper (token_bytes word.code)) ++ l)
     ++ decimal level) ++ operand) slot_is
-    ∙ ap (λ (n : ℕ). ((((((old ++ codes "word ") ++ word.name) ++ codes " ") ++ encode_upper (bytes_of word.code))
+    ∙ ap (λ (n : ℕ). ((((((old ++ codes "word ") ++ word.name) ++ codes " ") ++ encode_upper (token_bytes word.code))
     ++ (32 ∷ name_of_slot word.slot ++ 32 ∷ [])) ++ decimal n) ++ operand) level_is
-    ∙ ap (λ (l : List ℕ). ((((((old ++ codes "word ") ++ word.name) ++ codes " ") ++ encode_upper (bytes_of word.code))
+    ∙ ap (λ (l : List ℕ). ((((((old ++ codes "word ") ++ word.name) ++ codes " ") ++ encode_upper (token_bytes word.code))
     ++ (32 ∷ name_of_slot word.slot ++ 32 ∷ [])) ++ decimal (level_number word.level)) ++ l) operand_is
     ∙ simp append_assoc
 

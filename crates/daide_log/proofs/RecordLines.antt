@@ -14,10 +14,10 @@ use Rattle.hex.proofs.HexLemmas.{decode_of-encode_upper, length-encode_with}
 use Rattle.daide_frame.specs.declared.side.Side.{Side}
 use Rattle.daide_frame.specs.declared.side.Side.TheVariants.{Bot, Server}
 use Rattle.daide_grammar.proofs.Alike.{alike}
-use Rattle.daide_lines.specs.LogLine.{IsUnbroken, without_cr, longest_line, plain_number}
-use Rattle.daide_lines.specs.LogLine.{with_first, parted_at_space}
-use Rattle.daide_lines.specs.LogLine.{LogEvent, Traffic, EndOf, TimeOver, Silence, decoded, traffic_of, event_of_line}
-use Rattle.daide_lines.specs.MatchLine.{Of, loud, event_of_session, match_event_of_line}
+use Rattle.daide_log_lines.specs.LogLine.{IsUnbroken, without_cr, longest_line, plain_number}
+use Rattle.daide_log_lines.specs.LogLine.{with_first, parted_at_space}
+use Rattle.daide_log_lines.specs.LogLine.{LogEvent, Received, EndOf, ImTimerLine, Silence, decoded, parse_received, event_of_line}
+use Rattle.daide_log_lines.specs.MatchLine.{Of, loud, event_of_session, match_event_of_line}
 use Rattle.daide_log.specs.Report.{name_of_side}
 use Rattle.daide_log.specs.RecordText.{event_text}
 
@@ -114,13 +114,13 @@ parted_word (c ∷ cs) rest h =
 
 -- what a record writes of an event
 abbrev pub IsWritable : LogEvent → Type 0
-IsWritable (Traffic side bytes) = IsBytes bytes × (0 < length bytes) × (length bytes ≤ 1024)
+IsWritable (Received side bytes) = IsBytes bytes × (0 < length bytes) × (length bytes ≤ 1024)
 IsWritable (EndOf side) = Unit {0}
-IsWritable TimeOver = Unit {0}
+IsWritable ImTimerLine = Unit {0}
 IsWritable Silence = ⊥
 
-traffic_back : (side : Side) (bytes : List ℕ) → IsWritable (Traffic side bytes) →
-    traffic_of side (encode_upper bytes) ≡ Some (Traffic side bytes)
+traffic_back : (side : Side) (bytes : List ℕ) → IsWritable (Received side bytes) →
+    parse_received side (encode_upper bytes) ≡ Some (Received side bytes)
 traffic_back side bytes h =
     let size : length (encode_upper bytes) ≡ 2 * length bytes = length-encode_with upper_digits bytes in
     let some : 0 < length bytes = h.1 in
@@ -133,17 +133,17 @@ traffic_back side bytes h =
 
 event_back : (event : LogEvent) → IsWritable event → event_of_line (event_text event) ≡ Some event
 unfolding event_of_line event_text
-event_back (Traffic Bot bytes) h = traffic_back Bot bytes h
-event_back (Traffic Server bytes) h = traffic_back Server bytes h
+event_back (Received Bot bytes) h = traffic_back Bot bytes h
+event_back (Received Server bytes) h = traffic_back Server bytes h
 event_back (EndOf Bot) h = refl
 event_back (EndOf Server) h = refl
-event_back TimeOver h = refl
+event_back ImTimerLine h = refl
 event_back Silence h = absurd h
 
 loud_back : (event : LogEvent) → IsWritable event → loud (Some event) ≡ Some event
-loud_back (Traffic side bytes) h = refl
+loud_back (Received side bytes) h = refl
 loud_back (EndOf side) h = refl
-loud_back TimeOver h = refl
+loud_back ImTimerLine h = refl
 loud_back Silence h = absurd h
 
 pub line_back : (event : LogEvent) → IsWritable event → match_event_of_line 1 (codes "1 " ++ event_text event) ≡ Some (Of 1 event)
@@ -157,12 +157,12 @@ side_plain Server = refl
 
 event_plain : (event : LogEvent) → IsWritable event → list_all is_plain (event_text event) ≡ true
 unfolding event_text
-event_plain (Traffic side bytes) h =
+event_plain (Received side bytes) h =
     both_all is_plain (name_of_side side) (32 ∷ encode_upper bytes) (side_plain side)
     (visible_plain (encode_upper bytes) (encode_visible bytes h.0))
 event_plain (EndOf Bot) h = refl
 event_plain (EndOf Server) h = refl
-event_plain TimeOver h = refl
+event_plain ImTimerLine h = refl
 event_plain Silence h = absurd h
 
 pub line_plain : (event : LogEvent) → IsWritable event → list_all is_plain (codes "1 " ++ event_text event) ≡ true
@@ -174,7 +174,7 @@ side_short Server = omega arith
 
 event_short : (event : LogEvent) → IsWritable event → length (event_text event) ≤ 2060
 unfolding event_text
-event_short (Traffic side bytes) h =
+event_short (Received side bytes) h =
     omega (
       arith,
       side_short side,
@@ -184,7 +184,7 @@ event_short (Traffic side bytes) h =
     )
 event_short (EndOf Bot) h = omega arith
 event_short (EndOf Server) h = omega arith
-event_short TimeOver h = omega arith
+event_short ImTimerLine h = omega arith
 event_short Silence h = absurd h
 
 pub line_short : (event : LogEvent) → IsWritable event → length (codes "1 " ++ event_text event) ≤ longest_line

@@ -15,32 +15,32 @@ use Rattle.daide_words.specs.declared.word.WordError.TheVariants as faults
 use Rattle.daide_words.specs.Word.{names_of}
 use Rattle.daide_words.specs.Accepted.{word_fault, are_accepted, are_accepted_after, is_capital, is_free_name, is_free_code}
 use Rattle.daide_words.specs.Accepted.{has_press, may_hold}
-use Rattle.daide_machine.specs.declared.config.Config.{Config}
-use Rattle.daide_machine.specs.declared.note.Note.{Note}
-use Rattle.daide_machine.specs.Config.{config_fault, limits_with}
-use Rattle.daide_machine.specs.Events.{Event, Ends, Loses}
-use Rattle.daide_machine.specs.Machine.{SessionState, Effect, Outcome, Transition, Runs, opening, event_outcome, is_over}
-use Rattle.daide_machine.proofs.OneRun.{one_run}
-use Rattle.daide_machine.proofs.PieceRuns.{over_stays}
+use Rattle.daide_protocol.specs.declared.config.Config.{Config}
+use Rattle.daide_protocol.specs.declared.note.Note.{Note}
+use Rattle.daide_protocol.specs.Config.{config_fault, limits_with}
+use Rattle.daide_protocol.specs.Events.{Event, Ends, Loses}
+use Rattle.daide_protocol.specs.Machine.{SessionState, Effect, Successor, Transition, Runs, initial_state, event_outcome, is_over}
+use Rattle.daide_protocol.proofs.OneRun.{one_run}
+use Rattle.daide_protocol.proofs.PieceRuns.{over_stays}
 use Rattle.daide_reader.specs.declared.verdict.Verdict.{Verdict}
-use Rattle.daide_machine.specs.declared.ports.Pull.TheVariants.{Got, Idle, Ended}
-use Rattle.daide_machine.specs.declared.ports.Put.TheVariants.{Took, Failed}
-use Rattle.daide_machine.specs.Ports.{PortAnswer, TurnBegins, Clock, Pulled, Offered, event_of, events_of}
-use Rattle.daide_lines.specs.LogLine.{most_lines}
-use Rattle.daide_lines.specs.LogLine.{LogEvent, Traffic, EndOf, TimeOver}
-use Rattle.daide_lines.specs.MatchLine.{Of}
+use Rattle.daide_protocol.specs.declared.ports.Pull.TheVariants.{Got, Idle, Ended}
+use Rattle.daide_protocol.specs.declared.ports.Put.TheVariants.{Took, Failed}
+use Rattle.daide_protocol.specs.Ports.{PortCall, TurnBegins, Clock, Pulled, Offered, event_of, events_of}
+use Rattle.daide_log_lines.specs.LogLine.{most_lines}
+use Rattle.daide_log_lines.specs.LogLine.{LogEvent, Received, EndOf, ImTimerLine}
+use Rattle.daide_log_lines.specs.MatchLine.{Of}
 use Rattle.daide_log.specs.declared.heading.Version.TheVariants.{Match}
-use Rattle.daide_log.specs.Heading.{Preamble, Unnamed, Named, Headed, with_word, heading_after}
-use Rattle.daide_log.specs.Report.{Entry, entries_of, side_of}
-use Rattle.daide_log.specs.Report.{events_of as events_in}
-use Rattle.daide_log.specs.Log.{ReportsBy, ReportsAllBy, IsReportBy, LogState, Opening, Playing, GoesOn, Reports, ReportsAll, IsReport, begun, stage_at, source_in}
-use Rattle.daide_log.specs.RecordText.{told_by}
+use Rattle.daide_log.specs.Heading.{Preamble, Unnamed, Named, Headed, append_word, heading_after}
+use Rattle.daide_log.specs.Report.{ReportEntry, entries_of, side_of}
+use Rattle.daide_log.specs.Report.{events_of_line as events_in}
+use Rattle.daide_log.specs.Log.{ReportsBy, ReportsAllBy, IsReportBy, LogState, Opening, Playing, AdvancesByLine, Reports, ReportsAll, IsReport, state_after_preamble, stage_at, source_in}
+use Rattle.daide_log.specs.RecordText.{reported_by}
 use Rattle.daide_log.specs.RecordText.{event_text, event_line, line_of_answer, count_of_answer, lines_of_answers}
 use Rattle.daide_log.specs.RecordText.{count_of_answers, lines_of_words, word_text, config_text, head_text, head_count}
 use Rattle.daide_log.specs.RecordText.{record_text, record_count}
 use Rattle.daide_log.specs.Recording.{IsPiece}
 use Rattle.daide_log.proofs.RecordCounts.{session_counts}
-use Rattle.daide_log.specs.RecordLaw.{side_of_answer, TellsBy, notes_told, notes_of, HasName, IsReported}
+use Rattle.daide_log.specs.RecordLaw.{side_of_answer, TellsBy, notes_reported, notes_of, HasName, IsReported}
 use Rattle.daide_log.proofs.RecordLines.{plain_unbroken, plain_without_cr, IsWritable, line_back, line_plain, line_short}
 use Rattle.daide_log.proofs.RecordHead.{IsWord, config_back, config_plain, config_short, word_back, word_plain, word_short}
 
@@ -100,9 +100,9 @@ lost_is_ended side old new moves r =
     let step : Transition old (Ends side) out.effects out.state =
     record { verdict = verdict; right = r.3.right; outcome = refl } in
     let state_is : new ≡ (event_outcome old (Loses side) verdict).state =
-    r.4.1 ∙ sym (ap (λ (o : Outcome). o.state) r.3.outcome) in
+    r.4.1 ∙ sym (ap (λ (o : Successor). o.state) r.3.outcome) in
     let first : r.1 ≡ out.effects =
-    sym (ap (λ (o : Outcome). o.effects) r.3.outcome) ∙ sym (same_moves old side verdict) in (
+    sym (ap (λ (o : Successor). o.effects) r.3.outcome) ∙ sym (same_moves old side verdict) in (
       out.state,
       (
         out.state,
@@ -121,12 +121,12 @@ events_logged None = []
 events_logged (Some event) = events_in event
 
 -- where the session goes by an answer, as the log has it
-record GoesAsLogged (old : SessionState) (answer : PortAnswer) (moves : List Effect) (new : SessionState) : Type 0 where
+record GoesAsLogged (old : SessionState) (answer : PortCall) (moves : List Effect) (new : SessionState) : Type 0 where
   logged : SessionState
-  runs : Runs old (events_logged (told_by answer)) moves logged
+  runs : Runs old (events_logged (reported_by answer)) moves logged
   alike : IsAsLogged logged new
 
-same_goes : (answer : PortAnswer) (old new : SessionState) (moves : List Effect) → Runs old (event_of answer) moves new →
+same_goes : (answer : PortCall) (old new : SessionState) (moves : List Effect) → Runs old (event_of answer) moves new →
     GoesAsLogged old answer moves new
 same_goes TurnBegins old new moves r = record { logged = new; runs = r; alike = inl refl }
 same_goes (Clock true) old new moves r = record { logged = new; runs = r; alike = inl refl }
@@ -140,7 +140,7 @@ same_goes (Offered side handed (Took n)) old new moves r = record { logged = new
 same_goes (Offered side handed Failed) old new moves r =
     let other = lost_is_ended side old new moves r in record { logged = other.0; runs = other.1; alike = other.2 }
 
-goes_as_logged : (answer : PortAnswer) (logged old new : SessionState) (moves : List Effect) → IsAsLogged logged old →
+goes_as_logged : (answer : PortCall) (logged old new : SessionState) (moves : List Effect) → IsAsLogged logged old →
     Runs old (event_of answer) moves new → GoesAsLogged logged answer moves new
 goes_as_logged answer logged old new moves (inl same) r =
     same_goes answer logged new moves (subst (λ (s : SessionState). Runs s (event_of answer) moves new) (sym same) r)
@@ -148,8 +148,8 @@ goes_as_logged answer logged old new moves (inr over) r =
     let stays = one_run (event_of answer) old moves [] new old r (over_stays old (event_of answer) over.1) in
     record {
       logged = logged;
-      runs = subst (λ (l : List Effect). Runs logged (events_logged (told_by answer)) l logged) (sym stays.0)
-          (over_stays logged (events_logged (told_by answer)) over.0);
+      runs = subst (λ (l : List Effect). Runs logged (events_logged (reported_by answer)) l logged) (sym stays.0)
+          (over_stays logged (events_logged (reported_by answer)) over.0);
       alike = inr (over.0, ap (λ (s : SessionState). is_over s.phase) stays.1 ∙ over.1);
     }
 
@@ -157,126 +157,126 @@ goes_as_logged answer logged old new moves (inr over) r =
 
 notes_of-append : (a b : List Effect) → notes_of (a ++ b) ≡ notes_of a ++ notes_of b
 notes_of-append [] b = refl
-notes_of-append (move ∷ a) b = ap (λ (l : List Note). move.told ∷ l) (notes_of-append a b)
+notes_of-append (move ∷ a) b = ap (λ (l : List Note). move.reported ∷ l) (notes_of-append a b)
 
-notes_told-append : (a b : List Entry) → notes_told (a ++ b) ≡ notes_told a ++ notes_told b
-notes_told-append [] b = refl
-notes_told-append (entry ∷ a) b = ap (λ (l : List Note). entry.told ∷ l) (notes_told-append a b)
+notes_reported-append : (a b : List ReportEntry) → notes_reported (a ++ b) ≡ notes_reported a ++ notes_reported b
+notes_reported-append [] b = refl
+notes_reported-append (entry ∷ a) b = ap (λ (l : List Note). entry.reported ∷ l) (notes_reported-append a b)
 
-entries_told : (number : ℕ) (side : Side) (moves : List Effect) →
-    notes_told (entries_of (source_in Match number 1) side moves) ≡ notes_of moves
-entries_told number side [] = refl
-entries_told number side (move ∷ moves) = ap (λ (l : List Note). move.told ∷ l) (entries_told number side moves)
+entries_reported : (number : ℕ) (side : Side) (moves : List Effect) →
+    notes_reported (entries_of (source_in Match number 1) side moves) ≡ notes_of moves
+entries_reported number side [] = refl
+entries_reported number side (move ∷ moves) = ap (λ (l : List Note). move.reported ∷ l) (entries_reported number side moves)
 
-told_by_lines : (answers : List PortAnswer) (lines : ℕ) (old new : SessionState) (moves : List Effect) →
+reported_by_lines : (answers : List PortCall) (lines : ℕ) (old new : SessionState) (moves : List Effect) →
     Runs old (events_of answers) moves new →
-    (told : List Entry) × TellsBy lines old answers told new × (notes_told told ≡ notes_of moves)
-told_by_lines [] lines old new moves r = ([], (refl, r.1), sym (ap notes_of r.0))
-told_by_lines (answer ∷ answers) lines old new moves r =
+    (reported : List ReportEntry) × TellsBy lines old answers reported new × (notes_reported reported ≡ notes_of moves)
+reported_by_lines [] lines old new moves r = ([], (refl, r.1), sym (ap notes_of r.0))
+reported_by_lines (answer ∷ answers) lines old new moves r =
     let s = run_split (event_of answer) (events_of answers) old new moves r in
-    let later = told_by_lines answers (lines + count_of_answer answer) s.0 new s.2 s.4 in
+    let later = reported_by_lines answers (lines + count_of_answer answer) s.0 new s.2 s.4 in
     let here = entries_of (source_in Match (lines + 1) 1) (side_of_answer answer) s.1 in (
       here ++ later.0,
       (s.0, s.1, later.0, s.3, later.1, refl),
-      notes_told-append here later.0
-          ∙ ap (λ (l : List Note). l ++ notes_told later.0) (entries_told (lines + 1) (side_of_answer answer) s.1)
+      notes_reported-append here later.0
+          ∙ ap (λ (l : List Note). l ++ notes_reported later.0) (entries_reported (lines + 1) (side_of_answer answer) s.1)
           ∙ ap (λ (l : List Note). notes_of s.1 ++ l) later.2 ∙ sym (notes_of-append s.1 s.2) ∙ ap notes_of (sym s.5),
     )
 
 -- ---- one answer
 
 -- the same report, said otherwise
-same_report : (bytes other : List ℕ) (number another : ℕ) (told more : List Entry) (stage after : LogState) → bytes ≡ other →
-    number ≡ another → told ≡ more → stage ≡ after → Reports bytes number told stage → Reports other another more after
-same_report bytes other number another told more stage after b n t s h =
+same_report : (bytes other : List ℕ) (number another : ℕ) (reported more : List ReportEntry) (stage after : LogState) → bytes ≡ other →
+    number ≡ another → reported ≡ more → stage ≡ after → Reports bytes number reported stage → Reports other another more after
+same_report bytes other number another reported more stage after b n t s h =
     subst (λ (x : LogState). Reports other another more x) s
-    (subst (λ (x : List Entry). Reports other another x stage) t
-    (subst (λ (x : ℕ). Reports other x told stage) n (subst (λ (x : List ℕ). Reports x number told stage) b h)))
+    (subst (λ (x : List ReportEntry). Reports other another x stage) t
+    (subst (λ (x : ℕ). Reports other x reported stage) n (subst (λ (x : List ℕ). Reports x number reported stage) b h)))
 
 playing : SessionState → LogState
 playing state = Playing Match (state ∷ [])
 
-quiet_reported : (bytes : List ℕ) (number : ℕ) (told : List Entry) (side : Side) (old new : SessionState)
-    (moves : List Effect) → Reports bytes number told (Playing Match (old ∷ [])) → Runs old [] moves new →
-    Reports (bytes ++ []) (number + 0) (told ++ entries_of (source_in Match (number + 1) 1) side moves)
+quiet_reported : (bytes : List ℕ) (number : ℕ) (reported : List ReportEntry) (side : Side) (old new : SessionState)
+    (moves : List Effect) → Reports bytes number reported (Playing Match (old ∷ [])) → Runs old [] moves new →
+    Reports (bytes ++ []) (number + 0) (reported ++ entries_of (source_in Match (number + 1) 1) side moves)
     (Playing Match (new ∷ []))
-quiet_reported bytes number told side old new moves h r =
-    same_report bytes (bytes ++ []) number (number + 0) told
-    (told ++ entries_of (source_in Match (number + 1) 1) side moves) (Playing Match (old ∷ [])) (Playing Match (new ∷ []))
+quiet_reported bytes number reported side old new moves h r =
+    same_report bytes (bytes ++ []) number (number + 0) reported
+    (reported ++ entries_of (source_in Match (number + 1) 1) side moves) (Playing Match (old ∷ [])) (Playing Match (new ∷ []))
     (sym (append-nil bytes)) (omega arith)
-    (sym (ap (λ (l : List Effect). told ++ entries_of (source_in Match (number + 1) 1) side l) r.0 ∙ append-nil told))
+    (sym (ap (λ (l : List Effect). reported ++ entries_of (source_in Match (number + 1) 1) side l) r.0 ∙ append-nil reported))
     (ap (λ (s : SessionState). Playing Match (s ∷ [])) (sym r.1)) h
 
-event_reported : (event : LogEvent) (bytes : List ℕ) (number : ℕ) (told : List Entry) (old new : SessionState)
+event_reported : (event : LogEvent) (bytes : List ℕ) (number : ℕ) (reported : List ReportEntry) (old new : SessionState)
     (moves : List Effect) → IsWritable event → number + 1 ≤ most_lines →
-    Reports bytes number told (Playing Match (old ∷ [])) → Runs old (events_in event) moves new →
+    Reports bytes number reported (Playing Match (old ∷ [])) → Runs old (events_in event) moves new →
     Reports (bytes ++ event_line event) (number + 1)
-    (told ++ entries_of (source_in Match (number + 1) 1) (side_of event) moves) (Playing Match (new ∷ []))
+    (reported ++ entries_of (source_in Match (number + 1) 1) (side_of event) moves) (Playing Match (new ∷ []))
 unfolding event_line
-event_reported event bytes number told old new moves good fits h r =
+event_reported event bytes number reported old new moves good fits h r =
     let line = codes "1 " ++ event_text event in
     let plain = line_plain event good in
     let more = entries_of (source_in Match (number + 1) 1) (side_of event) moves in
-    let goes : GoesOn (number + 1) (Playing Match (old ∷ [])) line more (Playing Match (new ∷ [])) =
+    let goes : AdvancesByLine (number + 1) (Playing Match (old ∷ [])) line more (Playing Match (new ∷ [])) =
     (Of 1 event, line_back event good, new ∷ [], (old, new, moves, refl, r, refl, refl), refl) in
-    subst (λ (x : List ℕ). Reports x (number + 1) (told ++ more) (Playing Match (new ∷ [])))
+    subst (λ (x : List ℕ). Reports x (number + 1) (reported ++ more) (Playing Match (new ∷ [])))
     (append_assoc bytes line (10 ∷ []))
-    (ReportsBy.line bytes number told (Playing Match (old ∷ [])) h line more (Playing Match (new ∷ [])) (omega arith)
+    (ReportsBy.line bytes number reported (Playing Match (old ∷ [])) h line more (Playing Match (new ∷ [])) (omega arith)
     (plain_unbroken line plain) (line_short event good)
-    (subst (λ (x : List ℕ). GoesOn (number + 1) (Playing Match (old ∷ [])) x more (Playing Match (new ∷ [])))
+    (subst (λ (x : List ℕ). AdvancesByLine (number + 1) (Playing Match (old ∷ [])) x more (Playing Match (new ∷ [])))
     (sym (plain_without_cr line plain)) goes))
 
-answer_reported : (answer : PortAnswer) (bytes : List ℕ) (number : ℕ) (told : List Entry) (old new : SessionState)
+answer_reported : (answer : PortCall) (bytes : List ℕ) (number : ℕ) (reported : List ReportEntry) (old new : SessionState)
     (moves : List Effect) → IsPiece answer → number + count_of_answer answer ≤ most_lines →
-    Reports bytes number told (Playing Match (old ∷ [])) → Runs old (events_logged (told_by answer)) moves new →
+    Reports bytes number reported (Playing Match (old ∷ [])) → Runs old (events_logged (reported_by answer)) moves new →
     Reports (bytes ++ line_of_answer answer) (number + count_of_answer answer)
-    (told ++ entries_of (source_in Match (number + 1) 1) (side_of_answer answer) moves) (Playing Match (new ∷ []))
-answer_reported TurnBegins bytes number told old new moves piece fits h r =
-    quiet_reported bytes number told Bot old new moves h r
-answer_reported (Clock true) bytes number told old new moves piece fits h r =
-    event_reported TimeOver bytes number told old new moves tt fits h r
-answer_reported (Clock false) bytes number told old new moves piece fits h r =
-    quiet_reported bytes number told Bot old new moves h r
-answer_reported (Pulled side buffer (Got n) []) bytes number told old new moves piece fits h r =
-    quiet_reported bytes number told side old new moves h r
-answer_reported (Pulled side buffer (Got n) (byte ∷ came)) bytes number told old new moves piece fits h r =
-    event_reported (Traffic side (byte ∷ came)) bytes number told old new moves (piece.0, omega arith, piece.1) fits h r
-answer_reported (Pulled side buffer Idle came) bytes number told old new moves piece fits h r =
-    quiet_reported bytes number told side old new moves h r
-answer_reported (Pulled side buffer Ended came) bytes number told old new moves piece fits h r =
-    event_reported (EndOf side) bytes number told old new moves tt fits h r
-answer_reported (Offered side handed (Took n)) bytes number told old new moves piece fits h r =
-    quiet_reported bytes number told side old new moves h r
-answer_reported (Offered side handed Failed) bytes number told old new moves piece fits h r =
-    event_reported (EndOf side) bytes number told old new moves tt fits h r
+    (reported ++ entries_of (source_in Match (number + 1) 1) (side_of_answer answer) moves) (Playing Match (new ∷ []))
+answer_reported TurnBegins bytes number reported old new moves piece fits h r =
+    quiet_reported bytes number reported Bot old new moves h r
+answer_reported (Clock true) bytes number reported old new moves piece fits h r =
+    event_reported ImTimerLine bytes number reported old new moves tt fits h r
+answer_reported (Clock false) bytes number reported old new moves piece fits h r =
+    quiet_reported bytes number reported Bot old new moves h r
+answer_reported (Pulled side buffer (Got n) []) bytes number reported old new moves piece fits h r =
+    quiet_reported bytes number reported side old new moves h r
+answer_reported (Pulled side buffer (Got n) (byte ∷ came)) bytes number reported old new moves piece fits h r =
+    event_reported (Received side (byte ∷ came)) bytes number reported old new moves (piece.0, omega arith, piece.1) fits h r
+answer_reported (Pulled side buffer Idle came) bytes number reported old new moves piece fits h r =
+    quiet_reported bytes number reported side old new moves h r
+answer_reported (Pulled side buffer Ended came) bytes number reported old new moves piece fits h r =
+    event_reported (EndOf side) bytes number reported old new moves tt fits h r
+answer_reported (Offered side handed (Took n)) bytes number reported old new moves piece fits h r =
+    quiet_reported bytes number reported side old new moves h r
+answer_reported (Offered side handed Failed) bytes number reported old new moves piece fits h r =
+    event_reported (EndOf side) bytes number reported old new moves tt fits h r
 
 -- all answers
 
-answers_reported : (answers : List PortAnswer) (bytes : List ℕ) (number : ℕ) (told more : List Entry)
+answers_reported : (answers : List PortCall) (bytes : List ℕ) (number : ℕ) (reported more : List ReportEntry)
     (logged old new : SessionState) → AllByRecursion IsPiece answers → number + count_of_answers answers ≤ most_lines →
-    Reports bytes number told (Playing Match (logged ∷ [])) → IsAsLogged logged old → TellsBy number old answers more new →
+    Reports bytes number reported (Playing Match (logged ∷ [])) → IsAsLogged logged old → TellsBy number old answers more new →
     (after : SessionState) × Reports (bytes ++ lines_of_answers answers) (number + count_of_answers answers)
-    (told ++ more) (Playing Match (after ∷ []))
-answers_reported [] bytes number told more logged old new pieces fits h alike t = (
+    (reported ++ more) (Playing Match (after ∷ []))
+answers_reported [] bytes number reported more logged old new pieces fits h alike t = (
   logged,
-  same_report bytes (bytes ++ []) number (number + 0) told (told ++ more) (Playing Match (logged ∷ []))
+  same_report bytes (bytes ++ []) number (number + 0) reported (reported ++ more) (Playing Match (logged ∷ []))
       (Playing Match (logged ∷ [])) (sym (append-nil bytes)) (omega arith)
-      (sym (ap (λ (l : List Entry). told ++ l) t.0 ∙ append-nil told)) refl h,
+      (sym (ap (λ (l : List ReportEntry). reported ++ l) t.0 ∙ append-nil reported)) refl h,
 )
-answers_reported (answer ∷ answers) bytes number told more logged old new pieces fits h alike t =
+answers_reported (answer ∷ answers) bytes number reported more logged old new pieces fits h alike t =
     let line = line_of_answer answer in
     let count = count_of_answer answer in
     let here = entries_of (source_in Match (number + 1) 1) (side_of_answer answer) t.1 in
     let goes = goes_as_logged answer logged old t.0 t.1 alike t.3 in
-    let first = answer_reported answer bytes number told logged goes.logged t.1 pieces.0 (omega arith) h goes.runs in
-    let all = answers_reported answers (bytes ++ line) (number + count) (told ++ here) t.2 goes.logged t.0 new pieces.1
+    let first = answer_reported answer bytes number reported logged goes.logged t.1 pieces.0 (omega arith) h goes.runs in
+    let all = answers_reported answers (bytes ++ line) (number + count) (reported ++ here) t.2 goes.logged t.0 new pieces.1
     (omega arith) first goes.alike t.4 in (
       all.0,
       same_report ((bytes ++ line) ++ lines_of_answers answers) (bytes ++ (line ++ lines_of_answers answers))
-          ((number + count) + count_of_answers answers) (number + (count + count_of_answers answers)) ((told ++ here) ++ t.2)
-          (told ++ more) (Playing Match (all.0 ∷ [])) (Playing Match (all.0 ∷ []))
+          ((number + count) + count_of_answers answers) (number + (count + count_of_answers answers)) ((reported ++ here) ++ t.2)
+          (reported ++ more) (Playing Match (all.0 ∷ [])) (Playing Match (all.0 ∷ []))
           (append_assoc bytes line (lines_of_answers answers)) (omega arith)
-          (append_assoc told here t.2 ∙ ap (λ (l : List Entry). told ++ l) (sym t.5)) refl all.1,
+          (append_assoc reported here t.2 ∙ ap (λ (l : List ReportEntry). reported ++ l) (sym t.5)) refl all.1,
     )
 
 -- ---- words
@@ -334,13 +334,13 @@ still_opening : (config : Config) (total : ℕ) (words : List Word) → length w
     stage_at (Headed (head_with config total words)) ≡ Opening (Headed (head_with config total words))
 still_opening config total words less =
     let other : eqb (length words) total ≡ false = grind (arith, nat_tests) in
-    ap (λ (b : Bool). cond b (begun (head_with config total words)) (Opening (Headed (head_with config total words)))) other
+    ap (λ (b : Bool). cond b (state_after_preamble (head_with config total words)) (Opening (Headed (head_with config total words)))) other
 
 all_there : (config : Config) (words : List Word) →
-    stage_at (Headed (head_with config (length words) words)) ≡ Playing Match (opening (limits_with config words) ∷ [])
+    stage_at (Headed (head_with config (length words) words)) ≡ Playing Match (initial_state (limits_with config words) ∷ [])
 all_there config words =
     let same : eqb (length words) (length words) ≡ true = grind (arith, nat_tests) in
-    ap (λ (b : Bool). cond b (begun (head_with config (length words) words))
+    ap (λ (b : Bool). cond b (state_after_preamble (head_with config (length words) words))
     (Opening (Headed (head_with config (length words) words)))) same
 
 heading_more : (config : Config) (total : ℕ) (words : List Word) (word : Word) → IsWord word →
@@ -348,7 +348,7 @@ heading_more : (config : Config) (total : ℕ) (words : List Word) (word : Word)
     heading_after (Headed (head_with config total words)) (word_text word)
     ≡ Some (Headed (head_with config total (words ++ word ∷ [])))
 heading_more config total words word good h =
-    ap (λ (o : Option Word). option_map (λ l. Headed (head_with config total l)) (with_word words o)) (word_back word good)
+    ap (λ (o : Option Word). option_map (λ l. Headed (head_with config total l)) (append_word words o)) (word_back word good)
     ∙ ap (λ (b : Bool). option_map (λ l. Headed (head_with config total l)) (cond b (Some (words ++ word ∷ [])) None)) h
 
 words_reported : (words before : List Word) (config : Config) (total : ℕ) (bytes : List ℕ) (number : ℕ) →
@@ -371,12 +371,12 @@ words_reported (word ∷ words) before config total bytes number h size good nam
     let after = stage_at (Headed (head_with config total (before ++ word ∷ []))) in
     let opened : Reports bytes number [] (Opening (Headed (head_with config total before))) =
     subst (λ (s : LogState). Reports bytes number [] s) (still_opening config total before (omega arith)) h in
-    let goes : GoesOn (number + 1) (Opening (Headed (head_with config total before))) line [] after =
+    let goes : AdvancesByLine (number + 1) (Opening (Headed (head_with config total before))) line [] after =
     (Headed (head_with config total (before ++ word ∷ [])), heading_more config total before word is_word both.0, refl, refl) in
     let first : Reports ((bytes ++ line) ++ 10 ∷ []) (number + 1) [] after =
     ReportsBy.line bytes number [] (Opening (Headed (head_with config total before))) opened line [] after (omega arith)
     (plain_unbroken line plain) (word_short word is_word)
-    (subst (λ (x : List ℕ). GoesOn (number + 1) (Opening (Headed (head_with config total before))) x [] after)
+    (subst (λ (x : List ℕ). AdvancesByLine (number + 1) (Opening (Headed (head_with config total before))) x [] after)
     (sym (plain_without_cr line plain)) goes) in
     let grown = length-append before (word ∷ []) in
     let more = words_reported words (before ++ word ∷ []) config total ((bytes ++ line) ++ 10 ∷ []) (number + 1) first
@@ -400,7 +400,7 @@ name_reported =
 
 head_reported : (config : Config) (words : List Word) → config_fault config ≡ Ok tt → are_accepted words ≡ true →
     AllByRecursion HasName words → head_count words ≤ most_lines →
-    Reports (head_text config words) (head_count words) [] (Playing Match (opening (limits_with config words) ∷ []))
+    Reports (head_text config words) (head_count words) [] (Playing Match (initial_state (limits_with config words) ∷ []))
 unfolding head_text
 head_reported config words good well names fits =
     let total = length words in
@@ -408,7 +408,7 @@ head_reported config words good well names fits =
     let line = config_text config total in
     let plain = config_plain config total good (omega arith) in
     let after = stage_at (Headed (head_with config total [])) in
-    let goes : GoesOn 2 (Opening (Named Match)) line [] after = (
+    let goes : AdvancesByLine 2 (Opening (Named Match)) line [] after = (
       Headed (head_with config total []),
       ap (λ o. option_map (λ limits. Headed (record { version = Match; limits = limits; words = [] })) o)
           (config_back config total good (omega arith)),
@@ -418,31 +418,31 @@ head_reported config words good well names fits =
     let second : Reports ((codes "daide-log 2\n" ++ line) ++ 10 ∷ []) 2 [] after =
     ReportsBy.line (codes "daide-log 2\n") 1 [] (Opening (Named Match)) name_reported line [] after (omega arith)
     (plain_unbroken line plain) (config_short config total good (omega arith))
-    (subst (λ (x : List ℕ). GoesOn 2 (Opening (Named Match)) x [] after) (sym (plain_without_cr line plain)) goes) in
+    (subst (λ (x : List ℕ). AdvancesByLine 2 (Opening (Named Match)) x [] after) (sym (plain_without_cr line plain)) goes) in
     same_report (((codes "daide-log 2\n" ++ line) ++ 10 ∷ []) ++ lines_of_words words)
     ((codes "daide-log 2\n" ++ (line ++ 10 ∷ [])) ++ lines_of_words words) (2 + total) (2 + total) [] []
-    (stage_at (Headed (head_with config total words))) (Playing Match (opening (limits_with config words) ∷ []))
+    (stage_at (Headed (head_with config total words))) (Playing Match (initial_state (limits_with config words) ∷ []))
     (ap (λ (l : List ℕ). l ++ lines_of_words words) (append_assoc (codes "daide-log 2\n") line (10 ∷ []))) refl refl
     (all_there config words)
     (words_reported words [] config total ((codes "daide-log 2\n" ++ line) ++ 10 ∷ []) 2 second (omega arith) well names fits)
 
-pub record_reported : (config : Config) (words : List Word) (answers : List PortAnswer) (moves : List Effect)
+pub record_reported : (config : Config) (words : List Word) (answers : List PortCall) (moves : List Effect)
     (state : SessionState) → config_fault config ≡ Ok tt → are_accepted words ≡ true → AllByRecursion HasName words →
     AllByRecursion IsPiece answers → record_count words answers ≤ most_lines →
-    Runs (opening (limits_with config words)) (events_of answers) moves state →
+    Runs (initial_state (limits_with config words)) (events_of answers) moves state →
     IsReported config words answers moves state
 record_reported config words answers moves state good well names pieces fits run =
-    let start = opening (limits_with config words) in
-    let told = told_by_lines answers (head_count words) start state moves run in
+    let start = initial_state (limits_with config words) in
+    let reported = reported_by_lines answers (head_count words) start state moves run in
     let head = head_reported config words good well names (omega arith) in
-    let all = answers_reported answers (head_text config words) (head_count words) [] told.0 start start state pieces fits
-    head (inl refl) told.1 in
+    let all = answers_reported answers (head_text config words) (head_count words) [] reported.0 start start state pieces fits
+    head (inl refl) reported.1 in
     record {
-      told = told.0;
-      by_lines = told.1;
-      notes = told.2;
-      counts = session_counts told.0 moves told.2;
-      report = IsReportBy.whole (record_text config words answers) (record_count words answers) told.0 Match (all.0 ∷ [])
-          (ReportsAllBy.ended (record_text config words answers) (record_count words answers) told.0
+      reported = reported.0;
+      by_lines = reported.1;
+      notes = reported.2;
+      counts = session_counts reported.0 moves reported.2;
+      report = IsReportBy.whole (record_text config words answers) (record_count words answers) reported.0 Match (all.0 ∷ [])
+          (ReportsAllBy.ended (record_text config words answers) (record_count words answers) reported.0
           (Playing Match (all.0 ∷ [])) all.1);
     }

@@ -4,36 +4,36 @@ use Rattle.std.proofs.Common.{arith, append_assoc, append-nil}
 use Rattle.std.specs.List.{AllByRecursion}
 use Rattle.std.specs.Io.KnownBytes.{Keeps, Appends}
 use Rattle.daide_words.specs.declared.word.Word.{Word}
-use Rattle.daide_machine.specs.declared.config.Config.{Config}
-use Rattle.daide_machine.specs.Ports.{PortAnswer, BecomesBy}
-use Rattle.daide_lines.specs.LogLine.{LogEvent, most_lines}
+use Rattle.daide_protocol.specs.declared.config.Config.{Config}
+use Rattle.daide_protocol.specs.Ports.{PortCall, EvolvesBy}
+use Rattle.daide_log_lines.specs.LogLine.{LogEvent, most_lines}
 use Rattle.daide_log.specs.declared.record.RecordEnd.{RecordEnd}
 use Rattle.daide_log.specs.declared.record.RecordEnd.TheVariants.{Whole, Failed, Full}
-use Rattle.daide_log.specs.RecordText.{event_line, told_by, line_told, count_told, line_of_answer, count_of_answer}
+use Rattle.daide_log.specs.RecordText.{event_line, reported_by, line_reported, count_reported, line_of_answer, count_of_answer}
 use Rattle.daide_log.specs.RecordText.{lines_of_answers, count_of_answers, head_text, record_text, record_count}
-use Rattle.daide_log.specs.Recording.{Written, Recorded, Records, Takes, TakesLine, TakesEvent, IsPiece}
+use Rattle.daide_log.specs.Recording.{Written, Recorded, Records, RecordsEvent, TakesLine, TakesEvent, IsPiece}
 use Rattle.daide_log.specs.RecordLaw.{HasFront, PortsAreRecorded}
 
 -- ---- one answer more
 
-lines_more : (answers : List PortAnswer) (answer : PortAnswer) →
+lines_more : (answers : List PortCall) (answer : PortCall) →
     lines_of_answers (answers ++ answer ∷ []) ≡ lines_of_answers answers ++ line_of_answer answer
 lines_more [] answer = append-nil (line_of_answer answer)
 lines_more (first ∷ answers) answer =
     ap (λ (l : List ℕ). line_of_answer first ++ l) (lines_more answers answer)
     ∙ sym (append_assoc (line_of_answer first) (lines_of_answers answers) (line_of_answer answer))
 
-count_more : (answers : List PortAnswer) (answer : PortAnswer) →
+count_more : (answers : List PortCall) (answer : PortCall) →
     count_of_answers (answers ++ answer ∷ []) ≡ count_of_answers answers + count_of_answer answer
 count_more [] answer = omega arith
 count_more (first ∷ answers) answer = omega (arith, count_more answers answer)
 
-pieces_more : (answers : List PortAnswer) (answer : PortAnswer) → AllByRecursion IsPiece answers → IsPiece answer →
+pieces_more : (answers : List PortCall) (answer : PortCall) → AllByRecursion IsPiece answers → IsPiece answer →
     AllByRecursion IsPiece (answers ++ answer ∷ [])
 pieces_more [] answer h k = (k, tt)
 pieces_more (first ∷ answers) answer h k = (h.0, pieces_more answers answer h.1 k)
 
-text_more : (config : Config) (words : List Word) (answers : List PortAnswer) (answer : PortAnswer) →
+text_more : (config : Config) (words : List Word) (answers : List PortCall) (answer : PortCall) →
     record_text config words answers ++ line_of_answer answer ≡ record_text config words (answers ++ answer ∷ [])
 text_more config words answers answer =
     append_assoc (head_text config words) (lines_of_answers answers) (line_of_answer answer)
@@ -42,7 +42,7 @@ text_more config words answers answer =
 -- ---- a record so far
 
 -- the record is whole, and has the lines of these
-record IsOf (config : Config) (words : List Word) (answers : List PortAnswer) (written : Written) : Type 0 where
+record IsOf (config : Config) (words : List Word) (answers : List PortCall) (written : Written) : Type 0 where
   text : written.text ≡ Some (record_text config words answers)
   lines : written.lines ≡ record_count words answers
   few : record_count words answers ≤ most_lines
@@ -50,12 +50,12 @@ record IsOf (config : Config) (words : List Word) (answers : List PortAnswer) (w
   ending : written.ending ≡ Whole
 
 -- what becomes of it by an answer: it is whole, or it ended
-record IsOver (config : Config) (words : List Word) (answers : List PortAnswer) (written : Written) : Type 0 where
+record IsOver (config : Config) (words : List Word) (answers : List PortCall) (written : Written) : Type 0 where
   text : written.text ≡ Some (record_text config words answers)
   ending : written.ending ≡ Full
   most : most_lines ≤ record_count words answers
 
-data Outcome (config : Config) (words : List Word) (answers : List PortAnswer) (answer : PortAnswer) (new : Written) : Type 0
+data Outcome (config : Config) (words : List Word) (answers : List PortCall) (answer : PortCall) (new : Written) : Type 0
   where
     further : IsOf config words (answers ++ answer ∷ []) new → Outcome config words answers answer new
     full : IsOver config words answers new → Outcome config words answers answer new
@@ -72,12 +72,12 @@ kept None new text e h = absurd (cc)
 kept (Some xs) None text e h = absurd h
 kept (Some xs) (Some ys) text e h = ap Some h ∙ e
 
-lined : (failure : Type 0) (config : Config) (words : List Word) (answers : List PortAnswer) (answer : PortAnswer) (event : LogEvent)
-    (old new : Written) → IsOf config words answers old → IsPiece answer → told_by answer ≡ Some event → (ending : RecordEnd) →
+lined : (failure : Type 0) (config : Config) (words : List Word) (answers : List PortCall) (answer : PortCall) (event : LogEvent)
+    (old new : Written) → IsOf config words answers old → IsPiece answer → reported_by answer ≡ Some event → (ending : RecordEnd) →
     new.ending ≡ ending → TakesLine failure ending old event new → Outcome config words answers answer new
-lined failure config words answers answer event old new h piece told Whole e t =
-    let line : line_of_answer answer ≡ event_line event = ap line_told told in
-    let count : count_of_answer answer ≡ 1 = ap count_told told in
+lined failure config words answers answer event old new h piece reported Whole e t =
+    let line : line_of_answer answer ≡ event_line event = ap line_reported reported in
+    let count : count_of_answer answer ≡ 1 = ap count_reported reported in
     let lines = h.lines in
     let more = count_more answers answer in
     further (record {
@@ -88,22 +88,22 @@ lined failure config words answers answer event old new h piece told Whole e t =
       pieces = pieces_more answers answer h.pieces piece;
       ending = e;
     })
-lined failure config words answers answer event old new h piece told Full e t =
+lined failure config words answers answer event old new h piece reported Full e t =
     let lines = h.lines in
     full (record {
       text = kept old.text new.text (record_text config words answers) h.text t.2;
       ending = e;
       most = omega (arith, t.0);
     })
-lined failure config words answers answer event old new h piece told Failed e t = failed e
+lined failure config words answers answer event old new h piece reported Failed e t = failed e
 
-taken : (failure : Type 0) (config : Config) (words : List Word) (answers : List PortAnswer) (answer : PortAnswer)
-    (old new : Written) → IsOf config words answers old → IsPiece answer → (told : Option LogEvent) →
-    told_by answer ≡ told → Takes failure old told new →
+taken : (failure : Type 0) (config : Config) (words : List Word) (answers : List PortCall) (answer : PortCall)
+    (old new : Written) → IsOf config words answers old → IsPiece answer → (reported : Option LogEvent) →
+    reported_by answer ≡ reported → RecordsEvent failure old reported new →
     Outcome config words answers answer new
 taken failure config words answers answer old new h piece None e t =
-    let line : line_of_answer answer ≡ [] = ap line_told e in
-    let count : count_of_answer answer ≡ 0 = ap count_told e in
+    let line : line_of_answer answer ≡ [] = ap line_reported e in
+    let count : count_of_answer answer ≡ 0 = ap count_reported e in
     let same = ap (λ (w : Written). w.lines) t in
     let lines = h.lines in
     let few = h.few in
@@ -127,8 +127,8 @@ never e = absurd (cc)
 
 -- ---- a record that ended
 
-untaken : (failure : Type 0) (ending : RecordEnd) (old new : Written) (told : Option LogEvent) → ending ≢ Whole →
-    old.ending ≡ ending → Takes failure old told new → new ≡ old
+untaken : (failure : Type 0) (ending : RecordEnd) (old new : Written) (reported : Option LogEvent) → ending ≢ Whole →
+    old.ending ≡ ending → RecordsEvent failure old reported new → new ≡ old
 untaken failure ending old new None other e t = t
 untaken failure Whole old new (Some event) other e t = absurd (other refl)
 untaken failure Failed old new (Some event) other e t =
@@ -139,8 +139,8 @@ untaken failure Full old new (Some event) other e t =
 -- ---- a record that failed
 
 -- by one event a record that had not failed fails only where a write failed
-fails_by : (failure : Type 0) (ending : RecordEnd) (old new : Written) (told : Option LogEvent) → old.ending ≡ ending →
-    old.ending ≢ Failed → Takes failure old told new → new.ending ≡ Failed → failure
+fails_by : (failure : Type 0) (ending : RecordEnd) (old new : Written) (reported : Option LogEvent) → old.ending ≡ ending →
+    old.ending ≢ Failed → RecordsEvent failure old reported new → new.ending ≡ Failed → failure
 fails_by failure ending old new None e other t f = absurd (other (sym (ap (λ (w : Written). w.ending) t) ∙ f))
 fails_by failure Whole old new (Some event) e other t f =
     (subst (λ (x : RecordEnd). TakesLine failure x old event new) f
@@ -150,16 +150,16 @@ fails_by failure Full old new (Some event) e other t f =
     let same : new ≡ old = subst (λ (x : RecordEnd). TakesEvent failure x old event new) e t in
     absurd (other (sym (ap (λ (w : Written). w.ending) same) ∙ f))
 
-module _ {P : Type 0} (becomes : P → PortAnswer → P → Type 0) (failed_write : Type 0) where
-  stays : (ending : RecordEnd) (answers : List PortAnswer) (old new : Recorded P) → ending ≢ Whole →
-      old.record_of.ending ≡ ending → BecomesBy (Records becomes failed_write) old answers new → new.record_of ≡ old.record_of
+module _ {P : Type 0} (transition : P → PortCall → P → Type 0) (failed_write : Type 0) where
+  stays : (ending : RecordEnd) (answers : List PortCall) (old new : Recorded P) → ending ≢ Whole →
+      old.record_of.ending ≡ ending → EvolvesBy (Records transition failed_write) old answers new → new.record_of ≡ old.record_of
   stays ending [] old new other e b = ap (λ (r : Recorded P). r.record_of) b
   stays ending (answer ∷ answers) old new other e b =
-      let same = untaken failed_write ending old.record_of b.0.record_of (told_by answer) other e b.1.taken in
+      let same = untaken failed_write ending old.record_of b.0.record_of (reported_by answer) other e b.1.taken in
       stays ending answers b.0 new other (ap (λ (w : Written). w.ending) same ∙ e) b.2 ∙ same
 
-  fronts : (config : Config) (words : List Word) (answers done : List PortAnswer) (old new : Recorded P) →
-      IsOf config words done old.record_of → BecomesBy (Records becomes failed_write) old answers new →
+  fronts : (config : Config) (words : List Word) (answers done : List PortCall) (old new : Recorded P) →
+      IsOf config words done old.record_of → EvolvesBy (Records transition failed_write) old answers new →
       new.record_of.ending ≢ Failed → HasFront config words (done ++ answers) new.record_of
   fronts config words [] done old new h b other =
       let same : new.record_of ≡ old.record_of = ap (λ (r : Recorded P). r.record_of) b in
@@ -174,7 +174,7 @@ module _ {P : Type 0} (becomes : P → PortAnswer → P → Type 0) (failed_writ
         full = λ e. absurd (never (sym h.ending ∙ sym (ap (λ (w : Written). w.ending) same) ∙ e));
       }
   fronts config words (answer ∷ answers) done old new h b other =
-      go (taken failed_write config words done answer old.record_of b.0.record_of h b.1.piece (told_by answer) refl b.1.taken)
+      go (taken failed_write config words done answer old.record_of b.0.record_of h b.1.piece (reported_by answer) refl b.1.taken)
       (λ k. fronts config words answers (done ++ answer ∷ []) b.0 new k b.2 other)
     where
       go : Outcome config words done answer b.0.record_of →
@@ -182,7 +182,7 @@ module _ {P : Type 0} (becomes : P → PortAnswer → P → Type 0) (failed_writ
           HasFront config words ((done ++ answer ∷ []) ++ answers) new.record_of) →
           HasFront config words (done ++ answer ∷ answers) new.record_of
       go (further k) later =
-          subst (λ (l : List PortAnswer). HasFront config words l new.record_of) (append_assoc done (answer ∷ []) answers)
+          subst (λ (l : List PortCall). HasFront config words l new.record_of) (append_assoc done (answer ∷ []) answers)
           (later k)
       go (full k) later =
           let same = stays Full answers b.0 new (λ e. absurd (cc)) k.ending b.2 in
@@ -201,8 +201,8 @@ module _ {P : Type 0} (becomes : P → PortAnswer → P → Type 0) (failed_writ
           let same = stays Failed answers b.0 new (λ e. absurd (cc)) k b.2 in
           absurd (other (ap (λ (w : Written). w.ending) same ∙ k))
 
-  fails : (answers : List PortAnswer) (old new : Recorded P) → old.record_of.ending ≢ Failed →
-      BecomesBy (Records becomes failed_write) old answers new → new.record_of.ending ≡ Failed → failed_write
+  fails : (answers : List PortCall) (old new : Recorded P) → old.record_of.ending ≢ Failed →
+      EvolvesBy (Records transition failed_write) old answers new → new.record_of.ending ≡ Failed → failed_write
   fails [] old new other b f =
       absurd (other (sym (ap (λ (r : Recorded P). r.record_of.ending) b) ∙ f))
   fails (answer ∷ answers) old new other b f =
@@ -212,9 +212,9 @@ module _ {P : Type 0} (becomes : P → PortAnswer → P → Type 0) (failed_writ
       go Whole e later = later (λ g. absurd (cc))
       go Full e later = later (λ g. absurd (cc))
       go Failed e later =
-          fails_by failed_write old.record_of.ending old.record_of b.0.record_of (told_by answer) refl other b.1.taken e
+          fails_by failed_write old.record_of.ending old.record_of b.0.record_of (reported_by answer) refl other b.1.taken e
 
-  pub ports_recorded : PortsAreRecorded becomes failed_write
+  pub ports_recorded : PortsAreRecorded transition failed_write
   ports_recorded config words answers old new fits begun b =
       let whole : old.record_of.ending ≡ Whole = ap (λ (w : Written). w.ending) begun in (
         fails answers old new (λ f. absurd (cc)) b,

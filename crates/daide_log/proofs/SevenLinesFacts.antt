@@ -6,18 +6,18 @@ use Rattle.hex.specs.Hex.{decode_pairs}
 use Rattle.daide_frame.specs.declared.side.Side.{Side}
 use Rattle.daide_frame.specs.declared.side.Side.TheVariants.{Bot, Server}
 use Rattle.daide_frame.specs.declared.head.Kind.TheVariants.{Im, Rm, Dm, Fm}
-use Rattle.daide_frame.specs.Head.{head_of}
+use Rattle.daide_frame.specs.Head.{parse_head}
 use Rattle.daide_frame.specs.Frames.{is_alien, first_items, last_items}
 use Rattle.daide_token.specs.Class.{class_of}
 use Rattle.daide_grammar.specs.Table.Symbols.{entries, may_end_of, slot_of, table_answer}
-use Rattle.daide_machine.specs.declared.note.Deed.TheVariants.{Relayed, Prn}
-use Rattle.daide_machine.specs.declared.note.Note.{Note}
-use Rattle.daide_machine.specs.declared.note.Note.TheVariants.{Frame}
-use Rattle.daide_machine.specs.declared.ending.Ending.TheVariants as Endings
-use Rattle.daide_machine.specs.declared.phase.Phase.TheVariants.{WaitIm, WaitRm, Open}
-use Rattle.daide_lines.specs.LogLine.{LogEvent, Traffic, event_of_line}
+use Rattle.daide_protocol.specs.declared.note.Deed.TheVariants.{Relayed, Prn}
+use Rattle.daide_protocol.specs.declared.note.Note.{Note}
+use Rattle.daide_protocol.specs.declared.note.Note.TheVariants.{Frame}
+use Rattle.daide_protocol.specs.declared.ending.Ending.TheVariants as Endings
+use Rattle.daide_protocol.specs.declared.phase.Phase.TheVariants.{WaitIm, WaitRm, Open}
+use Rattle.daide_log_lines.specs.LogLine.{LogEvent, Received, event_of_line}
 use Rattle.daide_log.specs.declared.heading.Version.TheVariants.{Single}
-use Rattle.daide_log.specs.Report.{Entry, source_text, told_text, move_line, summary_line, events_of}
+use Rattle.daide_log.specs.Report.{ReportEntry, source_text, reported_text, move_line, summary_line, events_of_line}
 use Rattle.daide_log.specs.Log.{ReportsAllBy, IsReportBy, Playing, source_in, Reports, ReportsAll, IsReport}
 use Rattle.daide_log.proofs.Played.{Played, played, verdict_on, entries_by, has_no_feed}
 use Rattle.daide_log.proofs.StandardFacts.{limits, session_in, session_ended, opening_lines, opened, next_line, im}
@@ -27,46 +27,46 @@ use Rattle.daide_log.proofs.StandardFacts.{im_played}
 -- ---- the messages, and what becomes of each
 
 rm : LogEvent
-rm = Traffic Server (1 ∷ 0 ∷ 0 ∷ 0 ∷ [])
+rm = Received Server (1 ∷ 0 ∷ 0 ∷ 0 ∷ [])
 
 gof : LogEvent
-gof = Traffic Bot (2 ∷ 0 ∷ 0 ∷ 2 ∷ 72 ∷ 3 ∷ [])
+gof = Received Bot (2 ∷ 0 ∷ 0 ∷ 2 ∷ 72 ∷ 3 ∷ [])
 
 unclosed : LogEvent
-unclosed = Traffic Bot (2 ∷ 0 ∷ 0 ∷ 4 ∷ 72 ∷ 3 ∷ 64 ∷ 0 ∷ [])
+unclosed = Received Bot (2 ∷ 0 ∷ 0 ∷ 4 ∷ 72 ∷ 3 ∷ 64 ∷ 0 ∷ [])
 
 fm : LogEvent
-fm = Traffic Server (3 ∷ 0 ∷ 0 ∷ 0 ∷ [])
+fm = Received Server (3 ∷ 0 ∷ 0 ∷ 0 ∷ [])
 
 rm_passes : Played
-rm_passes = record { state = session_in Open; told = Frame (record { kind = Rm; len = 0 }) Relayed ∷ [] }
+rm_passes = record { state = session_in Open; reported = Frame (record { kind = Rm; len = 0 }) Relayed ∷ [] }
 
 gof_passes : Played
-gof_passes = record { state = session_in Open; told = Frame (record { kind = Dm; len = 2 }) Relayed ∷ [] }
+gof_passes = record { state = session_in Open; reported = Frame (record { kind = Dm; len = 2 }) Relayed ∷ [] }
 
 unclosed_gets_prn : Played
-unclosed_gets_prn = record { state = session_in Open; told = Frame (record { kind = Dm; len = 4 }) Prn ∷ [] }
+unclosed_gets_prn = record { state = session_in Open; reported = Frame (record { kind = Dm; len = 4 }) Prn ∷ [] }
 
 fm_passes : Played
 fm_passes =
-    record { state = session_ended (Endings.Final Server); told = Frame (record { kind = Fm; len = 0 }) Relayed ∷ [] }
+    record { state = session_ended (Endings.Final Server); reported = Frame (record { kind = Fm; len = 0 }) Relayed ∷ [] }
 
-rm_played : played (events_of rm) (session_in WaitRm) ≡ Some rm_passes
-unfolding rm rm_passes limits played verdict_on last_items first_items head_of is_alien
+rm_played : played (events_of_line rm) (session_in WaitRm) ≡ Some rm_passes
+unfolding rm rm_passes limits played verdict_on last_items first_items parse_head is_alien
 rm_played = refl
 
-gof_played : played (events_of gof) (session_in Open) ≡ Some gof_passes
-unfolding gof gof_passes limits played verdict_on last_items first_items head_of is_alien entries may_end_of slot_of
+gof_played : played (events_of_line gof) (session_in Open) ≡ Some gof_passes
+unfolding gof gof_passes limits played verdict_on last_items first_items parse_head is_alien entries may_end_of slot_of
     table_answer class_of
 gof_played = refl
 
-unclosed_played : played (events_of unclosed) (session_in Open) ≡ Some unclosed_gets_prn
-unfolding unclosed unclosed_gets_prn limits played verdict_on last_items first_items head_of is_alien entries may_end_of
+unclosed_played : played (events_of_line unclosed) (session_in Open) ≡ Some unclosed_gets_prn
+unfolding unclosed unclosed_gets_prn limits played verdict_on last_items first_items parse_head is_alien entries may_end_of
     slot_of table_answer class_of
 unclosed_played = refl
 
-fm_played : played (events_of fm) (session_in Open) ≡ Some fm_passes
-unfolding fm fm_passes limits played verdict_on last_items first_items head_of is_alien
+fm_played : played (events_of_line fm) (session_in Open) ≡ Some fm_passes
+unfolding fm fm_passes limits played verdict_on last_items first_items parse_head is_alien
 fm_played = refl
 
 -- ---- the log
@@ -84,37 +84,37 @@ to_unclosed : List ℕ
 to_unclosed = to_gof ++ codes "bot 0200000448034000" ++ 10 ∷ []
 
 -- a move of a side that a line made
-move_at : ℕ → Side → Note → Entry
-move_at number side told = record { source = source_in Single number 1; side = side; told = told }
+move_at : ℕ → Side → Note → ReportEntry
+move_at number side reported = record { source = source_in Single number 1; side = side; reported = reported }
 
-log_told : List Entry
-log_told =
+log_reported : List ReportEntry
+log_reported =
     move_at 3 Bot (Frame (record { kind = Im; len = 4 }) Relayed)
     ∷ move_at 4 Server (Frame (record { kind = Rm; len = 0 }) Relayed)
     ∷ move_at 5 Bot (Frame (record { kind = Dm; len = 2 }) Relayed)
     ∷ move_at 6 Bot (Frame (record { kind = Dm; len = 4 }) Prn)
     ∷ move_at 7 Server (Frame (record { kind = Fm; len = 0 }) Relayed) ∷ []
 
-told_by : ℕ → Side → Played → List Entry
-told_by number side p = entries_by (source_in Single number 1) side p.told
+reported_by : ℕ → Side → Played → List ReportEntry
+reported_by number side p = entries_by (source_in Single number 1) side p.reported
 
-log_read : Reports (to_unclosed ++ codes "server 03000000" ++ 10 ∷ []) 7 log_told
+log_read : Reports (to_unclosed ++ codes "server 03000000" ++ 10 ∷ []) 7 log_reported
     (Playing Single (session_ended (Endings.Final Server) ∷ []))
 unfolding im rm gof unclosed fm im_passes rm_passes gof_passes unclosed_gets_prn fm_passes to_im to_rm to_gof
-    to_unclosed move_at log_told told_by entries_by event_of_line decode_pairs has_no_feed
+    to_unclosed move_at log_reported reported_by entries_by event_of_line decode_pairs has_no_feed
 log_read =
     let a = next_line opening_lines 2 [] (session_in WaitIm) opened (codes "bot 000000040001DA10") im im_passes refl
     (omega arith) (omega arith) refl im_played in
-    let b = next_line to_im 3 (told_by 3 Bot im_passes) (session_in WaitRm) a (codes "server 01000000") rm rm_passes
+    let b = next_line to_im 3 (reported_by 3 Bot im_passes) (session_in WaitRm) a (codes "server 01000000") rm rm_passes
     refl (omega arith) (omega arith) refl rm_played in
-    let c = next_line to_rm 4 (told_by 3 Bot im_passes ++ told_by 4 Server rm_passes) (session_in Open) b
+    let c = next_line to_rm 4 (reported_by 3 Bot im_passes ++ reported_by 4 Server rm_passes) (session_in Open) b
     (codes "bot 020000024803") gof gof_passes refl (omega arith) (omega arith) refl gof_played in
-    let d = next_line to_gof 5 (told_by 3 Bot im_passes ++ told_by 4 Server rm_passes ++ told_by 5 Bot gof_passes)
+    let d = next_line to_gof 5 (reported_by 3 Bot im_passes ++ reported_by 4 Server rm_passes ++ reported_by 5 Bot gof_passes)
     (session_in Open) c (codes "bot 0200000448034000") unclosed unclosed_gets_prn refl (omega arith) (omega arith) refl
     unclosed_played in
     next_line to_unclosed 6
-    (told_by 3 Bot im_passes ++ told_by 4 Server rm_passes ++ told_by 5 Bot gof_passes
-    ++ told_by 6 Bot unclosed_gets_prn) (session_in Open) d (codes "server 03000000") fm fm_passes refl (omega arith)
+    (reported_by 3 Bot im_passes ++ reported_by 4 Server rm_passes ++ reported_by 5 Bot gof_passes
+    ++ reported_by 6 Bot unclosed_gets_prn) (session_in Open) d (codes "server 03000000") fm fm_passes refl (omega arith)
     (omega arith) refl fm_played
 
 -- the initial message, the map and GOF are passed on, GOF and a bracket that never closes gets PRN, and the end goes on
@@ -123,9 +123,9 @@ seven_lines : IsReport (to_unclosed ++ codes "server 03000000" ++ 10 ∷ [])
     ++ 10 ∷ codes "6 bot DM 4 prn" ++ 10 ∷ codes "7 server FM 0 relay"
     ++ 10 ∷ codes "relayed 4 prn 1 huh 0 faults 0" ++ 10 ∷ [])
     (Ok (record { relayed = 4; prn = 1; huh = 0; faults = 0 }))
-unfolding log_told move_at move_line source_text told_text summary_line digits
+unfolding log_reported move_at move_line source_text reported_text summary_line digits
 seven_lines =
-    IsReportBy.whole (to_unclosed ++ codes "server 03000000" ++ 10 ∷ []) 7 log_told Single
+    IsReportBy.whole (to_unclosed ++ codes "server 03000000" ++ 10 ∷ []) 7 log_reported Single
     (session_ended (Endings.Final Server) ∷ [])
-    (ReportsAllBy.ended (to_unclosed ++ codes "server 03000000" ++ 10 ∷ []) 7 log_told
+    (ReportsAllBy.ended (to_unclosed ++ codes "server 03000000" ++ 10 ∷ []) 7 log_reported
     (Playing Single (session_ended (Endings.Final Server) ∷ [])) log_read)

@@ -11,28 +11,28 @@ use Rattle.daide_words.specs.Word.{grammar_words, names_of}
 use Rattle.daide_words.specs.Accepted.{are_accepted, word_fault}
 use Rattle.daide_words.proofs.AcceptedCodes.{accepted_free}
 use Rattle.daide_words.proofs.WordLists.{accepted-append}
-use Rattle.daide_machine.specs.Machine.{Limits, SessionState, opening}
-use Rattle.daide_machine.proofs.LimitsKept.{runs_limits}
-use Rattle.daide_machine.specs.declared.config.Config.{Config}
-use Rattle.daide_machine.specs.Config.{limits_with}
-use Rattle.daide_machine.proofs.WordedRuns.{run_over}
-use Rattle.daide_lines.specs.declared.fault.LogFault.{LogFault}
-use Rattle.daide_lines.specs.LogLine.{LogEvent, Parted, IsUnbroken, longest_line, most_lines, without_cr, behind}
-use Rattle.daide_lines.specs.LogLine.{plain_number, parted_at_space, is_comment, event_of_line}
-use Rattle.daide_lines.specs.MatchLine.{MatchEvent, Of, Quiet, loud, within, event_of_session, match_event_of_parts}
-use Rattle.daide_lines.specs.MatchLine.{match_event_of_line}
-use Rattle.daide_lines.specs.WordLine.{word_of_line}
+use Rattle.daide_protocol.specs.Machine.{Limits, SessionState, initial_state}
+use Rattle.daide_protocol.proofs.LimitsKept.{runs_limits}
+use Rattle.daide_protocol.specs.declared.config.Config.{Config}
+use Rattle.daide_protocol.specs.Config.{limits_with}
+use Rattle.daide_protocol.proofs.WordedRuns.{run_over}
+use Rattle.daide_log_lines.specs.declared.fault.LogFault.{LogFault}
+use Rattle.daide_log_lines.specs.LogLine.{LogEvent, Parted, IsUnbroken, longest_line, most_lines, without_cr, strip_prefix}
+use Rattle.daide_log_lines.specs.LogLine.{plain_number, parted_at_space, is_comment, event_of_line}
+use Rattle.daide_log_lines.specs.MatchLine.{MatchEvent, Of, Quiet, loud, within, event_of_session, match_event_of_parts}
+use Rattle.daide_log_lines.specs.MatchLine.{match_event_of_line}
+use Rattle.daide_log_lines.specs.WordLine.{word_of_line}
 use Rattle.daide_log.specs.declared.heading.Version.{Version}
 use Rattle.daide_log.specs.declared.heading.Version.TheVariants.{Single, Match}
 use Rattle.daide_log.specs.declared.config_line.MatchConfig.{MatchConfig}
-use Rattle.daide_machine.specs.declared.summary.Summary.{Summary}
+use Rattle.daide_protocol.specs.declared.summary.Summary.{Summary}
 use Rattle.daide_log.specs.ConfigLine.{config_of_line, config_of_numbers, match_config_of_line, match_config_of_rest}
 use Rattle.daide_log.specs.ConfigLine.{match_config_of_level, match_config_of_body, match_config_of_depth}
 use Rattle.daide_log.specs.ConfigLine.{match_config_of_counts, match_config_of_numbers}
-use Rattle.daide_log.specs.Heading.{Preamble, Heading, Unnamed, Named, Headed, alone, version_of, limits_in, with_word}
-use Rattle.daide_log.specs.Heading.{heading_after, is_whole}
-use Rattle.daide_log.specs.Report.{Entry, events_of, side_of, entries_of}
-use Rattle.daide_log.specs.Log.{ReportsBy, ReportsAllBy, IsReportBy, LogState, Opening, Playing, begun, stage_at, event_in, source_in, GoesOn, IsBad}
+use Rattle.daide_log.specs.Heading.{Preamble, Heading, Unnamed, Named, Headed, single_session, version_of, limits_in, append_word}
+use Rattle.daide_log.specs.Heading.{heading_after, has_all_words}
+use Rattle.daide_log.specs.Report.{ReportEntry, events_of_line, side_of, entries_of}
+use Rattle.daide_log.specs.Log.{ReportsBy, ReportsAllBy, IsReportBy, LogState, Opening, Playing, state_after_preamble, stage_at, event_in, source_in, AdvancesByLine, IsBad}
 use Rattle.daide_log.specs.Log.{Reports, ReportsAll, IsReport}
 
 -- ---- numbers that are told
@@ -50,12 +50,12 @@ within_both most (Some k) n e = go (leb 1 k) (leb k most) refl refl e
     go true false h m w = absurd (cc)
     go false b h m w = absurd (cc)
 
-numbers_told : (config : Option Config) (sessions words : Option ℕ) (limits : MatchConfig) →
+numbers_reported : (config : Option Config) (sessions words : Option ℕ) (limits : MatchConfig) →
     match_config_of_numbers config sessions words ≡ Some limits → sessions ≡ Some limits.sessions
-numbers_told None sessions words limits e = absurd (cc)
-numbers_told (Some config) None words limits e = absurd (cc)
-numbers_told (Some config) (Some sessions) None limits e = absurd (cc)
-numbers_told (Some config) (Some sessions) (Some words) limits e =
+numbers_reported None sessions words limits e = absurd (cc)
+numbers_reported (Some config) None words limits e = absurd (cc)
+numbers_reported (Some config) (Some sessions) None limits e = absurd (cc)
+numbers_reported (Some config) (Some sessions) (Some words) limits e =
     ap (λ (l : MatchConfig). Some l.sessions)
     (same_Some (record { config = config; sessions = sessions; words = words }) limits e)
 
@@ -64,7 +64,7 @@ by_counts : (config : Option Config) (o : Option Parted) (limits : MatchConfig) 
 by_counts config None limits e = absurd (cc)
 by_counts config (Some parted) limits e =
     (within_both 256 (plain_number parted.word) limits.sessions
-    (numbers_told config (within 1 256 (plain_number parted.word)) (within 0 16 (plain_number parted.rest)) limits e)).0
+    (numbers_reported config (within 1 256 (plain_number parted.word)) (within 0 16 (plain_number parted.rest)) limits e)).0
 
 by_depth : (level body : List ℕ) (o : Option Parted) (limits : MatchConfig) →
     match_config_of_depth level body o ≡ Some limits → 0 < limits.sessions
@@ -88,17 +88,17 @@ by_rest (Some rest) limits e = by_level (parted_at_space rest) limits e
 
 some_sessions : (line : List ℕ) (limits : MatchConfig) → match_config_of_line line ≡ Some limits → 0 < limits.sessions
 unfolding match_config_of_line
-some_sessions line limits e = by_rest (behind (codes "config ") line) limits e
+some_sessions line limits e = by_rest (strip_prefix (codes "config ") line) limits e
 
-limits_told : (version : Version) (line : List ℕ) (limits : MatchConfig) → limits_in version line ≡ Some limits →
+limits_reported : (version : Version) (line : List ℕ) (limits : MatchConfig) → limits_in version line ≡ Some limits →
     0 < limits.sessions
-limits_told Single line limits e = go (config_of_line line) e
+limits_reported Single line limits e = go (config_of_line line) e
   where
-    go : (o : Option Config) → option_map alone o ≡ Some limits → 0 < limits.sessions
+    go : (o : Option Config) → option_map single_session o ≡ Some limits → 0 < limits.sessions
     go None e = absurd (cc)
     go (Some config) e =
-        let one = ap (λ (l : MatchConfig). l.sessions) (same_Some (alone config) limits e) in omega (arith, one)
-limits_told Match line limits e = some_sessions line limits e
+        let one = ap (λ (l : MatchConfig). l.sessions) (same_Some (single_session config) limits e) in omega (arith, one)
+limits_reported Match line limits e = some_sessions line limits e
 
 -- a session that a line tells is there
 of_match : (sessions : ℕ) (line : List ℕ) (session : ℕ) (event : LogEvent) →
@@ -151,7 +151,7 @@ Good (Playing version states) =
     (0 < length states) × ((words : List Word) × (are_accepted words ≡ true) × Speak words states)
 
 speak_replicate : (words : List Word) (limits : Limits) (n : ℕ) → limits.words ≡ grammar_words words →
-    Speak words (replicate n (opening limits))
+    Speak words (replicate n (initial_state limits))
 speak_replicate words limits zero e = tt
 speak_replicate words limits (suc n) e = (e, speak_replicate words limits n e)
 
@@ -162,11 +162,11 @@ some_replicate (suc n) x h = omega arith
 good_at : (heading : Heading) → GoodHead heading → Good (stage_at heading)
 good_at Unnamed h = tt
 good_at (Named version) h = tt
-good_at (Headed head) h = go (is_whole head)
+good_at (Headed head) h = go (has_all_words head)
   where
-    go : (b : Bool) → Good (cond b (begun head) (Opening (Headed head)))
+    go : (b : Bool) → Good (cond b (state_after_preamble head) (Opening (Headed head)))
     go true = (
-      some_replicate head.limits.sessions (opening (limits_with head.limits.config head.words)) h.1,
+      some_replicate head.limits.sessions (initial_state (limits_with head.limits.config head.words)) h.1,
       (
         head.words,
         h.0,
@@ -192,12 +192,12 @@ good_after (Named version) line new h e = go (limits_in version line) refl e
   where
     go : (o : Option MatchConfig) → limits_in version line ≡ o → option_map (head_by version) o ≡ Some new →
         GoodHead new
-    go None told k = absurd (cc)
-    go (Some limits) told k =
-        subst GoodHead (same_Some (head_by version limits) new k) (refl, limits_told version line limits told)
+    go None reported k = absurd (cc)
+    go (Some limits) reported k =
+        subst GoodHead (same_Some (head_by version limits) new k) (refl, limits_reported version line limits reported)
 good_after (Headed head) line new h e = go (word_of_line line) e
   where
-    go : (o : Option Word) → option_map (head_more head) (with_word head.words o) ≡ Some new → GoodHead new
+    go : (o : Option Word) → option_map (head_more head) (append_word head.words o) ≡ Some new → GoodHead new
     go None k = absurd (cc)
     go (Some word) k = by_fault (is_ok (word_fault (names_of head.words) word)) refl k
       where
@@ -233,9 +233,9 @@ some_set (y ∷ l) zero x h = omega arith
 some_set (y ∷ l) (suc i) x h = omega arith
 
 record Next (number : ℕ) (old : LogState) (line : List ℕ) : Type 0 where
-  told : List Entry
+  reported : List ReportEntry
   new : LogState
-  on : GoesOn number old line told new
+  on : AdvancesByLine number old line reported new
   good : Good new
 
 next_line : (number : ℕ) (old : LogState) (line : List ℕ) → Good old → Next number old line ⊎ IsBad old line
@@ -245,7 +245,7 @@ next_line number (Opening heading) line h = go (heading_after heading line) refl
         Next number (Opening heading) line ⊎ (heading_after heading line ≡ None)
     go None e = inr e
     go (Some new) e = inl (record {
-      told = [];
+      reported = [];
       new = stage_at new;
       on = (new, e, refl, refl);
       good = good_at new (good_after heading line new h e);
@@ -256,7 +256,7 @@ next_line number (Playing version states) line h = go (event_in version (length 
         Next number (Playing version states) line ⊎ (event_in version (length states) line ≡ None)
     go None e = inr e
     go (Some Quiet) e = inl (record {
-      told = [];
+      reported = [];
       new = Playing version states;
       on = (Quiet, e, states, (refl, refl), refl);
       good = h;
@@ -268,10 +268,10 @@ next_line number (Playing version states) line h = go (event_in version (length 
         let at = get_at states (session - 1) (omega (arith, some, few)) in
         let words = h.1.0 in
         let same = speak_at words states (session - 1) at.0 h.1.2 at.1 in
-        let run = run_over (grammar_words words) (accepted_free words h.1.1) at.0 (events_of event) same in
-        let kept = runs_limits (events_of event) at.0 run.1 run.0 run.2 in
+        let run = run_over (grammar_words words) (accepted_free words h.1.1) at.0 (events_of_line event) same in
+        let kept = runs_limits (events_of_line event) at.0 run.1 run.0 run.2 in
         inl (record {
-          told = entries_of (source_in version number session) (side_of event) run.0;
+          reported = entries_of (source_in version number session) (side_of event) run.0;
           new = Playing version (slice_set states (session - 1) run.1);
           on = (
             Of session event,
@@ -309,23 +309,23 @@ cut (x ∷ rest) = go (eqb_tells x 10) (cut rest)
 abbrev HasReport : List ℕ → Type 0
 HasReport log = (text : List ℕ) × ((answer : Result Summary LogFault) × IsReport log text answer)
 
-ended_at : (log : List ℕ) (number : ℕ) (told : List Entry) (stage : LogState) → ReportsAll log number told stage →
+ended_at : (log : List ℕ) (number : ℕ) (reported : List ReportEntry) (stage : LogState) → ReportsAll log number reported stage →
     HasReport log
-ended_at log number told (Opening heading) all = (_, (_, IsReportBy.cut_short log number told (Opening heading) all tt))
-ended_at log number told (Playing version sessions) all = (_, (_, IsReportBy.whole log number told version sessions all))
+ended_at log number reported (Opening heading) all = (_, (_, IsReportBy.cut_short log number reported (Opening heading) all tt))
+ended_at log number reported (Playing version sessions) all = (_, (_, IsReportBy.whole log number reported version sessions all))
 
 regroup : (a b c : List ℕ) → (a ++ b ++ 10 ∷ []) ++ c ≡ a ++ (b ++ 10 ∷ c)
 regroup a b c = simp append_assoc
 
 -- what is left, of so many bytes at most, has a report behind what was read
 abbrev ReadsOn : ℕ → Type 0
-ReadsOn fuel = (bytes rest : List ℕ) (number : ℕ) (told : List Entry) (stage : LogState) → length rest < fuel →
-    Reports bytes number told stage → number ≤ most_lines → Good stage → HasReport (bytes ++ rest)
+ReadsOn fuel = (bytes rest : List ℕ) (number : ℕ) (reported : List ReportEntry) (stage : LogState) → length rest < fuel →
+    Reports bytes number reported stage → number ≤ most_lines → Good stage → HasReport (bytes ++ rest)
 
-read_some : (fuel : ℕ) → ReadsOn fuel → (bytes : List ℕ) (x : ℕ) (rest : List ℕ) (number : ℕ) (told : List Entry)
-    (stage : LogState) → length (x ∷ rest) < suc fuel → Reports bytes number told stage → number ≤ most_lines → Good stage →
+read_some : (fuel : ℕ) → ReadsOn fuel → (bytes : List ℕ) (x : ℕ) (rest : List ℕ) (number : ℕ) (reported : List ReportEntry)
+    (stage : LogState) → length (x ∷ rest) < suc fuel → Reports bytes number reported stage → number ≤ most_lines → Good stage →
     HasReport (bytes ++ x ∷ rest)
-read_some fuel again bytes x rest number told stage less reports few good = by_number (cases_lt number most_lines)
+read_some fuel again bytes x rest number reported stage less reports few good = by_number (cases_lt number most_lines)
   where
     unfed_on : number < most_lines → IsUnbroken (x ∷ rest) → HasReport (bytes ++ x ∷ rest)
     unfed_on more whole = by_length (cases_lt longest_line (length (x ∷ rest)))
@@ -333,17 +333,17 @@ read_some fuel again bytes x rest number told stage less reports few good = by_n
         by_line : length (x ∷ rest) ≤ longest_line →
             Next (number + 1) stage (x ∷ rest) ⊎ IsBad stage (x ∷ rest) → HasReport (bytes ++ x ∷ rest)
         by_line short (inl next) =
-            ended_at (bytes ++ x ∷ rest) (number + 1) (told ++ next.told) next.new
-            (ReportsAllBy.unended bytes number told stage reports (x ∷ rest) next.told next.new more (omega arith) whole
+            ended_at (bytes ++ x ∷ rest) (number + 1) (reported ++ next.reported) next.new
+            (ReportsAllBy.unended bytes number reported stage reports (x ∷ rest) next.reported next.new more (omega arith) whole
             short next.on)
         by_line short (inr bad) =
-            (_, (_, IsReportBy.bad_last bytes number told stage reports (x ∷ rest) more (omega arith) whole short bad))
+            (_, (_, IsReportBy.bad_last bytes number reported stage reports (x ∷ rest) more (omega arith) whole short bad))
 
         by_length : (longest_line < length (x ∷ rest)) ⊎ (length (x ∷ rest) ≤ longest_line) →
             HasReport (bytes ++ x ∷ rest)
         by_length (inl longer) =
             subst HasReport (append-nil (bytes ++ x ∷ rest))
-            (_, (_, IsReportBy.too_long bytes number told stage reports (x ∷ rest) [] more whole longer))
+            (_, (_, IsReportBy.too_long bytes number reported stage reports (x ∷ rest) [] more whole longer))
         by_length (inr short) = by_line short (next_line (number + 1) stage (x ∷ rest) good)
 
     fed_on : number < most_lines → (line after : List ℕ) → x ∷ rest ≡ line ++ 10 ∷ after → IsUnbroken line →
@@ -355,19 +355,19 @@ read_some fuel again bytes x rest number told stage less reports few good = by_n
             HasReport (bytes ++ (line ++ 10 ∷ after))
         by_line short (inl next) =
             subst HasReport (regroup bytes line after)
-            (again (bytes ++ line ++ 10 ∷ []) after (number + 1) (told ++ next.told) next.new
+            (again (bytes ++ line ++ 10 ∷ []) after (number + 1) (reported ++ next.reported) next.new
             (omega (arith, less, ap length e, length-append line (10 ∷ after)))
-            (ReportsBy.line bytes number told stage reports line next.told next.new more whole short next.on)
+            (ReportsBy.line bytes number reported stage reports line next.reported next.new more whole short next.on)
             (omega (arith, more)) next.good)
         by_line short (inr bad) =
             subst HasReport (append_assoc bytes line (10 ∷ after))
-            (_, (_, IsReportBy.bad bytes number told stage reports line after more whole short bad))
+            (_, (_, IsReportBy.bad bytes number reported stage reports line after more whole short bad))
 
         by_length : (longest_line < length line) ⊎ (length line ≤ longest_line) →
             HasReport (bytes ++ (line ++ 10 ∷ after))
         by_length (inl longer) =
             subst HasReport (append_assoc bytes line (10 ∷ after))
-            (_, (_, IsReportBy.too_long bytes number told stage reports line (10 ∷ after) more whole longer))
+            (_, (_, IsReportBy.too_long bytes number reported stage reports line (10 ∷ after) more whole longer))
         by_length (inr short) = by_line short (next_line (number + 1) stage (without_cr line) good)
 
     by_cut : number < most_lines → Cut (x ∷ rest) → HasReport (bytes ++ x ∷ rest)
@@ -382,18 +382,18 @@ read_some fuel again bytes x rest number told stage less reports few good = by_n
           _,
           (
             _,
-            IsReportBy.too_many bytes told stage (subst (λ (n : ℕ). Reports bytes n told stage) full reports) (x ∷ rest)
+            IsReportBy.too_many bytes reported stage (subst (λ (n : ℕ). Reports bytes n reported stage) full reports) (x ∷ rest)
                 (omega arith),
           ),
         )
 
 read_on : (fuel : ℕ) → ReadsOn fuel
-read_on zero bytes rest number told stage less reports few good = absurd (omega (arith, less))
-read_on (suc fuel) bytes [] number told stage less reports few good =
+read_on zero bytes rest number reported stage less reports few good = absurd (omega (arith, less))
+read_on (suc fuel) bytes [] number reported stage less reports few good =
     subst HasReport (sym (append-nil bytes))
-    (ended_at bytes number told stage (ReportsAllBy.ended bytes number told stage reports))
-read_on (suc fuel) bytes (x ∷ rest) number told stage less reports few good =
-    read_some fuel (read_on fuel) bytes x rest number told stage less reports few good
+    (ended_at bytes number reported stage (ReportsAllBy.ended bytes number reported stage reports))
+read_on (suc fuel) bytes (x ∷ rest) number reported stage less reports few good =
+    read_some fuel (read_on fuel) bytes x rest number reported stage less reports few good
 
 pub some_report : (log : List ℕ) → (text : List ℕ) × (answer : Result Summary LogFault) × IsReport log text answer
 some_report log =

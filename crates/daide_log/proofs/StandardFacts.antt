@@ -8,28 +8,28 @@ use Rattle.hex.specs.Hex.{decode_pairs, encode_with}
 use Rattle.daide_frame.specs.declared.side.Side.TheVariants.{Bot, Server}
 use Rattle.daide_frame.specs.declared.head.Kind.TheVariants.{Im, Dm, Fm}
 use Rattle.daide_frame.specs.declared.code.Code.TheVariants.{ImTimeout, InvalidToken}
-use Rattle.daide_frame.specs.Head.{head_of}
+use Rattle.daide_frame.specs.Head.{parse_head}
 use Rattle.daide_frame.specs.InitialMessage.{im_of}
 use Rattle.daide_frame.specs.Frames.{is_alien, first_items, last_items}
-use Rattle.daide_machine.specs.declared.note.Deed.TheVariants.{Relayed, Dropped, Prn, Huh}
-use Rattle.daide_machine.specs.declared.note.Note.TheVariants.{Nothing, Frame, Fault}
-use Rattle.daide_machine.specs.declared.phase.Phase.{Phase}
-use Rattle.daide_machine.specs.declared.ending.Ending.{Ending}
-use Rattle.daide_machine.specs.declared.ending.Ending.TheVariants as Endings
-use Rattle.daide_machine.specs.declared.phase.Phase.TheVariants.{WaitIm, WaitRm}
-use Rattle.daide_machine.specs.Machine.{SessionState, over}
-use Rattle.daide_machine.specs.declared.config.Config.{Config}
-use Rattle.daide_machine.specs.Config.{limits_of}
-use Rattle.daide_lines.specs.declared.fault.LogFault.TheVariants.{BadLine}
-use Rattle.daide_lines.specs.LogLine.{LogEvent, Traffic, EndOf, TimeOver, without_cr, plain_number, parted_at_space}
-use Rattle.daide_lines.specs.LogLine.{event_of_line}
-use Rattle.daide_lines.specs.MatchLine.{Of}
+use Rattle.daide_protocol.specs.declared.note.Deed.TheVariants.{Relayed, Dropped, Prn, Huh}
+use Rattle.daide_protocol.specs.declared.note.Note.TheVariants.{Nothing, Frame, Fault}
+use Rattle.daide_protocol.specs.declared.phase.Phase.{Phase}
+use Rattle.daide_protocol.specs.declared.ending.Ending.{Ending}
+use Rattle.daide_protocol.specs.declared.ending.Ending.TheVariants as Endings
+use Rattle.daide_protocol.specs.declared.phase.Phase.TheVariants.{WaitIm, WaitRm}
+use Rattle.daide_protocol.specs.Machine.{SessionState, over}
+use Rattle.daide_protocol.specs.declared.config.Config.{Config}
+use Rattle.daide_protocol.specs.Config.{limits_of}
+use Rattle.daide_log_lines.specs.declared.fault.LogFault.TheVariants.{BadLine}
+use Rattle.daide_log_lines.specs.LogLine.{LogEvent, Received, EndOf, ImTimerLine, without_cr, plain_number, parted_at_space}
+use Rattle.daide_log_lines.specs.LogLine.{event_of_line}
+use Rattle.daide_log_lines.specs.MatchLine.{Of}
 use Rattle.daide_log.specs.declared.heading.Version.TheVariants.{Single}
-use Rattle.daide_log.specs.declared.report.Source.{Source}
+use Rattle.daide_log.specs.declared.report.ReportKey.{ReportKey}
 use Rattle.daide_log.specs.ConfigLine.{config_of_line}
-use Rattle.daide_log.specs.Heading.{Unnamed, Named, Headed, alone}
-use Rattle.daide_log.specs.Report.{Entry, source_text, told_text, move_line, summary_line, lines_of, events_of, side_of}
-use Rattle.daide_machine.specs.Summary.{nothing_counted}
+use Rattle.daide_log.specs.Heading.{Unnamed, Named, Headed, single_session}
+use Rattle.daide_log.specs.Report.{ReportEntry, source_text, reported_text, move_line, summary_line, lines_of, events_of_line, side_of}
+use Rattle.daide_protocol.specs.Summary.{nothing_counted}
 use Rattle.daide_log.specs.Report.{counted_all}
 use Rattle.daide_log.specs.Log.{ReportsBy, ReportsAllBy, IsReportBy, Opening, Playing, source_in, Reports, ReportsAll, IsReport}
 use Rattle.daide_log.proofs.Played.{Played, state_at, played, verdict_on, entries_by}
@@ -49,23 +49,23 @@ limits_set = (refl, refl, refl, refl, refl)
 -- ---- the report
 
 -- a line of version 1, which names no session
-of_line : ℕ → Source
+of_line : ℕ → ReportKey
 of_line line = record { line = line; session = None }
 
-moves_told : (move_line (of_line 3) Bot (Frame (record { kind = Im; len = 4 }) Relayed) ≡ codes "3 bot IM 4 relay" ++ 10 ∷ [])
+moves_reported : (move_line (of_line 3) Bot (Frame (record { kind = Im; len = 4 }) Relayed) ≡ codes "3 bot IM 4 relay" ++ 10 ∷ [])
     × (move_line (of_line 6) Bot (Frame (record { kind = Dm; len = 4 }) Prn) ≡ codes "6 bot DM 4 prn" ++ 10 ∷ [])
     × (move_line (of_line 5) Bot (Frame (record { kind = Dm; len = 2 }) (Huh 0)) ≡ codes "5 bot DM 2 huh 0" ++ 10 ∷ [])
     × (move_line (of_line 3) Bot (Frame (record { kind = Fm; len = 0 }) Dropped) ≡ codes "3 bot FM 0 drop" ++ 10 ∷ [])
     × (move_line (of_line 1000000) Server (Fault InvalidToken) ≡ codes "1000000 server fault 0E" ++ 10 ∷ [])
     × (move_line (of_line 3) Bot (Fault ImTimeout) ≡ codes "3 bot fault 01" ++ 10 ∷ [])
     × (move_line (of_line 3) Server Nothing ≡ codes "3 server end" ++ 10 ∷ [])
-unfolding of_line move_line source_text told_text digits encode_with
-moves_told = (refl, refl, refl, refl, refl, refl, refl)
+unfolding of_line move_line source_text reported_text digits encode_with
+moves_reported = (refl, refl, refl, refl, refl, refl, refl)
 
-counts_told : summary_line (record { relayed = 4; prn = 1; huh = 0; faults = 0 })
+counts_reported : summary_line (record { relayed = 4; prn = 1; huh = 0; faults = 0 })
     ≡ codes "relayed 4 prn 1 huh 0 faults 0" ++ 10 ∷ []
 unfolding summary_line digits
-counts_told = refl
+counts_reported = refl
 
 -- ---- whole logs
 
@@ -91,35 +91,35 @@ unfolding opening_lines limits config_of_line parted_at_space plain_number has_n
 opened =
     ReportsBy.line (codes "daide-log 1" ++ 10 ∷ []) 1 [] (Opening (Named Single)) named (codes "config 60 1024 16") []
     (Playing Single (session_in WaitIm ∷ [])) (omega arith) (unbroken (codes "config 60 1024 16") refl) (omega arith)
-    (Headed (record { version = Single; limits = alone limits; words = [] }), refl, refl, refl)
+    (Headed (record { version = Single; limits = single_session limits; words = [] }), refl, refl, refl)
 
 -- one line more
-pub next_line : (bytes : List ℕ) (number : ℕ) (told : List Entry) (state : SessionState) →
-    Reports bytes number told (Playing Single (state ∷ [])) → (line : List ℕ) (event : LogEvent) (p : Played) →
+pub next_line : (bytes : List ℕ) (number : ℕ) (reported : List ReportEntry) (state : SessionState) →
+    Reports bytes number reported (Playing Single (state ∷ [])) → (line : List ℕ) (event : LogEvent) (p : Played) →
     has_no_feed line ≡ true → length line ≤ 2100 → number < 1000000 → event_of_line (without_cr line) ≡ Some event →
-    played (events_of event) state ≡ Some p →
+    played (events_of_line event) state ≡ Some p →
     Reports (bytes ++ line ++ 10 ∷ []) (number + 1)
-    (told ++ entries_by (source_in Single (number + 1) 1) (side_of event) p.told) (Playing Single (p.state ∷ []))
-next_line bytes number told state reports line event p whole short few is_event is =
-    line_played bytes number told Single (state ∷ []) reports line 1 event state p whole short few
+    (reported ++ entries_by (source_in Single (number + 1) 1) (side_of event) p.reported) (Playing Single (p.state ∷ []))
+next_line bytes number reported state reports line event p whole short few is_event is =
+    line_played bytes number reported Single (state ∷ []) reports line 1 event state p whole short few
     (ap (option_map (Of 1)) is_event) refl is
 
 -- a log that ends here
-ends_here : (bytes : List ℕ) (number : ℕ) (told : List Entry) (states : List SessionState) →
-    Reports bytes number told (Playing Single states) →
-    IsReport bytes (lines_of told ++ summary_line (counted_all told nothing_counted)) (Ok (counted_all told nothing_counted))
-ends_here bytes number told states reports =
-    IsReportBy.whole bytes number told Single states (ReportsAllBy.ended bytes number told (Playing Single states) reports)
+ends_here : (bytes : List ℕ) (number : ℕ) (reported : List ReportEntry) (states : List SessionState) →
+    Reports bytes number reported (Playing Single states) →
+    IsReport bytes (lines_of reported ++ summary_line (counted_all reported nothing_counted)) (Ok (counted_all reported nothing_counted))
+ends_here bytes number reported states reports =
+    IsReportBy.whole bytes number reported Single states (ReportsAllBy.ended bytes number reported (Playing Single states) reports)
 
 -- a log of one line behind the opening
 one_line : (line : List ℕ) (event : LogEvent) (p : Played) → has_no_feed line ≡ true → length line ≤ 2100 →
-    event_of_line (without_cr line) ≡ Some event → played (events_of event) (session_in WaitIm) ≡ Some p →
+    event_of_line (without_cr line) ≡ Some event → played (events_of_line event) (session_in WaitIm) ≡ Some p →
     IsReport (opening_lines ++ line ++ 10 ∷ [])
-    (lines_of (entries_by (source_in Single 3 1) (side_of event) p.told)
-    ++ summary_line (counted_all (entries_by (source_in Single 3 1) (side_of event) p.told) nothing_counted))
-    (Ok (counted_all (entries_by (source_in Single 3 1) (side_of event) p.told) nothing_counted))
+    (lines_of (entries_by (source_in Single 3 1) (side_of event) p.reported)
+    ++ summary_line (counted_all (entries_by (source_in Single 3 1) (side_of event) p.reported) nothing_counted))
+    (Ok (counted_all (entries_by (source_in Single 3 1) (side_of event) p.reported) nothing_counted))
 one_line line event p whole short is_event is =
-    ends_here (opening_lines ++ line ++ 10 ∷ []) 3 (entries_by (source_in Single 3 1) (side_of event) p.told)
+    ends_here (opening_lines ++ line ++ 10 ∷ []) 3 (entries_by (source_in Single 3 1) (side_of event) p.reported)
     (p.state ∷ [])
     (next_line opening_lines 2 [] (session_in WaitIm) opened line event p whole short (omega arith) is_event is)
 
@@ -127,57 +127,57 @@ one_line line event p whole short is_event is =
 timer_alone : IsReport (opening_lines ++ codes "timer" ++ 10 ∷ [])
     ((codes "3 bot fault 01" ++ 10 ∷ []) ++ codes "relayed 0 prn 0 huh 0 faults 1" ++ 10 ∷ [])
     (Ok (record { relayed = 0; prn = 0; huh = 0; faults = 1 }))
-unfolding event_of_line move_line source_text told_text summary_line digits encode_with entries_by played verdict_on
+unfolding event_of_line move_line source_text reported_text summary_line digits encode_with entries_by played verdict_on
     has_no_feed
 timer_alone =
-    one_line (codes "timer") TimeOver
-    (record { state = session_ended (Endings.Fault Bot ImTimeout); told = Fault ImTimeout ∷ [] }) refl (omega arith)
+    one_line (codes "timer") ImTimerLine
+    (record { state = session_ended (Endings.Fault Bot ImTimeout); reported = Fault ImTimeout ∷ [] }) refl (omega arith)
     refl refl
 
 -- the end of the server ends the session
 server_ends : IsReport (opening_lines ++ codes "end server" ++ 10 ∷ [])
     ((codes "3 server end" ++ 10 ∷ []) ++ codes "relayed 0 prn 0 huh 0 faults 0" ++ 10 ∷ [])
     (Ok (record { relayed = 0; prn = 0; huh = 0; faults = 0 }))
-unfolding event_of_line move_line source_text told_text summary_line digits entries_by played verdict_on has_no_feed
+unfolding event_of_line move_line source_text reported_text summary_line digits entries_by played verdict_on has_no_feed
 server_ends =
     one_line (codes "end server") (EndOf Server)
-    (record { state = session_ended (Endings.Ended Server); told = Nothing ∷ [] }) refl (omega arith)
+    (record { state = session_ended (Endings.Ended Server); reported = Nothing ∷ [] }) refl (omega arith)
     refl refl
 
 unfoldable pub im : LogEvent
-im = Traffic Bot (0 ∷ 0 ∷ 0 ∷ 4 ∷ 0 ∷ 1 ∷ 218 ∷ 16 ∷ [])
+im = Received Bot (0 ∷ 0 ∷ 0 ∷ 4 ∷ 0 ∷ 1 ∷ 218 ∷ 16 ∷ [])
 
 unfoldable pub im_passes : Played
-im_passes = record { state = session_in WaitRm; told = Frame (record { kind = Im; len = 4 }) Relayed ∷ [] }
+im_passes = record { state = session_in WaitRm; reported = Frame (record { kind = Im; len = 4 }) Relayed ∷ [] }
 
-pub im_played : played (events_of im) (session_in WaitIm) ≡ Some im_passes
-unfolding im im_passes limits played verdict_on last_items first_items head_of is_alien im_of
+pub im_played : played (events_of_line im) (session_in WaitIm) ≡ Some im_passes
+unfolding im im_passes limits played verdict_on last_items first_items parse_head is_alien im_of
 im_played = refl
 
 -- an IM is passed on
 im_alone : IsReport (opening_lines ++ codes "bot 000000040001DA10" ++ 10 ∷ [])
     ((codes "3 bot IM 4 relay" ++ 10 ∷ []) ++ codes "relayed 1 prn 0 huh 0 faults 0" ++ 10 ∷ [])
     (Ok (record { relayed = 1; prn = 0; huh = 0; faults = 0 }))
-unfolding im im_passes event_of_line move_line source_text told_text summary_line digits decode_pairs entries_by
+unfolding im im_passes event_of_line move_line source_text reported_text summary_line digits decode_pairs entries_by
     has_no_feed
 im_alone = one_line (codes "bot 000000040001DA10") im im_passes refl (omega arith) refl im_played
 
 -- the bot's FM before its IM goes nowhere
 fm : LogEvent
-fm = Traffic Bot (3 ∷ 0 ∷ 0 ∷ 0 ∷ [])
+fm = Received Bot (3 ∷ 0 ∷ 0 ∷ 0 ∷ [])
 
 fm_drops : Played
 fm_drops =
-    record { state = session_ended (Endings.Final Bot); told = Frame (record { kind = Fm; len = 0 }) Dropped ∷ [] }
+    record { state = session_ended (Endings.Final Bot); reported = Frame (record { kind = Fm; len = 0 }) Dropped ∷ [] }
 
-fm_played : played (events_of fm) (session_in WaitIm) ≡ Some fm_drops
-unfolding fm fm_drops limits played verdict_on last_items first_items head_of is_alien
+fm_played : played (events_of_line fm) (session_in WaitIm) ≡ Some fm_drops
+unfolding fm fm_drops limits played verdict_on last_items first_items parse_head is_alien
 fm_played = refl
 
 fm_before_the_im : IsReport (opening_lines ++ codes "bot 03000000" ++ 10 ∷ [])
     ((codes "3 bot FM 0 drop" ++ 10 ∷ []) ++ codes "relayed 0 prn 0 huh 0 faults 0" ++ 10 ∷ [])
     (Ok (record { relayed = 0; prn = 0; huh = 0; faults = 0 }))
-unfolding fm fm_drops event_of_line move_line source_text told_text summary_line digits decode_pairs entries_by
+unfolding fm fm_drops event_of_line move_line source_text reported_text summary_line digits decode_pairs entries_by
     has_no_feed
 fm_before_the_im = one_line (codes "bot 03000000") fm fm_drops refl (omega arith) refl fm_played
 
@@ -210,14 +210,14 @@ leading_zero =
 fm_then_timer : IsReport ((opening_lines ++ codes "bot 03000000" ++ 10 ∷ []) ++ codes "timer" ++ 10 ∷ [])
     ((codes "3 bot FM 0 drop" ++ 10 ∷ []) ++ codes "relayed 0 prn 0 huh 0 faults 0" ++ 10 ∷ [])
     (Ok (record { relayed = 0; prn = 0; huh = 0; faults = 0 }))
-unfolding fm fm_drops event_of_line move_line source_text told_text summary_line digits decode_pairs entries_by played
+unfolding fm fm_drops event_of_line move_line source_text reported_text summary_line digits decode_pairs entries_by played
     verdict_on has_no_feed
 fm_then_timer =
-    let ended : List Entry = entries_by (source_in Single 3 1) Bot fm_drops.told in
+    let ended : List ReportEntry = entries_by (source_in Single 3 1) Bot fm_drops.reported in
     ends_here ((opening_lines ++ codes "bot 03000000" ++ 10 ∷ []) ++ codes "timer" ++ 10 ∷ []) 4 (ended ++ [])
     (session_ended (Endings.Final Bot) ∷ [])
     (next_line (opening_lines ++ codes "bot 03000000" ++ 10 ∷ []) 3 ended (session_ended (Endings.Final Bot))
     (next_line opening_lines 2 [] (session_in WaitIm) opened (codes "bot 03000000") fm fm_drops refl (omega arith)
     (omega arith) refl fm_played)
-    (codes "timer") TimeOver (record { state = session_ended (Endings.Final Bot); told = [] })
+    (codes "timer") ImTimerLine (record { state = session_ended (Endings.Final Bot); reported = [] })
     refl (omega arith) (omega arith) refl refl)

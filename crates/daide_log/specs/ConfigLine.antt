@@ -1,12 +1,12 @@
 -- What the second line of a log sets, by its bytes alone: docs/FORMATS.md, "The log" and "The log, version 2". (own)
 use Rattle.std.specs.Prelude.{ℕ, List, codes, Option, Some, None, Result, Ok, Err}
 use Rattle.daide_grammar.specs.Words.{most_words}
-use Rattle.daide_machine.specs.Bounds.{most_sessions}
-use Rattle.daide_machine.specs.declared.config.Config.{Config}
-use Rattle.daide_machine.specs.declared.config.ConfigError.{ConfigError}
-use Rattle.daide_machine.specs.Config.{config_fault}
-use Rattle.daide_lines.specs.LogLine.{Parted, behind, plain_number, parted_at_space}
-use Rattle.daide_lines.specs.MatchLine.{within}
+use Rattle.daide_protocol.specs.Bounds.{most_sessions}
+use Rattle.daide_protocol.specs.declared.config.Config.{Config}
+use Rattle.daide_protocol.specs.declared.config.ConfigError.{ConfigError}
+use Rattle.daide_protocol.specs.Config.{config_fault}
+use Rattle.daide_log_lines.specs.LogLine.{Parted, strip_prefix, plain_number, parted_at_space}
+use Rattle.daide_log_lines.specs.MatchLine.{within}
 use Rattle.daide_log.specs.declared.config_line.MatchConfig.{MatchConfig}
 
 -- ---- version 1
@@ -38,7 +38,7 @@ config_of_rest (Some rest) = config_of_three (parted_at_space rest)
 
 -- the limits that a line `config L B D` sets: three plain numbers that a session takes as its limits
 unfoldable pub config_of_line : List ℕ → Option Config
-config_of_line line = config_of_rest (behind (codes "config ") line)
+config_of_line line = config_of_rest (strip_prefix (codes "config ") line)
 
 -- ---- version 2
 
@@ -76,4 +76,4 @@ match_config_of_rest (Some rest) = match_config_of_level (parted_at_space rest)
 -- what a line `config L B D S W` sets: the limits of each session, as in version 1, how many sessions there are, one at
 -- least, and how many words
 unfoldable pub match_config_of_line : List ℕ → Option MatchConfig
-match_config_of_line line = match_config_of_rest (behind (codes "config ") line)
+match_config_of_line line = match_config_of_rest (strip_prefix (codes "config ") line)

@@ -20,29 +20,29 @@ use Rattle.daide_words.specs.Word.{names_of}
 use Rattle.daide_reader.specs.declared.verdict.Verdict.{Verdict}
 use Rattle.daide_reader.specs.declared.verdict.Verdict.TheVariants.{Relay, Prn, Huh}
 use Rattle.daide_explain.specs.Explained.{IsExplained}
-use Rattle.daide_machine.specs.declared.note.Deed.{Deed}
-use Rattle.daide_machine.specs.declared.note.Deed.TheVariants as Deeds
-use Rattle.daide_machine.specs.declared.note.Note.{Note}
-use Rattle.daide_machine.specs.declared.note.Note.TheVariants as Notes
-use Rattle.daide_machine.specs.declared.ending.Ending.{Ending}
-use Rattle.daide_machine.specs.declared.ending.Ending.TheVariants as Endings
-use Rattle.daide_machine.specs.declared.summary.Summary.{Summary}
-use Rattle.daide_machine.specs.Answers.{answer_body}
-use Rattle.daide_machine.specs.Events.{Event, Comes, Ends, Loses, TimerExpires}
-use Rattle.daide_machine.specs.Machine.{SessionState, Effect, Question, Transition, coming, question, side2_of}
-use Rattle.daide_machine.specs.Summary.{counted}
-use Rattle.daide_machine.specs.Wires.{same_side}
+use Rattle.daide_protocol.specs.declared.note.Deed.{Deed}
+use Rattle.daide_protocol.specs.declared.note.Deed.TheVariants as Deeds
+use Rattle.daide_protocol.specs.declared.note.Note.{Note}
+use Rattle.daide_protocol.specs.declared.note.Note.TheVariants as Notes
+use Rattle.daide_protocol.specs.declared.ending.Ending.{Ending}
+use Rattle.daide_protocol.specs.declared.ending.Ending.TheVariants as Endings
+use Rattle.daide_protocol.specs.declared.summary.Summary.{Summary}
+use Rattle.daide_protocol.specs.Answers.{answer_body}
+use Rattle.daide_protocol.specs.Events.{Event, Comes, Ends, Loses, ImTimerExpired}
+use Rattle.daide_protocol.specs.Machine.{SessionState, Effect, Question, Transition, coming, question, side2_of}
+use Rattle.daide_protocol.specs.Summary.{count_note}
+use Rattle.daide_protocol.specs.Wires.{same_side}
 use Rattle.daide_log.specs.declared.explained.Explained.{Explained}
 use Rattle.daide_log.specs.declared.heading.Version.{Version}
 use Rattle.daide_log.specs.declared.heading.Version.TheVariants.{Single, Match}
-use Rattle.daide_log.specs.declared.report.Source.{Source}
-use Rattle.daide_log.specs.Form.{Form, HasWords}
-use Rattle.daide_log.specs.Report.{Entry, events_of, side_of, move_line, part_line, texts_of}
+use Rattle.daide_log.specs.declared.report.ReportKey.{ReportKey}
+use Rattle.daide_log.specs.ReportForm.{ReportForm, HasWords}
+use Rattle.daide_log.specs.Report.{ReportEntry, events_of_line, side_of, move_line, part_line, texts_of}
 
 -- ---- lines
 
-abbrev pub line : List ℕ → List ℕ
-line text = text ++ 10 ∷ []
+abbrev pub with_line_feed : List ℕ → List ℕ
+with_line_feed text = text ++ 10 ∷ []
 
 -- each line with four spaces before it
 abbrev pub indented_byte : Bool → ℕ → List ℕ
@@ -65,26 +65,26 @@ verdict_by Deeds.Prn = Prn
 verdict_by (Deeds.Huh place) = Huh place
 
 -- tokens as they are printed, the operator's words by their own names
-abbrev pub printed : List Word → List ℕ → List ℕ
-printed words tokens = text_with (names_of words) tokens
+abbrev pub message_text : List Word → List ℕ → List ℕ
+message_text words tokens = text_with (names_of words) tokens
 
 -- the lines of a message that was refused: its text, its level, the answer that its sender gets, and why
 abbrev pub AreRefusedLines : List Word → Side2 → Level → ℕ → List ℕ → Verdict → List ℕ → Type 0
 AreRefusedLines words end level max_depth body verdict lines =
     (why : List ℕ) × IsExplained words end level max_depth (tokens_of body) verdict why
-    × (lines ≡ line (printed words (tokens_of body)) ++ line (codes "judged at level " ++ decimal (level_number level))
-    ++ line (printed words (tokens_of (answer_body body verdict))) ++ why)
+    × (lines ≡ with_line_feed (message_text words (tokens_of body)) ++ with_line_feed (codes "judged at level " ++ decimal (level_number level))
+    ++ with_line_feed (message_text words (tokens_of (answer_body body verdict))) ++ why)
 
 abbrev pub AreMessageLines : List Word → Side2 → Level → ℕ → List ℕ → Verdict → List ℕ → Type 0
-AreMessageLines words end level max_depth body Relay lines = lines ≡ line (printed words (tokens_of body))
+AreMessageLines words end level max_depth body Relay lines = lines ≡ with_line_feed (message_text words (tokens_of body))
 AreMessageLines words end level max_depth body Prn lines = AreRefusedLines words end level max_depth body Prn lines
 AreMessageLines words end level max_depth body (Huh place) lines =
     AreRefusedLines words end level max_depth body (Huh place) lines
 
 -- those of a frame: none, unless the grammar is asked about it
-abbrev pub AreFrameLines : List Word → ℕ → Option Question → List ℕ → Deed → List ℕ → Type 0
-AreFrameLines words max_depth None body deed lines = lines ≡ []
-AreFrameLines words max_depth (Some q) body deed lines =
+abbrev pub ExplainsFrame : List Word → ℕ → Option Question → List ℕ → Deed → List ℕ → Type 0
+ExplainsFrame words max_depth None body deed lines = lines ≡ []
+ExplainsFrame words max_depth (Some q) body deed lines =
     (q.message ≡ tokens_of body)
     × AreMessageLines words (side2_of q.side) q.level max_depth body (verdict_by deed) lines
 
@@ -103,17 +103,17 @@ pairs (byte ∷ next ∷ bytes) = pair byte ++ 32 ∷ pairs (next ∷ bytes)
 -- the bytes of an invalid token, which are the last, and its place among the tokens
 abbrev pub token_line : List ℕ → List ℕ
 token_line bytes =
-    line (codes "bytes: " ++ pairs (drop (length bytes - 2) bytes) ++ codes " at token "
+    with_line_feed (codes "bytes: " ++ pairs (drop (length bytes - 2) bytes) ++ codes " at token "
     ++ decimal ((length bytes - 6) / 2))
 
 -- all bytes since the last whole frame, if there are any
 abbrev pub bytes_line : List ℕ → List ℕ
 bytes_line [] = []
-bytes_line (byte ∷ bytes) = line (codes "bytes: " ++ pairs (byte ∷ bytes))
+bytes_line (byte ∷ bytes) = with_line_feed (codes "bytes: " ++ pairs (byte ∷ bytes))
 
 abbrev pub fault_lines : Code → List ℕ → List ℕ
 fault_lines code bytes =
-    line (code_name code) ++ (if code_number code == 0x0E then token_line bytes else bytes_line bytes)
+    with_line_feed (code_name code) ++ (if code_number code == 0x0E then token_line bytes else bytes_line bytes)
 
 -- ---- a move
 
@@ -122,44 +122,44 @@ abbrev pub bytes_at : SessionState → Side → Event → List ℕ
 bytes_at state side (Comes from byte) = (coming state side).pending ++ byte ∷ []
 bytes_at state side (Ends from) = (coming state side).pending
 bytes_at state side (Loses from) = (coming state side).pending
-bytes_at state side TimerExpires = (coming state side).pending
+bytes_at state side ImTimerExpired = (coming state side).pending
 
 -- the lines that explain a move of a side, which this event made of the state
-abbrev pub AreLines : List Word → Side → SessionState → Event → Note → List ℕ → Type 0
-AreLines words side before event Notes.Nothing lines = lines ≡ []
-AreLines words side before event (Notes.Frame head deed) lines =
-    AreFrameLines words before.limits.max_depth (question before event) (drop 4 (bytes_at before side event)) deed lines
-AreLines words side before event (Notes.Fault code) lines = lines ≡ fault_lines code (bytes_at before side event)
+abbrev pub ExplainsMove : List Word → Side → SessionState → Event → Note → List ℕ → Type 0
+ExplainsMove words side before event Notes.Nothing lines = lines ≡ []
+ExplainsMove words side before event (Notes.Frame head deed) lines =
+    ExplainsFrame words before.limits.max_depth (question before event) (drop 4 (bytes_at before side event)) deed lines
+ExplainsMove words side before event (Notes.Fault code) lines = lines ≡ fault_lines code (bytes_at before side event)
 
 -- ---- the entries
 
 -- a move with its lines, or a comment of the log
-pub data Shown : Type 0 where
-  Moved : (entry : Entry) → (added : List ℕ) → Shown
-  Remark : (comment : List ℕ) → Shown
+pub data ExplainedEntry : Type 0 where
+  Moved : (entry : ReportEntry) → (added : List ℕ) → ExplainedEntry
+  Remark : (comment : List ℕ) → ExplainedEntry
 
-abbrev pub shown_text : Shown → List ℕ
-shown_text (Moved entry added) = move_line entry.source entry.side entry.told ++ added
-shown_text (Remark comment) = line comment
+abbrev pub shown_text : ExplainedEntry → List ℕ
+shown_text (Moved entry added) = move_line entry.source entry.side entry.reported ++ added
+shown_text (Remark comment) = with_line_feed comment
 
-abbrev pub shown_counted : Shown → Summary → Summary
-shown_counted (Moved entry added) before = counted entry.told before
+abbrev pub shown_counted : ExplainedEntry → Summary → Summary
+shown_counted (Moved entry added) before = count_note entry.reported before
 shown_counted (Remark comment) before = before
 
 -- the entries of the moves of one event
-abbrev pub AreShown : List Word → Source → Side → SessionState → Event → List Effect → List Shown → Type 0
+abbrev pub AreShown : List Word → ReportKey → Side → SessionState → Event → List Effect → List ExplainedEntry → Type 0
 AreShown words source side before event [] shown = shown ≡ []
 AreShown words source side before event (move ∷ moves) shown =
-    (lines : List ℕ) × (more : List Shown) × AreLines words side before event move.told lines
+    (lines : List ℕ) × (more : List ExplainedEntry) × ExplainsMove words side before event move.reported lines
     × AreShown words source side before event moves more
-    × (shown ≡ Moved (record { source = source; side = side; told = move.told }) (indented lines) ∷ more)
+    × (shown ≡ Moved (record { source = source; side = side; reported = move.reported }) (indented lines) ∷ more)
 
 -- By these events, one after the other, the state goes on with these moves, which have these entries.
-abbrev pub AreShownBy : List Word → Source → Side → SessionState → List Event → List Effect → SessionState → List Shown →
+abbrev pub AreShownBy : List Word → ReportKey → Side → SessionState → List Event → List Effect → SessionState → List ExplainedEntry →
     Type 0
 AreShownBy words source side old [] moves new shown = (moves ≡ []) × (new ≡ old) × (shown ≡ [])
 AreShownBy words source side old (event ∷ events) moves new shown =
-    (mid : SessionState) × (first : List Effect) × (rest : List Effect) × (here : List Shown) × (later : List Shown)
+    (mid : SessionState) × (first : List Effect) × (rest : List Effect) × (here : List ExplainedEntry) × (later : List ExplainedEntry)
     × Transition old event first mid × AreShown words source side old event first here
     × AreShownBy words source side mid events rest new later × (moves ≡ first ++ rest) × (shown ≡ here ++ later)
 
@@ -168,8 +168,8 @@ abbrev pub is_remark : List ℕ → Bool
 is_remark [] = false
 is_remark (byte ∷ bytes) = byte == 35
 
-abbrev pub remarks : List ℕ → List Shown
-remarks line = if is_remark line then Remark line ∷ [] else []
+abbrev pub remarks : List ℕ → List ExplainedEntry
+remarks with_line_feed = if is_remark with_line_feed then Remark with_line_feed ∷ [] else []
 
 -- ---- the end
 
@@ -200,13 +200,13 @@ part_of session side cap at_fault (byte ∷ bytes) =
     else record { session = session; side = side; came = length (byte ∷ bytes); size = size_of cap (byte ∷ bytes) } ∷ []
 
 -- a session's number, which the report of a match names
-abbrev pub number_in : Version → ℕ → Option ℕ
-number_in Single session = None
-number_in Match session = Some session
+abbrev pub session_number : Version → ℕ → Option ℕ
+session_number Single session = None
+session_number Match session = Some session
 
 -- those of a session, the bot's first
-abbrev pub parts_of : Option ℕ → SessionState → List Part
-parts_of session state =
+abbrev pub unfinished_parts : Option ℕ → SessionState → List Part
+unfinished_parts session state =
     part_of session Bot state.limits.cap (is_at_fault Bot state.ending) (coming state Bot).pending
     ++ part_of session Server state.limits.cap (is_at_fault Server state.ending) (coming state Server).pending
 
@@ -214,23 +214,23 @@ parts_of session state =
 abbrev pub parts_from : Version → ℕ → List SessionState → List Part
 parts_from version session [] = []
 parts_from version session (state ∷ states) =
-    parts_of (number_in version session) state ++ parts_from version (session + 1) states
+    unfinished_parts (session_number version session) state ++ parts_from version (session + 1) states
 
 abbrev pub part_text : Part → List ℕ
 part_text part = part_line part.session part.side part.came part.size
 
 -- ---- the report
 
-abbrev pub explained : List Word → Form Explained
+abbrev pub explained : List Word → ReportForm Explained
 explained words = record {
-  Entry = Shown;
+  Entry = ExplainedEntry;
   text = shown_text;
   counted = shown_counted;
   tells = AreShownBy words;
-  line = λ line source event before moves after shown.
-      (later : List Shown) × AreShownBy words source (side_of event) before (events_of event) moves after later
-      × (shown ≡ remarks line ++ later);
-  quiet = λ line shown. shown ≡ remarks line;
+  line = λ with_line_feed source event before moves after shown.
+      (later : List ExplainedEntry) × AreShownBy words source (side_of event) before (events_of_line event) moves after later
+      × (shown ≡ remarks with_line_feed ++ later);
+  quiet = λ with_line_feed shown. shown ≡ remarks with_line_feed;
   opens = λ heading shown. (shown ≡ []) × HasWords words heading;
   closing = λ version sessions. texts_of part_text (parts_from version 1 sessions);
   answer = λ counts version sessions. record { counts = counts; unfinished = length (parts_from version 1 sessions) };

@@ -7,13 +7,13 @@ use Rattle.daide_grammar.specs.SideMessages.{IsMessageOver}
 use Rattle.daide_words.specs.declared.word.Word.{Word}
 use Rattle.daide_words.specs.Word.{grammar_words}
 use Rattle.daide_reader.specs.Verdict.{HasVerdict, IsPlaceIn}
-use Rattle.daide_machine.specs.Bounds.{longest_body, least_depth, greatest_depth}
-use Rattle.daide_machine.specs.declared.config.Config.{Config}
-use Rattle.daide_machine.specs.declared.note.Deed.{Deed}
-use Rattle.daide_machine.specs.declared.note.Note.{Note}
-use Rattle.daide_machine.specs.declared.note.Note.TheVariants as Notes
-use Rattle.daide_machine.specs.Machine.{coming, is_dm, side2_of}
-use Rattle.daide_machine.specs.Wires.{SessionView, holding}
+use Rattle.daide_protocol.specs.Bounds.{longest_body, least_depth, greatest_depth}
+use Rattle.daide_protocol.specs.declared.config.Config.{Config}
+use Rattle.daide_protocol.specs.declared.note.Deed.{Deed}
+use Rattle.daide_protocol.specs.declared.note.Note.{Note}
+use Rattle.daide_protocol.specs.declared.note.Note.TheVariants as Notes
+use Rattle.daide_protocol.specs.Machine.{coming, is_dm, side2_of}
+use Rattle.daide_protocol.specs.Wires.{SessionView, holding}
 use Rattle.std.specs.Prelude.{Option, Some, None, ◌∷◌, ◌+◌, ◌==◌, ◌||◌, nat_lt, Bool, if◌then◌else◌}
 use Rattle.std.specs.Io.KnownBytes.{Appends}
 use Rattle.daide_log.specs.declared.report.Part as reports
@@ -34,11 +34,11 @@ pub record IsRightFate (words : List Word) (config : Config) (side : Side) (deed
   pub verdict : HasVerdict (IsMessageOver (grammar_words words) (side2_of side) (coming new.state side).noted)
       config.max_depth (tokens_of (drop 4 (holding new side).held)) (verdict_by deed)
 
-abbrev pub IsRightlyTold : List Word → Config → Side → Note → SessionView → Type 0
-IsRightlyTold words config side Notes.Nothing new = ⊤
-IsRightlyTold words config side (Notes.Frame head deed) new =
+abbrev pub IsRightlyReported : List Word → Config → Side → Note → SessionView → Type 0
+IsRightlyReported words config side Notes.Nothing new = ⊤
+IsRightlyReported words config side (Notes.Frame head deed) new =
     MatchBool (is_dm head.kind) (IsRightFate words config side deed new) ⊤
-IsRightlyTold words config side (Notes.Fault code) new = ⊤
+IsRightlyReported words config side (Notes.Fault code) new = ⊤
 
 -- the lines of a move, by the frame that is held
 abbrev pub AreLinesBy : List Word → ℕ → Side → Note → SessionView → List ℕ → Type 0

@@ -4,14 +4,14 @@ use Rattle.std.specs.Prelude.{option_map, is_ok}
 use Rattle.daide_words.specs.declared.word.Word.{Word}
 use Rattle.daide_words.specs.Word.{names_of}
 use Rattle.daide_words.specs.Accepted.{word_fault}
-use Rattle.daide_machine.specs.Bounds.{most_sessions}
-use Rattle.daide_machine.specs.declared.config.Config.{Config}
+use Rattle.daide_protocol.specs.Bounds.{most_sessions}
+use Rattle.daide_protocol.specs.declared.config.Config.{Config}
 use Rattle.daide_log.specs.declared.heading.Version.{Version}
 use Rattle.daide_log.specs.declared.heading.Version.TheVariants.{Single, Match}
 use Rattle.daide_log.specs.declared.config_line.MatchConfig.{MatchConfig}
-use Rattle.daide_lines.specs.LogLine.{is_name}
-use Rattle.daide_lines.specs.MatchLine.{is_match_name}
-use Rattle.daide_lines.specs.WordLine.{word_of_line}
+use Rattle.daide_log_lines.specs.LogLine.{is_name}
+use Rattle.daide_log_lines.specs.MatchLine.{is_match_name}
+use Rattle.daide_log_lines.specs.WordLine.{word_of_line}
 use Rattle.daide_log.specs.ConfigLine.{config_of_line, match_config_of_line}
 
 -- ---- what a head sets
@@ -39,18 +39,18 @@ abbrev pub version_of : List ℕ → Option Version
 version_of line = if is_name line then Some Single else if is_match_name line then Some Match else None
 
 -- one session of these limits, and no words
-abbrev pub alone : Config → MatchConfig
-alone config = record { config = config; sessions = 1; words = 0 }
+abbrev pub single_session : Config → MatchConfig
+single_session config = record { config = config; sessions = 1; words = 0 }
 
 -- what the second line sets
 abbrev pub limits_in : Version → List ℕ → Option MatchConfig
-limits_in Single line = option_map alone (config_of_line line)
+limits_in Single line = option_map single_session (config_of_line line)
 limits_in Match line = match_config_of_line line
 
 -- words with one more, if it is accepted after them
-abbrev pub with_word : List Word → Option Word → Option (List Word)
-with_word words None = None
-with_word words (Some word) = if is_ok (word_fault (names_of words) word) then Some (words ++ word ∷ []) else None
+abbrev pub append_word : List Word → Option Word → Option (List Word)
+append_word words None = None
+append_word words (Some word) = if is_ok (word_fault (names_of words) word) then Some (words ++ word ∷ []) else None
 
 -- the head with one line more, if the line may stand there
 abbrev pub heading_after : Heading → List ℕ → Option Heading
@@ -59,8 +59,8 @@ heading_after (Named version) line =
     option_map (λ limits. Headed (record { version = version; limits = limits; words = [] })) (limits_in version line)
 heading_after (Headed head) line =
     option_map (λ words. Headed (record { version = head.version; limits = head.limits; words = words }))
-    (with_word head.words (word_of_line line))
+    (append_word head.words (word_of_line line))
 
 -- whether all words are there
-abbrev pub is_whole : Preamble → Bool
-is_whole head = length head.words == head.limits.words
+abbrev pub has_all_words : Preamble → Bool
+has_all_words head = length head.words == head.limits.words

@@ -2,35 +2,35 @@
 use Rattle.std.proofs.Common.{◌≡◌, List, [], ◌∷◌, ◌++◌, refl, sym, ap, ◌∙◌, subst, append_assoc}
 use Rattle.daide_frame.specs.declared.side.Side.{Side}
 use Rattle.daide_words.specs.declared.word.Word.{Word}
-use Rattle.daide_machine.specs.Events.{Event}
-use Rattle.daide_machine.specs.Machine.{SessionState, Effect, Transition, Runs}
-use Rattle.daide_log.specs.declared.report.Source.{Source}
-use Rattle.daide_log.specs.Form.{IsLawful}
-use Rattle.daide_log.specs.Report.{Entry, entries_of}
+use Rattle.daide_protocol.specs.Events.{Event}
+use Rattle.daide_protocol.specs.Machine.{SessionState, Effect, Transition, Runs}
+use Rattle.daide_log.specs.declared.report.ReportKey.{ReportKey}
+use Rattle.daide_log.specs.ReportForm.{IsWritableForm}
+use Rattle.daide_log.specs.Report.{ReportEntry, entries_of}
 use Rattle.daide_log.specs.Log.{plain}
-use Rattle.daide_log.specs.Explained.{Shown, AreShown, AreShownBy, explained}
+use Rattle.daide_log.specs.Explained.{ExplainedEntry, AreShown, AreShownBy, explained}
 
 -- ---- the plain report
 
-pub entries_of-append : (source : Source) (side : Side) (a b : List Effect) →
+pub entries_of-append : (source : ReportKey) (side : Side) (a b : List Effect) →
     entries_of source side (a ++ b) ≡ entries_of source side a ++ entries_of source side b
 entries_of-append source side [] b = refl
 entries_of-append source side (move ∷ a) b =
-    ap (λ (t : List Entry). record { source = source; side = side; told = move.told } ∷ t) (entries_of-append source side a b)
+    ap (λ (t : List ReportEntry). record { source = source; side = side; reported = move.reported } ∷ t) (entries_of-append source side a b)
 
-plain_in_a_row : (source : Source) (side : Side) (moves others : List Effect) (told rest : List Entry) →
-    told ≡ entries_of source side moves → rest ≡ entries_of source side others →
-    told ++ rest ≡ entries_of source side (moves ++ others)
-plain_in_a_row source side moves others told rest e f =
-    ap (λ (t : List Entry). t ++ rest) e ∙ ap (λ (t : List Entry). entries_of source side moves ++ t) f
+plain_in_a_row : (source : ReportKey) (side : Side) (moves others : List Effect) (reported rest : List ReportEntry) →
+    reported ≡ entries_of source side moves → rest ≡ entries_of source side others →
+    reported ++ rest ≡ entries_of source side (moves ++ others)
+plain_in_a_row source side moves others reported rest e f =
+    ap (λ (t : List ReportEntry). t ++ rest) e ∙ ap (λ (t : List ReportEntry). entries_of source side moves ++ t) f
     ∙ sym (entries_of-append source side moves others)
 
-pub plain_lawful : (words : List Word) → IsLawful words plain
+pub plain_lawful : (words : List Word) → IsWritableForm words plain
 plain_lawful words = record {
   silent = λ source side old new events run. refl;
-  more = λ source side old mid new events later moves others told rest e f.
-      plain_in_a_row source side moves others told rest e f;
-  of_line = λ line source event old moves new first told e f. ap (λ (t : List Entry). t ++ told) e ∙ f;
+  more = λ source side old mid new events later moves others reported rest e f.
+      plain_in_a_row source side moves others reported rest e f;
+  of_line = λ line source event old moves new first reported e f. ap (λ (t : List ReportEntry). t ++ reported) e ∙ f;
   of_head = λ heading has. refl;
 }
 
@@ -40,7 +40,7 @@ none_first : (first rest : List Effect) → [] ≡ first ++ rest → (first ≡ 
 none_first [] rest e = (refl, sym e)
 none_first (move ∷ first) rest e = absurd (cc)
 
-module _ (words : List Word) (source : Source) (side : Side) where
+module _ (words : List Word) (source : ReportKey) (side : Side) where
   -- no move has no entry
   pub silent : (old new : SessionState) (events : List Event) → Runs old events [] new →
       AreShownBy words source side old events [] new []
@@ -60,14 +60,14 @@ module _ (words : List Word) (source : Source) (side : Side) where
       )
 
   pub in_a_row : (old mid new : SessionState) (events later : List Event) (moves others : List Effect)
-      (told rest : List Shown) → AreShownBy words source side old events moves mid told →
+      (reported rest : List ExplainedEntry) → AreShownBy words source side old events moves mid reported →
       AreShownBy words source side mid later others new rest →
-      AreShownBy words source side old (events ++ later) (moves ++ others) new (told ++ rest)
-  in_a_row old mid new [] later moves others told rest h k =
-      subst (λ (t : List Shown). AreShownBy words source side old later (moves ++ others) new (t ++ rest)) (sym h.2)
+      AreShownBy words source side old (events ++ later) (moves ++ others) new (reported ++ rest)
+  in_a_row old mid new [] later moves others reported rest h k =
+      subst (λ (t : List ExplainedEntry). AreShownBy words source side old later (moves ++ others) new (t ++ rest)) (sym h.2)
       (subst (λ (m : List Effect). AreShownBy words source side old later (m ++ others) new rest) (sym h.0)
       (subst (λ (s : SessionState). AreShownBy words source side s later others new rest) h.1 k))
-  in_a_row old mid new (event ∷ events) later moves others told rest h k = (
+  in_a_row old mid new (event ∷ events) later moves others reported rest h k = (
     h.0,
     h.1,
     h.2 ++ others,
@@ -77,15 +77,15 @@ module _ (words : List Word) (source : Source) (side : Side) where
     h.6,
     in_a_row h.0 mid new events later h.2 others h.4 rest h.7 k,
     ap (λ (m : List Effect). m ++ others) h.8 ∙ append_assoc h.1 h.2 others,
-    ap (λ (t : List Shown). t ++ rest) h.9 ∙ append_assoc h.3 h.4 rest,
+    ap (λ (t : List ExplainedEntry). t ++ rest) h.9 ∙ append_assoc h.3 h.4 rest,
   )
 
-pub explained_lawful : (words : List Word) → IsLawful words (explained words)
+pub explained_lawful : (words : List Word) → IsWritableForm words (explained words)
 explained_lawful words = record {
   silent = λ source side old new events run. silent words source side old new events run;
-  more = λ source side old mid new events later moves others told rest h k.
-      in_a_row words source side old mid new events later moves others told rest h k;
-  of_line = λ line source event old moves new first told e h.
-      (told, h, ap (λ (t : List Shown). t ++ told) e);
+  more = λ source side old mid new events later moves others reported rest h k.
+      in_a_row words source side old mid new events later moves others reported rest h k;
+  of_line = λ line source event old moves new first reported e h.
+      (reported, h, ap (λ (t : List ExplainedEntry). t ++ reported) e);
   of_head = λ heading has. (refl, has);
 }

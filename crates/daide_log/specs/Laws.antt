@@ -2,12 +2,12 @@
 use Rattle.std.specs.Prelude.{◌≡◌, ◌⊎◌, ℕ, ◌<◌, ◌≤◌, ◌==◌, Bool, false, if◌then◌else◌, List, [], ◌∷◌, ◌++◌, length}
 use Rattle.std.specs.Prelude.{map, codes, Option, Some, None, Ok}
 use Rattle.daide_log.specs.declared.config_line.MatchConfig.{MatchConfig}
-use Rattle.daide_machine.specs.declared.summary.Summary.{Summary}
-use Rattle.daide_lines.specs.LogLine.{IsUnbroken, longest_line, Parted, is_comment, parted_at_space, plain_number}
-use Rattle.daide_lines.specs.LogLine.{without_cr}
+use Rattle.daide_protocol.specs.declared.summary.Summary.{Summary}
+use Rattle.daide_log_lines.specs.LogLine.{IsUnbroken, longest_line, Parted, is_comment, parted_at_space, plain_number}
+use Rattle.daide_log_lines.specs.LogLine.{without_cr}
 use Rattle.daide_log.specs.ConfigLine.{config_of_line, match_config_of_line}
-use Rattle.daide_machine.specs.Summary.{nothing_counted}
-use Rattle.daide_log.specs.Report.{Entry, lines_of, counted_all, summary_line}
+use Rattle.daide_protocol.specs.Summary.{nothing_counted}
+use Rattle.daide_log.specs.Report.{ReportEntry, lines_of, counted_all, summary_line}
 use Rattle.daide_log.specs.Log.{IsReport}
 
 -- ---- the lines of a log
@@ -36,16 +36,16 @@ abbrev pub own_line : ℕ → List ℕ → List ℕ
 own_line session line = if is_comment line then line else own_of session (parted_at_space line)
 
 -- a move of the session, without its number
-abbrev pub unnumbered : Entry → Entry
+abbrev pub unnumbered : ReportEntry → ReportEntry
 unnumbered entry =
-    record { source = record { line = entry.source.line; session = None }; side = entry.side; told = entry.told }
+    record { source = record { line = entry.source.line; session = None }; side = entry.side; reported = entry.reported }
 
 -- what is told of the session
-abbrev pub own_told : ℕ → List Entry → List Entry
-own_told session [] = []
-own_told session (entry ∷ entries) =
-    if is_number session entry.source.session then unnumbered entry ∷ own_told session entries
-    else own_told session entries
+abbrev pub own_reported : ℕ → List ReportEntry → List ReportEntry
+own_reported session [] = []
+own_reported session (entry ∷ entries) =
+    if is_number session entry.source.session then unnumbered entry ∷ own_reported session entries
+    else own_reported session entries
 
 -- ---- the law
 
@@ -60,7 +60,7 @@ SessionsAreAlone =
     0 < session → session ≤ limits.sessions →
     IsLines own (codes "daide-log 1" ∷ own_second ∷ map (own_line session) lines) →
     config_of_line own_second ≡ Some limits.config → IsReport log text (Ok summary) →
-    (told : List Entry) × (text ≡ lines_of told ++ summary_line summary)
+    (reported : List ReportEntry) × (text ≡ lines_of reported ++ summary_line summary)
     × IsReport own
-    (lines_of (own_told session told) ++ summary_line (counted_all (own_told session told) nothing_counted))
-    (Ok (counted_all (own_told session told) nothing_counted))
+    (lines_of (own_reported session reported) ++ summary_line (counted_all (own_reported session reported) nothing_counted))
+    (Ok (counted_all (own_reported session reported) nothing_counted))

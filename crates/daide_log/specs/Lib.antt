@@ -1,9 +1,9 @@
 pub mod ConfigLine
 pub mod Heading
-pub mod Held
+pub mod PreambleKnown
 pub mod Report
-pub mod Form
-pub mod Told
+pub mod ReportForm
+pub mod Reporting
 pub mod Log
 pub mod Progress
 pub mod Explained

@@ -2,21 +2,21 @@
 -- each answer taken at once. docs/FORMATS.md, "The log" and "The log, version 2". (own)
 use Rattle.std.specs.Prelude.{◌≡◌, ⊤, ℕ, false, ◌+◌, ◌-◌, ◌<◌, ◌≤◌, if◌then◌else◌, List, [], ◌∷◌, ◌++◌, length}
 use Rattle.std.specs.Prelude.{replicate, slice_get, slice_set, Option, Some, None, option_map, Result, Ok, Err}
-use Rattle.daide_machine.specs.Machine.{SessionState, Effect, Runs, opening}
-use Rattle.daide_machine.specs.Config.{limits_with}
+use Rattle.daide_protocol.specs.Machine.{SessionState, Effect, Runs, initial_state}
+use Rattle.daide_protocol.specs.Config.{limits_with}
 use Rattle.daide_log.specs.declared.heading.Version.{Version}
 use Rattle.daide_log.specs.declared.heading.Version.TheVariants.{Single, Match}
-use Rattle.daide_log.specs.declared.report.Source.{Source}
-use Rattle.daide_machine.specs.declared.summary.Summary.{Summary}
-use Rattle.daide_lines.specs.declared.fault.LogFault.{LogFault}
-use Rattle.daide_lines.specs.declared.fault.LogFault.TheVariants.{BadLine, LineTooLong, TooManyLines}
-use Rattle.daide_lines.specs.LogLine.{IsUnbroken, most_lines, longest_line, event_of_line, without_cr}
-use Rattle.daide_lines.specs.MatchLine.{MatchEvent, Of, Quiet, match_event_of_line}
-use Rattle.daide_log.specs.Heading.{Preamble, Heading, Unnamed, Named, Headed, heading_after, is_whole}
-use Rattle.daide_lines.specs.LogLine.{LogEvent}
-use Rattle.daide_log.specs.Form.{Form}
-use Rattle.daide_log.specs.Report.{Entry, events_of, side_of, entries_of, move_line, texts_of, counted_by, summary_line}
-use Rattle.daide_machine.specs.Summary.{counted, nothing_counted}
+use Rattle.daide_log.specs.declared.report.ReportKey.{ReportKey}
+use Rattle.daide_protocol.specs.declared.summary.Summary.{Summary}
+use Rattle.daide_log_lines.specs.declared.fault.LogFault.{LogFault}
+use Rattle.daide_log_lines.specs.declared.fault.LogFault.TheVariants.{BadLine, LineTooLong, TooManyLines}
+use Rattle.daide_log_lines.specs.LogLine.{IsUnbroken, most_lines, longest_line, event_of_line, without_cr}
+use Rattle.daide_log_lines.specs.MatchLine.{MatchEvent, Of, Quiet, match_event_of_line}
+use Rattle.daide_log.specs.Heading.{Preamble, Heading, Unnamed, Named, Headed, heading_after, has_all_words}
+use Rattle.daide_log_lines.specs.LogLine.{LogEvent}
+use Rattle.daide_log.specs.ReportForm.{ReportForm}
+use Rattle.daide_log.specs.Report.{ReportEntry, events_of_line, side_of, entries_of, move_line, texts_of, counted_over, summary_line}
+use Rattle.daide_protocol.specs.Summary.{count_note, nothing_counted}
 
 -- ---- events
 
@@ -26,37 +26,37 @@ event_in Single sessions line = option_map (Of 1) (event_of_line line)
 event_in Match sessions line = match_event_of_line sessions line
 
 -- what the report names of a move: the line, and in version 2 the session
-abbrev pub source_in : Version → ℕ → ℕ → Source
+abbrev pub source_in : Version → ℕ → ℕ → ReportKey
 source_in Single line session = record { line = line; session = None }
 source_in Match line session = record { line = line; session = Some session }
 
 -- by what the line of this number tells the session of that number goes on, and no other does; its moves are told
 abbrev pub IsPlayedAs : {E : Type 0} → (List E → Type 0) →
-    (Source → LogEvent → SessionState → List Effect → SessionState → List E → Type 0) →
+    (ReportKey → LogEvent → SessionState → List Effect → SessionState → List E → Type 0) →
     Version → ℕ → MatchEvent → List SessionState → List E → List SessionState → Type 0
-IsPlayedAs quiet tells version line Quiet old told new = quiet told × (new ≡ old)
-IsPlayedAs quiet tells version line (Of session event) old told new =
+IsPlayedAs quiet tells version line Quiet old reported new = quiet reported × (new ≡ old)
+IsPlayedAs quiet tells version line (Of session event) old reported new =
     (before : SessionState) × (after : SessionState) × (moves : List Effect)
-    × (slice_get old (session - 1) ≡ Some before) × Runs before (events_of event) moves after
-    × tells (source_in version line session) event before moves after told
+    × (slice_get old (session - 1) ≡ Some before) × Runs before (events_of_line event) moves after
+    × tells (source_in version line session) event before moves after reported
     × (new ≡ slice_set old (session - 1) after)
 
 -- in the plain report a line that tells nothing has no entry, and each move has one
-abbrev pub IsPlayed : Version → ℕ → MatchEvent → List SessionState → List Entry → List SessionState → Type 0
+abbrev pub IsPlayed : Version → ℕ → MatchEvent → List SessionState → List ReportEntry → List SessionState → Type 0
 IsPlayed =
-    IsPlayedAs (λ told. told ≡ [])
-    (λ source event before moves after told. told ≡ entries_of source (side_of event) moves)
+    IsPlayedAs (λ reported. reported ≡ [])
+    (λ source event before moves after reported. reported ≡ entries_of source (side_of event) moves)
 
 -- the plain report
-abbrev pub plain : Form Summary
+abbrev pub plain : ReportForm Summary
 plain = record {
-  Entry = Entry;
-  text = λ entry. move_line entry.source entry.side entry.told;
-  counted = λ entry before. counted entry.told before;
-  tells = λ source side before events moves after told. told ≡ entries_of source side moves;
-  line = λ line source event before moves after told. told ≡ entries_of source (side_of event) moves;
-  quiet = λ line told. told ≡ [];
-  opens = λ heading told. told ≡ [];
+  Entry = ReportEntry;
+  text = λ entry. move_line entry.source entry.side entry.reported;
+  counted = λ entry before. count_note entry.reported before;
+  tells = λ source side before events moves after reported. reported ≡ entries_of source side moves;
+  line = λ line source event before moves after reported. reported ≡ entries_of source (side_of event) moves;
+  quiet = λ line reported. reported ≡ [];
+  opens = λ heading reported. reported ≡ [];
   closing = λ version sessions. [];
   answer = λ summary version sessions. summary;
   late = false;
@@ -70,28 +70,28 @@ pub data LogState : Type 0 where
   Playing : (version : Version) → (sessions : List SessionState) → LogState  -- all did, and what the sessions are since
 
 -- the sessions begin where the head is whole
-abbrev pub begun : Preamble → LogState
-begun head =
-    Playing head.version (replicate head.limits.sessions (opening (limits_with head.limits.config head.words)))
+abbrev pub state_after_preamble : Preamble → LogState
+state_after_preamble head =
+    Playing head.version (replicate head.limits.sessions (initial_state (limits_with head.limits.config head.words)))
 
 abbrev pub stage_at : Heading → LogState
 stage_at Unnamed = Opening Unnamed
 stage_at (Named version) = Opening (Named version)
-stage_at (Headed head) = if is_whole head then begun head else Opening (Headed head)
+stage_at (Headed head) = if has_all_words head then state_after_preamble head else Opening (Headed head)
 
 -- by the line of this number a log goes on, with these entries
-abbrev pub GoesOnBy : {Answer : Type 0} → (form : Form Answer) → ℕ → LogState → List ℕ → List form.Entry → LogState →
+abbrev pub GoesOnBy : {Answer : Type 0} → (form : ReportForm Answer) → ℕ → LogState → List ℕ → List form.Entry → LogState →
     Type 0
-GoesOnBy form number (Opening old) line told new =
-    (heading : Heading) × (heading_after old line ≡ Some heading) × form.opens heading told × (new ≡ stage_at heading)
-GoesOnBy form number (Playing version old) line told new =
+GoesOnBy form number (Opening old) line reported new =
+    (heading : Heading) × (heading_after old line ≡ Some heading) × form.opens heading reported × (new ≡ stage_at heading)
+GoesOnBy form number (Playing version old) line reported new =
     (event : MatchEvent) × (event_in version (length old) line ≡ Some event)
     × (sessions : List SessionState)
-    × IsPlayedAs (form.quiet line) (form.line line) version number event old told sessions
+    × IsPlayedAs (form.quiet line) (form.line line) version number event old reported sessions
     × (new ≡ Playing version sessions)
 
-abbrev pub GoesOn : ℕ → LogState → List ℕ → List Entry → LogState → Type 0
-GoesOn = GoesOnBy plain
+abbrev pub AdvancesByLine : ℕ → LogState → List ℕ → List ReportEntry → LogState → Type 0
+AdvancesByLine = GoesOnBy plain
 
 -- the line is not of a form that may stand here
 abbrev pub IsBad : LogState → List ℕ → Type 0
@@ -105,59 +105,59 @@ IsOpening (Playing version sessions) = ⊥
 
 -- ---- the lines
 
-module _ {Answer : Type 0} (form : Form Answer) where
+module _ {Answer : Type 0} (form : ReportForm Answer) where
   -- These bytes are so many lines, each with its line feed, and these are the moves that are told of them.
   pub data ReportsBy : List ℕ → ℕ → List form.Entry → LogState → Type 0 where
     none : ReportsBy [] 0 [] (Opening Unnamed)
-    line : (bytes : List ℕ) (number : ℕ) (told : List form.Entry) (old : LogState) → ReportsBy bytes number told old →
+    line : (bytes : List ℕ) (number : ℕ) (reported : List form.Entry) (old : LogState) → ReportsBy bytes number reported old →
         (line : List ℕ) (more : List form.Entry) (new : LogState) →
         number < most_lines → IsUnbroken line → length line ≤ longest_line →
         GoesOnBy form (number + 1) old (without_cr line) more new →
-        ReportsBy (bytes ++ line ++ 10 ∷ []) (number + 1) (told ++ more) new
+        ReportsBy (bytes ++ line ++ 10 ∷ []) (number + 1) (reported ++ more) new
 
   -- the same of all lines of a log, of which the last may lack its line feed
   pub data ReportsAllBy : List ℕ → ℕ → List form.Entry → LogState → Type 0 where
-    ended : (bytes : List ℕ) (number : ℕ) (told : List form.Entry) (stage : LogState) → ReportsBy bytes number told stage →
-        ReportsAllBy bytes number told stage
-    unended : (bytes : List ℕ) (number : ℕ) (told : List form.Entry) (old : LogState) → ReportsBy bytes number told old →
+    ended : (bytes : List ℕ) (number : ℕ) (reported : List form.Entry) (stage : LogState) → ReportsBy bytes number reported stage →
+        ReportsAllBy bytes number reported stage
+    unended : (bytes : List ℕ) (number : ℕ) (reported : List form.Entry) (old : LogState) → ReportsBy bytes number reported old →
         (line : List ℕ) (more : List form.Entry) (new : LogState) →
         number < most_lines → 0 < length line → IsUnbroken line → length line ≤ longest_line →
-        GoesOnBy form (number + 1) old line more new → ReportsAllBy (bytes ++ line) (number + 1) (told ++ more) new
+        GoesOnBy form (number + 1) old line more new → ReportsAllBy (bytes ++ line) (number + 1) (reported ++ more) new
 
   -- ---- the whole log
 
   -- What is written for a log, and what it is answered: the counts, or the first fault, which comes after the report of
   -- the lines before it.
   pub data IsReportBy : List ℕ → List ℕ → Result Answer LogFault → Type 0 where
-    whole : (log : List ℕ) (number : ℕ) (told : List form.Entry) (version : Version) (sessions : List SessionState) →
-        ReportsAllBy log number told (Playing version sessions) →
-        IsReportBy log (texts_of form.text told
-        ++ (form.closing version sessions ++ summary_line (counted_by form.counted told nothing_counted)))
-        (Ok (form.answer (counted_by form.counted told nothing_counted) version sessions))
+    whole : (log : List ℕ) (number : ℕ) (reported : List form.Entry) (version : Version) (sessions : List SessionState) →
+        ReportsAllBy log number reported (Playing version sessions) →
+        IsReportBy log (texts_of form.text reported
+        ++ (form.closing version sessions ++ summary_line (counted_over form.counted reported nothing_counted)))
+        (Ok (form.answer (counted_over form.counted reported nothing_counted) version sessions))
     -- the log ends before its head does
-    cut_short : (log : List ℕ) (number : ℕ) (told : List form.Entry) (stage : LogState) → ReportsAllBy log number told stage →
-        IsOpening stage → IsReportBy log (texts_of form.text told) (Err (BadLine (number + 1)))
+    cut_short : (log : List ℕ) (number : ℕ) (reported : List form.Entry) (stage : LogState) → ReportsAllBy log number reported stage →
+        IsOpening stage → IsReportBy log (texts_of form.text reported) (Err (BadLine (number + 1)))
     -- a line of another form, with its line feed
-    bad : (bytes : List ℕ) (number : ℕ) (told : List form.Entry) (stage : LogState) → ReportsBy bytes number told stage →
+    bad : (bytes : List ℕ) (number : ℕ) (reported : List form.Entry) (stage : LogState) → ReportsBy bytes number reported stage →
         (line after : List ℕ) → number < most_lines → IsUnbroken line → length line ≤ longest_line →
         IsBad stage (without_cr line) →
-        IsReportBy (bytes ++ line ++ 10 ∷ after) (texts_of form.text told) (Err (BadLine (number + 1)))
+        IsReportBy (bytes ++ line ++ 10 ∷ after) (texts_of form.text reported) (Err (BadLine (number + 1)))
     -- or without one
-    bad_last : (bytes : List ℕ) (number : ℕ) (told : List form.Entry) (stage : LogState) → ReportsBy bytes number told stage →
+    bad_last : (bytes : List ℕ) (number : ℕ) (reported : List form.Entry) (stage : LogState) → ReportsBy bytes number reported stage →
         (line : List ℕ) → number < most_lines → 0 < length line → IsUnbroken line → length line ≤ longest_line →
-        IsBad stage line → IsReportBy (bytes ++ line) (texts_of form.text told) (Err (BadLine (number + 1)))
-    too_long : (bytes : List ℕ) (number : ℕ) (told : List form.Entry) (stage : LogState) → ReportsBy bytes number told stage →
+        IsBad stage line → IsReportBy (bytes ++ line) (texts_of form.text reported) (Err (BadLine (number + 1)))
+    too_long : (bytes : List ℕ) (number : ℕ) (reported : List form.Entry) (stage : LogState) → ReportsBy bytes number reported stage →
         (line after : List ℕ) → number < most_lines → IsUnbroken line → longest_line < length line →
-        IsReportBy (bytes ++ line ++ after) (texts_of form.text told) (Err (LineTooLong (number + 1)))
-    too_many : (bytes : List ℕ) (told : List form.Entry) (stage : LogState) → ReportsBy bytes most_lines told stage →
-        (after : List ℕ) → 0 < length after → IsReportBy (bytes ++ after) (texts_of form.text told) (Err TooManyLines)
+        IsReportBy (bytes ++ line ++ after) (texts_of form.text reported) (Err (LineTooLong (number + 1)))
+    too_many : (bytes : List ℕ) (reported : List form.Entry) (stage : LogState) → ReportsBy bytes most_lines reported stage →
+        (after : List ℕ) → 0 < length after → IsReportBy (bytes ++ after) (texts_of form.text reported) (Err TooManyLines)
 
 -- ---- the plain report
 
-abbrev pub Reports : List ℕ → ℕ → List Entry → LogState → Type 0
+abbrev pub Reports : List ℕ → ℕ → List ReportEntry → LogState → Type 0
 Reports = ReportsBy plain
 
-abbrev pub ReportsAll : List ℕ → ℕ → List Entry → LogState → Type 0
+abbrev pub ReportsAll : List ℕ → ℕ → List ReportEntry → LogState → Type 0
 ReportsAll = ReportsAllBy plain
 
 abbrev pub IsReport : List ℕ → List ℕ → Result Summary LogFault → Type 0

@@ -3,33 +3,33 @@ use Rattle.std.specs.Prelude.{◌≡◌, ℕ, ◌+◌, ◌<◌, ◌≤◌, ◌�
 use Rattle.std.specs.Prelude.{Option, IfSome, IfOk, IfErr, Result, Ok, Err}
 use Rattle.std.specs.Bool.{MatchBool}
 use Rattle.std.specs.Io.KnownBytes.{Keeps, Appends, IsAtEnd}
-use Rattle.daide_lines.specs.Reader.{Reader, Gives}
-use Rattle.daide_machine.specs.Machine.{SessionState}
-use Rattle.daide_machine.specs.Wires.{SessionView}
-use Rattle.daide_machine.specs.declared.summary.Summary.{Summary}
-use Rattle.daide_lines.specs.declared.fault.LogFault.{LogFault}
-use Rattle.daide_lines.specs.declared.fault.LogFault.TheVariants.{BadLine, LineTooLong, TooManyLines}
-use Rattle.daide_lines.specs.declared.fault.LogFault.TheVariants.{Read, Write, Memory}
+use Rattle.daide_log_lines.specs.Reader.{Reader, Gives}
+use Rattle.daide_protocol.specs.Machine.{SessionState}
+use Rattle.daide_protocol.specs.Wires.{SessionView}
+use Rattle.daide_protocol.specs.declared.summary.Summary.{Summary}
+use Rattle.daide_log_lines.specs.declared.fault.LogFault.{LogFault}
+use Rattle.daide_log_lines.specs.declared.fault.LogFault.TheVariants.{BadLine, LineTooLong, TooManyLines}
+use Rattle.daide_log_lines.specs.declared.fault.LogFault.TheVariants.{Read, Write, Memory}
 use Rattle.daide_log.specs.declared.heading.Version.{Version}
 use Rattle.daide_log.specs.declared.opening.Opened.{Opened}
 use Rattle.daide_log.specs.declared.opening.PreambleProgress.{PreambleProgress}
 use Rattle.daide_log.specs.declared.opening.PreambleProgress.TheVariants as Steps
 use Rattle.daide_log.specs.Heading.{Preamble}
-use Rattle.daide_log.specs.Held.{head_of, heading_of}
-use Rattle.daide_machine.specs.Summary.{nothing_counted}
+use Rattle.daide_log.specs.PreambleKnown.{preamble_of, heading_of}
+use Rattle.daide_protocol.specs.Summary.{nothing_counted}
 use Rattle.daide_words.specs.declared.word.Word.{Word}
 use Rattle.daide_words.specs.Words.{words_of}
-use Rattle.daide_log.specs.Form.{Form}
-use Rattle.daide_log.specs.Report.{texts_of, counted_by, summary_line}
-use Rattle.daide_log.specs.Log.{LogState, Opening, Playing, begun, plain, GoesOnBy, ReportsBy, ReportsAllBy, IsReport, IsReportBy}
-use Rattle.daide_lines.specs.LogLine.{IsUnbroken, MayBeginLine, longest_line, most_lines}
-use Rattle.daide_lines.specs.Lines.{block_size}
+use Rattle.daide_log.specs.ReportForm.{ReportForm}
+use Rattle.daide_log.specs.Report.{texts_of, counted_over, summary_line}
+use Rattle.daide_log.specs.Log.{LogState, Opening, Playing, state_after_preamble, plain, GoesOnBy, ReportsBy, ReportsAllBy, IsReport, IsReportBy}
+use Rattle.daide_log_lines.specs.LogLine.{IsUnbroken, MayBeginLine, longest_line, most_lines}
+use Rattle.daide_log_lines.specs.Lines.{block_size}
 
 -- what the sessions are
 abbrev pub states_of : List SessionView → List SessionState
 states_of sessions = map (λ session. session.state) sessions
 
-module _ {Answer : Type 0} (form : Form Answer) where
+module _ {Answer : Type 0} (form : ReportForm Answer) where
   -- A read in time: what came before it is so many whole lines, whose report is all that the writer has by then behind what
   -- it had at first, and bytes with which the next line may begin.
   pub record IsInTime (before : Option (List ℕ)) (came : List ℕ) (written : Option (List ℕ)) : Type 0 where
@@ -37,35 +37,35 @@ module _ {Answer : Type 0} (form : Form Answer) where
     pub line : List ℕ
     pub whole : came ≡ bytes ++ line
     pub number : ℕ
-    pub told : List form.Entry
+    pub reported : List form.Entry
     pub stage : LogState
-    pub reports : ReportsBy form bytes number told stage
+    pub reports : ReportsBy form bytes number reported stage
     pub begun : MayBeginLine number line
-    pub reported : Appends before written (texts_of form.text told)
+    pub appended : Appends before written (texts_of form.text reported)
 
   -- The reader gave these bytes, by reads in time.
   abbrev pub GivesInTime : Option (List ℕ) → Reader → Reader → List ℕ → Type 0
   GivesInTime before old new given = Gives (IsInTime before) old new given
 
   -- These lines of what was read are reported, and these bytes are held.
-  pub record HasRead (before : Option (List ℕ)) (old new : Reader) (held : List ℕ) (number : ℕ) (told : List form.Entry)
+  pub record HasRead (before : Option (List ℕ)) (old new : Reader) (held : List ℕ) (number : ℕ) (reported : List form.Entry)
       (stage : LogState) : Type 0 where
     pub given : List ℕ
     pub gives : GivesInTime before old new given
     pub bytes : List ℕ
     pub whole : given ≡ bytes ++ held
-    pub reports : ReportsBy form bytes number told stage
+    pub reports : ReportsBy form bytes number reported stage
 
   -- All lines are reported, and nothing is left.
-  pub record HasReadAll (before : Option (List ℕ)) (old new : Reader) (number : ℕ) (told : List form.Entry) (stage : LogState) :
+  pub record HasReadAll (before : Option (List ℕ)) (old new : Reader) (number : ℕ) (reported : List form.Entry) (stage : LogState) :
       Type 0 where
     pub given : List ℕ
     pub gives : GivesInTime before old new given
     pub ended : IsAtEnd new.remaining
-    pub reports : ReportsAllBy form given number told stage
+    pub reports : ReportsAllBy form given number reported stage
 
   -- The reader failed within a line, after these were reported.
-  pub record IsReadTo (before : Option (List ℕ)) (old new : Reader) (told : List form.Entry) : Type 0 where
+  pub record IsReadTo (before : Option (List ℕ)) (old new : Reader) (reported : List form.Entry) : Type 0 where
     pub given : List ℕ
     pub gives : GivesInTime before old new given
     pub bytes : List ℕ
@@ -73,11 +73,11 @@ module _ {Answer : Type 0} (form : Form Answer) where
     pub whole : given ≡ bytes ++ line
     pub number : ℕ
     pub stage : LogState
-    pub reports : ReportsBy form bytes number told stage
+    pub reports : ReportsBy form bytes number reported stage
     pub begun : MayBeginLine number line
 
   -- What was read: so many lines with this report, so many bytes of the next line, and less than a block behind these.
-  pub record StopsBehind (before : Option (List ℕ)) (old new : Reader) (told : List form.Entry) (number count : ℕ) : Type 0 where
+  pub record StopsBehind (before : Option (List ℕ)) (old new : Reader) (reported : List form.Entry) (number count : ℕ) : Type 0 where
     pub given : List ℕ
     pub gives : GivesInTime before old new given
     pub bytes : List ℕ
@@ -87,11 +87,11 @@ module _ {Answer : Type 0} (form : Form Answer) where
     pub started : length start ≡ count
     pub few : length beyond < block_size
     pub stage : LogState
-    pub reports : ReportsBy form bytes number told stage
+    pub reports : ReportsBy form bytes number reported stage
 
   -- What was read: the lines before the one of this number, with this report, that line with its line feed, and less than a
   -- block behind it.
-  pub record StopsBehindLine (before : Option (List ℕ)) (old new : Reader) (told : List form.Entry) (n : ℕ) : Type 0 where
+  pub record StopsBehindLine (before : Option (List ℕ)) (old new : Reader) (reported : List form.Entry) (n : ℕ) : Type 0 where
     pub given : List ℕ
     pub gives : GivesInTime before old new given
     pub bytes : List ℕ
@@ -103,11 +103,11 @@ module _ {Answer : Type 0} (form : Form Answer) where
     pub number : ℕ
     pub next : n ≡ number + 1
     pub stage : LogState
-    pub reports : ReportsBy form bytes number told stage
+    pub reports : ReportsBy form bytes number reported stage
 
   -- All of the log was read: the lines before the one of this number, with this report, and that line, which no line feed
   -- ends.
-  pub record StopsAtLastLine (before : Option (List ℕ)) (old new : Reader) (told : List form.Entry) (n : ℕ) : Type 0 where
+  pub record StopsAtLastLine (before : Option (List ℕ)) (old new : Reader) (reported : List form.Entry) (n : ℕ) : Type 0 where
     pub given : List ℕ
     pub gives : GivesInTime before old new given
     pub ended : IsAtEnd new.remaining
@@ -118,53 +118,53 @@ module _ {Answer : Type 0} (form : Form Answer) where
     pub number : ℕ
     pub next : n ≡ number + 1
     pub stage : LogState
-    pub reports : ReportsBy form bytes number told stage
+    pub reports : ReportsBy form bytes number reported stage
 
   -- All of the log was read, and it has no line of this number, but all before it.
   abbrev pub StopsBefore : Option (List ℕ) → Reader → Reader → List form.Entry → ℕ → Type 0
-  StopsBefore before old new told n =
-      (number : ℕ) × (stage : LogState) × (n ≡ number + 1) × HasReadAll before old new number told stage
+  StopsBefore before old new reported n =
+      (number : ℕ) × (stage : LogState) × (n ≡ number + 1) × HasReadAll before old new number reported stage
 
   -- How far was read where the line of this number has none of the forms that it may have, or is missing: less than a block
   -- behind its line feed, or to its end where the log ends with it, or to the end of a log without it.
   abbrev pub StopsAtLine : Option (List ℕ) → Reader → Reader → List form.Entry → ℕ → Type 0
-  StopsAtLine before old new told n =
-      StopsBehindLine before old new told n
-      ⊎ (StopsAtLastLine before old new told n ⊎ StopsBefore before old new told n)
+  StopsAtLine before old new reported n =
+      StopsBehindLine before old new reported n
+      ⊎ (StopsAtLastLine before old new reported n ⊎ StopsBefore before old new reported n)
 
   -- The log has this fault, with these moves told before it. Behind the byte that shows it less than a block was read, and no
   -- read was begun: it is the line feed of a line of another form, the byte that makes a line too long, or the first byte of
   -- one line too many. A log whose last line is of another form, or that ends before its head does, was read to its end.
   abbrev pub IsFaultOf : Option (List ℕ) → Reader → Reader → List form.Entry → LogFault → Type 0
-  IsFaultOf before old new told (BadLine n) =
-      IfSome old.remaining (λ log. IsReportBy form log (texts_of form.text told) (Err (BadLine n))) × StopsAtLine before old new told n
-  IsFaultOf before old new told (LineTooLong n) =
-      IfSome old.remaining (λ log. IsReportBy form log (texts_of form.text told) (Err (LineTooLong n))) × (number : ℕ)
-      × (n ≡ number + 1) × StopsBehind before old new told number (longest_line + 1)
-  IsFaultOf before old new told TooManyLines =
-      IfSome old.remaining (λ log. IsReportBy form log (texts_of form.text told) (Err TooManyLines))
-      × StopsBehind before old new told most_lines 1
-  IsFaultOf before old new told Read = IsReadTo before old new told
-  IsFaultOf before old new told Write = (given : List ℕ) × GivesInTime before old new given
-  IsFaultOf before old new told Memory = ⊥
+  IsFaultOf before old new reported (BadLine n) =
+      IfSome old.remaining (λ log. IsReportBy form log (texts_of form.text reported) (Err (BadLine n))) × StopsAtLine before old new reported n
+  IsFaultOf before old new reported (LineTooLong n) =
+      IfSome old.remaining (λ log. IsReportBy form log (texts_of form.text reported) (Err (LineTooLong n))) × (number : ℕ)
+      × (n ≡ number + 1) × StopsBehind before old new reported number (longest_line + 1)
+  IsFaultOf before old new reported TooManyLines =
+      IfSome old.remaining (λ log. IsReportBy form log (texts_of form.text reported) (Err TooManyLines))
+      × StopsBehind before old new reported most_lines 1
+  IsFaultOf before old new reported Read = IsReadTo before old new reported
+  IsFaultOf before old new reported Write = (given : List ℕ) × GivesInTime before old new given
+  IsFaultOf before old new reported Memory = ⊥
 
   -- ---- the head
 
   abbrev pub IsOpenedBy : Bool → Preamble → ℕ → Option (List ℕ) → Reader → Reader → List ℕ → Type 0
-  IsOpenedBy true head lines before old new held = HasRead before old new held lines [] (begun head)
-  IsOpenedBy false head lines before old new held = HasReadAll before old new lines [] (begun head)
+  IsOpenedBy true head lines before old new held = HasRead before old new held lines [] (state_after_preamble head)
+  IsOpenedBy false head lines before old new held = HasReadAll before old new lines [] (state_after_preamble head)
 
   -- the head was read, its last line with its line feed or without
   abbrev pub IsOpened : Opened → Option (List ℕ) → Reader → Reader → List ℕ → Type 0
   IsOpened opened before old new held =
-      IsOpenedBy opened.is_ended (head_of opened.head) opened.lines before old new held × (opened.lines ≤ most_lines)
+      IsOpenedBy opened.is_ended (preamble_of opened.head) opened.lines before old new held × (opened.lines ≤ most_lines)
 
   -- ---- faults
 
   -- the report before a fault was written
   abbrev pub IsFaultBehind : Reader → Reader → Option (List ℕ) → Option (List ℕ) → LogFault → Type 0
   IsFaultBehind old new before after fault =
-      (told : List form.Entry) × IsFaultOf before old new told fault × Appends before after (texts_of form.text told)
+      (reported : List form.Entry) × IsFaultOf before old new reported fault × Appends before after (texts_of form.text reported)
 
   -- What is known at each fault: the log has it, and the report before it was written; of a failed write nothing is said but
   -- that each read was made in time. Memory is refused after the head alone, with nothing written; or else, in a form that
@@ -188,25 +188,25 @@ module _ {Answer : Type 0} (form : Form Answer) where
   -- ---- the events
 
   -- The lines of the head were read, which are so many, and none of the report is written but what was there before.
-  abbrev pub Begins : Reader → List ℕ → ℕ → Version → List SessionState → Option (List ℕ) → Reader → Option (List ℕ) →
+  abbrev pub StartsReport : Reader → List ℕ → ℕ → Version → List SessionState → Option (List ℕ) → Reader → Option (List ℕ) →
       Type 0
-  Begins now held number version states all origin before =
+  StartsReport now held number version states all origin before =
       HasRead before origin now held number [] (Playing version states) × Keeps before all
 
   -- By a line behind the head the sessions go on; the moves that are told of it are counted, and their lines written.
   abbrev pub Judges : Version → ℕ → List SessionState → List ℕ → List SessionState → Summary → Summary →
       Option (List ℕ) → Option (List ℕ) → Type 0
   Judges version number old line new before after written_before written_after =
-      (told : List form.Entry) × GoesOnBy form number (Playing version old) line told (Playing version new)
-      × (after ≡ counted_by form.counted told before) × Appends written_before written_after (texts_of form.text told)
+      (reported : List form.Entry) × GoesOnBy form number (Playing version old) line reported (Playing version new)
+      × (after ≡ counted_over form.counted reported before) × Appends written_before written_after (texts_of form.text reported)
 
   -- between two lines behind the head
   pub record IsPlaying (old new : Reader) (held : List ℕ) (number : ℕ) (version : Version)
       (sessions : List SessionState) (summary : Summary) (before after : Option (List ℕ)) : Type 0 where
-    pub told : List form.Entry
-    pub has_read : HasRead before old new held number told (Playing version sessions)
-    pub counts : summary ≡ counted_by form.counted told nothing_counted
-    pub written : Appends before after (texts_of form.text told)
+    pub reported : List form.Entry
+    pub has_read : HasRead before old new held number reported (Playing version sessions)
+    pub counts : summary ≡ counted_over form.counted reported nothing_counted
+    pub written : Appends before after (texts_of form.text reported)
 
   -- what follows all moves was written, and this is the answer
   abbrev pub IsFinished : Version → List SessionState → Summary → Option (List ℕ) → Option (List ℕ) → Answer → Type 0
@@ -223,7 +223,7 @@ module _ {Answer : Type 0} (form : Form Answer) where
 -- ---- the head, by the words that it has
 
 -- behind so many lines of the head one more was read
-abbrev pub IsPreambleProgress : {Answer : Type 0} → (List Word → Form Answer) → Option (List ℕ) → Reader → Reader → List ℕ → ℕ → Result PreambleProgress LogFault → Type 0
+abbrev pub IsPreambleProgress : {Answer : Type 0} → (List Word → ReportForm Answer) → Option (List ℕ) → Reader → Reader → List ℕ → ℕ → Result PreambleProgress LogFault → Type 0
 IsPreambleProgress form before old new held number (Ok (Steps.More heading)) =
     ((words : List Word) → HasRead (form words) before old new held (number + 1) [] (Opening (heading_of heading)))
     × (number < most_lines)
@@ -233,7 +233,7 @@ IsPreambleProgress form before old new held number (Err fault) =
     (words : List Word) → IsFaultOf (form words) before old new [] fault
 
 -- all lines of the head were read
-abbrev pub AreOpened : {Answer : Type 0} → (List Word → Form Answer) → Option (List ℕ) → Reader → Reader → List ℕ → Result Opened LogFault → Type 0
+abbrev pub AreOpened : {Answer : Type 0} → (List Word → ReportForm Answer) → Option (List ℕ) → Reader → Reader → List ℕ → Result Opened LogFault → Type 0
 AreOpened form before old new held (Ok opened) =
     IsOpened (form (words_of opened.head.words)) opened before old new held
 AreOpened form before old new held (Err fault) =

@@ -6,16 +6,16 @@ use Rattle.daide_frame.specs.declared.side.Side.{Side}
 use Rattle.daide_frame.specs.declared.side.Side.TheVariants.{Bot}
 use Rattle.daide_words.specs.declared.word.Word.{Word}
 use Rattle.daide_words.specs.Accepted.{are_accepted}
-use Rattle.daide_machine.specs.declared.config.Config.{Config}
-use Rattle.daide_machine.specs.declared.note.Note.{Note}
-use Rattle.daide_machine.specs.Config.{config_fault, limits_with}
-use Rattle.daide_machine.specs.Machine.{SessionState, Effect, Runs, opening}
-use Rattle.daide_machine.specs.Ports.{PortAnswer, TurnBegins, Clock, Pulled, Offered, event_of, events_of, BecomesBy}
-use Rattle.daide_lines.specs.LogLine.{most_lines}
+use Rattle.daide_protocol.specs.declared.config.Config.{Config}
+use Rattle.daide_protocol.specs.declared.note.Note.{Note}
+use Rattle.daide_protocol.specs.Config.{config_fault, limits_with}
+use Rattle.daide_protocol.specs.Machine.{SessionState, Effect, Runs, initial_state}
+use Rattle.daide_protocol.specs.Ports.{PortCall, TurnBegins, Clock, Pulled, Offered, event_of, events_of, EvolvesBy}
+use Rattle.daide_log_lines.specs.LogLine.{most_lines}
 use Rattle.daide_log.specs.declared.heading.Version.TheVariants.{Match}
 use Rattle.daide_log.specs.declared.record.RecordEnd.TheVariants.{Whole, Failed, Full}
-use Rattle.daide_log.specs.Report.{Entry, entries_of, lines_of, counted_all, summary_line}
-use Rattle.daide_machine.specs.Summary.{nothing_counted, reduced, tallied}
+use Rattle.daide_log.specs.Report.{ReportEntry, entries_of, lines_of, counted_all, summary_line}
+use Rattle.daide_protocol.specs.Summary.{nothing_counted, reduced, tallied}
 use Rattle.daide_log.specs.Log.{source_in, IsReport}
 use Rattle.daide_log.specs.RecordText.{count_of_answer, record_text, record_count, head_text, head_count}
 use Rattle.daide_log.specs.Recording.{Written, Recorded, Records, IsPiece}
@@ -23,27 +23,27 @@ use Rattle.daide_log.specs.Recording.{Written, Recorded, Records, IsPiece}
 -- ---- moves, by the answers that made them
 
 -- whose an answer is; the timer is that of the bot's first message
-abbrev pub side_of_answer : PortAnswer → Side
+abbrev pub side_of_answer : PortCall → Side
 side_of_answer TurnBegins = Bot
-side_of_answer (Clock popped) = Bot
+side_of_answer (Clock im_timer_expired) = Bot
 side_of_answer (Pulled side buffer pull bytes) = side
 side_of_answer (Offered side bytes put) = side
 
 -- By these answers, which follow so many lines, the session goes from old to new; and these are its moves, each under the
 -- number of the line of its answer, and under number 1 for the session.
-abbrev pub TellsBy : ℕ → SessionState → List PortAnswer → List Entry → SessionState → Type 0
-TellsBy lines old [] told new = (told ≡ []) × (new ≡ old)
-TellsBy lines old (answer ∷ answers) told new =
-    (mid : SessionState) × (moves : List Effect) × (later : List Entry)
+abbrev pub TellsBy : ℕ → SessionState → List PortCall → List ReportEntry → SessionState → Type 0
+TellsBy lines old [] reported new = (reported ≡ []) × (new ≡ old)
+TellsBy lines old (answer ∷ answers) reported new =
+    (mid : SessionState) × (moves : List Effect) × (later : List ReportEntry)
     × Runs old (event_of answer) moves mid × TellsBy (lines + count_of_answer answer) mid answers later new
-    × (told ≡ entries_of (source_in Match (lines + 1) 1) (side_of_answer answer) moves ++ later)
+    × (reported ≡ entries_of (source_in Match (lines + 1) 1) (side_of_answer answer) moves ++ later)
 
 -- what is told of entries, and of moves
-abbrev pub notes_told : List Entry → List Note
-notes_told entries = map (λ entry. entry.told) entries
+abbrev pub notes_reported : List ReportEntry → List Note
+notes_reported entries = map (λ entry. entry.reported) entries
 
 abbrev pub notes_of : List Effect → List Note
-notes_of moves = map (λ move. move.told) moves
+notes_of moves = map (λ move. move.reported) moves
 
 -- ---- the law
 
@@ -53,23 +53,23 @@ HasName word = length word.name ≡ 3
 
 -- This is the report of a session's record, and the whole of it: its notes, each once and in their order, under the number
 -- of the line that tells what made it, and the counts of them all, which are the session's own, modulo 2^64.
-pub record IsReported (config : Config) (words : List Word) (answers : List PortAnswer) (moves : List Effect)
+pub record IsReported (config : Config) (words : List Word) (answers : List PortCall) (moves : List Effect)
     (state : SessionState) : Type 0 where
-  pub told : List Entry
-  pub by_lines : TellsBy (head_count words) (opening (limits_with config words)) answers told state
-  pub notes : notes_told told ≡ notes_of moves
+  pub reported : List ReportEntry
+  pub by_lines : TellsBy (head_count words) (initial_state (limits_with config words)) answers reported state
+  pub notes : notes_reported reported ≡ notes_of moves
   pub report : IsReport (record_text config words answers)
-      (lines_of told ++ summary_line (counted_all told nothing_counted)) (Ok (counted_all told nothing_counted))
-  pub counts : tallied moves nothing_counted ≡ reduced (counted_all told nothing_counted)
+      (lines_of reported ++ summary_line (counted_all reported nothing_counted)) (Ok (counted_all reported nothing_counted))
+  pub counts : tallied moves nothing_counted ≡ reduced (counted_all reported nothing_counted)
 
 -- Where a session that has these limits and words goes by what answers of ports tell it, the log that is written of these
 -- answers reports that session.
 abbrev pub RecordsAreReported : Type 0
 RecordsAreReported =
-    (config : Config) (words : List Word) (answers : List PortAnswer) (moves : List Effect) (state : SessionState) →
+    (config : Config) (words : List Word) (answers : List PortCall) (moves : List Effect) (state : SessionState) →
     config_fault config ≡ Ok tt → are_accepted words ≡ true → AllByRecursion HasName words →
     AllByRecursion IsPiece answers → record_count words answers ≤ most_lines →
-    Runs (opening (limits_with config words)) (events_of answers) moves state →
+    Runs (initial_state (limits_with config words)) (events_of answers) moves state →
     IsReported config words answers moves state
 
 -- ---- ports
@@ -81,9 +81,9 @@ begun_record config words =
 
 -- What a record has of these answers: the head, and the lines of their front, no more than a log may have; while it is
 -- whole the lines of them all, and where it is full as many as a log may have.
-pub record HasFront (config : Config) (words : List Word) (answers : List PortAnswer) (written : Written) : Type 0 where
-  pub front : List PortAnswer
-  pub rest : List PortAnswer
+pub record HasFront (config : Config) (words : List Word) (answers : List PortCall) (written : Written) : Type 0 where
+  pub front : List PortCall
+  pub rest : List PortCall
   pub whole : answers ≡ front ++ rest
   pub text : written.text ≡ Some (record_text config words front)
   pub few : record_count words front ≤ most_lines
@@ -93,10 +93,10 @@ pub record HasFront (config : Config) (words : List Word) (answers : List PortAn
 
 -- Ports with a record, however they were asked: the record has a front of their answers, and all of them unless it is full;
 -- or a write of its writer failed.
-abbrev pub PortsAreRecorded : {P : Type 0} → (P → PortAnswer → P → Type 0) → Type 0 → Type 0
-PortsAreRecorded {P} becomes failed =
-    (config : Config) (words : List Word) (answers : List PortAnswer) (old new : Recorded P) →
+abbrev pub PortsAreRecorded : {P : Type 0} → (P → PortCall → P → Type 0) → Type 0 → Type 0
+PortsAreRecorded {P} transition failed =
+    (config : Config) (words : List Word) (answers : List PortCall) (old new : Recorded P) →
     head_count words ≤ most_lines → old.record_of ≡ begun_record config words →
-    BecomesBy (Records becomes failed) old answers new →
+    EvolvesBy (Records transition failed) old answers new →
     (new.record_of.ending ≡ Failed → failed)
     × (new.record_of.ending ≢ Failed → HasFront config words answers new.record_of)

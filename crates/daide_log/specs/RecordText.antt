@@ -3,7 +3,7 @@
 use Rattle.std.specs.Prelude.{ℕ, ◌+◌, true, false, List, [], ◌∷◌, ◌++◌, length, codes, Option, Some, None}
 use Rattle.std.specs.Fmt.{decimal}
 use Rattle.hex.specs.Hex.{encode_upper}
-use Rattle.daide_token.specs.Token.{bytes_of}
+use Rattle.daide_token.specs.Token.{token_bytes}
 use Rattle.daide_frame.specs.declared.side.Side.{Side}
 use Rattle.daide_grammar.specs.Level.{level_number}
 use Rattle.daide_words.specs.declared.slot.Slot.{Slot}
@@ -11,11 +11,11 @@ use Rattle.daide_words.specs.declared.slot.Slot.TheVariants as slots
 use Rattle.daide_words.specs.declared.operand.Operand.{Operand}
 use Rattle.daide_words.specs.declared.operand.Operand.TheVariants as operands
 use Rattle.daide_words.specs.declared.word.Word.{Word}
-use Rattle.daide_machine.specs.declared.config.Config.{Config}
-use Rattle.daide_machine.specs.declared.ports.Pull.TheVariants.{Got, Idle, Ended}
-use Rattle.daide_machine.specs.declared.ports.Put.TheVariants.{Took, Failed}
-use Rattle.daide_machine.specs.Ports.{PortAnswer, TurnBegins, Clock, Pulled, Offered}
-use Rattle.daide_lines.specs.LogLine.{LogEvent, Traffic, EndOf, TimeOver, Silence}
+use Rattle.daide_protocol.specs.declared.config.Config.{Config}
+use Rattle.daide_protocol.specs.declared.ports.Pull.TheVariants.{Got, Idle, Ended}
+use Rattle.daide_protocol.specs.declared.ports.Put.TheVariants.{Took, Failed}
+use Rattle.daide_protocol.specs.Ports.{PortCall, TurnBegins, Clock, Pulled, Offered}
+use Rattle.daide_log_lines.specs.LogLine.{LogEvent, Received, EndOf, ImTimerLine, Silence}
 use Rattle.daide_log.specs.Report.{name_of_side}
 
 -- ---- what an answer of ports tells a log
@@ -23,27 +23,27 @@ use Rattle.daide_log.specs.Report.{name_of_side}
 -- bytes of a side, if there are any
 abbrev pub piece_of : Side → List ℕ → Option LogEvent
 piece_of side [] = None
-piece_of side (byte ∷ bytes) = Some (Traffic side (byte ∷ bytes))
+piece_of side (byte ∷ bytes) = Some (Received side (byte ∷ bytes))
 
 -- a clock that popped, bytes that came, and an end; a wire that failed is the end of its side; that a turn begins is
 -- nothing that a log has
-abbrev pub told_by : PortAnswer → Option LogEvent
-told_by TurnBegins = None
-told_by (Clock true) = Some TimeOver
-told_by (Clock false) = None
-told_by (Pulled side buffer (Got n) bytes) = piece_of side bytes
-told_by (Pulled side buffer Idle bytes) = None
-told_by (Pulled side buffer Ended bytes) = Some (EndOf side)
-told_by (Offered side bytes (Took n)) = None
-told_by (Offered side bytes Failed) = Some (EndOf side)
+abbrev pub reported_by : PortCall → Option LogEvent
+reported_by TurnBegins = None
+reported_by (Clock true) = Some ImTimerLine
+reported_by (Clock false) = None
+reported_by (Pulled side buffer (Got n) bytes) = piece_of side bytes
+reported_by (Pulled side buffer Idle bytes) = None
+reported_by (Pulled side buffer Ended bytes) = Some (EndOf side)
+reported_by (Offered side bytes (Took n)) = None
+reported_by (Offered side bytes Failed) = Some (EndOf side)
 
 -- ---- the lines of answers
 
 -- an event, as a line of version 1 has it
 unfoldable pub event_text : LogEvent → List ℕ
-event_text (Traffic side bytes) = name_of_side side ++ 32 ∷ encode_upper bytes
+event_text (Received side bytes) = name_of_side side ++ 32 ∷ encode_upper bytes
 event_text (EndOf side) = codes "end " ++ name_of_side side
-event_text TimeOver = codes "timer"
+event_text ImTimerLine = codes "timer"
 event_text Silence = []
 
 -- the line of an event of session 1
@@ -51,27 +51,27 @@ unfoldable pub event_line : LogEvent → List ℕ
 event_line event = codes "1 " ++ event_text event ++ 10 ∷ []
 
 -- the line of what was told, if anything was
-abbrev pub line_told : Option LogEvent → List ℕ
-line_told None = []
-line_told (Some event) = event_line event
+abbrev pub line_reported : Option LogEvent → List ℕ
+line_reported None = []
+line_reported (Some event) = event_line event
 
-abbrev pub count_told : Option LogEvent → ℕ
-count_told None = 0
-count_told (Some event) = 1
+abbrev pub count_reported : Option LogEvent → ℕ
+count_reported None = 0
+count_reported (Some event) = 1
 
 -- the line of an answer, and whether it has one
-abbrev pub line_of_answer : PortAnswer → List ℕ
-line_of_answer answer = line_told (told_by answer)
+abbrev pub line_of_answer : PortCall → List ℕ
+line_of_answer answer = line_reported (reported_by answer)
 
-abbrev pub count_of_answer : PortAnswer → ℕ
-count_of_answer answer = count_told (told_by answer)
+abbrev pub count_of_answer : PortCall → ℕ
+count_of_answer answer = count_reported (reported_by answer)
 
 -- those of answers, one after the other, and how many they are
-abbrev pub lines_of_answers : List PortAnswer → List ℕ
+abbrev pub lines_of_answers : List PortCall → List ℕ
 lines_of_answers [] = []
 lines_of_answers (answer ∷ answers) = line_of_answer answer ++ lines_of_answers answers
 
-abbrev pub count_of_answers : List PortAnswer → ℕ
+abbrev pub count_of_answers : List PortCall → ℕ
 count_of_answers [] = 0
 count_of_answers (answer ∷ answers) = count_of_answer answer + count_of_answers answers
 
@@ -99,7 +99,7 @@ name_of_operand operands.Press = codes "press"
 -- the line of a word of the operator's, without its line feed
 unfoldable pub word_text : Word → List ℕ
 word_text word =
-    spaced (codes "word" ∷ word.name ∷ encode_upper (bytes_of word.code) ∷ name_of_slot word.slot
+    spaced (codes "word" ∷ word.name ∷ encode_upper (token_bytes word.code) ∷ name_of_slot word.slot
     ∷ decimal (level_number word.level) ∷ name_of_operand word.operand ∷ [])
 
 -- those of words, each with its line feed
@@ -124,8 +124,8 @@ head_count words = 2 + length words
 
 -- ---- the whole
 
-abbrev pub record_text : Config → List Word → List PortAnswer → List ℕ
+abbrev pub record_text : Config → List Word → List PortCall → List ℕ
 record_text config words answers = head_text config words ++ lines_of_answers answers
 
-abbrev pub record_count : List Word → List PortAnswer → ℕ
+abbrev pub record_count : List Word → List PortCall → ℕ
 record_count words answers = head_count words + count_of_answers answers

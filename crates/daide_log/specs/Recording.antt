@@ -2,12 +2,12 @@
 use Rattle.std.specs.Prelude.{◌≡◌, ⊤, ℕ, ◌+◌, ◌-◌, ◌<◌, ◌≤◌, min, List, length, Option, Some, None}
 use Rattle.std.specs.Io.KnownBytes.{Appends, Keeps}
 use Rattle.hex.specs.Hex.{IsBytes}
-use Rattle.daide_machine.specs.Ports.{PortAnswer, TurnBegins, Clock, Pulled, Offered}
-use Rattle.daide_lines.specs.LogLine.{LogEvent, most_lines, longest_line, longest_piece}
-use Rattle.daide_lines.specs.Output.{page_size}
+use Rattle.daide_protocol.specs.Ports.{PortCall, TurnBegins, Clock, Pulled, Offered}
+use Rattle.daide_log_lines.specs.LogLine.{LogEvent, most_lines, longest_line, longest_piece}
+use Rattle.daide_log_lines.specs.Output.{page_size}
 use Rattle.daide_log.specs.declared.record.RecordEnd.{RecordEnd}
 use Rattle.daide_log.specs.declared.record.RecordEnd.TheVariants.{Whole, Failed, Full}
-use Rattle.daide_log.specs.RecordText.{told_by, event_line}
+use Rattle.daide_log.specs.RecordText.{reported_by, event_line}
 
 -- ---- a record
 
@@ -41,9 +41,9 @@ TakesEvent failed Failed old event new = new ≡ old
 TakesEvent failed Full old event new = new ≡ old
 
 -- what is told, if anything is; `failed` says that a write failed
-abbrev pub Takes : Type 0 → Written → Option LogEvent → Written → Type 0
-Takes failed old None new = new ≡ old
-Takes failed old (Some event) new = TakesEvent failed old.ending old event new
+abbrev pub RecordsEvent : Type 0 → Written → Option LogEvent → Written → Type 0
+RecordsEvent failed old None new = new ≡ old
+RecordsEvent failed old (Some event) new = TakesEvent failed old.ending old event new
 
 -- ---- ports
 
@@ -53,22 +53,22 @@ pub record Recorded (P : Type 0) : Type 0 where
   pub record_of : Written
 
 -- the same answer of the ports within, which are lent no more of a buffer than a line has bytes
-abbrev pub asked_within : PortAnswer → PortAnswer
+abbrev pub asked_within : PortCall → PortCall
 asked_within TurnBegins = TurnBegins
-asked_within (Clock popped) = Clock popped
+asked_within (Clock im_timer_expired) = Clock im_timer_expired
 asked_within (Pulled side buffer pull bytes) = Pulled side (min buffer longest_piece) pull bytes
 asked_within (Offered side bytes put) = Offered side bytes put
 
 -- what came fits a line
-abbrev pub IsPiece : PortAnswer → Type 0
+abbrev pub IsPiece : PortCall → Type 0
 IsPiece TurnBegins = ⊤
-IsPiece (Clock popped) = ⊤
+IsPiece (Clock im_timer_expired) = ⊤
 IsPiece (Pulled side buffer pull bytes) = IsBytes bytes × (length bytes ≤ longest_piece)
 IsPiece (Offered side bytes put) = ⊤
 
 -- what an answer does to ports and record; `failed` says that a write of the record's writer failed
-pub record Records {P : Type 0} (becomes : P → PortAnswer → P → Type 0) (failed : Type 0) (old : Recorded P)
-    (answer : PortAnswer) (new : Recorded P) : Type 0 where
-  pub ports : becomes old.ports (asked_within answer) new.ports
+pub record Records {P : Type 0} (transition : P → PortCall → P → Type 0) (failed : Type 0) (old : Recorded P)
+    (answer : PortCall) (new : Recorded P) : Type 0 where
+  pub ports : transition old.ports (asked_within answer) new.ports
   pub piece : IsPiece answer
-  pub taken : Takes failed old.record_of (told_by answer) new.record_of
+  pub taken : RecordsEvent failed old.record_of (reported_by answer) new.record_of

@@ -6,31 +6,31 @@ use Rattle.daide_frame.specs.declared.side.Side.{Side}
 use Rattle.daide_frame.specs.declared.side.Side.TheVariants.{Bot, Server}
 use Rattle.daide_frame.specs.Code.{code_digits}
 use Rattle.daide_frame.specs.Kind.{name_of_kind}
-use Rattle.daide_machine.specs.declared.note.Deed.{Deed}
-use Rattle.daide_machine.specs.declared.note.Deed.TheVariants.{Relayed, Dropped, Prn, Huh}
-use Rattle.daide_machine.specs.declared.note.Note.{Note}
-use Rattle.daide_machine.specs.declared.note.Note.TheVariants.{Nothing, Frame, Fault}
-use Rattle.daide_machine.specs.Events.{Event, Ends, TimerExpires, bytes_come}
-use Rattle.daide_machine.specs.Machine.{Effect}
-use Rattle.daide_machine.specs.Summary.{counted}
-use Rattle.daide_log.specs.declared.report.Source.{Source}
-use Rattle.daide_machine.specs.declared.summary.Summary.{Summary}
-use Rattle.daide_lines.specs.LogLine.{LogEvent, Traffic, EndOf, TimeOver, Silence}
+use Rattle.daide_protocol.specs.declared.note.Deed.{Deed}
+use Rattle.daide_protocol.specs.declared.note.Deed.TheVariants.{Relayed, Dropped, Prn, Huh}
+use Rattle.daide_protocol.specs.declared.note.Note.{Note}
+use Rattle.daide_protocol.specs.declared.note.Note.TheVariants.{Nothing, Frame, Fault}
+use Rattle.daide_protocol.specs.Events.{Event, Ends, ImTimerExpired, bytes_come}
+use Rattle.daide_protocol.specs.Machine.{Effect}
+use Rattle.daide_protocol.specs.Summary.{count_note}
+use Rattle.daide_log.specs.declared.report.ReportKey.{ReportKey}
+use Rattle.daide_protocol.specs.declared.summary.Summary.{Summary}
+use Rattle.daide_log_lines.specs.LogLine.{LogEvent, Received, EndOf, ImTimerLine, Silence}
 
 -- ---- what a line of the log tells the session
 
 -- its events
-abbrev pub events_of : LogEvent → List Event
-events_of (Traffic side bytes) = bytes_come side bytes
-events_of (EndOf side) = Ends side ∷ []
-events_of TimeOver = TimerExpires ∷ []
-events_of Silence = []
+abbrev pub events_of_line : LogEvent → List Event
+events_of_line (Received side bytes) = bytes_come side bytes
+events_of_line (EndOf side) = Ends side ∷ []
+events_of_line ImTimerLine = ImTimerExpired ∷ []
+events_of_line Silence = []
 
 -- whose they are; the timer is that of the bot's first message
 abbrev pub side_of : LogEvent → Side
-side_of (Traffic side bytes) = side
+side_of (Received side bytes) = side
 side_of (EndOf side) = side
-side_of TimeOver = Bot
+side_of ImTimerLine = Bot
 side_of Silence = Bot
 
 -- ---- words
@@ -64,27 +64,27 @@ session_text None = []
 session_text (Some session) = decimal session ++ 32 ∷ []
 
 -- the number of the log's line that made a move, and the session's
-unfoldable pub source_text : Source → List ℕ
+unfoldable pub source_text : ReportKey → List ℕ
 source_text source = decimal source.line ++ 32 ∷ session_text source.session
 
 -- one move of a side, behind these numbers
-unfoldable pub told_text : Side → Note → List ℕ
-told_text side told = name_of_side side ++ 32 ∷ move_text told ++ 10 ∷ []
+unfoldable pub reported_text : Side → Note → List ℕ
+reported_text side reported = name_of_side side ++ 32 ∷ move_text reported ++ 10 ∷ []
 
-unfoldable pub move_line : Source → Side → Note → List ℕ
-move_line source side told = source_text source ++ told_text side told
+unfoldable pub move_line : ReportKey → Side → Note → List ℕ
+move_line source side reported = source_text source ++ reported_text side reported
 
 -- a move that is told
-pub record Entry : Type 0 where
-  pub source : Source
+pub record ReportEntry : Type 0 where
+  pub source : ReportKey
   pub side : Side
-  pub told : Note
+  pub reported : Note
 
 -- all moves that a line made of a side, in their order
-abbrev pub entries_of : Source → Side → List Effect → List Entry
+abbrev pub entries_of : ReportKey → Side → List Effect → List ReportEntry
 entries_of source side [] = []
 entries_of source side (effect ∷ effects) =
-    record { source = source; side = side; told = effect.told } ∷ entries_of source side effects
+    record { source = source; side = side; reported = effect.reported } ∷ entries_of source side effects
 
 -- the text of entries in a row
 abbrev pub texts_of : {E : Type 0} → (E → List ℕ) → List E → List ℕ
@@ -92,8 +92,8 @@ texts_of text [] = []
 texts_of text (entry ∷ entries) = text entry ++ texts_of text entries
 
 -- the lines of these
-abbrev pub lines_of : List Entry → List ℕ
-lines_of entries = texts_of (λ entry. move_line entry.source entry.side entry.told) entries
+abbrev pub lines_of : List ReportEntry → List ℕ
+lines_of entries = texts_of (λ entry. move_line entry.source entry.side entry.reported) entries
 
 -- ---- a frame that is not whole
 
@@ -110,12 +110,12 @@ part_line session side came size =
 -- ---- the last line
 
 -- the counts with all of these
-abbrev pub counted_by : {E : Type 0} → (E → Summary → Summary) → List E → Summary → Summary
-counted_by count [] s = s
-counted_by count (entry ∷ entries) s = counted_by count entries (count entry s)
+abbrev pub counted_over : {E : Type 0} → (E → Summary → Summary) → List E → Summary → Summary
+counted_over count [] s = s
+counted_over count (entry ∷ entries) s = counted_over count entries (count entry s)
 
-abbrev pub counted_all : List Entry → Summary → Summary
-counted_all entries s = counted_by (λ entry before. counted entry.told before) entries s
+abbrev pub counted_all : List ReportEntry → Summary → Summary
+counted_all entries s = counted_over (λ entry before. count_note entry.reported before) entries s
 
 unfoldable pub summary_line : Summary → List ℕ
 summary_line s =

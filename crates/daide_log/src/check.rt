@@ -6,35 +6,35 @@
 
 ghost use Rattle.std.specs.Prelude.{◌≡◌, ◌≢◌, ◌≤◌, [], All, length, List, ℕ, Option, Err, IfOk, IfErr};
 ghost use Rattle.std.specs.Io.KnownBytes.{Keeps};
-ghost use Rattle.daide_lines.specs.Input.{IsSameReader};
-ghost use Rattle.daide_lines.specs.LogLine.{most_lines};
-ghost use Rattle.daide_lines.specs.Lines.{is_end, is_last};
-ghost use Rattle.daide_lines.specs.Output.{IsSameWriter, all_of};
-ghost use Rattle.daide_machine.specs.Bounds.{most_sessions};
-ghost use Rattle.daide_machine.specs.Summary.{nothing_counted};
+ghost use Rattle.daide_log_lines.specs.Input.{IsSameReader};
+ghost use Rattle.daide_log_lines.specs.LogLine.{most_lines};
+ghost use Rattle.daide_log_lines.specs.Lines.{is_end_of_log, is_last_line};
+ghost use Rattle.daide_log_lines.specs.Output.{IsSameWriter, all_of};
+ghost use Rattle.daide_protocol.specs.Bounds.{most_sessions};
+ghost use Rattle.daide_protocol.specs.Summary.{nothing_counted};
 ghost use Rattle.daide_words.specs.declared.word.Word.{Word};
 ghost use Rattle.daide_words.specs.Words.{words_of};
-ghost use Rattle.daide_log.specs.Told.{IsReady, IsLateFault};
+ghost use Rattle.daide_log.specs.Reporting.{IsReady, IsLateFault};
 ghost use Rattle.daide_log.specs.Log.{plain};
-ghost use Rattle.daide_log.specs.Progress.{Begins, IsAnswered, IsFaultAfter, IsFinished, Reported, states_of};
-ghost use Rattle.daide_lines.specs.Reader.{Reader, silent};
+ghost use Rattle.daide_log.specs.Progress.{StartsReport, IsAnswered, IsFaultAfter, IsFinished, Reported, states_of};
+ghost use Rattle.daide_log_lines.specs.Reader.{Reader, silent};
 
-use crate::account::Account;
 use crate::heading::Preamble;
-use crate::judge::{Origin, judge_line};
+use crate::judge::{LineContext, judge_line};
 use crate::opening::{open_sessions, read_preamble};
 use crate::page::{Unreported, put_summary};
+use crate::report_builder::ReportBuilder;
 use crate::style::{PlainStyle, Style};
-use daide_lines::block::Block;
-use daide_lines::event_line::MOST;
-use daide_lines::fault::LogFault;
-use daide_lines::input::Input;
-use daide_lines::lines::{Found, find_line, pass_line};
-use daide_lines::output::Output;
-use daide_lines::page::Page;
-use daide_lines::reader::LogReader;
-use daide_lines::text::Text;
-use daide_machine::Summary;
+use daide_log_lines::block::Block;
+use daide_log_lines::event_line::MOST;
+use daide_log_lines::fault::LogFault;
+use daide_log_lines::input::Input;
+use daide_log_lines::lines::{LineEnd, find_line, pass_line};
+use daide_log_lines::output::Output;
+use daide_log_lines::page::Page;
+use daide_log_lines::reader::LogReader;
+use daide_log_lines::text::Text;
+use daide_protocol::Summary;
 use daide_session::Session;
 use std::alloc::Allocator;
 use std::io::{Read, Write};
@@ -43,7 +43,7 @@ use std::io::{Read, Write};
 fn finish<A: Allocator, W: Write, S: Style>(
     sessions: &[Session<A>],
     style: &mut S,
-    account: &mut Account<'_, W>,
+    account: &mut ReportBuilder<'_, W>,
 ) -> Result<S::Answer, LogFault>
     requires few { length sessions.now ≤ most_sessions }
     requires ready { All (IsReady account.old.head.limits.config (words_of account.old.head.words)) sessions.now }
@@ -70,22 +70,22 @@ fn finish<A: Allocator, W: Write, S: Style>(
 }
 
 /// Whether the log ended.
-fn is_end(found: Found) -> bool
-    ensures { result ≡ is_end found }
+fn is_end(found: LineEnd) -> bool
+    ensures { result ≡ is_end_of_log found }
 {
     match found {
-        Found::End => true,
-        Found::Held(_) | Found::Line | Found::Last => false,
+        LineEnd::End => true,
+        LineEnd::Held(_) | LineEnd::Line | LineEnd::Last => false,
     }
 }
 
 /// Whether the log's last line came.
-fn is_last(found: Found) -> bool
-    ensures { result ≡ is_last found }
+fn is_last(found: LineEnd) -> bool
+    ensures { result ≡ is_last_line found }
 {
     match found {
-        Found::Last => true,
-        Found::Held(_) | Found::Line | Found::End => false,
+        LineEnd::Last => true,
+        LineEnd::Held(_) | LineEnd::Line | LineEnd::End => false,
     }
 }
 
@@ -95,7 +95,7 @@ fn play<A: Allocator, R: LogReader, W: Write, S: Style>(
     lines: u32,
     input: &mut Input<'_, R>,
     style: &mut S,
-    account: &mut Account<'_, W>,
+    account: &mut ReportBuilder<'_, W>,
 ) -> Result<S::Answer, LogFault>
     requires some { 1 ≤ length sessions.old.items }
     requires few { length sessions.old.items ≤ most_sessions }
@@ -103,14 +103,14 @@ fn play<A: Allocator, R: LogReader, W: Write, S: Style>(
     requires lines { lines ≤ most_lines }
     requires nothing { account.old.summary ≡ nothing_counted }
     ensures report { (first : Reader) (before : Option (List ℕ)) →
-        Begins (S.form (words_of account.old.head.words)) (R.told input.old.reader.now) input.old.block
+        StartsReport (S.form (words_of account.old.head.words)) (R.reader_view input.old.reader.now) input.old.block
         lines account.old.head.version (states_of sessions.old.items) (all_of W.contents account.old.output) first before →
-        IfOk result (Reported (S.form (words_of account.old.head.words)) first (R.told input.new.reader.now) before
+        IfOk result (Reported (S.form (words_of account.old.head.words)) first (R.reader_view input.new.reader.now) before
         (all_of W.contents account.new.output)) }
     ensures refused { (first : Reader) (before : Option (List ℕ)) →
-        Begins (S.form (words_of account.old.head.words)) (R.told input.old.reader.now) input.old.block
+        StartsReport (S.form (words_of account.old.head.words)) (R.reader_view input.old.reader.now) input.old.block
         lines account.old.head.version (states_of sessions.old.items) (all_of W.contents account.old.output) first before →
-        IfErr result (IsFaultAfter (S.form (words_of account.old.head.words)) first (R.told input.new.reader.now) before
+        IfErr result (IsFaultAfter (S.form (words_of account.old.head.words)) first (R.reader_view input.new.reader.now) before
         (all_of W.contents account.new.output)) }
     ensures same_reader { IsSameReader input.old input.new }
     ensures same_writer { IsSameWriter account.old.output account.new.output }
@@ -123,7 +123,7 @@ fn play<A: Allocator, R: LogReader, W: Write, S: Style>(
             return finish(sessions, style, account);
         }
         count += 1;
-        let origin = Origin {
+        let origin = LineContext {
             version: account.head.version,
             line: count,
         };
@@ -147,12 +147,12 @@ fn report<A: Allocator + Copy, R: LogReader, W: Write, S: Style>(
     alloc: A,
     input: &mut Input<'_, R>,
     style: &mut S,
-    account: &mut Account<'_, W>,
+    account: &mut ReportBuilder<'_, W>,
 ) -> Result<S::Answer, LogFault>
     requires unread { input.old.block ≡ [] }
     requires nothing { account.old.summary ≡ nothing_counted }
-    ensures reported { (words : List Word) × IsAnswered (S.form words) (R.told input.old.reader.now)
-        (R.told input.new.reader.now) (all_of W.contents account.old.output) (all_of W.contents account.new.output)
+    ensures reported { (words : List Word) × IsAnswered (S.form words) (R.reader_view input.old.reader.now)
+        (R.reader_view input.new.reader.now) (all_of W.contents account.old.output) (all_of W.contents account.new.output)
         result }
     ensures same_reader { IsSameReader input.old input.new }
     ensures same_writer { IsSameWriter account.old.output account.new.output }
@@ -197,13 +197,13 @@ pub(crate) fn report_whole<A: Allocator + Copy, R: LogReader, W: Write, S: Style
     alloc: A,
     input: &mut Input<'_, R>,
     style: &mut S,
-    account: &mut Account<'_, W>,
+    account: &mut ReportBuilder<'_, W>,
 ) -> Result<S::Answer, LogFault>
     requires unread { input.old.block ≡ [] }
     requires nothing { account.old.summary ≡ nothing_counted }
     requires none_held { account.old.output.page.items ≡ [] }
-    ensures reported { (words : List Word) × IsAnswered (S.form words) (R.told input.old.reader.now)
-        (R.told input.new.reader.now) (W.contents account.old.output.writer.now)
+    ensures reported { (words : List Word) × IsAnswered (S.form words) (R.reader_view input.old.reader.now)
+        (R.reader_view input.new.reader.now) (W.contents account.old.output.writer.now)
         (W.contents account.new.output.writer.now) result }
     ensures same_reader { IsSameReader input.old input.new }
     ensures same_writer { IsSameWriter account.old.output account.new.output }
@@ -220,9 +220,9 @@ pub fn check_stream<A: Allocator + Copy, R: LogReader, W: Write>(
     reader: &mut R,
     writer: &mut W,
 ) -> Result<Summary, LogFault>
-    ensures report { IfOk result (λ summary. Reported plain (R.told reader.old) (R.told reader.new)
+    ensures report { IfOk result (λ summary. Reported plain (R.reader_view reader.old) (R.reader_view reader.new)
         (W.contents writer.old) (W.contents writer.new) summary) }
-    ensures refused { IfErr result (λ fault. IsFaultAfter plain (R.told reader.old) (R.told reader.new)
+    ensures refused { IfErr result (λ fault. IsFaultAfter plain (R.reader_view reader.old) (R.reader_view reader.new)
         (W.contents writer.old) (W.contents writer.new) fault) }
 {
     let mut input = Input {
@@ -230,7 +230,7 @@ pub fn check_stream<A: Allocator + Copy, R: LogReader, W: Write>(
         text: Text::new(),
         reader,
     };
-    let mut account = Account {
+    let mut account = ReportBuilder {
         summary: Summary::new(),
         output: Output {
             page: Page::new(),

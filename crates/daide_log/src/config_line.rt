@@ -2,16 +2,16 @@
 
 ghost use Rattle.std.specs.Prelude.{◌≡◌, IfSome};
 ghost use Rattle.daide_grammar.specs.Words.{most_words};
-ghost use Rattle.daide_machine.specs.Bounds.{most_sessions};
-ghost use Rattle.daide_lines.specs.LogLine.{plain_number};
-ghost use Rattle.daide_lines.specs.MatchLine.{within};
+ghost use Rattle.daide_protocol.specs.Bounds.{most_sessions};
+ghost use Rattle.daide_log_lines.specs.LogLine.{plain_number};
+ghost use Rattle.daide_log_lines.specs.MatchLine.{within};
 ghost use Rattle.daide_log.specs.ConfigLine.{config_of_numbers, config_of_line};
 ghost use Rattle.daide_log.specs.ConfigLine.{match_config_of_numbers, match_config_of_line};
 ghost use Rattle.daide_log.specs.Heading.{HasSessions};
 
-use daide_lines::match_line::number_within;
-use daide_lines::parts::{parted_at_space, plain_number};
-use daide_machine::MAX_SESSIONS;
+use daide_log_lines::match_line::number_within;
+use daide_log_lines::parts::{parted_at_space, plain_number};
+use daide_protocol::MAX_SESSIONS;
 use daide_session::Config;
 use daide_words::words::MAX_WORDS;
 

@@ -8,42 +8,42 @@ ghost use Rattle.daide_words.specs.Word.{grammar_words};
 ghost use Rattle.daide_words.specs.declared.word.Word.{Word};
 ghost use Rattle.daide_words.specs.Words.{words_of};
 ghost use Rattle.daide_reader.specs.Verdict.{HasVerdict, IsPlaceIn};
-ghost use Rattle.daide_machine.specs.Answers.{answer_body};
-ghost use Rattle.daide_lines.specs.Output.{IsSameWriter, all_of};
-ghost use Rattle.daide_lines.specs.Reader.{silent};
-ghost use Rattle.daide_log.specs.Explained.{explained, is_remark, line, printed, pair, pairs, token_line, bytes_line, fault_lines};
+ghost use Rattle.daide_protocol.specs.Answers.{answer_body};
+ghost use Rattle.daide_log_lines.specs.Output.{IsSameWriter, all_of};
+ghost use Rattle.daide_log_lines.specs.Reader.{silent};
+ghost use Rattle.daide_log.specs.Explained.{explained, is_remark, with_line_feed, message_text, pair, pairs, token_line, bytes_line, fault_lines};
 ghost use Rattle.daide_log.specs.Explained.{AreRefusedLines, AreMessageLines, is_at_fault, verdict_by as verdict_of_deed};
-ghost use Rattle.daide_log.specs.Explained.{part_of as spec_part_of, parts_of, parts_from, number_in as number_of};
+ghost use Rattle.daide_log.specs.Explained.{part_of as spec_part_of, unfinished_parts, parts_from, session_number as number_of};
 ghost use Rattle.daide_log.specs.Explaining.{part_by, part_with, HasPut};
 ghost use Rattle.daide_frame.specs.Frames.{announced_by};
-ghost use Rattle.daide_machine.specs.Bounds.{longest_body, most_sessions};
-ghost use Rattle.daide_machine.specs.Machine.{coming, is_dm, side2_of};
-ghost use Rattle.daide_machine.specs.declared.config.Config.{Config};
-ghost use Rattle.daide_machine.specs.Wires.{holding, is_awaited, waiting};
-ghost use Rattle.daide_log.specs.Explaining.{IsRuled, IsRightFate, IsRightlyTold, AreLinesBy};
+ghost use Rattle.daide_protocol.specs.Bounds.{longest_body, most_sessions};
+ghost use Rattle.daide_protocol.specs.Machine.{coming, is_dm, side2_of};
+ghost use Rattle.daide_protocol.specs.declared.config.Config.{Config};
+ghost use Rattle.daide_protocol.specs.Wires.{holding, is_awaited, queued};
+ghost use Rattle.daide_log.specs.Explaining.{IsRuled, IsRightFate, IsRightlyReported, AreLinesBy};
 ghost use Rattle.daide_log.specs.Progress.{IsAnswered, states_of};
-ghost use Rattle.daide_log.specs.Told.{IsIdle, IsUnder};
+ghost use Rattle.daide_log.specs.Reporting.{IsIdle, IsUnder};
 ghost use Rattle.daide_log.specs.Lawful.{explained_lawful};
 
-use crate::account::Account;
 use crate::check::report_whole;
 use crate::heading::{Preamble, Version};
 use crate::page::{Unreported, put_byte, put_indented, put_message, put_part, put_text};
 use crate::record_text::DIGITS;
 use crate::report::Part;
+use crate::report_builder::ReportBuilder;
 use crate::style::Style;
 use daide_explain::{Rules, write_explained};
 use daide_frame::{Code, Head, Kind, Side};
-use daide_lines::LogFault;
-use daide_lines::block::Block;
-use daide_lines::input::Input;
-use daide_lines::output::Output;
-use daide_lines::page::Page;
-use daide_lines::reader::LogReader;
-use daide_lines::text::Text;
-use daide_machine::answers::{CLOSE_WORD, ERR_WORD, HUH_OPEN, PRN_OPEN};
-use daide_machine::rules::side2_of;
-use daide_machine::{Deed, Note, Summary};
+use daide_log_lines::LogFault;
+use daide_log_lines::block::Block;
+use daide_log_lines::input::Input;
+use daide_log_lines::output::Output;
+use daide_log_lines::page::Page;
+use daide_log_lines::reader::LogReader;
+use daide_log_lines::text::Text;
+use daide_protocol::answers::{CLOSE_WORD, ERR_WORD, HUH_OPEN, PRN_OPEN};
+use daide_protocol::transitions::side2_of;
+use daide_protocol::{Deed, Note, Summary};
 use daide_reader::Verdict;
 use daide_session::{Ending, Session};
 use daide_token::write_text_with;
@@ -72,7 +72,7 @@ struct Explaining<B: Allocator> {
 fn write_tokens<B: Allocator>(words: &Words, tokens: &[u8], text: &mut Vec<u8, B>) -> io::Result<()>
     requires { length tokens.now % 2 ≡ 0 }
     ensures { OnOk result (text.new.items ≡ text.old.items
-        ++ line (printed (words_of words.now) (tokens_of tokens.now))) }
+        ++ with_line_feed (message_text (words_of words.now) (tokens_of tokens.now))) }
 {
     write_text_with(words.names(), tokens, text)?;
     text.write_all(b"\n")
@@ -300,13 +300,13 @@ fn write_lines<A: Allocator, B: Allocator + Copy>(
     moved: (Side, Note),
     text: &mut Vec<u8, B>,
 ) -> io::Result<()>
-    requires right { IsRightlyTold (words_of head.now.words) head.now.limits.config moved.0 moved.1 session.now }
+    requires right { IsRightlyReported (words_of head.now.words) head.now.limits.config moved.0 moved.1 session.now }
     ensures { OnOk result ((lines : List ℕ)
         × AreLinesBy (words_of head.now.words) head.now.limits.config.max_depth moved.0 moved.1 session.now lines
         × (text.new.items ≡ text.old.items ++ lines)) }
 {
-    let (side, told) = moved;
-    match told {
+    let (side, reported) = moved;
+    match reported {
         Note::Nothing => Ok(()),
         Note::Frame(frame, deed) => {
             if is_message(frame.kind) {
@@ -319,13 +319,13 @@ fn write_lines<A: Allocator, B: Allocator + Copy>(
 }
 
 /// Returns the message of a side's move that the session holds, if nothing is written of it but its text.
-fn message_alone<A: Allocator>(session: &Session<A>, side: Side, told: Note) -> Option<&[u8]>
+fn message_alone<A: Allocator>(session: &Session<A>, side: Side, reported: Note) -> Option<&[u8]>
     ensures alone { IfSome result (λ body. (words : List Word) → (max_depth : ℕ) →
-        AreLinesBy words max_depth side told session.now (line (printed words (tokens_of body.now)))) }
+        AreLinesBy words max_depth side reported session.now (with_line_feed (message_text words (tokens_of body.now)))) }
     ensures even { IfSome result (λ body. (words : List Word) → (config : Config) →
-        IsRightlyTold words config side told session.now → length body.now % 2 ≡ 0) }
+        IsRightlyReported words config side reported session.now → length body.now % 2 ≡ 0) }
 {
-    let Note::Frame(frame, deed) = told else {
+    let Note::Frame(frame, deed) = reported else {
         return None;
     };
     if !is_message(frame.kind) {
@@ -379,7 +379,7 @@ fn part_in(header: usize, body: usize, at_fault: bool, announced: usize) -> Opti
 
 /// Returns what a session holds of a side's frame, unless there is nothing, or the frame is at fault.
 fn part_of<A: Allocator>(session: &Session<A>, side: Side) -> Option<Part>
-    requires { is_awaited (waiting session.now) side ≡ false }
+    requires { is_awaited (queued session.now) side ≡ false }
     ensures { (number : Option ℕ) → part_with number side result ≡ spec_part_of number side session.now.state.limits.cap
         (is_at_fault side session.now.state.ending) (coming session.now.state side).pending }
 {
@@ -397,7 +397,7 @@ fn put_unfinished<A: Allocator, W: Write>(
     side: Side,
     output: &mut Output<'_, W>,
 ) -> Result<u32, Unreported>
-    requires { is_awaited (waiting session.now) side ≡ false }
+    requires { is_awaited (queued session.now) side ≡ false }
     ensures text { IfOk result (λ count. HasPut (spec_part_of number side session.now.state.limits.cap
         (is_at_fault side session.now.state.ending) (coming session.now.state side).pending) count
         (all_of W.contents output.old) (all_of W.contents output.new)) }
@@ -430,7 +430,7 @@ fn put_session<A: Allocator, W: Write>(
     output: &mut Output<'_, W>,
 ) -> Result<u32, Unreported>
     requires { IsIdle session.now }
-    ensures text { IfOk result (λ count. HasPut (parts_of number session.now.state) count
+    ensures text { IfOk result (λ count. HasPut (unfinished_parts number session.now.state) count
         (all_of W.contents output.old) (all_of W.contents output.new)) }
     ensures few { IfOk result (λ count. count ≤ 2) }
     ensures same_writer { IsSameWriter output.old output.new }
@@ -473,7 +473,7 @@ fn is_remark(line: &[u8]) -> bool
 /// Writes a comment as it stands in the log.
 fn put_remark<W: Write>(comment: &[u8], output: &mut Output<'_, W>) -> Result<(), Unreported>
     ensures text { OnOk result (Appends (all_of W.contents output.old) (all_of W.contents output.new)
-        (line comment.now)) }
+        (with_line_feed comment.now)) }
     ensures same_writer { IsSameWriter output.old output.new }
 {
     put_text(comment, output)?;
@@ -490,14 +490,14 @@ impl<B: Allocator + Copy> Style for Explaining<B> {
         head: &Preamble,
         session: &Session<A>,
         side: Side,
-        told: Note,
+        reported: Note,
         output: &mut Output<'_, W>,
     ) -> Result<(), Unreported> {
-        if let Some(body) = message_alone(session, side, told) {
+        if let Some(body) = message_alone(session, side, reported) {
             return put_message(&head.words, body, output);
         }
         self.text.clear();
-        let Ok(()) = write_lines(self.alloc, head, session, (side, told), &mut self.text) else {
+        let Ok(()) = write_lines(self.alloc, head, session, (side, reported), &mut self.text) else {
             return Err(Unreported::Memory);
         };
         put_indented(self.text.as_slice(), output)
@@ -540,7 +540,7 @@ fn explain_over<A: Allocator + Copy, R: LogReader, W: Write>(
     reader: &mut R,
     writer: &mut W,
 ) -> Result<Explained, LogFault>
-    ensures { (words : List Word) × IsAnswered (explained words) (R.told reader.old) (R.told reader.new)
+    ensures { (words : List Word) × IsAnswered (explained words) (R.reader_view reader.old) (R.reader_view reader.new)
         (W.contents writer.old) (W.contents writer.new) result }
 {
     let mut input = Input {
@@ -548,7 +548,7 @@ fn explain_over<A: Allocator + Copy, R: LogReader, W: Write>(
         text: Text::new(),
         reader,
     };
-    let mut account = Account {
+    let mut account = ReportBuilder {
         summary: Summary::new(),
         output: Output {
             page: Page::new(),
@@ -566,7 +566,7 @@ pub fn explain_stream<A: Allocator + Copy, R: LogReader, W: Write>(
     reader: &mut R,
     writer: &mut W,
 ) -> Result<Explained, LogFault>
-    ensures { (words : List Word) × IsAnswered (explained words) (R.told reader.old) (R.told reader.new)
+    ensures { (words : List Word) × IsAnswered (explained words) (R.reader_view reader.old) (R.reader_view reader.new)
         (W.contents writer.old) (W.contents writer.new) result }
 {
     let mut style = Explaining {

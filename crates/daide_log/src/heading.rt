@@ -2,15 +2,15 @@
 
 ghost use Rattle.std.specs.Prelude.{◌≡◌, IfSome, option_map};
 ghost use Rattle.daide_words.specs.Words.{words_of};
-ghost use Rattle.daide_lines.specs.LogLine.{is_name as has_name};
-ghost use Rattle.daide_log.specs.Heading.{version_of, limits_in, alone, with_word, heading_after, is_whole};
+ghost use Rattle.daide_log_lines.specs.LogLine.{is_name as has_name};
+ghost use Rattle.daide_log.specs.Heading.{version_of, limits_in, single_session, append_word, heading_after, has_all_words};
 ghost use Rattle.daide_log.specs.Heading.{HasSessions};
-ghost use Rattle.daide_lines.specs.WordLine.{word_of_line};
-ghost use Rattle.daide_log.specs.Held.{head_of, heading_of, IsHeld, whole};
+ghost use Rattle.daide_log_lines.specs.WordLine.{word_of_line};
+ghost use Rattle.daide_log.specs.PreambleKnown.{preamble_of, heading_of, IsPreambleKnown, whole_preamble};
 
 use crate::config_line::{MatchConfig, read_config, read_match_config};
-use daide_lines::match_line::is_match_name;
-use daide_lines::word_line::read_word;
+use daide_log_lines::match_line::is_match_name;
+use daide_log_lines::word_line::read_word;
 use daide_session::Config;
 use daide_words::{Word, Words};
 
@@ -101,7 +101,7 @@ fn limits_in(version: Version, line: &[u8]) -> Option<MatchConfig>
 
 /// Words with one more, if it is accepted after them.
 fn with_word(words: Words, word: Option<Word>) -> Option<Words>
-    ensures { option_map words_of result ≡ with_word (words_of words) word }
+    ensures { option_map words_of result ≡ append_word (words_of words) word }
 {
     let word = word?;
     let mut more = words;
@@ -114,8 +114,8 @@ fn with_word(words: Words, word: Option<Word>) -> Option<Words>
 impl Heading {
     /// The head with one line more, if the line may stand there.
     pub fn with_line(self, line: &[u8]) -> Option<Heading>
-        requires { IsHeld self }
-        ensures within { IfSome result IsHeld }
+        requires { IsPreambleKnown self }
+        ensures within { IfSome result IsPreambleKnown }
         ensures heading { option_map heading_of result ≡ heading_after (heading_of self) line.now }
     {
         match self {
@@ -135,7 +135,7 @@ impl Heading {
 
     /// The head, where all its words are there.
     pub fn whole(&self) -> Option<Preamble>
-        ensures { result ≡ whole self.now }
+        ensures { result ≡ whole_preamble self.now }
     {
         let heading = *self;
         match heading {

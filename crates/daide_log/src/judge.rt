@@ -1,37 +1,37 @@
 //! One line of a log behind its head, judged by its session.
 
 ghost use Rattle.std.specs.Prelude.{◌≡◌, ◌⊎◌, ◌≤◌, ℕ, List, All, length, Ok, Err, None, IfSome, OnOk, IfErr, MatchResult, option_map};
-ghost use Rattle.daide_lines.specs.LogLine.{longest_piece};
-ghost use Rattle.daide_lines.specs.Output.{IsSameWriter, all_of};
-ghost use Rattle.daide_log.specs.Report.{events_of, side_of};
+ghost use Rattle.daide_log_lines.specs.LogLine.{longest_piece};
+ghost use Rattle.daide_log_lines.specs.Output.{IsSameWriter, all_of};
+ghost use Rattle.daide_log.specs.Report.{events_of_line, side_of};
 ghost use Rattle.daide_log.specs.Log.{event_in, source_in};
-ghost use Rattle.daide_lines.specs.Told.{IsWithin, event_told};
-ghost use Rattle.daide_machine.specs.Bounds.{most_sessions};
-ghost use Rattle.daide_machine.specs.Summary.{HasRoom, IsMoreBy};
+ghost use Rattle.daide_log_lines.specs.ParsedEvents.{IsWithinPieceLimit, event_reported};
+ghost use Rattle.daide_protocol.specs.Bounds.{most_sessions};
+ghost use Rattle.daide_protocol.specs.Summary.{HasRoom, IsMoreBy};
 ghost use Rattle.daide_words.specs.Words.{words_of};
-ghost use Rattle.daide_log.specs.Told.{IsReady, IsLateFault, IsQuietWith, Tells, fault_of};
+ghost use Rattle.daide_log.specs.Reporting.{IsReady, IsLateFault, IsQuietWith, ReportsEvents, fault_of_unreported};
 ghost use Rattle.std.specs.Io.KnownBytes.{Appends};
-ghost use Rattle.daide_lines.specs.MatchTold.{IsMatchWithin, match_event_told};
+ghost use Rattle.daide_log_lines.specs.ParsedMatchEvents.{IsMatchWithin, match_event_reported};
 ghost use Rattle.daide_log.specs.Progress.{Judges, states_of};
 
-use crate::account::Account;
 use crate::heading::Version;
 use crate::page::Unreported;
 use crate::play::{end, feed_all, time_out};
-use crate::report::Source;
+use crate::report::ReportKey;
+use crate::report_builder::ReportBuilder;
 use crate::style::Style;
-use daide_lines::event_line::{MOST, Told, read_event};
-use daide_lines::fault::LogFault;
-use daide_lines::match_line::{MatchTold, read_match_event};
+use daide_log_lines::event_line::{MOST, ParsedEvent, read_event};
+use daide_log_lines::fault::LogFault;
+use daide_log_lines::match_line::{ParsedMatchEvent, read_match_event};
 use daide_session::Session;
 use std::alloc::Allocator;
 use std::io::Write;
 
 /// Returns why a line of a report is missing as a fault of the log.
-pub(crate) fn as_fault(told: Result<(), Unreported>) -> Result<(), LogFault>
-    ensures { MatchResult told (λ _. result ≡ Ok tt) (λ fault. result ≡ Err (fault_of fault)) }
+pub(crate) fn as_fault(reported: Result<(), Unreported>) -> Result<(), LogFault>
+    ensures { MatchResult reported (λ _. result ≡ Ok tt) (λ fault. result ≡ Err (fault_of_unreported fault)) }
 {
-    match told {
+    match reported {
         Ok(()) => Ok(()),
         Err(Unreported::Write) => Err(LogFault::Write),
         Err(Unreported::Memory) => Err(LogFault::Memory),
@@ -42,71 +42,71 @@ pub(crate) fn as_fault(told: Result<(), Unreported>) -> Result<(), LogFault>
 /// session makes of it is reported.
 pub fn judge<A: Allocator, W: Write, S: Style>(
     session: &mut Session<A>,
-    told: Told,
-    source: Source,
+    reported: ParsedEvent,
+    source: ReportKey,
     bytes: &[u8; MOST],
     style: &mut S,
-    account: &mut Account<'_, W>,
+    account: &mut ReportBuilder<'_, W>,
 ) -> Result<(), LogFault>
     requires ready { IsReady account.old.head.limits.config (words_of account.old.head.words) session.old }
-    requires within { IsWithin told }
+    requires within { IsWithinPieceLimit reported }
     requires room { HasRoom longest_piece account.old.summary }
     ensures ready { IsReady account.old.head.limits.config (words_of account.old.head.words) session.new }
     ensures few { IsMoreBy longest_piece account.old.summary account.new.summary }
-    ensures judged { OnOk result (Tells (S.form (words_of account.old.head.words)) source (side_of (event_told bytes.now told)) session.old.state
-        (events_of (event_told bytes.now told)) session.new.state
+    ensures judged { OnOk result (ReportsEvents (S.form (words_of account.old.head.words)) source (side_of (event_reported bytes.now reported)) session.old.state
+        (events_of_line (event_reported bytes.now reported)) session.new.state
         account.old.summary account.new.summary (all_of W.contents account.old.output)
         (all_of W.contents account.new.output)) }
     ensures refused { IfErr result (IsLateFault (S.form (words_of account.old.head.words))) }
     ensures same_head { account.new.head ≡ account.old.head }
     ensures same_writer { IsSameWriter account.old.output account.new.output }
 {
-    match told {
-        Told::Traffic(side, count) => {
+    match reported {
+        ParsedEvent::Received(side, count) => {
             as_fault(feed_all(session, side, &bytes[..count], source, style, account))
         }
-        Told::EndOf(side) => as_fault(end(session, side, source, style, account)),
-        Told::TimeOver => as_fault(time_out(session, source, style, account)),
-        Told::Silence => Ok(()),
+        ParsedEvent::EndOf(side) => as_fault(end(session, side, source, style, account)),
+        ParsedEvent::ImTimerLine => as_fault(time_out(session, source, style, account)),
+        ParsedEvent::Silence => Ok(()),
     }
 }
 
 /// What a line tells, in version 1 the one session.
-fn read_told(
+fn read_reported(
     version: Version,
     line: &[u8],
     sessions: u16,
     bytes: &mut [u8; MOST],
-) -> Option<MatchTold>
+) -> Option<ParsedMatchEvent>
     requires { 1 ≤ sessions }
-    ensures told { option_map (match_event_told bytes.new) result ≡ event_in version sessions line.now }
+    ensures reported { option_map (match_event_reported bytes.new) result ≡ event_in version sessions line.now }
     ensures within { IfSome result (IsMatchWithin sessions) }
 {
     match version {
-        Version::Single => Some(MatchTold::Of(1, read_event(line, bytes)?)),
+        Version::Single => Some(ParsedMatchEvent::Of(1, read_event(line, bytes)?)),
         Version::Match => read_match_event(line, sessions, bytes),
     }
 }
 
 /// A line that is judged.
 #[derive(Clone, Copy)]
-pub struct Origin {
+pub struct LineContext {
     /// Of what the log is.
     pub version: Version,
     /// The number of the line, counted from 1.
     pub line: u32,
 }
 
-impl Origin {
+impl LineContext {
     /// What the report names of a session's moves by the line.
-    fn source(self, session: u16) -> Source
+    fn source(self, session: u16) -> ReportKey
         ensures { result ≡ source_in self.version self.line session }
     {
         let session = match self.version {
             Version::Single => None,
             Version::Match => Some(session),
         };
-        Source {
+        ReportKey {
             line: self.line,
             session,
         }
@@ -117,7 +117,7 @@ impl Origin {
 fn quote<W: Write, S: Style>(
     line: &[u8],
     style: &mut S,
-    account: &mut Account<'_, W>,
+    account: &mut ReportBuilder<'_, W>,
 ) -> Result<(), LogFault>
     ensures text { OnOk result ((text : List ℕ)
         × IsQuietWith (S.form (words_of account.old.head.words)) line.now text
@@ -134,10 +134,10 @@ fn quote<W: Write, S: Style>(
 pub fn judge_line<A: Allocator, W: Write, S: Style>(
     sessions: &mut Vec<Session<A>, A>,
     line: &[u8],
-    origin: Origin,
+    origin: LineContext,
     bytes: &mut [u8; MOST],
     style: &mut S,
-    account: &mut Account<'_, W>,
+    account: &mut ReportBuilder<'_, W>,
 ) -> Result<(), LogFault>
     requires some { 1 ≤ length sessions.old.items }
     requires few { length sessions.old.items ≤ most_sessions }
@@ -157,14 +157,21 @@ pub fn judge_line<A: Allocator, W: Write, S: Style>(
     ensures same_writer { IsSameWriter account.old.output account.new.output }
 {
     let count = sessions.len() as u16;
-    match read_told(origin.version, line, count, bytes) {
+    match read_reported(origin.version, line, count, bytes) {
         None => Err(LogFault::BadLine(origin.line)),
-        Some(MatchTold::Quiet) => quote(line, style, account),
-        Some(MatchTold::Of(session, told)) => {
+        Some(ParsedMatchEvent::Quiet) => quote(line, style, account),
+        Some(ParsedMatchEvent::Of(session, reported)) => {
             quote(line, style, account)?;
             let place = session as usize - 1;
             let source = origin.source(session);
-            judge(&mut sessions[place], told, source, bytes, style, account)
+            judge(
+                &mut sessions[place],
+                reported,
+                source,
+                bytes,
+                style,
+                account,
+            )
         }
     }
 }

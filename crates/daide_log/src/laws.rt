@@ -1,8 +1,8 @@
 //! Laws of reports: functions with no parameters and an empty body, whose contracts are the laws.
 
 ghost use Rattle.std.specs.Prelude.{◌≡◌, ℕ, List, Option, Result};
-ghost use Rattle.daide_lines.specs.declared.fault.LogFault.{LogFault};
-ghost use Rattle.daide_machine.specs.declared.summary.Summary.{Summary};
+ghost use Rattle.daide_log_lines.specs.declared.fault.LogFault.{LogFault};
+ghost use Rattle.daide_protocol.specs.declared.summary.Summary.{Summary};
 ghost use Rattle.daide_log.specs.Laws.{SessionsAreAlone};
 ghost use Rattle.daide_log.specs.Log.{IsReport, plain};
 ghost use Rattle.daide_log.specs.Progress.{HasFault, IsInTime};
@@ -10,7 +10,7 @@ ghost use Rattle.daide_log.specs.RecordLaw.{RecordsAreReported, PortsAreRecorded
 ghost use Rattle.daide_log.specs.Recording.{HasFailed};
 
 use crate::sink::Sink;
-use daide_machine::ports::Ports;
+use daide_protocol::ports::Ports;
 
 /// What the log of a match without words tells of a session is what the session's own log tells, but for its number.
 pub fn sessions_are_alone()
@@ -42,5 +42,5 @@ pub fn records_are_reported()
 /// Ports with a record, however they were asked: the record has a front of their answers, and all of them unless it is full;
 /// or a write of its writer failed.
 pub fn ports_are_recorded<P: Ports, W: Sink>()
-    ensures { PortsAreRecorded P.becomes (HasFailed W.Fails) }
+    ensures { PortsAreRecorded P.transition (HasFailed W.Fails) }
 {}

@@ -2,24 +2,24 @@
 
 ghost use Rattle.std.specs.Prelude.{◌≡◌, ◌≢◌, ◌+◌, ◌≤◌, [], All, replicate, IfOk, IfErr, OnOk};
 ghost use Rattle.std.specs.Io.KnownBytes.{Keeps};
-ghost use Rattle.daide_lines.specs.Input.{IsSameReader};
-ghost use Rattle.daide_lines.specs.Output.{IsSameWriter, all_of};
-ghost use Rattle.daide_machine.specs.Machine.{opening};
-ghost use Rattle.daide_machine.specs.Config.{limits_with};
+ghost use Rattle.daide_log_lines.specs.Input.{IsSameReader};
+ghost use Rattle.daide_log_lines.specs.Output.{IsSameWriter, all_of};
+ghost use Rattle.daide_protocol.specs.Machine.{initial_state};
+ghost use Rattle.daide_protocol.specs.Config.{limits_with};
 ghost use Rattle.daide_words.specs.Words.{words_of};
 ghost use Rattle.daide_log.specs.Heading.{HasSessions};
-ghost use Rattle.daide_lines.specs.LogLine.{most_lines};
-ghost use Rattle.daide_log.specs.Held.{further, at_last, whole, after_line};
+ghost use Rattle.daide_log_lines.specs.LogLine.{most_lines};
+ghost use Rattle.daide_log.specs.PreambleKnown.{preamble_after, at_last, whole_preamble, after_line};
 ghost use Rattle.daide_log.specs.Progress.{AreOpened, states_of};
-ghost use Rattle.daide_log.specs.Told.{IsReady};
+ghost use Rattle.daide_log.specs.Reporting.{IsReady};
 
 use crate::heading::{Heading, Preamble};
 use crate::style::Style;
-use daide_lines::fault::LogFault;
-use daide_lines::input::Input;
-use daide_lines::lines::{Found, next_line};
-use daide_lines::output::Output;
-use daide_lines::reader::LogReader;
+use daide_log_lines::fault::LogFault;
+use daide_log_lines::input::Input;
+use daide_log_lines::lines::{LineEnd, next_line};
+use daide_log_lines::output::Output;
+use daide_log_lines::reader::LogReader;
 use daide_session::Session;
 use std::alloc::Allocator;
 use std::io::Write;
@@ -46,7 +46,7 @@ pub enum PreambleProgress {
 
 /// What is known behind so many lines, of which the last had its line feed.
 fn further(heading: Heading, lines: u32) -> PreambleProgress
-    ensures { result ≡ further heading lines (whole heading) }
+    ensures { result ≡ preamble_after heading lines (whole_preamble heading) }
 {
     match heading.whole() {
         None => PreambleProgress::More(heading),
@@ -61,7 +61,7 @@ fn further(heading: Heading, lines: u32) -> PreambleProgress
 /// What is known behind so many lines, of which the last is the log's.
 fn at_last(heading: Heading, lines: u32) -> Result<PreambleProgress, LogFault>
     requires { lines ≤ most_lines + 1 }
-    ensures { result ≡ at_last lines (whole heading) }
+    ensures { result ≡ at_last lines (whole_preamble heading) }
 {
     match heading.whole() {
         None => Err(LogFault::BadLine(lines + 1)),
@@ -75,7 +75,7 @@ fn at_last(heading: Heading, lines: u32) -> Result<PreambleProgress, LogFault>
 
 /// What is known behind the line that was found after so many, by the head with that line.
 fn after_line(
-    found: Result<Found, LogFault>,
+    found: Result<LineEnd, LogFault>,
     heading: Option<Heading>,
     count: u32,
 ) -> Result<PreambleProgress, LogFault>
@@ -84,8 +84,8 @@ fn after_line(
 {
     match (found, heading) {
         (Err(fault), _) => Err(fault),
-        (Ok(Found::Held(_) | Found::Line), Some(heading)) => Ok(further(heading, count + 1)),
-        (Ok(Found::Last), Some(heading)) => at_last(heading, count + 1),
+        (Ok(LineEnd::Held(_) | LineEnd::Line), Some(heading)) => Ok(further(heading, count + 1)),
+        (Ok(LineEnd::Last), Some(heading)) => at_last(heading, count + 1),
         (Ok(_), _) => Err(LogFault::BadLine(count + 1)),
     }
 }
@@ -97,7 +97,7 @@ pub fn read_preamble<S: Style, R: LogReader, W: Write>(
 ) -> Result<Opened, LogFault>
     requires { input.old.block ≡ [] }
     ensures within { IfOk result (λ opened. HasSessions opened.head.limits) }
-    ensures opened { AreOpened S.form (all_of W.contents output.old) (R.told input.old.reader.now) (R.told input.new.reader.now)
+    ensures opened { AreOpened S.form (all_of W.contents output.old) (R.reader_view input.old.reader.now) (R.reader_view input.new.reader.now)
         input.new.block result }
     ensures kept { OnOk result (Keeps (all_of W.contents output.old) (all_of W.contents output.new)) }
     ensures kept_at_fault { IfErr result (λ fault. fault ≢ LogFault.Write →
@@ -126,7 +126,7 @@ pub fn open_sessions<A: Allocator + Copy>(
     head: &Preamble,
 ) -> Result<Vec<Session<A>, A>, LogFault>
     ensures begun { IfOk result (λ sessions. states_of sessions.items ≡ replicate head.now.limits.sessions
-        (opening (limits_with head.now.limits.config (words_of head.now.words)))) }
+        (initial_state (limits_with head.now.limits.config (words_of head.now.words)))) }
     ensures ready { IfOk result (λ sessions.
         All (IsReady head.now.limits.config (words_of head.now.words)) sessions.items) }
     ensures refused { IfErr result (λ fault. fault ≡ LogFault.Memory) }

@@ -2,19 +2,19 @@
 
 ghost use Rattle.std.specs.Prelude.{◌≡◌, ◌+◌, ◌%◌, ◌≤◌, [], ◌∷◌, codes, length, OnOk, IfOk, IfErr};
 ghost use Rattle.std.specs.Io.KnownBytes.{Appends, Keeps};
-ghost use Rattle.daide_lines.specs.Output.{IsSameWriter, all_of, page_size};
+ghost use Rattle.daide_log_lines.specs.Output.{IsSameWriter, all_of, page_size};
 ghost use Rattle.daide_token.specs.TextSteps.{end_text, place_past, some_text};
 ghost use Rattle.daide_token.specs.Token.{tokens_of};
 ghost use Rattle.daide_token.specs.declared.text.PrinterState.TheVariants.{Start};
 ghost use Rattle.daide_words.specs.Word.{names_of};
 ghost use Rattle.daide_words.specs.Words.{words_of};
-ghost use Rattle.daide_log.specs.Explained.{indented, indented_byte, line, printed};
+ghost use Rattle.daide_log.specs.Explained.{indented, indented_byte, with_line_feed, message_text};
 ghost use Rattle.daide_log.specs.Report.{line_room, move_line, part_line, summary_line};
 
-use crate::report::{LINE, Part, Source, put, write_move, write_part, write_summary};
+use crate::report::{LINE, Part, ReportKey, put, write_move, write_part, write_summary};
 use daide_frame::Side;
-use daide_lines::output::Output;
-use daide_machine::{Note, Summary};
+use daide_log_lines::output::Output;
+use daide_protocol::{Note, Summary};
 use daide_token::{PrinterState, end_of};
 use daide_words::Words;
 use std::io::Write;
@@ -180,7 +180,7 @@ fn put_tokens<W: Write>(
 #[inline(always)]
 fn put_end<W: Write>(place: PrinterState, output: &mut Output<'_, W>) -> Result<(), Unreported>
     ensures text { OnOk result (Appends (all_of W.contents output.old) (all_of W.contents output.new)
-        (line (end_text place))) }
+        (with_line_feed (end_text place))) }
     ensures refused { IfErr result (λ fault. fault ≡ Unreported.Write) }
     ensures same_writer { IsSameWriter output.old output.new }
 {
@@ -199,7 +199,7 @@ pub(crate) fn put_message<W: Write>(
 ) -> Result<(), Unreported>
     requires { length tokens.now % 2 ≡ 0 }
     ensures text { OnOk result (Appends (all_of W.contents output.old) (all_of W.contents output.new)
-        (indented (line (printed (words_of words.now) (tokens_of tokens.now))))) }
+        (indented (with_line_feed (message_text (words_of words.now) (tokens_of tokens.now))))) }
     ensures refused { IfErr result (λ fault. fault ≡ Unreported.Write) }
     ensures same_writer { IsSameWriter output.old output.new }
 {
@@ -212,18 +212,18 @@ pub(crate) fn put_message<W: Write>(
 
 /// Writes the line of a side's move behind what is held.
 pub fn put_move<W: Write>(
-    source: Source,
+    source: ReportKey,
     side: Side,
-    told: Note,
+    reported: Note,
     output: &mut Output<'_, W>,
 ) -> Result<(), Unreported>
     ensures text { OnOk result (Appends (all_of W.contents output.old) (all_of W.contents output.new)
-        (move_line source side told)) }
+        (move_line source side reported)) }
     ensures refused { IfErr result (λ fault. fault ≡ Unreported.Write) }
     ensures same_writer { IsSameWriter output.old output.new }
 {
     make_room(output)?;
-    write_move(source, side, told, &mut output.page);
+    write_move(source, side, reported, &mut output.page);
     Ok(())
 }
 

@@ -3,22 +3,22 @@
 ghost use Rattle.std.specs.Prelude.{◌≡◌, ◌≤◌, ℕ, List, ◌∷◌, ◌++◌, [], length, OnOk, IfErr};
 ghost use Rattle.std.specs.Io.KnownBytes.{Appends};
 ghost use Rattle.daide_frame.specs.declared.side.Side.{Side};
-ghost use Rattle.daide_lines.specs.Output.{IsSameWriter, all_of};
-ghost use Rattle.daide_machine.specs.Events.{Event, Ends, TimerExpires, bytes_come};
-ghost use Rattle.daide_machine.specs.Machine.{coming};
-ghost use Rattle.daide_machine.specs.Wires.{SessionView, holding, room_of};
-ghost use Rattle.daide_machine.specs.Summary.{counted};
-ghost use Rattle.daide_machine.specs.Summary.{HasRoom, IsMoreBy};
+ghost use Rattle.daide_log_lines.specs.Output.{IsSameWriter, all_of};
+ghost use Rattle.daide_protocol.specs.Events.{Event, Ends, ImTimerExpired, bytes_come};
+ghost use Rattle.daide_protocol.specs.Machine.{coming};
+ghost use Rattle.daide_protocol.specs.Wires.{SessionView, holding, room_of};
+ghost use Rattle.daide_protocol.specs.Summary.{count_note};
+ghost use Rattle.daide_protocol.specs.Summary.{HasRoom, IsMoreBy};
 ghost use Rattle.daide_words.specs.Words.{words_of};
 ghost use Rattle.daide_log.specs.Report.{move_line};
-ghost use Rattle.daide_log.specs.Told.{IsIdle, IsMade, IsReady, IsUnder, IsToldWith, IsCauseIn, Tells};
+ghost use Rattle.daide_log.specs.Reporting.{IsIdle, IsMade, IsReady, IsUnder, IsReportedWith, IsCauseIn, ReportsEvents};
 
-use crate::account::Account;
 use crate::page::{Unreported, put_move};
-use crate::report::Source;
+use crate::report::ReportKey;
+use crate::report_builder::ReportBuilder;
 use crate::style::Style;
 use daide_frame::Side;
-use daide_machine::Note;
+use daide_protocol::Note;
 use daide_session::Session;
 use std::alloc::Allocator;
 use std::io::Write;
@@ -35,28 +35,28 @@ fn take_answers<A: Allocator>(session: &mut Session<A>)
 /// Counts a move of a side, and writes its line and what the report adds to it.
 fn tell<A: Allocator, W: Write, S: Style>(
     session: &Session<A>,
-    source: Source,
+    source: ReportKey,
     side: Side,
-    told: Note,
+    reported: Note,
     style: &mut S,
-    account: &mut Account<'_, W>,
+    account: &mut ReportBuilder<'_, W>,
 ) -> Result<(), Unreported>
     requires under { IsUnder account.old.head.limits.config (words_of account.old.head.words) session.now }
-    requires made { (old : SessionView) × (events : List Event) × IsMade old events side told session.now }
+    requires made { (old : SessionView) × (events : List Event) × IsMade old events side reported session.now }
     requires room { HasRoom 1 account.old.summary }
     ensures few { IsMoreBy 1 account.old.summary account.new.summary }
-    ensures counted { account.new.summary ≡ counted told account.old.summary }
+    ensures counted { account.new.summary ≡ count_note reported account.old.summary }
     ensures text { OnOk result ((added : List ℕ)
-        × IsToldWith (S.form (words_of account.old.head.words)) side told session.now added
+        × IsReportedWith (S.form (words_of account.old.head.words)) side reported session.now added
         × Appends (all_of W.contents account.old.output) (all_of W.contents account.new.output)
-        (move_line source side told ++ added)) }
+        (move_line source side reported ++ added)) }
     ensures refused { IfErr result (IsCauseIn (S.form (words_of account.old.head.words))) }
     ensures same_head { account.new.head ≡ account.old.head }
     ensures same_writer { IsSameWriter account.old.output account.new.output }
 {
-    account.summary.count(told);
-    put_move(source, side, told, &mut account.output)?;
-    style.explain(&account.head, session, side, told, &mut account.output)
+    account.summary.count(reported);
+    put_move(source, side, reported, &mut account.output)?;
+    style.explain(&account.head, session, side, reported, &mut account.output)
 }
 
 /// Feeds a side's next bytes, for which there is room, and reports the move that they make, if they make one, before the
@@ -65,9 +65,9 @@ fn feed_piece<A: Allocator, W: Write, S: Style>(
     session: &mut Session<A>,
     side: Side,
     piece: &[u8],
-    source: Source,
+    source: ReportKey,
     style: &mut S,
-    account: &mut Account<'_, W>,
+    account: &mut ReportBuilder<'_, W>,
 ) -> Result<(), Unreported>
     requires ready { IsReady account.old.head.limits.config (words_of account.old.head.words) session.old }
     requires few { length piece.now ≤ room_of session.old side }
@@ -75,18 +75,18 @@ fn feed_piece<A: Allocator, W: Write, S: Style>(
     requires room { HasRoom 1 account.old.summary }
     ensures ready { IsReady account.old.head.limits.config (words_of account.old.head.words) session.new }
     ensures few { IsMoreBy 1 account.old.summary account.new.summary }
-    ensures told { OnOk result (Tells (S.form (words_of account.old.head.words)) source side session.old.state
+    ensures reported { OnOk result (ReportsEvents (S.form (words_of account.old.head.words)) source side session.old.state
         (bytes_come side piece.now) session.new.state account.old.summary account.new.summary
         (all_of W.contents account.old.output) (all_of W.contents account.new.output)) }
     ensures refused { IfErr result (IsCauseIn (S.form (words_of account.old.head.words))) }
     ensures same_head { account.new.head ≡ account.old.head }
     ensures same_writer { IsSameWriter account.old.output account.new.output }
 {
-    let told = session.feed(side, piece);
-    if let Note::Nothing = told {
+    let reported = session.feed(side, piece);
+    if let Note::Nothing = reported {
         return Ok(());
     }
-    let written = tell(session, source, side, told, style, account);
+    let written = tell(session, source, side, reported, style, account);
     take_answers(session);
     written
 }
@@ -96,15 +96,15 @@ pub fn feed_all<A: Allocator, W: Write, S: Style>(
     session: &mut Session<A>,
     side: Side,
     bytes: &[u8],
-    source: Source,
+    source: ReportKey,
     style: &mut S,
-    account: &mut Account<'_, W>,
+    account: &mut ReportBuilder<'_, W>,
 ) -> Result<(), Unreported>
     requires ready { IsReady account.old.head.limits.config (words_of account.old.head.words) session.old }
     requires room { HasRoom (length bytes.now) account.old.summary }
     ensures ready { IsReady account.old.head.limits.config (words_of account.old.head.words) session.new }
     ensures few { IsMoreBy (length bytes.now) account.old.summary account.new.summary }
-    ensures told { OnOk result (Tells (S.form (words_of account.old.head.words)) source side session.old.state (bytes_come side bytes.now) session.new.state
+    ensures reported { OnOk result (ReportsEvents (S.form (words_of account.old.head.words)) source side session.old.state (bytes_come side bytes.now) session.new.state
         account.old.summary account.new.summary (all_of W.contents account.old.output)
         (all_of W.contents account.new.output)) }
     ensures refused { IfErr result (IsCauseIn (S.form (words_of account.old.head.words))) }
@@ -124,15 +124,15 @@ pub fn feed_all<A: Allocator, W: Write, S: Style>(
 pub fn end<A: Allocator, W: Write, S: Style>(
     session: &mut Session<A>,
     side: Side,
-    source: Source,
+    source: ReportKey,
     style: &mut S,
-    account: &mut Account<'_, W>,
+    account: &mut ReportBuilder<'_, W>,
 ) -> Result<(), Unreported>
     requires ready { IsReady account.old.head.limits.config (words_of account.old.head.words) session.old }
     requires room { HasRoom 1 account.old.summary }
     ensures ready { IsReady account.old.head.limits.config (words_of account.old.head.words) session.new }
     ensures few { IsMoreBy 1 account.old.summary account.new.summary }
-    ensures told { OnOk result (Tells (S.form (words_of account.old.head.words)) source side session.old.state (Ends side ∷ []) session.new.state
+    ensures reported { OnOk result (ReportsEvents (S.form (words_of account.old.head.words)) source side session.old.state (Ends side ∷ []) session.new.state
         account.old.summary account.new.summary (all_of W.contents account.old.output)
         (all_of W.contents account.new.output)) }
     ensures refused { IfErr result (IsCauseIn (S.form (words_of account.old.head.words))) }
@@ -152,15 +152,15 @@ pub fn end<A: Allocator, W: Write, S: Style>(
 /// The time for the initial message is over.
 pub fn time_out<A: Allocator, W: Write, S: Style>(
     session: &mut Session<A>,
-    source: Source,
+    source: ReportKey,
     style: &mut S,
-    account: &mut Account<'_, W>,
+    account: &mut ReportBuilder<'_, W>,
 ) -> Result<(), Unreported>
     requires ready { IsReady account.old.head.limits.config (words_of account.old.head.words) session.old }
     requires room { HasRoom 1 account.old.summary }
     ensures ready { IsReady account.old.head.limits.config (words_of account.old.head.words) session.new }
     ensures few { IsMoreBy 1 account.old.summary account.new.summary }
-    ensures told { OnOk result (Tells (S.form (words_of account.old.head.words)) source Side.Bot session.old.state (TimerExpires ∷ []) session.new.state
+    ensures reported { OnOk result (ReportsEvents (S.form (words_of account.old.head.words)) source Side.Bot session.old.state (ImTimerExpired ∷ []) session.new.state
         account.old.summary account.new.summary (all_of W.contents account.old.output)
         (all_of W.contents account.new.output)) }
     ensures refused { IfErr result (IsCauseIn (S.form (words_of account.old.head.words))) }
@@ -169,12 +169,12 @@ pub fn time_out<A: Allocator, W: Write, S: Style>(
 {
     // What is held is the frame that is not whole yet: the header's contract says it.
     let _held = session.header(Side::Bot);
-    let told = session.im_timeout();
-    if let Note::Nothing = told {
+    let reported = session.im_timeout();
+    if let Note::Nothing = reported {
         take_answers(session);
         return Ok(());
     }
-    let written = tell(session, source, Side::Bot, told, style, account);
+    let written = tell(session, source, Side::Bot, reported, style, account);
     take_answers(session);
     written
 }

@@ -5,17 +5,17 @@
 ghost use Rattle.std.specs.Prelude.{◌≡◌, ◌≢◌, ◌<◌, ◌≤◌, [], Some, OnOk, OnErr, length};
 ghost use Rattle.std.specs.Io.KnownBytes.{Keeps, append_known};
 ghost use Rattle.daide_words.specs.Words.{words_of};
-ghost use Rattle.daide_lines.specs.LogLine.{most_lines, longest_piece, EndOf, TimeOver};
+ghost use Rattle.daide_log_lines.specs.LogLine.{most_lines, longest_piece, EndOf, ImTimerLine};
 ghost use Rattle.daide_log.specs.RecordText.{piece_of, head_text, head_count};
-ghost use Rattle.daide_log.specs.Recording.{Takes, HasFailed, most_held};
+ghost use Rattle.daide_log.specs.Recording.{RecordsEvent, HasFailed, most_held};
 
 use crate::record_text::{put_end, put_head, put_piece, put_timer};
 use crate::sink::Sink;
 use daide_frame::Side;
-pub use daide_lines::lines::MOST_LINES;
-use daide_lines::page::{PAGE, Page};
-use daide_lines::text::LONGEST_LINE;
-use daide_machine::Config;
+pub use daide_log_lines::lines::MOST_LINES;
+use daide_log_lines::page::{PAGE, Page};
+use daide_log_lines::text::LONGEST_LINE;
+use daide_protocol::Config;
 use daide_words::Words;
 use std::io;
 use std::marker::Model;
@@ -146,7 +146,7 @@ impl<W: Sink + Drop> Record<W> {
     /// Bytes of a side came, no more than a line has.
     pub fn came(&mut self, side: Side, bytes: &[u8])
         requires { length bytes.now ≤ longest_piece }
-        ensures { Takes (HasFailed W.Fails) self.old (piece_of side bytes.now) self.new }
+        ensures { RecordsEvent (HasFailed W.Fails) self.old (piece_of side bytes.now) self.new }
     {
         if bytes.is_empty() || self.ending != RecordEnd::Whole {
             return;
@@ -160,7 +160,7 @@ impl<W: Sink + Drop> Record<W> {
 
     /// A side ended, or the wire toward it failed.
     pub fn ended(&mut self, side: Side)
-        ensures { Takes (HasFailed W.Fails) self.old (Some (EndOf side)) self.new }
+        ensures { RecordsEvent (HasFailed W.Fails) self.old (Some (EndOf side)) self.new }
     {
         if self.ending != RecordEnd::Whole {
             return;
@@ -174,7 +174,7 @@ impl<W: Sink + Drop> Record<W> {
 
     /// The time for the initial message is over.
     pub fn timed_out(&mut self)
-        ensures { Takes (HasFailed W.Fails) self.old (Some TimeOver) self.new }
+        ensures { RecordsEvent (HasFailed W.Fails) self.old (Some ImTimerLine) self.new }
     {
         if self.ending != RecordEnd::Whole {
             return;

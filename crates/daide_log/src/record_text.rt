@@ -3,16 +3,16 @@
 ghost use Rattle.std.specs.Prelude.{◌≡◌, ◌≤◌, ◌+◌, ◌*◌, ◌/◌, ◌%◌, ◌∷◌, ◌++◌, [], length, slice_index};
 ghost use Rattle.hex.specs.Hex.{encode_upper, upper_digits};
 ghost use Rattle.daide_words.specs.Words.{words_of};
-ghost use Rattle.daide_lines.specs.LogLine.{Traffic, EndOf, TimeOver, longest_piece};
-ghost use Rattle.daide_lines.specs.Output.{page_size};
+ghost use Rattle.daide_log_lines.specs.LogLine.{Received, EndOf, ImTimerLine, longest_piece};
+ghost use Rattle.daide_log_lines.specs.Output.{page_size};
 ghost use Rattle.daide_log.specs.Recording.{most_held};
 ghost use Rattle.daide_log.specs.RecordText.{event_line, name_of_slot, name_of_operand};
 ghost use Rattle.daide_log.specs.RecordText.{word_text, config_text, head_text};
 
 use crate::report::{put, put_number, put_side};
 use daide_frame::Side;
-use daide_lines::page::Page;
-use daide_machine::Config;
+use daide_log_lines::page::Page;
+use daide_protocol::Config;
 use daide_words::{Operand, Slot, Word, Words};
 
 /// The digits, with upper-case letters.
@@ -47,7 +47,7 @@ fn put_bytes(bytes: &[u8], line: &mut Page)
 pub fn put_piece(side: Side, bytes: &[u8], line: &mut Page)
     requires few { length bytes.now ≤ longest_piece }
     requires room { length line.old.items ≤ most_held }
-    ensures { line.new.items ≡ line.old.items ++ event_line (Traffic side bytes.now) }
+    ensures { line.new.items ≡ line.old.items ++ event_line (Received side bytes.now) }
 {
     put(b"1 ", line);
     put_side(side, line);
@@ -71,7 +71,7 @@ pub fn put_end(side: Side, line: &mut Page)
 #[tactic(auto, unfolding(crate::specs::RecordText::event_line, crate::specs::RecordText::event_text))]
 pub fn put_timer(line: &mut Page)
     requires { length line.old.items ≤ most_held }
-    ensures { line.new.items ≡ line.old.items ++ event_line TimeOver }
+    ensures { line.new.items ≡ line.old.items ++ event_line ImTimerLine }
 {
     put(b"1 timer\n", line);
 }

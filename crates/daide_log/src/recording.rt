@@ -1,16 +1,16 @@
 //! Ports that keep a record of their answers.
 
 ghost use Rattle.std.specs.Prelude.{◌≡◌};
-ghost use Rattle.daide_machine.specs.Ports.{TurnBegins};
-ghost use Rattle.daide_machine.specs.System.{BeginsTurn};
+ghost use Rattle.daide_protocol.specs.Ports.{TurnBegins};
+ghost use Rattle.daide_protocol.specs.System.{BeginsTurn};
 ghost use Rattle.std.specs.Io.KnownBytes.{Keeps};
 
 use crate::record::{Record, RecordEnd};
 use crate::sink::Sink;
 use daide_frame::Side;
-use daide_lines::event_line::MOST;
-use daide_machine::ports::{Ports, Pull, Put};
-use daide_machine::system::System;
+use daide_log_lines::event_line::MOST;
+use daide_protocol::ports::{Ports, Pull, Put};
+use daide_protocol::system::System;
 use std::marker::Model;
 
 /// Ports that record what they tell a session: bytes that came, ends, a clock that popped, and a wire that failed, as the
@@ -42,7 +42,7 @@ impl<P: Ports, W: Sink + Drop> Recording<P, W> {
 
     /// Begins a turn: the system begins it with the ports within, and the record stays as it is.
     pub fn begin_turn<S: System<P>>(&mut self, system: &mut S)
-        ensures begins { Records P.becomes (HasFailed W.Fails) self.old TurnBegins self.new }
+        ensures begins { Records P.transition (HasFailed W.Fails) self.old TurnBegins self.new }
         ensures asked { S.transition system.old (BeginsTurn self.old.ports self.new.ports) system.new }
     {
         system.begin_turn(&mut self.ports);
@@ -67,7 +67,7 @@ impl<P: Ports, W: Sink + Drop> Recording<P, W> {
 impl<P: Ports, W: Sink + Drop> Ports for Recording<P, W> {
     ghost use Rattle.daide_log.specs.Recording.{Records, HasFailed};
 
-    ghost becomes = { Records P.becomes (HasFailed W.Fails) };
+    ghost transition = { Records P.transition (HasFailed W.Fails) };
 
     fn pull(&mut self, side: Side, buffer: &mut [u8]) -> Pull {
         let most = buffer.len().min(MOST);
@@ -89,10 +89,10 @@ impl<P: Ports, W: Sink + Drop> Ports for Recording<P, W> {
     }
 
     fn clock_popped(&mut self) -> bool {
-        let popped = self.ports.clock_popped();
-        if popped {
+        let im_timer_expired = self.ports.clock_popped();
+        if im_timer_expired {
             self.log.timed_out();
         }
-        popped
+        im_timer_expired
     }
 }

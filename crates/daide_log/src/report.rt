@@ -2,20 +2,20 @@
 
 ghost use Rattle.std.specs.Prelude.{◌≡◌, ◌<◌, ◌≤◌, ◌+◌, ◌%◌, [], ◌∷◌, ◌++◌, codes, length, Some, None};
 ghost use Rattle.std.specs.Fmt.{decimal};
-ghost use Rattle.daide_lines.specs.Output.{page_size};
-ghost use Rattle.daide_log.specs.Report.{line_room, name_of_side, move_text, source_text, told_text, move_line};
+ghost use Rattle.daide_log_lines.specs.Output.{page_size};
+ghost use Rattle.daide_log.specs.Report.{line_room, name_of_side, move_text, source_text, reported_text, move_line};
 ghost use Rattle.daide_log.specs.Report.{summary_line as last_line, session_text, size_text, part_line};
 
 use daide_frame::{Code, Head, Side};
-use daide_lines::page::Page;
-use daide_machine::{Deed, Note, Summary};
+use daide_log_lines::page::Page;
+use daide_protocol::{Deed, Note, Summary};
 
 /// More bytes than any line of a report has.
 pub const LINE: usize = 128;
 
 /// What made a move.
 #[derive(Clone, Copy)]
-pub struct Source {
+pub struct ReportKey {
     /// The number of the line, counted from 1.
     pub line: u32,
     /// The number of the session in the log of a match.
@@ -124,7 +124,7 @@ pub(crate) fn put_number(number: u64, line: &mut Page)
 
 /// Puts the number of the line that made a move, and that of the session.
 #[tactic(auto, unfolding(crate::specs::Report::source_text))]
-fn put_source(source: Source, line: &mut Page)
+fn put_source(source: ReportKey, line: &mut Page)
     requires { length line.old.items + line_room ≤ page_size }
     ensures text { line.new.items ≡ line.old.items ++ source_text source }
     ensures few { length line.new.items ≤ length line.old.items + 42 }
@@ -171,13 +171,13 @@ fn put_frame(head: Head, deed: Deed, line: &mut Page)
 }
 
 /// Puts what a side's move was, and the end of the line.
-#[tactic(auto, unfolding(crate::specs::Report::told_text))]
-fn put_told(side: Side, told: Note, line: &mut Page)
+#[tactic(auto, unfolding(crate::specs::Report::reported_text))]
+fn put_reported(side: Side, reported: Note, line: &mut Page)
     requires { length line.old.items + 86 ≤ page_size }
-    ensures { line.new.items ≡ line.old.items ++ told_text side told }
+    ensures { line.new.items ≡ line.old.items ++ reported_text side reported }
 {
     put_side(side, line);
-    match told {
+    match reported {
         Note::Nothing => put(b"end\n", line),
         Note::Frame(head, deed) => put_frame(head, deed, line),
         Note::Fault(code) => {
@@ -190,12 +190,12 @@ fn put_told(side: Side, told: Note, line: &mut Page)
 
 /// Puts the line of a side's move, behind the numbers of what made it.
 #[tactic(auto, unfolding(crate::specs::Report::move_line))]
-pub(crate) fn write_move(source: Source, side: Side, told: Note, line: &mut Page)
+pub(crate) fn write_move(source: ReportKey, side: Side, reported: Note, line: &mut Page)
     requires { length line.old.items + line_room ≤ page_size }
-    ensures { line.new.items ≡ line.old.items ++ move_line source side told }
+    ensures { line.new.items ≡ line.old.items ++ move_line source side reported }
 {
     put_source(source, line);
-    put_told(side, told, line);
+    put_reported(side, reported, line);
 }
 
 /// A frame that is not whole.

@@ -4,22 +4,22 @@ ghost use Rattle.std.specs.Prelude.{◌≡◌, ◌≤◌, ℕ, All, List, length
 ghost use Rattle.std.specs.Io.KnownBytes.{Appends};
 ghost use Rattle.daide_words.specs.declared.word.Word.{Word};
 ghost use Rattle.daide_words.specs.Words.{words_of};
-ghost use Rattle.daide_lines.specs.Output.{IsSameWriter, all_of};
-ghost use Rattle.daide_machine.specs.Bounds.{most_sessions};
-ghost use Rattle.daide_machine.specs.Events.{Event};
-ghost use Rattle.daide_machine.specs.Wires.{SessionView};
-ghost use Rattle.daide_machine.specs.declared.summary.Summary.{Summary};
-ghost use Rattle.daide_log.specs.Form.{Form, IsLawful};
+ghost use Rattle.daide_log_lines.specs.Output.{IsSameWriter, all_of};
+ghost use Rattle.daide_protocol.specs.Bounds.{most_sessions};
+ghost use Rattle.daide_protocol.specs.Events.{Event};
+ghost use Rattle.daide_protocol.specs.Wires.{SessionView};
+ghost use Rattle.daide_protocol.specs.declared.summary.Summary.{Summary};
+ghost use Rattle.daide_log.specs.ReportForm.{ReportForm, IsWritableForm};
 ghost use Rattle.daide_log.specs.Log.{plain};
 ghost use Rattle.daide_log.specs.Progress.{states_of};
-ghost use Rattle.daide_log.specs.Told.{IsMade, IsReady, IsUnder, IsToldWith, IsQuietWith, IsCauseIn};
+ghost use Rattle.daide_log.specs.Reporting.{IsMade, IsReady, IsUnder, IsReportedWith, IsQuietWith, IsCauseIn};
 ghost use Rattle.daide_log.specs.Lawful.{plain_lawful};
 
 use crate::heading::Preamble;
 use crate::page::Unreported;
 use daide_frame::Side;
-use daide_lines::output::Output;
-use daide_machine::{Note, Summary};
+use daide_log_lines::output::Output;
+use daide_protocol::{Note, Summary};
 use daide_session::Session;
 use std::alloc::Allocator;
 use std::io::Write;
@@ -29,7 +29,7 @@ pub trait Style {
     /// What is answered of a log without a fault.
     type Answer: Copy;
 
-    ghost form: { List Word → Form Self.Answer };
+    ghost form: { List Word → ReportForm Self.Answer };
 
     /// Writes what follows the line of a side's move, while the session still holds the frame that made it.
     fn explain<A: Allocator, W: Write>(
@@ -37,13 +37,13 @@ pub trait Style {
         head: &Preamble,
         session: &Session<A>,
         side: Side,
-        told: Note,
+        reported: Note,
         output: &mut Output<'_, W>,
     ) -> Result<(), Unreported>
         requires under { IsUnder head.now.limits.config (words_of head.now.words) session.now }
-        requires made { (old : SessionView) × (events : List Event) × IsMade old events side told session.now }
+        requires made { (old : SessionView) × (events : List Event) × IsMade old events side reported session.now }
         ensures text { OnOk result ((added : List ℕ)
-            × IsToldWith (form (words_of head.now.words)) side told session.now added
+            × IsReportedWith (form (words_of head.now.words)) side reported session.now added
             × Appends (all_of W.contents output.old) (all_of W.contents output.new) added) }
         ensures refused { IfErr result (IsCauseIn (form (words_of head.now.words))) }
         ensures same_writer { IsSameWriter output.old output.new };
@@ -78,7 +78,7 @@ pub trait Style {
         ensures refused { IfErr result (IsCauseIn (form (words_of head.now.words))) }
         ensures same_writer { IsSameWriter output.old output.new };
 
-    ghost lawful: { (words : List Word) → IsLawful words (form words) };
+    ghost lawful: { (words : List Word) → IsWritableForm words (form words) };
 }
 
 /// The plain report: the lines of moves and of the counts, and nothing else.
@@ -96,7 +96,7 @@ impl Style for PlainStyle {
         _head: &Preamble,
         _session: &Session<A>,
         _side: Side,
-        _told: Note,
+        _reported: Note,
         _output: &mut Output<'_, W>,
     ) -> Result<(), Unreported> {
         Ok(())

@@ -2,8 +2,8 @@
 use Rattle.std.proofs.Common.{◌≡◌, ◌≢◌, ℕ, ◌⊎◌, inl, inr, eqb, Bool, true, false, List, [], ◌∷◌, ◌++◌}
 use Rattle.std.proofs.Common.{refl, sym, ap, ◌∙◌, subst, append_assoc, append-nil}
 use Rattle.std.proofs.lemmas.Bool.Decides.{eqb_tells}
-use Rattle.daide_lines.specs.LogLine.{IsUnbroken}
-use Rattle.daide_lines.proofs.LineLemmas.{unbroken_append}
+use Rattle.daide_log_lines.specs.LogLine.{IsUnbroken}
+use Rattle.daide_log_lines.proofs.LineLemmas.{unbroken_append}
 use Rattle.daide_log.specs.Explained.{indented, indented_from}
 use Rattle.daide_log_laws.specs.Added.{without_added}
 use Rattle.daide_log_laws.proofs.TextLines.{added_line}

@@ -13,16 +13,16 @@ use Rattle.daide_frame.specs.declared.head.Kind.{Kind}
 use Rattle.daide_frame.specs.declared.head.Kind.TheVariants.{Im, Rm, Dm, Fm, Em}
 use Rattle.daide_frame.specs.Code.{code_digits}
 use Rattle.daide_frame.specs.Kind.{name_of_kind}
-use Rattle.daide_machine.specs.declared.note.Deed.{Deed}
-use Rattle.daide_machine.specs.declared.note.Deed.TheVariants.{Relayed, Dropped, Prn, Huh}
-use Rattle.daide_machine.specs.declared.note.Note.{Note}
-use Rattle.daide_machine.specs.declared.note.Note.TheVariants.{Nothing, Frame, Fault}
-use Rattle.daide_machine.specs.declared.summary.Summary.{Summary}
-use Rattle.daide_log.specs.declared.report.Source.{Source}
-use Rattle.daide_log.specs.Report.{name_of_side, deed_text, move_text, session_text, source_text, told_text, move_line}
+use Rattle.daide_protocol.specs.declared.note.Deed.{Deed}
+use Rattle.daide_protocol.specs.declared.note.Deed.TheVariants.{Relayed, Dropped, Prn, Huh}
+use Rattle.daide_protocol.specs.declared.note.Note.{Note}
+use Rattle.daide_protocol.specs.declared.note.Note.TheVariants.{Nothing, Frame, Fault}
+use Rattle.daide_protocol.specs.declared.summary.Summary.{Summary}
+use Rattle.daide_log.specs.declared.report.ReportKey.{ReportKey}
+use Rattle.daide_log.specs.Report.{name_of_side, deed_text, move_text, session_text, source_text, reported_text, move_line}
 use Rattle.daide_log.specs.Report.{size_text, part_line, summary_line}
 use Rattle.daide_log.proofs.RecordLines.{is_plain, both_all, plain_unbroken}
-use Rattle.daide_log_laws.specs.Added.{without_added, is_added}
+use Rattle.daide_log_laws.specs.Added.{without_added, is_added_line}
 use Rattle.daide_log_laws.proofs.TextLines.{kept_line, added_line, digit_stays}
 
 -- ---- digits
@@ -119,48 +119,48 @@ code_plain Codes.SecondRm = refl
 code_plain Codes.RmFromClient = refl
 code_plain Codes.InvalidToken = refl
 
-move_plain : (told : Note) → IsPlain (move_text told)
+move_plain : (reported : Note) → IsPlain (move_text reported)
 move_plain Nothing = refl
 move_plain (Frame head deed) =
     both (name_of_kind head.kind ++ 32 ∷ decimal head.len) (32 ∷ deed_text deed)
     (both (name_of_kind head.kind) (32 ∷ decimal head.len) (kind_plain head.kind) (decimal_plain head.len)) (deed_plain deed)
 move_plain (Fault code) = both (codes "fault ") (code_digits code) refl (code_plain code)
 
-move_front : Source → Side → Note → List ℕ
-move_front source side told =
-    (decimal source.line ++ 32 ∷ session_text source.session) ++ (name_of_side side ++ 32 ∷ move_text told)
+move_front : ReportKey → Side → Note → List ℕ
+move_front source side reported =
+    (decimal source.line ++ 32 ∷ session_text source.session) ++ (name_of_side side ++ 32 ∷ move_text reported)
 
-front_plain : (source : Source) (side : Side) (told : Note) → IsPlain (move_front source side told)
+front_plain : (source : ReportKey) (side : Side) (reported : Note) → IsPlain (move_front source side reported)
 unfolding move_front
-front_plain source side told =
-    both (decimal source.line ++ 32 ∷ session_text source.session) (name_of_side side ++ 32 ∷ move_text told)
+front_plain source side reported =
+    both (decimal source.line ++ 32 ∷ session_text source.session) (name_of_side side ++ 32 ∷ move_text reported)
     (both (decimal source.line) (32 ∷ session_text source.session) (decimal_plain source.line) (session_plain source.session))
-    (both (name_of_side side) (32 ∷ move_text told) (side_plain side) (move_plain told))
+    (both (name_of_side side) (32 ∷ move_text reported) (side_plain side) (move_plain reported))
 
-front_stays : (source : Source) (side : Side) (told : Note) → is_added (move_front source side told ++ 10 ∷ []) ≡ false
+front_stays : (source : ReportKey) (side : Side) (reported : Note) → is_added_line (move_front source side reported ++ 10 ∷ []) ≡ false
 unfolding move_front
-front_stays source side told =
+front_stays source side reported =
     let number = decimal_begins source.line in
     ap (λ (l : List ℕ).
-    is_added (((l ++ 32 ∷ session_text source.session) ++ (name_of_side side ++ 32 ∷ move_text told)) ++ 10 ∷ [])) number.same
+    is_added_line (((l ++ 32 ∷ session_text source.session) ++ (name_of_side side ++ 32 ∷ move_text reported)) ++ 10 ∷ [])) number.same
     ∙ digit_stays number.first
-    (((number.rest ++ 32 ∷ session_text source.session) ++ (name_of_side side ++ 32 ∷ move_text told)) ++ 10 ∷ []) number.digit
+    (((number.rest ++ 32 ∷ session_text source.session) ++ (name_of_side side ++ 32 ∷ move_text reported)) ++ 10 ∷ []) number.digit
 
-move_is : (source : Source) (side : Side) (told : Note) → move_line source side told ≡ move_front source side told ++ 10 ∷ []
-unfolding move_line source_text told_text move_front
-move_is source side told =
-    sym (append_assoc (decimal source.line ++ 32 ∷ session_text source.session) (name_of_side side ++ 32 ∷ move_text told)
+move_is : (source : ReportKey) (side : Side) (reported : Note) → move_line source side reported ≡ move_front source side reported ++ 10 ∷ []
+unfolding move_line source_text reported_text move_front
+move_is source side reported =
+    sym (append_assoc (decimal source.line ++ 32 ∷ session_text source.session) (name_of_side side ++ 32 ∷ move_text reported)
     (10 ∷ []))
 
-pub move_stays : (source : Source) (side : Side) (told : Note) (tail : List ℕ) →
-    without_added (move_line source side told ++ tail) ≡ move_line source side told ++ without_added tail
-move_stays source side told tail =
-    let front = move_front source side told in
-    ap (λ (l : List ℕ). without_added (l ++ tail)) (move_is source side told)
+pub move_stays : (source : ReportKey) (side : Side) (reported : Note) (tail : List ℕ) →
+    without_added (move_line source side reported ++ tail) ≡ move_line source side reported ++ without_added tail
+move_stays source side reported tail =
+    let front = move_front source side reported in
+    ap (λ (l : List ℕ). without_added (l ++ tail)) (move_is source side reported)
     ∙ ap without_added (append_assoc front (10 ∷ []) tail)
-    ∙ kept_line front tail (plain_unbroken front (front_plain source side told)) (front_stays source side told)
+    ∙ kept_line front tail (plain_unbroken front (front_plain source side reported)) (front_stays source side reported)
     ∙ sym (append_assoc front (10 ∷ []) (without_added tail))
-    ∙ ap (λ (l : List ℕ). l ++ without_added tail) (sym (move_is source side told))
+    ∙ ap (λ (l : List ℕ). l ++ without_added tail) (sym (move_is source side reported))
 
 -- ---- a frame that is not whole
 

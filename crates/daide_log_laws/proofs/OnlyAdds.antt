@@ -7,26 +7,26 @@ use Rattle.std.specs.Str.{bytes_eq}
 use Rattle.std.proofs.lemmas.Bool.Decides.{eqb_tells}
 use Rattle.daide_frame.specs.declared.side.Side.{Side}
 use Rattle.daide_words.specs.declared.word.Word.{Word}
-use Rattle.daide_machine.specs.declared.summary.Summary.{Summary}
-use Rattle.daide_machine.specs.Events.{Event}
-use Rattle.daide_machine.specs.Machine.{SessionState, Effect}
-use Rattle.daide_machine.specs.Summary.{counted, nothing_counted}
-use Rattle.daide_lines.specs.declared.fault.LogFault.{LogFault}
-use Rattle.daide_lines.specs.declared.fault.LogFault.TheVariants.{BadLine, LineTooLong, TooManyLines}
-use Rattle.daide_lines.specs.LogLine.{IsUnbroken, without_cr}
-use Rattle.daide_lines.specs.MatchLine.{MatchEvent, Of, Quiet}
+use Rattle.daide_protocol.specs.declared.summary.Summary.{Summary}
+use Rattle.daide_protocol.specs.Events.{Event}
+use Rattle.daide_protocol.specs.Machine.{SessionState, Effect}
+use Rattle.daide_protocol.specs.Summary.{count_note, nothing_counted}
+use Rattle.daide_log_lines.specs.declared.fault.LogFault.{LogFault}
+use Rattle.daide_log_lines.specs.declared.fault.LogFault.TheVariants.{BadLine, LineTooLong, TooManyLines}
+use Rattle.daide_log_lines.specs.LogLine.{IsUnbroken, without_cr}
+use Rattle.daide_log_lines.specs.MatchLine.{MatchEvent, Of, Quiet}
 use Rattle.daide_log.specs.declared.explained.Explained.{Explained}
 use Rattle.daide_log.specs.declared.heading.Version.{Version}
-use Rattle.daide_log.specs.declared.report.Source.{Source}
-use Rattle.daide_log.specs.Report.{Entry, entries_of, events_of, side_of, lines_of, move_line, texts_of, counted_by}
+use Rattle.daide_log.specs.declared.report.ReportKey.{ReportKey}
+use Rattle.daide_log.specs.Report.{ReportEntry, entries_of, events_of_line, side_of, lines_of, move_line, texts_of, counted_over}
 use Rattle.daide_log.specs.Report.{counted_all, summary_line}
-use Rattle.daide_log.specs.Log.{LogState, Opening, Playing, GoesOn, GoesOnBy, IsPlayedAs, Reports, ReportsBy}
+use Rattle.daide_log.specs.Log.{LogState, Opening, Playing, AdvancesByLine, GoesOnBy, IsPlayedAs, Reports, ReportsBy}
 use Rattle.daide_log.specs.Log.{ReportsAll, ReportsAllBy}
 use Rattle.daide_log.specs.Log.{IsReport, IsReportBy, plain, source_in}
-use Rattle.daide_log.specs.Explained.{Shown, Moved, Remark, shown_text, shown_counted, AreShown, AreShownBy, explained}
+use Rattle.daide_log.specs.Explained.{ExplainedEntry, Moved, Remark, shown_text, shown_counted, AreShown, AreShownBy, explained}
 use Rattle.daide_log.specs.Explained.{indented, is_remark, remarks, Part, part_text, parts_from}
 use Rattle.daide_log.specs.Lawful.{entries_of-append}
-use Rattle.daide_log_laws.specs.Added.{without_added, is_added, counts_of, ExplanationOnlyAdds, PlainAddsNothing}
+use Rattle.daide_log_laws.specs.Added.{without_added, is_added_line, counts_of, ExplanationOnlyAdds, PlainAddsNothing}
 use Rattle.daide_log_laws.proofs.TextLines.{added_line}
 use Rattle.daide_log_laws.proofs.AddedLines.{IsWhole, indented_goes}
 use Rattle.daide_log_laws.proofs.ShownParts.{lines_whole}
@@ -35,25 +35,25 @@ use Rattle.daide_log_laws.proofs.MoveLines.{move_stays, part_goes, summary_stays
 -- ---- entries
 
 -- the moves among them
-abbrev moves_in : List Shown → List Entry
+abbrev moves_in : List ExplainedEntry → List ReportEntry
 moves_in [] = []
 moves_in (Moved entry added ∷ shown) = entry ∷ moves_in shown
 moves_in (Remark comment ∷ shown) = moves_in shown
 
-moves_in-append : (a b : List Shown) → moves_in (a ++ b) ≡ moves_in a ++ moves_in b
+moves_in-append : (a b : List ExplainedEntry) → moves_in (a ++ b) ≡ moves_in a ++ moves_in b
 moves_in-append [] b = refl
-moves_in-append (Moved entry added ∷ a) b = ap (λ (l : List Entry). entry ∷ l) (moves_in-append a b)
+moves_in-append (Moved entry added ∷ a) b = ap (λ (l : List ReportEntry). entry ∷ l) (moves_in-append a b)
 moves_in-append (Remark comment ∷ a) b = moves_in-append a b
 
 -- what a move adds is whole lines behind four spaces, and a comment is one line
-abbrev IsAdding : Shown → Type 0
+abbrev IsAdding : ExplainedEntry → Type 0
 IsAdding (Moved entry added) = (lines : List ℕ) × IsWhole lines × (added ≡ indented lines)
 IsAdding (Remark comment) = IsUnbroken comment × (is_remark comment ≡ true)
 
-abbrev AreAdding : List Shown → Type 0
+abbrev AreAdding : List ExplainedEntry → Type 0
 AreAdding shown = AllByRecursion IsAdding shown
 
-both_adding : (a b : List Shown) → AreAdding a → AreAdding b → AreAdding (a ++ b)
+both_adding : (a b : List ExplainedEntry) → AreAdding a → AreAdding b → AreAdding (a ++ b)
 both_adding [] b h k = k
 both_adding (one ∷ a) b h k = (h.0, both_adding a b h.1 k)
 
@@ -65,20 +65,20 @@ remark_goes (byte ∷ comment) tail whole h = go (eqb_tells byte 35)
     go : ((eqb byte 35 ≡ true) × (byte ≡ 35)) ⊎ ((eqb byte 35 ≡ false) × (byte ≡ 35 → ⊥)) →
         without_added ((byte ∷ comment) ++ 10 ∷ tail) ≡ without_added tail
     go (inl t) =
-        added_line (byte ∷ comment) tail whole (ap (λ (n : ℕ). is_added ((n ∷ comment) ++ 10 ∷ [])) t.1)
+        added_line (byte ∷ comment) tail whole (ap (λ (n : ℕ). is_added_line ((n ∷ comment) ++ 10 ∷ [])) t.1)
     go (inr t) = let wrong : false ≡ true = sym t.0 ∙ h in absurd (cc)
 
-abbrev move_text_of : Entry → List ℕ
-move_text_of entry = move_line entry.source entry.side entry.told
+abbrev move_text_of : ReportEntry → List ℕ
+move_text_of entry = move_line entry.source entry.side entry.reported
 
-shown_goes : (shown : List Shown) (tail : List ℕ) → AreAdding shown →
+shown_goes : (shown : List ExplainedEntry) (tail : List ℕ) → AreAdding shown →
     without_added (texts_of shown_text shown ++ tail) ≡ lines_of (moves_in shown) ++ without_added tail
 shown_goes [] tail h = refl
 shown_goes (Moved entry added ∷ shown) tail h =
     let text = move_text_of entry in
     let later = texts_of shown_text shown in
     ap without_added (append_assoc (text ++ added) later tail ∙ append_assoc text added (later ++ tail))
-    ∙ move_stays entry.source entry.side entry.told (added ++ (later ++ tail))
+    ∙ move_stays entry.source entry.side entry.reported (added ++ (later ++ tail))
     ∙ ap (λ (l : List ℕ). text ++ l)
     (ap (λ (l : List ℕ). without_added (l ++ (later ++ tail))) h.0.2
     ∙ indented_goes h.0.0 (later ++ tail) h.0.1
@@ -90,7 +90,7 @@ shown_goes (Remark comment ∷ shown) tail h =
     ∙ remark_goes comment (later ++ tail) h.0.0 h.0.1
     ∙ shown_goes shown tail h.1
 
-shown_alone : (shown : List Shown) → AreAdding shown →
+shown_alone : (shown : List ExplainedEntry) → AreAdding shown →
     without_added (texts_of shown_text shown) ≡ lines_of (moves_in shown)
 shown_alone shown h =
     ap without_added (sym (append-nil (texts_of shown_text shown))) ∙ shown_goes shown [] h
@@ -103,43 +103,43 @@ parts_go (part ∷ parts) tail =
     ∙ part_goes part.session part.side part.came part.size (texts_of part_text parts ++ tail)
     ∙ parts_go parts tail
 
-same_counts : (shown : List Shown) (s : Summary) → counted_by shown_counted shown s ≡ counted_all (moves_in shown) s
+same_counts : (shown : List ExplainedEntry) (s : Summary) → counted_over shown_counted shown s ≡ counted_all (moves_in shown) s
 same_counts [] s = refl
-same_counts (Moved entry added ∷ shown) s = same_counts shown (counted entry.told s)
+same_counts (Moved entry added ∷ shown) s = same_counts shown (count_note entry.reported s)
 same_counts (Remark comment ∷ shown) s = same_counts shown s
 
 -- ---- what a line tells
 
 module _ (words : List Word) where
   -- moves that are shown are these moves, and what they add
-  abbrev AreOf : Source → Side → List Effect → List Shown → Type 0
+  abbrev AreOf : ReportKey → Side → List Effect → List ExplainedEntry → Type 0
   AreOf source side moves shown = (moves_in shown ≡ entries_of source side moves) × AreAdding shown
 
-  here_adds : (source : Source) (side : Side) (before : SessionState) (event : Event) (moves : List Effect)
-      (shown : List Shown) → AreShown words source side before event moves shown → AreOf source side moves shown
+  here_adds : (source : ReportKey) (side : Side) (before : SessionState) (event : Event) (moves : List Effect)
+      (shown : List ExplainedEntry) → AreShown words source side before event moves shown → AreOf source side moves shown
   here_adds source side before event [] shown e =
-      subst (λ (l : List Shown). AreOf source side [] l) (sym e) (refl, tt)
+      subst (λ (l : List ExplainedEntry). AreOf source side [] l) (sym e) (refl, tt)
   here_adds source side before event (move ∷ moves) shown h =
       let later = here_adds source side before event moves h.1 h.3 in
-      let entry : Entry = record { source = source; side = side; told = move.told } in
-      subst (λ (l : List Shown). AreOf source side (move ∷ moves) l) (sym h.4) (
-        ap (λ (l : List Entry). entry ∷ l) later.0,
-        ((h.0, lines_whole words side before event move.told h.0 h.2, refl), later.1),
+      let entry : ReportEntry = record { source = source; side = side; reported = move.reported } in
+      subst (λ (l : List ExplainedEntry). AreOf source side (move ∷ moves) l) (sym h.4) (
+        ap (λ (l : List ReportEntry). entry ∷ l) later.0,
+        ((h.0, lines_whole words side before event move.reported h.0 h.2, refl), later.1),
       )
 
-  all_add : (source : Source) (side : Side) (old : SessionState) (events : List Event) (moves : List Effect)
-      (new : SessionState) (shown : List Shown) → AreShownBy words source side old events moves new shown →
+  all_add : (source : ReportKey) (side : Side) (old : SessionState) (events : List Event) (moves : List Effect)
+      (new : SessionState) (shown : List ExplainedEntry) → AreShownBy words source side old events moves new shown →
       AreOf source side moves shown
   all_add source side old [] moves new shown h =
-      subst (λ (l : List Shown). AreOf source side moves l) (sym h.2)
+      subst (λ (l : List ExplainedEntry). AreOf source side moves l) (sym h.2)
       (subst (λ (m : List Effect). AreOf source side m []) (sym h.0) (refl, tt))
   all_add source side old (event ∷ events) moves new shown h =
       let first = here_adds source side old event h.1 h.3 h.6 in
       let later = all_add source side h.0 events h.2 new h.4 h.7 in
-      subst (λ (l : List Shown). AreOf source side moves l) (sym h.9)
+      subst (λ (l : List ExplainedEntry). AreOf source side moves l) (sym h.9)
       (subst (λ (m : List Effect). AreOf source side m (h.3 ++ h.4)) (sym h.8) (
-        moves_in-append h.3 h.4 ∙ ap (λ (l : List Entry). l ++ moves_in h.4) first.0
-            ∙ ap (λ (l : List Entry). entries_of source side h.1 ++ l) later.0
+        moves_in-append h.3 h.4 ∙ ap (λ (l : List ReportEntry). l ++ moves_in h.4) first.0
+            ∙ ap (λ (l : List ReportEntry). entries_of source side h.1 ++ l) later.0
             ∙ sym (entries_of-append source side h.1 h.2),
         both_adding h.3 h.4 first.1 later.1,
       ))
@@ -154,11 +154,11 @@ module _ (words : List Word) where
 
   -- ---- the lines
 
-  abbrev GoesOnWith : ℕ → LogState → List ℕ → List Shown → LogState → Type 0
-  GoesOnWith number old line shown new = GoesOn number old line (moves_in shown) new × AreAdding shown
+  abbrev GoesOnWith : ℕ → LogState → List ℕ → List ExplainedEntry → LogState → Type 0
+  GoesOnWith number old line shown new = AdvancesByLine number old line (moves_in shown) new × AreAdding shown
 
   played_adds : (version : Version) (number : ℕ) (event : MatchEvent) (line : List ℕ) (old new : List SessionState)
-      (shown : List Shown) → IsUnbroken line →
+      (shown : List ExplainedEntry) → IsUnbroken line →
       IsPlayedAs ((explained words).quiet line) ((explained words).line line) version number event old shown new →
       IsPlayedAs (plain.quiet line) (plain.line line) version number event old (moves_in shown) new × AreAdding shown
   played_adds version number Quiet line old new shown whole h =
@@ -167,24 +167,24 @@ module _ (words : List Word) where
         subst AreAdding (sym h.0) own.1,
       )
   played_adds version number (Of session event) line old new shown whole h =
-      let told = h.5 in
-      let source : Source = source_in version number session in
+      let reported = h.5 in
+      let source : ReportKey = source_in version number session in
       let own = remarks_add line whole in
-      let moves = all_add source (side_of event) h.0 (events_of event) h.2 h.1 told.0 told.1 in (
+      let moves = all_add source (side_of event) h.0 (events_of_line event) h.2 h.1 reported.0 reported.1 in (
         (
           h.0,
           h.1,
           h.2,
           h.3,
           h.4,
-          ap moves_in told.2 ∙ moves_in-append (remarks line) told.0
-              ∙ ap (λ (l : List Entry). l ++ moves_in told.0) own.0 ∙ moves.0,
+          ap moves_in reported.2 ∙ moves_in-append (remarks line) reported.0
+              ∙ ap (λ (l : List ReportEntry). l ++ moves_in reported.0) own.0 ∙ moves.0,
           h.6,
         ),
-        subst AreAdding (sym told.2) (both_adding (remarks line) told.0 own.1 moves.1),
+        subst AreAdding (sym reported.2) (both_adding (remarks line) reported.0 own.1 moves.1),
       )
 
-  goes_on : (number : ℕ) (old : LogState) (line : List ℕ) (shown : List Shown) (new : LogState) → IsUnbroken line →
+  goes_on : (number : ℕ) (old : LogState) (line : List ℕ) (shown : List ExplainedEntry) (new : LogState) → IsUnbroken line →
       GoesOnBy (explained words) number old line shown new → GoesOnWith number old line shown new
   goes_on number (Opening heading) line shown new whole h =
       ((h.0, h.1, ap moves_in h.2.0, h.3), subst AreAdding (sym h.2.0) tt)
@@ -204,81 +204,81 @@ module _ (words : List Word) where
       go true = taken (length line - 1) line h
       go false = h
 
-  abbrev Told : List ℕ → ℕ → List Shown → LogState → Type 0
-  Told bytes number shown stage = Reports bytes number (moves_in shown) stage × AreAdding shown
+  abbrev ParsedEvent : List ℕ → ℕ → List ExplainedEntry → LogState → Type 0
+  ParsedEvent bytes number shown stage = Reports bytes number (moves_in shown) stage × AreAdding shown
 
-  lines_told : (bytes : List ℕ) (number : ℕ) (shown : List Shown) (stage : LogState) →
-      ReportsBy (explained words) bytes number shown stage → Told bytes number shown stage
-  lines_told bytes number shown stage ReportsBy.none = (ReportsBy.none, tt)
-  lines_told bytes number shown stage (ReportsBy.line before count first old reports line more new few whole short on) =
-      let ahead = lines_told before count first old reports in
+  lines_reported : (bytes : List ℕ) (number : ℕ) (shown : List ExplainedEntry) (stage : LogState) →
+      ReportsBy (explained words) bytes number shown stage → ParsedEvent bytes number shown stage
+  lines_reported bytes number shown stage ReportsBy.none = (ReportsBy.none, tt)
+  lines_reported bytes number shown stage (ReportsBy.line before count first old reports line more new few whole short on) =
+      let ahead = lines_reported before count first old reports in
       let now = goes_on (count + 1) old (without_cr line) more new (still_unbroken line whole) on in (
-        subst (λ (l : List Entry). Reports (before ++ line ++ 10 ∷ []) (count + 1) l new) (sym (moves_in-append first more))
+        subst (λ (l : List ReportEntry). Reports (before ++ line ++ 10 ∷ []) (count + 1) l new) (sym (moves_in-append first more))
             (ReportsBy.line before count (moves_in first) old ahead.0 line (moves_in more) new few whole short now.0),
         both_adding first more ahead.1 now.1,
       )
 
-  all_told : (bytes : List ℕ) (number : ℕ) (shown : List Shown) (stage : LogState) →
+  all_reported : (bytes : List ℕ) (number : ℕ) (shown : List ExplainedEntry) (stage : LogState) →
       ReportsAllBy (explained words) bytes number shown stage →
       ReportsAll bytes number (moves_in shown) stage × AreAdding shown
-  all_told bytes number shown stage (ReportsAllBy.ended same count entries state reports) =
-      let ahead = lines_told same count entries state reports in
+  all_reported bytes number shown stage (ReportsAllBy.ended same count entries state reports) =
+      let ahead = lines_reported same count entries state reports in
       (ReportsAllBy.ended same count (moves_in entries) state ahead.0, ahead.1)
-  all_told bytes number shown stage
+  all_reported bytes number shown stage
       (ReportsAllBy.unended before count first old reports line more new few some whole short on) =
-      let ahead = lines_told before count first old reports in
+      let ahead = lines_reported before count first old reports in
       let now = goes_on (count + 1) old line more new whole on in (
-        subst (λ (l : List Entry). ReportsAll (before ++ line) (count + 1) l new) (sym (moves_in-append first more))
+        subst (λ (l : List ReportEntry). ReportsAll (before ++ line) (count + 1) l new) (sym (moves_in-append first more))
             (ReportsAllBy.unended before count (moves_in first) old ahead.0 line (moves_in more) new few some whole short now.0),
         both_adding first more ahead.1 now.1,
       )
 
   -- ---- the report
 
-  refused : (log : List ℕ) (shown : List Shown) (answer : Result Summary LogFault) → AreAdding shown →
+  refused : (log : List ℕ) (shown : List ExplainedEntry) (answer : Result Summary LogFault) → AreAdding shown →
       IsReport log (lines_of (moves_in shown)) answer → IsReport log (without_added (texts_of shown_text shown)) answer
   refused log shown answer h report =
       subst (λ (text : List ℕ). IsReport log text answer) (sym (shown_alone shown h)) report
 
-  whole_text : (shown : List Shown) (closing : List Part) → AreAdding shown →
+  whole_text : (shown : List ExplainedEntry) (closing : List Part) → AreAdding shown →
       without_added (texts_of shown_text shown
-      ++ (texts_of part_text closing ++ summary_line (counted_by shown_counted shown nothing_counted)))
+      ++ (texts_of part_text closing ++ summary_line (counted_over shown_counted shown nothing_counted)))
       ≡ lines_of (moves_in shown) ++ ([] ++ summary_line (counted_all (moves_in shown) nothing_counted))
   whole_text shown closing h =
-      let last = summary_line (counted_by shown_counted shown nothing_counted) in
+      let last = summary_line (counted_over shown_counted shown nothing_counted) in
       shown_goes shown (texts_of part_text closing ++ last) h
       ∙ ap (λ (l : List ℕ). lines_of (moves_in shown) ++ l)
-      (parts_go closing last ∙ summary_stays (counted_by shown_counted shown nothing_counted)
+      (parts_go closing last ∙ summary_stays (counted_over shown_counted shown nothing_counted)
       ∙ ap summary_line (same_counts shown nothing_counted))
 
   only_adds : (log text : List ℕ) (answer : Result Explained LogFault) → IsReportBy (explained words) log text answer →
       IsReport log (without_added text) (counts_of answer)
   only_adds log text answer (IsReportBy.whole bytes number shown version sessions all) =
-      let ahead = all_told bytes number shown (Playing version sessions) all in
+      let ahead = all_reported bytes number shown (Playing version sessions) all in
       let counts = counted_all (moves_in shown) nothing_counted in
-      subst (λ (t : List ℕ). IsReport bytes t (Ok (counted_by shown_counted shown nothing_counted)))
+      subst (λ (t : List ℕ). IsReport bytes t (Ok (counted_over shown_counted shown nothing_counted)))
       (sym (whole_text shown (parts_from version 1 sessions) ahead.1))
       (subst (λ (s : Summary). IsReport bytes (lines_of (moves_in shown) ++ ([] ++ summary_line counts)) (Ok s))
       (sym (same_counts shown nothing_counted))
       (IsReportBy.whole bytes number (moves_in shown) version sessions ahead.0))
   only_adds log text answer (IsReportBy.cut_short bytes number shown stage all opening) =
-      let ahead = all_told bytes number shown stage all in
+      let ahead = all_reported bytes number shown stage all in
       refused bytes shown (Err (BadLine (number + 1))) ahead.1
       (IsReportBy.cut_short bytes number (moves_in shown) stage ahead.0 opening)
   only_adds log text answer (IsReportBy.bad bytes number shown stage reports line after few whole short bad) =
-      let ahead = lines_told bytes number shown stage reports in
+      let ahead = lines_reported bytes number shown stage reports in
       refused (bytes ++ line ++ 10 ∷ after) shown (Err (BadLine (number + 1))) ahead.1
       (IsReportBy.bad bytes number (moves_in shown) stage ahead.0 line after few whole short bad)
   only_adds log text answer (IsReportBy.bad_last bytes number shown stage reports line few some whole short bad) =
-      let ahead = lines_told bytes number shown stage reports in
+      let ahead = lines_reported bytes number shown stage reports in
       refused (bytes ++ line) shown (Err (BadLine (number + 1))) ahead.1
       (IsReportBy.bad_last bytes number (moves_in shown) stage ahead.0 line few some whole short bad)
   only_adds log text answer (IsReportBy.too_long bytes number shown stage reports line after few whole long) =
-      let ahead = lines_told bytes number shown stage reports in
+      let ahead = lines_reported bytes number shown stage reports in
       refused (bytes ++ line ++ after) shown (Err (LineTooLong (number + 1))) ahead.1
       (IsReportBy.too_long bytes number (moves_in shown) stage ahead.0 line after few whole long)
   only_adds log text answer (IsReportBy.too_many bytes shown stage reports after some) =
-      let ahead = lines_told bytes 1000000 shown stage reports in
+      let ahead = lines_reported bytes 1000000 shown stage reports in
       refused (bytes ++ after) shown (Err TooManyLines) ahead.1
       (IsReportBy.too_many bytes (moves_in shown) stage ahead.0 after some)
 
@@ -287,29 +287,29 @@ explanation_adds words log text answer report = only_adds words log text answer 
 
 -- ---- the plain report
 
-plain_stays : (told : List Entry) (tail : List ℕ) →
-    without_added (lines_of told ++ tail) ≡ lines_of told ++ without_added tail
+plain_stays : (reported : List ReportEntry) (tail : List ℕ) →
+    without_added (lines_of reported ++ tail) ≡ lines_of reported ++ without_added tail
 plain_stays [] tail = refl
-plain_stays (entry ∷ told) tail =
+plain_stays (entry ∷ reported) tail =
     let text = move_text_of entry in
-    ap without_added (append_assoc text (lines_of told) tail)
-    ∙ move_stays entry.source entry.side entry.told (lines_of told ++ tail)
-    ∙ ap (λ (l : List ℕ). text ++ l) (plain_stays told tail)
-    ∙ sym (append_assoc text (lines_of told) (without_added tail))
+    ap without_added (append_assoc text (lines_of reported) tail)
+    ∙ move_stays entry.source entry.side entry.reported (lines_of reported ++ tail)
+    ∙ ap (λ (l : List ℕ). text ++ l) (plain_stays reported tail)
+    ∙ sym (append_assoc text (lines_of reported) (without_added tail))
 
-plain_alone : (told : List Entry) → without_added (lines_of told) ≡ lines_of told
-plain_alone told =
-    ap without_added (sym (append-nil (lines_of told))) ∙ plain_stays told [] ∙ append-nil (lines_of told)
+plain_alone : (reported : List ReportEntry) → without_added (lines_of reported) ≡ lines_of reported
+plain_alone reported =
+    ap without_added (sym (append-nil (lines_of reported))) ∙ plain_stays reported [] ∙ append-nil (lines_of reported)
 
 pub plain_adds_nothing : PlainAddsNothing
-plain_adds_nothing log text answer (IsReportBy.whole bytes number told version sessions all) =
-    let last = summary_line (counted_all told nothing_counted) in
-    plain_stays told last ∙ ap (λ (l : List ℕ). lines_of told ++ l) (summary_stays (counted_all told nothing_counted))
-plain_adds_nothing log text answer (IsReportBy.cut_short bytes number told stage all opening) = plain_alone told
-plain_adds_nothing log text answer (IsReportBy.bad bytes number told stage reports line after few whole short bad) =
-    plain_alone told
-plain_adds_nothing log text answer (IsReportBy.bad_last bytes number told stage reports line few some whole short bad) =
-    plain_alone told
-plain_adds_nothing log text answer (IsReportBy.too_long bytes number told stage reports line after few whole long) =
-    plain_alone told
-plain_adds_nothing log text answer (IsReportBy.too_many bytes told stage reports after some) = plain_alone told
+plain_adds_nothing log text answer (IsReportBy.whole bytes number reported version sessions all) =
+    let last = summary_line (counted_all reported nothing_counted) in
+    plain_stays reported last ∙ ap (λ (l : List ℕ). lines_of reported ++ l) (summary_stays (counted_all reported nothing_counted))
+plain_adds_nothing log text answer (IsReportBy.cut_short bytes number reported stage all opening) = plain_alone reported
+plain_adds_nothing log text answer (IsReportBy.bad bytes number reported stage reports line after few whole short bad) =
+    plain_alone reported
+plain_adds_nothing log text answer (IsReportBy.bad_last bytes number reported stage reports line few some whole short bad) =
+    plain_alone reported
+plain_adds_nothing log text answer (IsReportBy.too_long bytes number reported stage reports line after few whole long) =
+    plain_alone reported
+plain_adds_nothing log text answer (IsReportBy.too_many bytes reported stage reports after some) = plain_alone reported

@@ -25,18 +25,18 @@ use Rattle.daide_explain.specs.declared.brackets.Unpaired.TheVariants.{Ket, Bra,
 use Rattle.daide_explain.specs.Unpaired.{IsUnpairedIn}
 use Rattle.daide_explain.specs.Explained.{IsExplained, IsExpectedLine, expected_line, class_items, end_item, level_line}
 use Rattle.daide_explain.specs.Explained.{side_line, unpaired_line}
-use Rattle.daide_machine.specs.declared.note.Deed.{Deed}
-use Rattle.daide_machine.specs.declared.note.Note.{Note}
-use Rattle.daide_machine.specs.declared.note.Note.TheVariants as Notes
-use Rattle.daide_machine.specs.Events.{Event}
-use Rattle.daide_machine.specs.Machine.{SessionState, Question, question, side2_of}
-use Rattle.daide_log.specs.Explained.{AreRefusedLines, AreMessageLines, AreFrameLines, AreLines, line, printed}
+use Rattle.daide_protocol.specs.declared.note.Deed.{Deed}
+use Rattle.daide_protocol.specs.declared.note.Note.{Note}
+use Rattle.daide_protocol.specs.declared.note.Note.TheVariants as Notes
+use Rattle.daide_protocol.specs.Events.{Event}
+use Rattle.daide_protocol.specs.Machine.{SessionState, Question, question, side2_of}
+use Rattle.daide_log.specs.Explained.{AreRefusedLines, AreMessageLines, ExplainsFrame, ExplainsMove, with_line_feed, message_text}
 use Rattle.daide_log.specs.Explained.{verdict_by, bytes_at}
 use Rattle.daide_log.specs.Explained.{token_line, bytes_line, fault_lines, pairs}
-use Rattle.daide_machine.specs.Answers.{answer_body}
+use Rattle.daide_protocol.specs.Answers.{answer_body}
 use Rattle.daide_log_laws.proofs.AddedLines.{IsEnded, IsWhole, ended_behind, both_whole}
 
-pub whole_line : (text : List ℕ) → IsWhole (line text)
+pub whole_line : (text : List ℕ) → IsWhole (with_line_feed text)
 whole_line text = inr (text, refl)
 
 number_line : (before : List ℕ) (n : ℕ) → IsEnded (before ++ decimal n ++ 10 ∷ [])
@@ -108,23 +108,23 @@ explained_whole words end level max_depth m (Huh place) text h =
 refused_whole : (words : List Word) (end : Side2) (level : Level) (max_depth : ℕ) (body : List ℕ) (verdict : Verdict)
     (lines : List ℕ) → AreRefusedLines words end level max_depth body verdict lines → IsWhole lines
 refused_whole words end level max_depth body verdict lines h =
-    let message = printed words (tokens_of body) in
+    let message = message_text words (tokens_of body) in
     let judged = codes "judged at level " ++ decimal (level_number level) in
-    let answer = printed words (tokens_of (answer_body body verdict)) in
+    let answer = message_text words (tokens_of (answer_body body verdict)) in
     subst IsWhole (sym h.2)
-    (both_whole (line message ++ line judged ++ line answer) h.0
-    (inr (ended_behind (line message ++ line judged) (line answer) (answer, refl)))
+    (both_whole (with_line_feed message ++ with_line_feed judged ++ with_line_feed answer) h.0
+    (inr (ended_behind (with_line_feed message ++ with_line_feed judged) (with_line_feed answer) (answer, refl)))
     (explained_whole words end level max_depth (tokens_of body) verdict h.0 h.1))
 
 message_whole : (words : List Word) (end : Side2) (level : Level) (max_depth : ℕ) (body : List ℕ) (verdict : Verdict)
     (lines : List ℕ) → AreMessageLines words end level max_depth body verdict lines → IsWhole lines
-message_whole words end level max_depth body Relay lines e = inr (printed words (tokens_of body), e)
+message_whole words end level max_depth body Relay lines e = inr (message_text words (tokens_of body), e)
 message_whole words end level max_depth body Prn lines h = refused_whole words end level max_depth body Prn lines h
 message_whole words end level max_depth body (Huh place) lines h =
     refused_whole words end level max_depth body (Huh place) lines h
 
 frame_whole : (words : List Word) (max_depth : ℕ) (q : Option Question) (body : List ℕ) (deed : Deed) (lines : List ℕ) →
-    AreFrameLines words max_depth q body deed lines → IsWhole lines
+    ExplainsFrame words max_depth q body deed lines → IsWhole lines
 frame_whole words max_depth None body deed lines e = inl e
 frame_whole words max_depth (Some q) body deed lines h =
     message_whole words (side2_of q.side) q.level max_depth body (verdict_by deed) lines h.1
@@ -135,14 +135,14 @@ bytes_whole (byte ∷ bytes) = inr (codes "bytes: " ++ pairs (byte ∷ bytes), r
 
 fault_whole : (code : Code) (bytes : List ℕ) → IsWhole (fault_lines code bytes)
 fault_whole code bytes =
-    both_whole (line (code_name code)) (if code_number code == 0x0E then token_line bytes else bytes_line bytes)
+    both_whole (with_line_feed (code_name code)) (if code_number code == 0x0E then token_line bytes else bytes_line bytes)
     (whole_line (code_name code))
     (either_whole (code_number code == 0x0E) (token_line bytes) (bytes_line bytes)
     (inr (codes "bytes: " ++ pairs (drop (length bytes - 2) bytes) ++ codes " at token " ++ decimal ((length bytes - 6) / 2), refl))
     (bytes_whole bytes))
 
 pub lines_whole : (words : List Word) (side : Side) (before : SessionState) (event : Event) (note : Note)
-    (lines : List ℕ) → AreLines words side before event note lines → IsWhole lines
+    (lines : List ℕ) → ExplainsMove words side before event note lines → IsWhole lines
 lines_whole words side before event Notes.Nothing lines e = inl e
 lines_whole words side before event (Notes.Frame head deed) lines h =
     frame_whole words before.limits.max_depth (question before event) (drop 4 (bytes_at before side event)) deed lines h

@@ -4,8 +4,8 @@ use Rattle.std.specs.Prelude.{filter, codes, Result, Ok, Err}
 use Rattle.std.specs.List.{concat}
 use Rattle.std.specs.Str.{bytes_eq}
 use Rattle.daide_words.specs.declared.word.Word.{Word}
-use Rattle.daide_machine.specs.declared.summary.Summary.{Summary}
-use Rattle.daide_lines.specs.declared.fault.LogFault.{LogFault}
+use Rattle.daide_protocol.specs.declared.summary.Summary.{Summary}
+use Rattle.daide_log_lines.specs.declared.fault.LogFault.{LogFault}
 use Rattle.daide_log.specs.declared.explained.Explained.{Explained}
 use Rattle.daide_log.specs.Log.{IsReportBy, IsReport}
 use Rattle.daide_log.specs.Explained.{explained}
@@ -22,12 +22,12 @@ lines_in [] = []
 lines_in (byte ∷ text) = if byte == 10 then (10 ∷ []) ∷ lines_in text else before_first byte (lines_in text)
 
 -- a line of an explanation, or a comment of the log
-abbrev pub is_added : List ℕ → Bool
-is_added line = bytes_eq (take 4 line) (codes "    ") || bytes_eq (take 1 line) (codes "#")
+abbrev pub is_added_line : List ℕ → Bool
+is_added_line line = bytes_eq (take 4 line) (codes "    ") || bytes_eq (take 1 line) (codes "#")
 
 -- the text without those lines
 abbrev pub without_added : List ℕ → List ℕ
-without_added text = concat (filter (λ line. not (is_added line)) (lines_in text))
+without_added text = concat (filter (λ line. not (is_added_line line)) (lines_in text))
 
 -- ---- the laws
 

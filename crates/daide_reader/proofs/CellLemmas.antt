@@ -8,8 +8,8 @@ use Rattle.std.specs.List.{list_all}
 use Rattle.std.proofs.Math.Seq.{take-suc}
 use Rattle.daide_token.specs.declared.class.Class.{Class}
 use Rattle.daide_grammar.specs.declared.symbol.Sym.{Sym}
-use Rattle.daide_grammar.specs.Table.Answers.{Answer, Take, Skip, Stop}
-use Rattle.daide_grammar.specs.Table.Rules.{is_take, is_stop, rest_of}
+use Rattle.daide_grammar.specs.Table.Answers.{TableEntry, Take, Skip, Stop}
+use Rattle.daide_grammar.specs.Table.ParseActions.{is_take, is_stop, rest_of}
 use Rattle.daide_grammar.specs.Table.Stacks.{stack_after, ends_asked}
 use Rattle.daide_reader.specs.Stack.{steps_at}
 
@@ -88,35 +88,35 @@ on_place cells top blank inside =
     (on_top cells (top + 1) blank (omega arith) (omega arith))
 
 -- what a symbol's answer makes of the stack, and how many questions there are
-module _ (moves : Sym → Class → Answer) (class : Class) (s : Sym) (below : List Sym) where
-  pub after_taken : (a : Answer) → moves s class ≡ a → is_take a ≡ true
+module _ (moves : Sym → Class → TableEntry) (class : Class) (s : Sym) (below : List Sym) where
+  pub after_taken : (a : TableEntry) → moves s class ≡ a → is_take a ≡ true
       → stack_after moves class (s ∷ below) ≡ Some (rest_of a ++ below)
   after_taken (Take rest) is takes = rw (is, stack_after) refl
   after_taken Skip is takes = absurd (cc)
   after_taken Stop is takes = absurd (cc)
 
-  pub after_stopped : (a : Answer) → moves s class ≡ a → is_stop a ≡ true → stack_after moves class (s ∷ below) ≡ None
+  pub after_stopped : (a : TableEntry) → moves s class ≡ a → is_stop a ≡ true → stack_after moves class (s ∷ below) ≡ None
   after_stopped (Take rest) is stops = absurd (cc)
   after_stopped Skip is stops = absurd (cc)
   after_stopped Stop is stops = rw (is, stack_after) refl
 
-  pub after_skipped : (a : Answer) → moves s class ≡ a → is_take a ≡ false → is_stop a ≡ false
+  pub after_skipped : (a : TableEntry) → moves s class ≡ a → is_take a ≡ false → is_stop a ≡ false
       → stack_after moves class (s ∷ below) ≡ stack_after moves class below
   after_skipped (Take rest) is takes stops = absurd (cc)
   after_skipped Skip is takes stops = rw (is, stack_after) refl
   after_skipped Stop is takes stops = absurd (cc)
 
-  pub steps_taken : (a : Answer) → moves s class ≡ a → is_take a ≡ true → steps_at moves class (s ∷ below) ≡ 1
+  pub steps_taken : (a : TableEntry) → moves s class ≡ a → is_take a ≡ true → steps_at moves class (s ∷ below) ≡ 1
   steps_taken (Take rest) is takes = rw (is, steps_at) refl
   steps_taken Skip is takes = absurd (cc)
   steps_taken Stop is takes = absurd (cc)
 
-  pub steps_stopped : (a : Answer) → moves s class ≡ a → is_stop a ≡ true → steps_at moves class (s ∷ below) ≡ 1
+  pub steps_stopped : (a : TableEntry) → moves s class ≡ a → is_stop a ≡ true → steps_at moves class (s ∷ below) ≡ 1
   steps_stopped (Take rest) is stops = absurd (cc)
   steps_stopped Skip is stops = absurd (cc)
   steps_stopped Stop is stops = rw (is, steps_at) refl
 
-  pub steps_skipped : (a : Answer) → moves s class ≡ a → is_take a ≡ false → is_stop a ≡ false
+  pub steps_skipped : (a : TableEntry) → moves s class ≡ a → is_take a ≡ false → is_stop a ≡ false
       → steps_at moves class (s ∷ below) ≡ 1 + steps_at moves class below
   steps_skipped (Take rest) is takes stops = absurd (cc)
   steps_skipped Skip is takes stops = rw (is, steps_at) refl

@@ -52,7 +52,7 @@ all_of next end upto all = omega arith
 -- the brackets that may be open are few
 pub count_low : (opened max_depth size : ℕ) → opened ≤ max_depth → size ≤ most_symbols → 8 * max_depth + 16 ≤ size
     → opened < 65534
-count_low opened max_depth size deep small deepest = omega arith
+count_low opened max_depth size deep small at_depth_limit = omega arith
 
 -- fewer tokens are left
 pub fewer_left : (all next after : ℕ) → next < all → next < after → all - after < all - next

@@ -5,7 +5,7 @@ use Rattle.daide_token.specs.Token.{prn, bra, ket}
 use Rattle.daide_grammar.specs.declared.symbol.Sym.{Sym}
 use Rattle.daide_reader.specs.ViablePrefix.{IsMessageOf}
 use Rattle.daide_reader.specs.ErrorPlace.{IsAllowedPrefix, AreAllowed}
-use Rattle.daide_reader.specs.Reading.{Expects, HasPlace, StackOrPlace}
+use Rattle.daide_reader.specs.Reading.{Expects, HasErrorIndex, StackOrPlace}
 
 -- a report of unpaired brackets is a message of every language
 pub nothing_allowed : (language : List ℕ → Type 0) (max_depth : ℕ) → IsAllowedPrefix (IsMessageOf language) max_depth []
@@ -25,6 +25,6 @@ fronts_allowed language max_depth p h (suc j) le =
 -- what a stack or a place says of a place alone
 pub place_said : (language : Sym → List ℕ → Type 0) (first : Sym) (max_depth : ℕ) (stack : List Sym) (place : Option ℕ)
     (p : List ℕ) → StackOrPlace language first max_depth stack place p
-    → MatchOption place (AreAllowed (IsMessageOf (language first)) max_depth p) (HasPlace (language first) max_depth p)
+    → MatchOption place (AreAllowed (IsMessageOf (language first)) max_depth p) (HasErrorIndex (language first) max_depth p)
 place_said language first max_depth stack None p h = fronts_allowed (language first) max_depth p h.allowed
 place_said language first max_depth stack (Some i) p h = h

@@ -8,25 +8,25 @@ use Rattle.daide_grammar.specs.declared.symbol.Sym.{Sym}
 use Rattle.daide_grammar.specs.declared.predict.Predict.{Ghosts}
 use Rattle.daide_grammar.specs.Words.{Words}
 use Rattle.daide_grammar.specs.Table.Stacks.{stack_after, ends_asked}
-use Rattle.daide_grammar.specs.Table.Laws.{PredictLaws}
+use Rattle.daide_grammar.specs.Table.Laws.{IsCorrectPrediction}
 use Rattle.daide_grammar.specs.Paired.{begins_with_prn}
-use Rattle.daide_grammar.specs.Depth.{excess, closes_early, open_brackets}
+use Rattle.daide_grammar.specs.Depth.{excess, has_unmatched_ket, open_brackets}
 use Rattle.std.specs.Option.{unwrap_or}
-use Rattle.daide_grammar.specs.Table.Brackets.{is_bra, is_ket, counted, count_one}
+use Rattle.daide_grammar.specs.Table.Brackets.{is_bra, is_ket, excess_or_none, count_one}
 use Rattle.daide_reader.specs.declared.outline.Outline.{Outline}
 use Rattle.daide_reader.specs.Stack.{steps_at}
 use Rattle.daide_reader.specs.Outline.{IsOutlineOf, with_token}
-use Rattle.daide_reader.specs.Reading.{Reading, IsRaised, StandsAfter, StackOrPlace, HasPlace, IsSteady, IsSettled}
+use Rattle.daide_reader.specs.Reading.{Reading, IsRaised, HasReadPrefix, StackOrPlace, HasErrorIndex, IsSteady, IsSettled}
 use Rattle.daide_reader.specs.Reading.{steps_since, brackets_open}
 use Rattle.daide_reader.proofs.StackLemmas.{lawful_more, three_steps}
-use Rattle.daide_grammar.proofs.Counting.{counted-snoc}
+use Rattle.daide_grammar.proofs.Counting.{excess_or_none-snoc}
 use Rattle.daide_reader.proofs.OutlineLemmas.{outline-snoc}
 use Rattle.daide_reader.proofs.ErrorPlaceLemmas.{expects_start, expects_taken, wrong_here}
 
 -- what a reader's count says, in a message that does not begin with PRN
 pub counted_now : (u : Option ℕ) (p : List ℕ) → begins_with_prn p ≡ false
-    → u ≡ (if begins_with_prn p then Some 0 else counted p) → u ≡ counted p
-counted_now u p not_prn e = e ∙ ap (λ (b : Bool). if b then Some 0 else counted p) not_prn
+    → u ≡ (if begins_with_prn p then Some 0 else excess_or_none p) → u ≡ excess_or_none p
+counted_now u p not_prn e = e ∙ ap (λ (b : Bool). if b then Some 0 else excess_or_none p) not_prn
 
 -- what a reader's count says of open brackets
 count_open : (u : Option ℕ) (report early : Bool) (n : ℕ)
@@ -38,20 +38,20 @@ count_open u false false n e = rw e refl
 
 pub brackets_open-after : {T : Type 0} (table : Ghosts T) (words : Words) (first : Sym) (max_depth : ℕ) (v : Reading T)
     (p : List ℕ)
-    → StandsAfter table words first max_depth v p → brackets_open v ≡ open_brackets p
+    → HasReadPrefix table words first max_depth v p → brackets_open v ≡ open_brackets p
 brackets_open-after table words first max_depth v p h =
-    count_open v.unclosed (begins_with_prn p) (closes_early p) (excess p) h.unclosed
+    count_open v.unclosed (begins_with_prn p) (has_unmatched_ket p) (excess p) h.unclosed
 
 -- what holds of a reader's value holds of the value that it equals
 pub stands_along : {T : Type 0} (table : Ghosts T) (words : Words) (first : Sym) (max_depth : ℕ) (old new : Reading T)
     (p : List ℕ)
-    → new ≡ old → StandsAfter table words first max_depth old p → StandsAfter table words first max_depth new p
+    → new ≡ old → HasReadPrefix table words first max_depth old p → HasReadPrefix table words first max_depth new p
 stands_along {T = T} table words first max_depth old new p same h =
-    subst (λ (v : Reading T). StandsAfter {T = T} table words first max_depth v p) (sym same) h
+    subst (λ (v : Reading T). HasReadPrefix {T = T} table words first max_depth v p) (sym same) h
 
 module _ {T : Type 0} (table : Ghosts T)
     (laws : (w : Words) →
-    PredictLaws (table.class_of w) (table.language w) (table.moves w) (table.ends w) (table.lawful w))
+    IsCorrectPrediction (table.class_of w) (table.language w) (table.moves w) (table.ends w) (table.lawful w))
     (words : Words) where
   -- the stack after a token has room
   pub room_more : (size t n max_depth : ℕ) (stack : List Sym) → table.lawful words stack n → n ≤ max_depth
@@ -76,9 +76,9 @@ module _ {T : Type 0} (table : Ghosts T)
 
 -- nothing is open in a message that begins with PRN
 report_count : (u : Option ℕ) (p q : List ℕ) → begins_with_prn (p ++ q) ≡ true
-    → u ≡ (if begins_with_prn p then Some 0 else counted p) → u ≡ Some 0
+    → u ≡ (if begins_with_prn p then Some 0 else excess_or_none p) → u ≡ Some 0
 report_count u [] q begins e = e
-report_count u (x ∷ p) q begins e = e ∙ ap (λ (b : Bool). if b then Some 0 else counted (x ∷ p)) begins
+report_count u (x ∷ p) q begins e = e ∙ ap (λ (b : Bool). if b then Some 0 else excess_or_none (x ∷ p)) begins
 
 -- no more brackets are open than tokens came
 pub counts_more : (u : Option ℕ) (m : ℕ) (opens closes : Bool) → IfSome u (λ n. n ≤ m)
@@ -90,10 +90,10 @@ counts_more (Some (suc n)) m false true h = omega arith
 counts_more (Some n) m false false h = omega arith
 
 -- a stack on which one symbol was put
-pub lone_symbol : (first opening : Sym) (empty items : List Sym) → empty ≡ [] → items ≡ empty ++ first ∷ [] →
-    first ≡ opening
-    → reverse items ≡ opening ∷ []
-lone_symbol first opening empty items none put is =
+pub lone_symbol : (first start_symbol : Sym) (empty items : List Sym) → empty ≡ [] → items ≡ empty ++ first ∷ [] →
+    first ≡ start_symbol
+    → reverse items ≡ start_symbol ∷ []
+lone_symbol first start_symbol empty items none put is =
     ap reverse (put ∙ (ap (λ (s : List Sym). s ++ first ∷ []) none ∙ ap (λ (s : Sym). s ∷ []) is))
 
 -- a reader at the start of a message is steady
@@ -101,9 +101,9 @@ pub steady_start : (lawful : List Sym → ℕ → Type 0) (size max_depth : ℕ)
     → size ≤ 4096 → 8 * max_depth + 16 ≤ size → stack ≡ first ∷ [] → o.tokens ≡ 0 → o.is_prn ≡ false →
     lawful (first ∷ []) 0
     → IsSteady lawful size max_depth stack o (Some 0) None
-steady_start lawful size max_depth first stack o small deepest alone none plain ok = record {
+steady_start lawful size max_depth first stack o small at_depth_limit alone none plain ok = record {
   small = small;
-  deepest = deepest;
+  at_depth_limit = at_depth_limit;
   counts = omega arith;
   tokens = omega arith;
   fresh = λ _. plain;
@@ -137,17 +137,17 @@ module _ {T : Type 0} (table : Ghosts T) (words : Words) (first : Sym) (max_dept
   steps_within a b n m s e few le = omega arith
 
   pub stands_more : (old new : Reading T) (t : ℕ) (p : List ℕ) → Moves old new t
-      → StandsAfter table words first max_depth old p
-      → (begins_with_prn (p ++ t ∷ []) ≡ false → old.unclosed ≡ counted p →
+      → HasReadPrefix table words first max_depth old p
+      → (begins_with_prn (p ++ t ∷ []) ≡ false → old.unclosed ≡ excess_or_none p →
       StackOrPlace (table.language words) first max_depth old.stack old.place p
       → StackOrPlace (table.language words) first max_depth new.stack new.place (p ++ t ∷ []))
-      → StandsAfter table words first max_depth new (p ++ t ∷ [])
+      → HasReadPrefix table words first max_depth new (p ++ t ∷ [])
   stands_more old new t p moves h place = record {
     words_kept = moves.words_same ∙ h.words_kept;
     depth_kept = moves.depth_same ∙ h.depth_kept;
     outline = outline;
-    unclosed = subst (λ (b : Bool). new.unclosed ≡ (if b then Some 0 else counted (p ++ t ∷ []))) (sym not_prn)
-        (moves.unclosed_more ∙ (ap (count_one (is_bra t) (is_ket t)) old_count ∙ sym (counted-snoc p t)));
+    unclosed = subst (λ (b : Bool). new.unclosed ≡ (if b then Some 0 else excess_or_none (p ++ t ∷ []))) (sym not_prn)
+        (moves.unclosed_more ∙ (ap (count_one (is_bra t) (is_ket t)) old_count ∙ sym (excess_or_none-snoc p t)));
     place = λ _. place not_prn old_count (h.place (prn_old p t not_prn));
     steps = steps;
   }
@@ -159,7 +159,7 @@ module _ {T : Type 0} (table : Ghosts T) (words : Words) (first : Sym) (max_dept
       not_prn : begins_with_prn (p ++ t ∷ []) ≡ false
       not_prn = sym outline.begins ∙ moves.not_prn
 
-      old_count : old.unclosed ≡ counted p
+      old_count : old.unclosed ≡ excess_or_none p
       old_count = counted_now old.unclosed p (prn_old p t not_prn) h.unclosed
 
       steps : steps_since table.asked new ≤ 4 * length (p ++ t ∷ []) + (if new.finished then 4 else 0)
@@ -178,12 +178,12 @@ module _ {T : Type 0} (table : Ghosts T) (words : Words) (first : Sym) (max_dept
       → new.max_depth ≡ old.max_depth → new.finished ≡ old.finished → new.asked_before ≡ old.asked_before
       → new.unclosed ≡ old.unclosed
       → (IsOutlineOf old.outline p → IsOutlineOf new.outline (p ++ q)) → new.outline.is_prn ≡ true
-      → StandsAfter table words first max_depth old p → StandsAfter table words first max_depth new (p ++ q)
+      → HasReadPrefix table words first max_depth old p → HasReadPrefix table words first max_depth new (p ++ q)
   stands_report old new p q same depth_same finished_same asked_same unclosed_same more is_report h = record {
     words_kept = ap table.words same ∙ h.words_kept;
     depth_kept = depth_same ∙ h.depth_kept;
     outline = outline;
-    unclosed = subst (λ (b : Bool). new.unclosed ≡ (if b then Some 0 else counted (p ++ q))) (sym begins)
+    unclosed = subst (λ (b : Bool). new.unclosed ≡ (if b then Some 0 else excess_or_none (p ++ q))) (sym begins)
         (unclosed_same ∙ report_count old.unclosed p q begins h.unclosed);
     place = λ not_prn. let f : true ≡ false = sym begins ∙ not_prn in absurd cc;
     steps = rw (same, asked_same, finished_same, length-append) (let few = h.steps in omega arith);
@@ -197,7 +197,7 @@ module _ {T : Type 0} (table : Ghosts T) (words : Words) (first : Sym) (max_dept
 
 module _ {T : Type 0} (table : Ghosts T)
     (laws : (w : Words) →
-    PredictLaws (table.class_of w) (table.language w) (table.moves w) (table.ends w) (table.lawful w))
+    IsCorrectPrediction (table.class_of w) (table.language w) (table.moves w) (table.ends w) (table.lawful w))
     (words : Words) (first : Sym) (max_depth : ℕ) where
   -- the stack and the count of a reader with no place
   pub record Ready (old : Reading T) (n : ℕ) : Type 0 where
@@ -212,13 +212,13 @@ module _ {T : Type 0} (table : Ghosts T)
       → stack_after (table.moves (table.words old.table)) (table.class_of (table.words old.table) t) old.stack
       ≡ Some new.stack
       → new.place ≡ old.place
-      → StandsAfter table words first max_depth old p → StandsAfter table words first max_depth new (p ++ t ∷ [])
+      → HasReadPrefix table words first max_depth old p → HasReadPrefix table words first max_depth new (p ++ t ∷ [])
   stands_taken old new t n p moves ready fits e same h =
       stands_more table words first max_depth old new t p moves h (λ not_prn is_count has.
       subst (λ (o : Option ℕ). StackOrPlace (table.language words) first max_depth new.stack o (p ++ t ∷ [])) (sym same)
       (go old.place ready.no_place not_prn (sym is_count ∙ ready.unclosed) has))
     where
-      go : (o : Option ℕ) → false ≡ is_some o → begins_with_prn (p ++ t ∷ []) ≡ false → counted p ≡ Some n
+      go : (o : Option ℕ) → false ≡ is_some o → begins_with_prn (p ++ t ∷ []) ≡ false → excess_or_none p ≡ Some n
           → StackOrPlace (table.language words) first max_depth old.stack o p
           → StackOrPlace (table.language words) first max_depth new.stack o (p ++ t ∷ [])
       go None _ not_prn is_count has =
@@ -237,16 +237,16 @@ module _ {T : Type 0} (table : Ghosts T)
       → ((is_bra t ≡ true) × (n ≡ old.max_depth))
       ⊎ (stack_after (table.moves (table.words old.table)) (table.class_of (table.words old.table) t) old.stack ≡ None)
       → new.place ≡ Some old.outline.tokens
-      → StandsAfter table words first max_depth old p → StandsAfter table words first max_depth new (p ++ t ∷ [])
+      → HasReadPrefix table words first max_depth old p → HasReadPrefix table words first max_depth new (p ++ t ∷ [])
   stands_refused old new t n p moves ready why place h =
       stands_more table words first max_depth old new t p moves h (λ not_prn is_count has.
       subst (λ (o : Option ℕ). StackOrPlace (table.language words) first max_depth new.stack o (p ++ t ∷ []))
       (sym (place ∙ ap (λ (k : ℕ). Some k) h.outline.tokens))
       (go old.place ready.no_place not_prn (sym is_count ∙ ready.unclosed) has))
     where
-      go : (o : Option ℕ) → false ≡ is_some o → begins_with_prn (p ++ t ∷ []) ≡ false → counted p ≡ Some n
+      go : (o : Option ℕ) → false ≡ is_some o → begins_with_prn (p ++ t ∷ []) ≡ false → excess_or_none p ≡ Some n
           → StackOrPlace (table.language words) first max_depth old.stack o p
-          → HasPlace (table.language words first) max_depth (p ++ t ∷ []) (length p)
+          → HasErrorIndex (table.language words first) max_depth (p ++ t ∷ []) (length p)
       go None _ not_prn is_count has =
           wrong_here _ _ _ _ _ (laws words) first max_depth p t n old.stack not_prn is_count has (moved why)
         where
@@ -255,7 +255,7 @@ module _ {T : Type 0} (table : Ghosts T)
               ≡ None)
               → ((is_bra t ≡ true) × (n ≡ max_depth)) ⊎
               (stack_after (table.moves words) (table.class_of words t) old.stack ≡ None)
-          moved (inl (opens, deepest)) = inl (opens, deepest ∙ h.depth_kept)
+          moved (inl (opens, at_depth_limit)) = inl (opens, at_depth_limit ∙ h.depth_kept)
           moved (inr none) = inr
               (subst (λ (w : Words). stack_after (table.moves w) (table.class_of w t) old.stack
               ≡ None) h.words_kept none)
@@ -265,7 +265,7 @@ module _ {T : Type 0} (table : Ghosts T)
   pub stands_start : (v : Reading T) → table.words v.table ≡ words → v.max_depth ≡ max_depth → IsOutlineOf v.outline []
       → v.stack ≡ first ∷ [] → v.unclosed ≡ Some 0 → v.place ≡ None → v.asked_before ≡ table.asked v.table →
       v.asked_before < 2 ^ 64
-      → StandsAfter table words first max_depth v []
+      → HasReadPrefix table words first max_depth v []
   stands_start v same depth outline alone even none base word = record {
     words_kept = same;
     depth_kept = depth;
@@ -363,7 +363,7 @@ module _ {T : Type 0} (table : Ghosts T) (words : Words) (first : Sym) (max_dept
   }
 
   pub stands_finished : (old new : Reading T) (p : List ℕ) → Finishes old new
-      → StandsAfter table words first max_depth old p → StandsAfter table words first max_depth new p
+      → HasReadPrefix table words first max_depth old p → HasReadPrefix table words first max_depth new p
   stands_finished old new p same h = record {
     words_kept = same.words_same ∙ h.words_kept;
     depth_kept = same.depth_same ∙ h.depth_kept;
@@ -385,8 +385,8 @@ module _ {T : Type 0} (table : Ghosts T) (words : Words) (first : Sym) (max_dept
 
   -- a reader that was finished with no question
   pub stands_told : (v old : Reading T) (p : List ℕ) → v ≡ old → old.finished ≡ false
-      → StandsAfter table words first max_depth old p
-      → StandsAfter table words first max_depth (finished_reading v) p
+      → HasReadPrefix table words first max_depth old p
+      → HasReadPrefix table words first max_depth (finished_reading v) p
   stands_told v old p same unfinished h =
       stands_finished v (finished_reading v) p
       (record {

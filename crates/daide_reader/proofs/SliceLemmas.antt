@@ -5,26 +5,26 @@ use Rattle.std.proofs.Common.{reverse, refl, sym, ◌∙◌}
 use Rattle.std.proofs.Common.{ap, subst, arith, ◌⊎◌, inr, append_assoc, append-nil, add-zero}
 use Rattle.std.proofs.lemmas.List.{length-append, length-drop, take_all}
 use Rattle.std.proofs.Math.Seq.{drop-length, take-length}
-use Rattle.daide_token.specs.Token.{bytes_of, tokens_of}
+use Rattle.daide_token.specs.Token.{token_bytes, tokens_of}
 use Rattle.daide_token.specs.declared.class.Class.{Class}
-use Rattle.daide_grammar.specs.Table.Answers.{Answer}
+use Rattle.daide_grammar.specs.Table.Answers.{TableEntry}
 use Rattle.daide_grammar.specs.declared.symbol.Sym.{Sym}
 use Rattle.daide_grammar.specs.declared.predict.Predict.{Ghosts}
 use Rattle.daide_grammar.specs.Words.{Words}
 use Rattle.daide_grammar.specs.Table.Stacks.{stack_after}
-use Rattle.daide_grammar.specs.Table.Laws.{PredictLaws}
+use Rattle.daide_grammar.specs.Table.Laws.{IsCorrectPrediction}
 use Rattle.daide_grammar.specs.Paired.{begins_with_prn}
-use Rattle.daide_grammar.specs.Table.Brackets.{is_bra, is_ket, counted, count_one}
+use Rattle.daide_grammar.specs.Table.Brackets.{is_bra, is_ket, excess_or_none, count_one}
 use Rattle.daide_reader.specs.declared.outline.Outline.{Outline}
 use Rattle.daide_reader.specs.Outline.{IsOutlineOf, with_token, outline_of, count_all}
-use Rattle.daide_reader.specs.Reading.{Reading, StandsAfter, StackOrPlace, IsSteady, reading, tokens_read}
+use Rattle.daide_reader.specs.Reading.{Reading, HasReadPrefix, StackOrPlace, IsSteady, reading, tokens_read}
 use Rattle.std.specs.Prelude.{nat_eq, if◌then◌else◌}
 use Rattle.std.specs.Option.{unwrap_or}
 use Rattle.daide_reader.specs.Stack.{open_count}
 use Rattle.daide_reader.specs.Slice.{place_behind}
 use Rattle.daide_reader.proofs.OutlineLemmas.{outline-snoc, same_outline, outline_of-is}
 use Rattle.daide_reader.proofs.ErrorPlaceLemmas.{place_kept}
-use Rattle.daide_grammar.proofs.Counting.{counted-snoc}
+use Rattle.daide_grammar.proofs.Counting.{excess_or_none-snoc}
 use Rattle.daide_reader.proofs.ReadingLemmas.{counted_now, counts_more, stands_report, stands_taken, stands_refused}
 
 -- one token more of the tokens of a body
@@ -98,7 +98,7 @@ tokens_of-drop (suc i) (x ∷ y ∷ b) =
 pub slice_on : (n : ℕ) (b : List ℕ) → take (length b - n) (drop n b) ≡ drop n b
 slice_on n b = take_all (length b - n) (drop n b) (rw length-drop (omega arith))
 
-pub one_token : (t : ℕ) (bytes : List ℕ) → bytes ≡ bytes_of t → tokens_of bytes ≡ t ∷ []
+pub one_token : (t : ℕ) (bytes : List ℕ) → bytes ≡ token_bytes t → tokens_of bytes ≡ t ∷ []
 one_token t bytes is = ap tokens_of is ∙ ap (λ (n : ℕ). n ∷ []) (omega arith)
 
 pub outline_of-snoc : (p : List ℕ) (t : ℕ) → outline_of (p ++ t ∷ []) ≡ with_token (outline_of p) t
@@ -107,7 +107,7 @@ outline_of-snoc p t = same_outline (with_token (outline_of p) t) (p ++ t ∷ [])
 
 module _ {T : Type 0} (table : Ghosts T)
     (laws : (w : Words) →
-    PredictLaws (table.class_of w) (table.language w) (table.moves w) (table.ends w) (table.lawful w))
+    IsCorrectPrediction (table.class_of w) (table.language w) (table.moves w) (table.ends w) (table.lawful w))
     (words : Words) (first : Sym) (depth base : ℕ) where
   pub run_taken : (old new : T) (max_depth : ℕ) (stack after : List Sym) (p : List ℕ) (t n k : ℕ)
       → begins_with_prn (p ++ t ∷ []) ≡ false → table.words new ≡ table.words old
@@ -115,8 +115,8 @@ module _ {T : Type 0} (table : Ghosts T)
       → stack_after (table.moves (table.words old)) (table.class_of (table.words old) t) stack ≡ Some after
       → count_one (is_bra t) (is_ket t) (Some n) ≡ Some k
       → (m : ℕ) × (m ≤ 4) × (table.asked new % 2 ^ 64 ≡ (table.asked old + m) % 2 ^ 64)
-      → StandsAfter table words first depth (reading old max_depth stack (outline_of p) (Some n) None base) p
-      → StandsAfter table words first depth (reading new max_depth after (outline_of (p ++ t ∷ [])) (Some k) None base)
+      → HasReadPrefix table words first depth (reading old max_depth stack (outline_of p) (Some n) None base) p
+      → HasReadPrefix table words first depth (reading new max_depth after (outline_of (p ++ t ∷ [])) (Some k) None base)
       (p ++ t ∷ [])
   run_taken old new max_depth stack after p t n k not_prn same ok deep fits advances counts steps h =
       stands_taken table laws words first depth
@@ -143,8 +143,8 @@ module _ {T : Type 0} (table : Ghosts T)
       (stack_after (table.moves (table.words old)) (table.class_of (table.words old) t) stack ≡ None)
       → unclosed ≡ count_one (is_bra t) (is_ket t) (Some n) → i ≡ length p
       → (m : ℕ) × (m ≤ 4) × (table.asked new % 2 ^ 64 ≡ (table.asked old + m) % 2 ^ 64)
-      → StandsAfter table words first depth (reading old max_depth stack (outline_of p) (Some n) None base) p
-      → StandsAfter table words first depth
+      → HasReadPrefix table words first depth (reading old max_depth stack (outline_of p) (Some n) None base) p
+      → HasReadPrefix table words first depth
       (reading new max_depth after (outline_of (p ++ t ∷ [])) unclosed (Some i) base) (p ++ t ∷ [])
   run_refused old new max_depth stack after p t n i unclosed not_prn same ok deep why counts place steps h =
       stands_refused table laws words first depth
@@ -174,11 +174,11 @@ count_all-none [] = refl
 count_all-none (t ∷ q) =
     ap (λ (u : Option ℕ). count_all u q) (none_counted (is_bra t) (is_ket t)) ∙ count_all-none q
 
-pub count_all-counted : (p q : List ℕ) → count_all (counted p) q ≡ counted (p ++ q)
-count_all-counted p [] = ap counted (sym (append-nil p))
-count_all-counted p (t ∷ q) =
-    ap (λ (u : Option ℕ). count_all u q) (sym (counted-snoc p t)) ∙ count_all-counted (p ++ t ∷ []) q
-    ∙ ap counted (append_assoc p (t ∷ []) q)
+pub count_all-excess_or_none : (p q : List ℕ) → count_all (excess_or_none p) q ≡ excess_or_none (p ++ q)
+count_all-excess_or_none p [] = ap excess_or_none (sym (append-nil p))
+count_all-excess_or_none p (t ∷ q) =
+    ap (λ (u : Option ℕ). count_all u q) (sym (excess_or_none-snoc p t)) ∙ count_all-excess_or_none (p ++ t ∷ []) q
+    ∙ ap excess_or_none (append_assoc p (t ∷ []) q)
 
 pub count_all-few : (u : Option ℕ) (n : ℕ) (q : List ℕ) → IfSome u (λ k. k ≤ n) →
     IfSome (count_all u q) (λ k. k ≤ n + length q)
@@ -192,8 +192,8 @@ count_all-few u n (t ∷ q) few =
 -- a reader with no place, in locals
 pub as_reading : {T : Type 0} (table : Ghosts T) (words : Words) (first : Sym) (depth n : ℕ) (v : Reading T)
     (p : List ℕ)
-    → v.place ≡ None → v.unclosed ≡ Some n → v.finished ≡ false → StandsAfter table words first depth v p
-    → StandsAfter table words first depth
+    → v.place ≡ None → v.unclosed ≡ Some n → v.finished ≡ false → HasReadPrefix table words first depth v p
+    → HasReadPrefix table words first depth
     (reading v.table v.max_depth v.stack (outline_of p) (Some n) None v.asked_before) p
 as_reading table words first depth n v p none here unfinished h = record {
   words_kept = h.words_kept;
@@ -224,15 +224,15 @@ module _ {T : Type 0} (table : Ghosts T) (words : Words) (first : Sym) (max_dept
   plain_front (x ∷ p) q h = h
 
   pub stands_on : (old new : Reading T) (p q m : List ℕ) → GoesOn old new p q m →
-      StandsAfter table words first max_depth old p
-      → StandsAfter table words first max_depth new m
+      HasReadPrefix table words first max_depth old p
+      → HasReadPrefix table words first max_depth new m
   stands_on old new p q m on h =
-      subst (λ (r : List ℕ). StandsAfter table words first max_depth new r) on.whole (record {
+      subst (λ (r : List ℕ). HasReadPrefix table words first max_depth new r) on.whole (record {
         words_kept = ap table.words on.table_same ∙ h.words_kept;
         depth_kept = on.depth_same ∙ h.depth_kept;
         outline = outline;
-        unclosed = subst (λ (b : Bool). new.unclosed ≡ (if b then Some 0 else counted (p ++ q))) (sym plain)
-            (on.unclosed_more ∙ ap (λ (u : Option ℕ). count_all u q) before ∙ count_all-counted p q);
+        unclosed = subst (λ (b : Bool). new.unclosed ≡ (if b then Some 0 else excess_or_none (p ++ q))) (sym plain)
+            (on.unclosed_more ∙ ap (λ (u : Option ℕ). count_all u q) before ∙ count_all-excess_or_none p q);
         place = λ _. rw (on.stack_same, on.place_same) (go old.place refl (h.place (plain_front p q plain)));
         steps = rw (on.table_same, on.asked_same, on.finished_same, length-append) (let few = h.steps in omega arith);
       })
@@ -243,7 +243,7 @@ module _ {T : Type 0} (table : Ghosts T) (words : Words) (first : Sym) (max_dept
       plain : begins_with_prn (p ++ q) ≡ false
       plain = sym outline.begins ∙ on.not_prn
 
-      before : old.unclosed ≡ counted p
+      before : old.unclosed ≡ excess_or_none p
       before = counted_now old.unclosed p (plain_front p q plain) h.unclosed
 
       go : (o : Option ℕ) → old.place ≡ o → StackOrPlace (table.language words) first max_depth old.stack o p
@@ -256,9 +256,9 @@ module _ {T : Type 0} (table : Ghosts T) (words : Words) (first : Sym) (max_dept
       → new.max_depth ≡ old.max_depth → new.finished ≡ old.finished → new.asked_before ≡ old.asked_before
       → new.unclosed ≡ old.unclosed
       → (IsOutlineOf old.outline p → IsOutlineOf new.outline m) → new.outline.is_prn ≡ true
-      → StandsAfter table words first max_depth old p → StandsAfter table words first max_depth new m
+      → HasReadPrefix table words first max_depth old p → HasReadPrefix table words first max_depth new m
   stands_report_on old new p q m whole same depth_same finished_same asked_same unclosed_same more is_report h =
-      subst (λ (r : List ℕ). StandsAfter table words first max_depth new r) whole
+      subst (λ (r : List ℕ). HasReadPrefix table words first max_depth new r) whole
       (stands_report table words first max_depth old new p q same depth_same finished_same asked_same unclosed_same
       (λ o. subst (λ (r : List ℕ). IsOutlineOf new.outline r) (sym whole) (more o)) is_report h)
 
@@ -275,7 +275,7 @@ steady_on old_lawful lawful size max_depth old_stack stack old o old_unclosed ol
     counts ok placed report =
     record {
       small = steady.small;
-      deepest = steady.deepest;
+      at_depth_limit = steady.at_depth_limit;
       counts = counts;
       tokens = short;
       fresh = λ none. absurd (omega (arith, none, more));
@@ -294,22 +294,22 @@ open_told n k e = go (nat_eq n 65535) e
 -- the tokens of a body that a reader stands after, by its own count
 pub stands_before : {T : Type 0} (table : Ghosts T) (words : Words) (first : Sym) (max_depth : ℕ) (v old : Reading T)
     (b : List ℕ)
-    → v ≡ old → StandsAfter table words first max_depth old (tokens_of (take (2 * tokens_read old) b))
-    → StandsAfter table words first max_depth v (take v.outline.tokens (tokens_of b))
+    → v ≡ old → HasReadPrefix table words first max_depth old (tokens_of (take (2 * tokens_read old) b))
+    → HasReadPrefix table words first max_depth v (take v.outline.tokens (tokens_of b))
 stands_before {T = T} table words first max_depth v old b same h =
-    subst (λ (r : Reading T). StandsAfter table words first max_depth r (take r.outline.tokens (tokens_of b)))
+    subst (λ (r : Reading T). HasReadPrefix table words first max_depth r (take r.outline.tokens (tokens_of b)))
     (sym same)
-    (subst (λ (p : List ℕ). StandsAfter table words first max_depth old p) (tokens_of-front (tokens_read old) b) h)
+    (subst (λ (p : List ℕ). HasReadPrefix table words first max_depth old p) (tokens_of-front (tokens_read old) b) h)
 
 -- no token came
 pub stands_still : {T : Type 0} (table : Ghosts T) (words : Words) (first : Sym) (max_depth : ℕ) (v old : Reading T)
     (b : List ℕ)
     → v ≡ old → v.outline.tokens ≡ length (tokens_of b)
-    → StandsAfter table words first max_depth old (tokens_of (take (2 * tokens_read old) b))
-    → StandsAfter table words first max_depth old (tokens_of b)
+    → HasReadPrefix table words first max_depth old (tokens_of (take (2 * tokens_read old) b))
+    → HasReadPrefix table words first max_depth old (tokens_of b)
 stands_still {T = T} table words first max_depth v old b same all h =
-    subst (λ (r : Reading T). StandsAfter table words first max_depth r (tokens_of b)) same
-    (subst (λ (p : List ℕ). StandsAfter table words first max_depth v p)
+    subst (λ (r : Reading T). HasReadPrefix table words first max_depth r (tokens_of b)) same
+    (subst (λ (p : List ℕ). HasReadPrefix table words first max_depth v p)
     (ap (λ (k : ℕ). take k (tokens_of b)) all ∙ take-length (tokens_of b))
     (stands_before table words first max_depth v old b same h))
 
@@ -350,7 +350,7 @@ behind_fits before tokens None few room = tt
 behind_fits before tokens (Some i) few room = omega arith
 
 -- the stack after a token, by the class that a table tells of it
-pub taken_at : (moves : Sym → Class → Answer) (told class : Class) (stack : List Sym)
+pub taken_at : (moves : Sym → Class → TableEntry) (told class : Class) (stack : List Sym)
     (left : Option ℕ) (cells : List Sym)
     → told ≡ class
     → IfSome left (λ n. stack_after moves told stack ≡ Some (reverse (take n cells)))
@@ -358,7 +358,7 @@ pub taken_at : (moves : Sym → Class → Answer) (told class : Class) (stack : 
 taken_at moves told class stack left cells same h =
     subst (λ (k : Class). IfSome left (λ n. stack_after moves k stack ≡ Some (reverse (take n cells)))) same h
 
-pub refused_by : (why : Type 0) (moves : Sym → Class → Answer) (told class : Class) (stack : List Sym) (left : Option ℕ)
+pub refused_by : (why : Type 0) (moves : Sym → Class → TableEntry) (told class : Class) (stack : List Sym) (left : Option ℕ)
     → told ≡ class → IfNone left (stack_after moves told stack ≡ None)
     → IfNone left (why ⊎ (stack_after moves class stack ≡ None))
 refused_by why moves told class stack None same h = inr (ap (λ (k : Class). stack_after moves k stack) (sym same) ∙ h)

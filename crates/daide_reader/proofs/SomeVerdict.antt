@@ -12,20 +12,20 @@ use Rattle.daide_token.specs.Class.{class_of as token_class}
 use Rattle.daide_grammar.specs.declared.level.Level.{Level}
 use Rattle.daide_grammar.specs.declared.side.Side2.{Side2}
 use Rattle.daide_grammar.specs.declared.symbol.Sym.{Sym}
-use Rattle.daide_grammar.specs.Table.Answers.{Answer}
-use Rattle.daide_grammar.specs.Table.Brackets.{is_bra, is_ket, counted, count_one}
-use Rattle.daide_grammar.specs.Table.Laws.{PredictLaws}
+use Rattle.daide_grammar.specs.Table.Answers.{TableEntry}
+use Rattle.daide_grammar.specs.Table.Brackets.{is_bra, is_ket, excess_or_none, count_one}
+use Rattle.daide_grammar.specs.Table.Laws.{IsCorrectPrediction}
 use Rattle.daide_grammar.specs.SideMessages.{IsMessage}
 use Rattle.daide_grammar.specs.Paired.{begins_with_prn}
 use Rattle.daide_grammar.specs.Table.Proved.PlainLaws.{plain_laws, plain_begins}
 use Rattle.daide_grammar.specs.Table.Stacks.{stack_after}
-use Rattle.daide_grammar.specs.Table.Symbols.{opening_of, table_answer, may_end_of}
-use Rattle.daide_grammar.proofs.Counting.{counted-snoc}
+use Rattle.daide_grammar.specs.Table.Symbols.{start_symbol_of, table_answer, may_end_of}
+use Rattle.daide_grammar.proofs.Counting.{excess_or_none-snoc}
 use Rattle.daide_reader.specs.declared.outline.Outline.{Outline}
 use Rattle.daide_reader.specs.declared.verdict.Verdict.{Verdict}
 use Rattle.daide_reader.specs.declared.verdict.Verdict.TheVariants.{Relay, Prn, Huh}
 use Rattle.daide_reader.specs.Outline.{IsOutlineOf, first_is, has_outer_brackets}
-use Rattle.daide_reader.specs.Reading.{Expects, HasPlace}
+use Rattle.daide_reader.specs.Reading.{Expects, HasErrorIndex}
 use Rattle.daide_reader.specs.Verdict.{HasVerdict}
 use Rattle.daide_reader.specs.ViablePrefix.{IsMessageOf}
 use Rattle.daide_reader.proofs.ErrorPlaceLemmas.{expects_start, expects_taken, wrong_here, place_kept}
@@ -78,7 +78,7 @@ pub data Walked : Type 0 where
   WrongAt : (place : ℕ) → Walked
   Left : (stack : List Sym) → Walked
 
-module _ (class_of : ℕ → Class) (moves : Sym → Class → Answer) (may_end : Sym → Bool) (max_depth : ℕ) where
+module _ (class_of : ℕ → Class) (moves : Sym → Class → TableEntry) (may_end : Sym → Bool) (max_depth : ℕ) where
   -- `done` tokens came, and leave this stack and so many open brackets
   abbrev walk : List ℕ → List Sym → (opened done : ℕ) → Walked
   walk [] stack opened done = Left stack
@@ -101,18 +101,18 @@ module _ (class_of : ℕ → Class) (moves : Sym → Class → Answer) (may_end 
   abbrev pub verdict_by : Sym → List ℕ → Verdict
   verdict_by first m =
       if begins_with_prn m then (if has_outer_brackets (outline_of m) then Relay else Prn)
-      else verdict_counted first m (counted m)
+      else verdict_counted first m (excess_or_none m)
 
-module _ (class_of : ℕ → Class) (language : Sym → List ℕ → Type 0) (moves : Sym → Class → Answer)
+module _ (class_of : ℕ → Class) (language : Sym → List ℕ → Type 0) (moves : Sym → Class → TableEntry)
     (may_end : Sym → Bool) (lawful : List Sym → ℕ → Type 0)
-    (laws : PredictLaws class_of language moves may_end lawful) (first : Sym) (max_depth : ℕ)
+    (laws : IsCorrectPrediction class_of language moves may_end lawful) (first : Sym) (max_depth : ℕ)
     (begins : lawful (first ∷ []) 0) where
   -- what a walk says of the tokens
   abbrev IsWalked : Walked → List ℕ → Type 0
-  IsWalked (WrongAt i) m = HasPlace (language first) max_depth m i
+  IsWalked (WrongAt i) m = HasErrorIndex (language first) max_depth m i
   IsWalked (Left stack) m = Expects language first max_depth stack m
 
-  walk_right : (m p : List ℕ) (stack : List Sym) (n : ℕ) → begins_with_prn (p ++ m) ≡ false → counted p ≡ Some n →
+  walk_right : (m p : List ℕ) (stack : List Sym) (n : ℕ) → begins_with_prn (p ++ m) ≡ false → excess_or_none p ≡ Some n →
       n ≤ max_depth → lawful stack n → Expects language first max_depth stack p →
       IsWalked (walk class_of moves may_end max_depth m stack n (length p)) (p ++ m)
   walk_right [] p stack n not_prn is_count few ok expects = rw append-nil expects
@@ -125,15 +125,15 @@ module _ (class_of : ℕ → Class) (language : Sym → List ℕ → Type 0) (mo
       plain = prn_front p m t ∙ not_prn
 
       wrong : ((is_bra t ≡ true) × (n ≡ max_depth)) ⊎ (stack_after moves (class_of t) stack ≡ None) →
-          HasPlace (language first) max_depth (p ++ t ∷ m) (length p)
+          HasErrorIndex (language first) max_depth (p ++ t ∷ m) (length p)
       wrong why =
-          subst (λ (z : List ℕ). HasPlace (language first) max_depth z (length p)) (append_assoc p (t ∷ []) m)
+          subst (λ (z : List ℕ). HasErrorIndex (language first) max_depth z (length p)) (append_assoc p (t ∷ []) m)
           (place_kept (language first) max_depth (p ++ t ∷ []) m (length p)
           (wrong_here class_of language moves may_end lawful laws first max_depth p t n stack plain is_count expects
           why))
 
       Later : Type 0
-      Later = (after : List Sym) (n' : ℕ) → counted (p ++ t ∷ []) ≡ Some n' → n' ≤ max_depth → lawful after n' →
+      Later = (after : List Sym) (n' : ℕ) → excess_or_none (p ++ t ∷ []) ≡ Some n' → n' ≤ max_depth → lawful after n' →
           Expects language first max_depth after (p ++ t ∷ []) →
           IsWalked (walk class_of moves may_end max_depth m after n' (length (p ++ t ∷ []))) ((p ++ t ∷ []) ++ m)
 
@@ -153,7 +153,7 @@ module _ (class_of : ℕ → Class) (language : Sym → List ℕ → Type 0) (mo
           let next = lawful_more class_of language moves may_end lawful laws t n max_depth stack after ok few
           (fits_at d) e in
           let more = later after next.0
-          (counted-snoc p t ∙ (ap (count_one (is_bra t) (is_ket t)) is_count ∙ next.1)) next.2 next.3
+          (excess_or_none-snoc p t ∙ (ap (count_one (is_bra t) (is_ket t)) is_count ∙ next.1)) next.2 next.3
           (expects_taken class_of language moves may_end lawful laws first max_depth p t n stack after plain is_count
           few (fits_at d) ok expects e) in
           let now = open_after (is_bra t) (is_ket t) n in
@@ -172,7 +172,7 @@ module _ (class_of : ℕ → Class) (language : Sym → List ℕ → Type 0) (mo
       by_depth false e later = by_stack e (stack_after moves (class_of t) stack) refl later
 
   -- the verdict is the one of the messages
-  walked_right : (m : List ℕ) → begins_with_prn m ≡ false → counted m ≡ Some 0 → (w : Walked) → IsWalked w m →
+  walked_right : (m : List ℕ) → begins_with_prn m ≡ false → excess_or_none m ≡ Some 0 → (w : Walked) → IsWalked w m →
       HasVerdict (IsMessageOf (language first)) max_depth m
       (verdict_walked class_of moves may_end max_depth (length m) w)
   walked_right m not_prn even (WrongAt i) has = placed (language first) max_depth m i not_prn even has
@@ -185,7 +185,7 @@ module _ (class_of : ℕ → Class) (language : Sym → List ℕ → Type 0) (mo
       go false e = rw e
           (unended class_of language moves may_end lawful laws first max_depth stack m not_prn even expects e)
 
-  counted_right : (m : List ℕ) → begins_with_prn m ≡ false → (o : Option ℕ) → counted m ≡ o →
+  counted_right : (m : List ℕ) → begins_with_prn m ≡ false → (o : Option ℕ) → excess_or_none m ≡ o →
       HasVerdict (IsMessageOf (language first)) max_depth m (verdict_counted class_of moves may_end max_depth first m o)
   counted_right m not_prn None e =
       unbalanced (language first) max_depth m not_prn (λ even. let f = sym e ∙ even in cc)
@@ -208,16 +208,16 @@ module _ (class_of : ℕ → Class) (language : Sym → List ℕ → Type 0) (mo
       go : (b : Bool) → begins_with_prn m ≡ b → HasVerdict (IsMessageOf (language first)) max_depth m
           (verdict_by class_of moves may_end max_depth first m)
       go true e = rw e (report e (has_outer_brackets (outline_of m)) refl)
-      go false e = rw e (counted_right m e (counted m) refl)
+      go false e = rw e (counted_right m e (excess_or_none m) refl)
 
 -- ---- the protocol's own grammar
 
 abbrev pub plain_verdict : Side2 → Level → ℕ → List ℕ → Verdict
 plain_verdict side level max_depth m =
-    verdict_by token_class table_answer may_end_of max_depth (opening_of side level) m
+    verdict_by token_class table_answer may_end_of max_depth (start_symbol_of side level) m
 
 pub plain_verdict_right : (side : Side2) (level : Level) (max_depth : ℕ) (m : List ℕ) →
     HasVerdict (IsMessage side level) max_depth m (plain_verdict side level max_depth m)
 plain_verdict_right side level max_depth m =
     (plain_verdicts side level max_depth m (plain_verdict side level max_depth m)).0
-    (verdict_by_right _ _ _ _ _ plain_laws (opening_of side level) max_depth (plain_begins side level) m)
+    (verdict_by_right _ _ _ _ _ plain_laws (start_symbol_of side level) max_depth (plain_begins side level) m)

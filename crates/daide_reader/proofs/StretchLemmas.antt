@@ -7,19 +7,19 @@ use Rattle.std.specs.Option.{unwrap_or}
 use Rattle.daide_token.specs.Class.{class_of}
 use Rattle.daide_token.specs.Token.{tokens_of}
 use Rattle.daide_token.specs.declared.class.Class.{Class}
-use Rattle.daide_grammar.specs.Table.Answers.{Answer, Take, Skip, Stop}
+use Rattle.daide_grammar.specs.Table.Answers.{TableEntry, Take, Skip, Stop}
 use Rattle.daide_grammar.specs.Table.Brackets.{is_bra, is_ket, count_one}
-use Rattle.daide_grammar.specs.Table.Laws.{PredictLaws}
+use Rattle.daide_grammar.specs.Table.Laws.{IsCorrectPrediction}
 use Rattle.daide_grammar.specs.Table.Numbers.{bracket_step}
 use Rattle.daide_grammar.specs.Paired.{begins_with_prn}
-use Rattle.daide_grammar.specs.Table.Rules.{is_take, is_stop, rest_of}
+use Rattle.daide_grammar.specs.Table.ParseActions.{is_take, is_stop, rest_of}
 use Rattle.daide_grammar.specs.Table.Stacks.{stack_after}
 use Rattle.daide_grammar.specs.Words.{Words}
 use Rattle.daide_grammar.specs.declared.predict.Predict.{Ghosts}
 use Rattle.daide_grammar.specs.declared.symbol.Sym.{Sym}
 use Rattle.daide_reader.specs.Outline.{outline_of}
-use Rattle.daide_reader.specs.Reading.{IsRaised, StandsAfter, reading}
-use Rattle.daide_reader.specs.Slice.{ReadsTo, Standing, place_behind}
+use Rattle.daide_reader.specs.Reading.{IsRaised, HasReadPrefix, reading}
+use Rattle.daide_reader.specs.Slice.{ReadsTo, SliceState, place_behind}
 use Rattle.daide_reader.specs.Stack.{open_count, steps_at}
 use Rattle.daide_grammar.proofs.BracketSteps.{step_by_class}
 use Rattle.daide_reader.proofs.CellLemmas.{after_skipped, after_taken, steps_skipped, steps_taken}
@@ -65,10 +65,10 @@ most_once n more few = omega arith
 
 module _ {T : Type 0} (table : Ghosts T)
     (laws : (w : Words) →
-    PredictLaws (table.class_of w) (table.language w) (table.moves w) (table.ends w) (table.lawful w))
-    (max_depth : ℕ) (body : List ℕ) (read unclosed : ℕ) (old : Standing T) where
+    IsCorrectPrediction (table.class_of w) (table.language w) (table.moves w) (table.ends w) (table.lawful w))
+    (max_depth : ℕ) (body : List ℕ) (read unclosed : ℕ) (old : SliceState T) where
   -- the locals are a reader that stands after the tokens so far
-  pub record AtToken (i opened : ℕ) (now : Standing T) : Type 0 where
+  pub record AtToken (i opened : ℕ) (now : SliceState T) : Type 0 where
     pub words : table.words now.table ≡ table.words old.table
     pub from : read ≤ i
     pub few : opened ≤ unclosed + (i - read)
@@ -77,11 +77,11 @@ module _ {T : Type 0} (table : Ghosts T)
     pub raised : IsRaised (4 * (i - read)) (table.asked old.table) (table.asked now.table)
     pub stands_after : (words : Words) (first : Sym) (depth base : ℕ) (before : List ℕ)
         → begins_with_prn (before ++ tokens_of body) ≡ false →
-        StandsAfter table words first depth
+        HasReadPrefix table words first depth
         (reading old.table max_depth old.stack (outline_of (before ++ take read (tokens_of body))) (Some unclosed) None
         base)
         (before ++ take read (tokens_of body)) →
-        StandsAfter table words first depth
+        HasReadPrefix table words first depth
         (reading now.table max_depth now.stack (outline_of (before ++ take i (tokens_of body))) (Some opened) None base)
         (before ++ take i (tokens_of body))
 
@@ -98,20 +98,20 @@ module _ {T : Type 0} (table : Ghosts T)
   }
 
   -- the stack and the answers that are due at a token, by what a table says
-  abbrev after_at : Standing T → ℕ → List Sym → Option (List Sym)
+  abbrev after_at : SliceState T → ℕ → List Sym → Option (List Sym)
   after_at now t stack = stack_after (table.moves (table.words now.table)) (table.class_of (table.words now.table) t)
       stack
 
-  abbrev due_at : Standing T → ℕ → List Sym → ℕ
+  abbrev due_at : SliceState T → ℕ → List Sym → ℕ
   due_at now t stack = steps_at (table.moves (table.words now.table)) (table.class_of (table.words now.table) t) stack
 
   -- a token has the answers that are due, and at most one more, where a symbol that stopped it is asked again
-  abbrev AsksFor : ℕ → Standing T → Standing T → Type 0
+  abbrev AsksFor : ℕ → SliceState T → SliceState T → Type 0
   AsksFor t now new = (more : ℕ) × (more ≤ 1)
       × (table.asked new.table % 2 ^ 64 ≡ (table.asked now.table + (due_at now t now.stack + more)) % 2 ^ 64)
 
   -- what a token that is taken makes of a reader
-  pub record TakesToken (t opened after : ℕ) (now new : Standing T) : Type 0 where
+  pub record TakesToken (t opened after : ℕ) (now new : SliceState T) : Type 0 where
     pub words : table.words new.table ≡ table.words now.table
     pub fits : is_bra t ≡ true → opened ≢ max_depth
     pub taken : after_at now t now.stack ≡ Some new.stack
@@ -119,7 +119,7 @@ module _ {T : Type 0} (table : Ghosts T)
     pub steps : (n : ℕ) × (n ≤ due_at now t now.stack + 1)
         × (table.asked new.table % 2 ^ 64 ≡ (table.asked now.table + n) % 2 ^ 64)
 
-  pub at_next : (i t opened after : ℕ) (now new : Standing T) → AtToken i opened now
+  pub at_next : (i t opened after : ℕ) (now new : SliceState T) → AtToken i opened now
       → take (i + 1) (tokens_of body) ≡ take i (tokens_of body) ++ t ∷ [] → TakesToken t opened after now new
       → AtToken (i + 1) after new
   at_next i t opened after now new at front takes =
@@ -150,7 +150,7 @@ module _ {T : Type 0} (table : Ghosts T)
             ap (λ (q : List ℕ). before ++ q) front ∙ sym (append_assoc before (take i m) (t ∷ [])) in
             let not_prn : begins_with_prn (p ++ t ∷ []) ≡ false =
             subst (λ (q : List ℕ). begins_with_prn q ≡ false) next_front (front_not_prn_behind before (i + 1) m plain) in
-            subst (λ (q : List ℕ). StandsAfter table words first depth
+            subst (λ (q : List ℕ). HasReadPrefix table words first depth
             (reading new.table max_depth new.stack (outline_of q) (Some after) None base) q)
             (sym next_front)
             (run_taken table laws words first depth base _ _ max_depth _ _ p t opened after
@@ -160,7 +160,7 @@ module _ {T : Type 0} (table : Ghosts T)
       }
 
   -- all tokens up to one were read
-  pub reads_all : (i opened : ℕ) (now : Standing T) → AtToken i opened now
+  pub reads_all : (i opened : ℕ) (now : SliceState T) → AtToken i opened now
       → ReadsTo table max_depth body read unclosed old i (Some opened) None now
   reads_all i opened now at = record {
     words = at.words;
@@ -174,14 +174,14 @@ module _ {T : Type 0} (table : Ghosts T)
   }
 
   -- a token that isn't taken, and is counted
-  pub record RefusesToken (t opened : ℕ) (after : Option ℕ) (now new : Standing T) : Type 0 where
+  pub record RefusesToken (t opened : ℕ) (after : Option ℕ) (now new : SliceState T) : Type 0 where
     pub words : table.words new.table ≡ table.words now.table
     pub why : ((is_bra t ≡ true) × (opened ≡ max_depth)) ⊎ (after_at now t now.stack ≡ None)
     pub counted : after ≡ count_one (is_bra t) (is_ket t) (Some opened)
     pub steps : (n : ℕ) × (n ≤ due_at now t now.stack + 1)
         × (table.asked new.table % 2 ^ 64 ≡ (table.asked now.table + n) % 2 ^ 64)
 
-  pub reads_refused : (i t opened : ℕ) (after : Option ℕ) (now new : Standing T) → AtToken i opened now
+  pub reads_refused : (i t opened : ℕ) (after : Option ℕ) (now new : SliceState T) → AtToken i opened now
       → i ≤ length (tokens_of body) → take (i + 1) (tokens_of body) ≡ take i (tokens_of body) ++ t ∷ []
       → new.stack ≡ [] → RefusesToken t opened after now new
       → ReadsTo table max_depth body read unclosed old (i + 1) after (Some i) new
@@ -208,7 +208,7 @@ module _ {T : Type 0} (table : Ghosts T)
             ap (λ (q : List ℕ). before ++ q) front ∙ sym (append_assoc before (take i m) (t ∷ [])) in
             let not_prn : begins_with_prn (p ++ t ∷ []) ≡ false =
             subst (λ (q : List ℕ). begins_with_prn q ≡ false) next_front (front_not_prn_behind before (i + 1) m plain) in
-            subst (λ (q : List ℕ). StandsAfter table words first depth
+            subst (λ (q : List ℕ). HasReadPrefix table words first depth
             (reading new.table max_depth new.stack (outline_of q) after (Some (length before + i)) base) q)
             (sym next_front)
             (run_refused table laws words first depth base _ _ max_depth _ _ p t opened (length before + i) after
@@ -218,7 +218,7 @@ module _ {T : Type 0} (table : Ghosts T)
       }
 
   -- a stretch more: from where all tokens up to one were read
-  pub reads_joined : (i opened tokens : ℕ) (unclosed' place : Option ℕ) (now new : Standing T) → AtToken i opened now
+  pub reads_joined : (i opened tokens : ℕ) (unclosed' place : Option ℕ) (now new : SliceState T) → AtToken i opened now
       → ReadsTo table max_depth body i opened now tokens unclosed' place new
       → ReadsTo table max_depth body read unclosed old tokens unclosed' place new
   reads_joined i opened tokens unclosed' place now new at more = record {
@@ -236,7 +236,7 @@ module _ {T : Type 0} (table : Ghosts T)
   }
 
   -- all of it taken
-  pub at_joined : (i opened tokens now_open : ℕ) (unclosed' place : Option ℕ) (now new : Standing T)
+  pub at_joined : (i opened tokens now_open : ℕ) (unclosed' place : Option ℕ) (now new : SliceState T)
       → AtToken i opened now
       → ReadsTo table max_depth body i opened now tokens unclosed' place new
       → now_open ≡ unwrap_or unclosed' 0 → place ≡ None → AtToken tokens now_open new
@@ -254,17 +254,17 @@ module _ {T : Type 0} (table : Ghosts T)
         raised = whole.raised;
         stands_after = λ words first depth base before plain h.
             let q = before ++ take tokens (tokens_of body) in
-            subst (λ (o : Option ℕ). StandsAfter table words first depth
+            subst (λ (o : Option ℕ). HasReadPrefix table words first depth
             (reading new.table max_depth new.stack (outline_of q) (Some now_open) (place_behind (length before) o) base)
             q) none
-            (subst (λ (u : Option ℕ). StandsAfter table words first depth
+            (subst (λ (u : Option ℕ). HasReadPrefix table words first depth
             (reading new.table max_depth new.stack (outline_of q) u (place_behind (length before) place) base)
             q) is (whole.stands_after words first depth base before plain h));
       }
 
   -- in the midst of a token some symbols of the stack at its start were skipped, and asked
-  pub record MidToken (i opened end : ℕ) (now : Standing T) : Type 0 where
-    pub start : Standing T
+  pub record MidToken (i opened end : ℕ) (now : SliceState T) : Type 0 where
+    pub start : SliceState T
     pub at : AtToken i opened start
     pub words : table.words now.table ≡ table.words start.table
     pub lower : length now.stack ≤ length start.stack
@@ -274,7 +274,7 @@ module _ {T : Type 0} (table : Ghosts T)
         ≡ (table.asked start.table + due_at start t start.stack) % 2 ^ 64)
     pub whole : i ≡ end → start ≡ now
 
-  pub begun : (i opened end : ℕ) (now : Standing T) → AtToken i opened now → MidToken i opened end now
+  pub begun : (i opened end : ℕ) (now : SliceState T) → AtToken i opened now → MidToken i opened end now
   begun i opened end now at = record {
     start = now;
     at = at;
@@ -285,17 +285,17 @@ module _ {T : Type 0} (table : Ghosts T)
   }
 
   -- at the end no token is half read
-  pub ended : (i opened end : ℕ) (now : Standing T) → i ≡ end → MidToken i opened end now → AtToken i opened now
+  pub ended : (i opened end : ℕ) (now : SliceState T) → i ≡ end → MidToken i opened end now → AtToken i opened now
   ended i opened end now last mid = subst (AtToken i opened) (mid.whole last) mid.at
 
   -- what a table says of a token, by the words that it had at the token's start
-  told_at : (now start : Standing T) (s : Sym) (t : ℕ) (a : Answer) → table.words now.table ≡ table.words start.table
+  told_at : (now start : SliceState T) (s : Sym) (t : ℕ) (a : TableEntry) → table.words now.table ≡ table.words start.table
       → a ≡ table.moves (table.words now.table) s (table.class_of (table.words now.table) t)
       → table.moves (table.words start.table) s (table.class_of (table.words start.table) t) ≡ a
   told_at now start s t a same is =
       ap (λ (w : Words). table.moves w s (table.class_of w t)) (sym same) ∙ sym is
 
-  pub skipped : (i opened end t : ℕ) (now new : Standing T) (s : Sym) (a : Answer) → MidToken i opened end now
+  pub skipped : (i opened end t : ℕ) (now new : SliceState T) (s : Sym) (a : TableEntry) → MidToken i opened end now
       → i < end → drop i (tokens_of body) ≡ t ∷ drop (i + 1) (tokens_of body)
       → now.stack ≡ s ∷ new.stack
       → a ≡ table.moves (table.words now.table) s (table.class_of (table.words now.table) t)
@@ -332,7 +332,7 @@ module _ {T : Type 0} (table : Ghosts T)
       }
 
   -- the token's last answer takes it
-  pub takes_token : (i opened end t after : ℕ) (now new : Standing T) → (mid : MidToken i opened end now)
+  pub takes_token : (i opened end t after : ℕ) (now new : SliceState T) → (mid : MidToken i opened end now)
       → drop i (tokens_of body) ≡ t ∷ drop (i + 1) (tokens_of body)
       → after_at now t now.stack ≡ Some new.stack
       → table.words new.table ≡ table.words now.table
@@ -356,14 +356,14 @@ module _ {T : Type 0} (table : Ghosts T)
         steps = (due_at start t start.stack + counts.0, most_once _ _ counts.1, omega (arith, asked, due, sum));
       }
 
-  pub refuses_token : (i opened end t : ℕ) (after : Option ℕ) (now new : Standing T) → (mid : MidToken i opened end now)
+  pub refuses_token : (i opened end t : ℕ) (after : Option ℕ) (now new : SliceState T) → (mid : MidToken i opened end now)
       → drop i (tokens_of body) ≡ t ∷ drop (i + 1) (tokens_of body)
       → after_at now t now.stack ≡ None
       → table.words new.table ≡ table.words now.table
       → AsksFor t now new
       → after ≡ count_one (is_bra t) (is_ket t) (Some opened)
       → RefusesToken t opened after mid.start new
-  refuses_token i opened end t after now new mid here refused same counts counted =
+  refuses_token i opened end t after now new mid here reject_at same counts counted =
       let start = mid.start in
       let before = mid.on t here in
       let by_words = ap (λ (w : Words). stack_after (table.moves w) (table.class_of w t) now.stack) (sym mid.words) in
@@ -373,35 +373,35 @@ module _ {T : Type 0} (table : Ghosts T)
       let asked = counts.2 in
       record {
         words = same ∙ mid.words;
-        why = inr (before.0 ∙ by_words ∙ refused);
+        why = inr (before.0 ∙ by_words ∙ reject_at);
         counted = counted;
         steps = (due_at start t start.stack + counts.0, most_once _ _ counts.1, omega (arith, asked, due, sum));
       }
 
   -- in the midst of a token there is room, as there was at its start
-  pub low_enough : (i opened end size : ℕ) (now : Standing T) → MidToken i opened end now → opened < max_depth
+  pub low_enough : (i opened end size : ℕ) (now : SliceState T) → MidToken i opened end now → opened < max_depth
       → 8 * max_depth + 16 ≤ size → length now.stack + 8 ≤ size
-  low_enough i opened end size now mid less deepest =
+  low_enough i opened end size now mid less at_depth_limit =
       let few = (laws (table.words mid.start.table)).few_entries mid.start.stack opened mid.at.lawful in
       let lower = mid.lower in
-      omega (arith, few, lower, less, deepest)
+      omega (arith, few, lower, less, at_depth_limit)
 
-  pub room_for : (i opened end size t : ℕ) (now : Standing T) → MidToken i opened end now → opened < max_depth
+  pub room_for : (i opened end size t : ℕ) (now : SliceState T) → MidToken i opened end now → opened < max_depth
       → 8 * max_depth + 16 ≤ size
       → drop i (tokens_of body) ≡ t ∷ drop (i + 1) (tokens_of body)
       → IfSome (after_at now t now.stack) (λ after. length after ≤ size)
-  room_for i opened end size t now mid less deepest here =
+  room_for i opened end size t now mid less at_depth_limit here =
       let start = mid.start in
       let fits : is_bra t ≡ true → opened ≢ max_depth = λ _ same. omega (arith, less, same) in
       let room = room_more table laws (table.words start.table) size t opened max_depth start.stack mid.at.lawful
-      mid.at.deep deepest fits in
+      mid.at.deep at_depth_limit fits in
       subst (λ (o : Option (List Sym)). IfSome o (λ after. length after ≤ size))
       ((mid.on t here).0 ∙ ap (λ (w : Words). stack_after (table.moves w) (table.class_of w t) now.stack) (sym
       mid.words))
       room
 
   -- a token refused in the midst of it
-  pub stops_here : (i opened end t tokens : ℕ) (after place : Option ℕ) (now new : Standing T)
+  pub stops_here : (i opened end t tokens : ℕ) (after place : Option ℕ) (now new : SliceState T)
       → MidToken i opened end now
       → i ≤ length (tokens_of body) → take (i + 1) (tokens_of body) ≡ take i (tokens_of body) ++ t ∷ []
       → drop i (tokens_of body) ≡ t ∷ drop (i + 1) (tokens_of body)
@@ -411,14 +411,14 @@ module _ {T : Type 0} (table : Ghosts T)
       → after ≡ count_one (is_bra t) (is_ket t) (Some opened) → new.stack ≡ []
       → tokens ≡ i + 1 → place ≡ Some i
       → ReadsTo table max_depth body read unclosed old tokens after place new
-  stops_here i opened end t tokens after place now new mid inside front here refused same counts counted empty size is =
-      let refuses = refuses_token i opened end t after now new mid here refused same counts counted in
+  stops_here i opened end t tokens after place now new mid inside front here reject_at same counts counted empty size is =
+      let refuses = refuses_token i opened end t after now new mid here reject_at same counts counted in
       let whole = reads_refused i t opened after mid.start new mid.at inside front empty refuses in
       subst (λ (k : ℕ). ReadsTo table max_depth body read unclosed old k after place new) (sym size)
       (subst (λ (o : Option ℕ). ReadsTo table max_depth body read unclosed old (i + 1) after o new) (sym is) whole)
 
   -- a token taken, at last
-  pub goes_on : (i opened end t after : ℕ) (now new : Standing T) → MidToken i opened end now
+  pub goes_on : (i opened end t after : ℕ) (now new : SliceState T) → MidToken i opened end now
       → take (i + 1) (tokens_of body) ≡ take i (tokens_of body) ++ t ∷ []
       → drop i (tokens_of body) ≡ t ∷ drop (i + 1) (tokens_of body)
       → after_at now t now.stack ≡ Some new.stack
@@ -439,13 +439,13 @@ module _ {T : Type 0} (table : Ghosts T)
         omega (arith, is, more),
       )
 
-  takes_on : (a : Answer) → is_take a ≡ true → is_stop a ≡ false
+  takes_on : (a : TableEntry) → is_take a ≡ true → is_stop a ≡ false
   takes_on (Take rest) h = refl
   takes_on Skip h = refl
   takes_on Stop h = cc
 
   -- by the protocol's own table
-  pub took : (i opened end t after : ℕ) (now new : Standing T) (s : Sym) (below : List Sym) (a : Answer)
+  pub took : (i opened end t after : ℕ) (now new : SliceState T) (s : Sym) (below : List Sym) (a : TableEntry)
       → MidToken i opened end now
       → take (i + 1) (tokens_of body) ≡ take i (tokens_of body) ++ t ∷ []
       → drop i (tokens_of body) ≡ t ∷ drop (i + 1) (tokens_of body)
@@ -470,7 +470,7 @@ module _ {T : Type 0} (table : Ghosts T)
       counted
 
   -- what is said of the same stack by a table that was asked once more
-  pub said_same : (t : ℕ) (now : Standing T) (asked : T) (stack : List Sym) → table.words asked ≡ table.words now.table
+  pub said_same : (t : ℕ) (now : SliceState T) (asked : T) (stack : List Sym) → table.words asked ≡ table.words now.table
       → stack ≡ now.stack
       → after_at now t now.stack
       ≡ stack_after (table.moves (table.words asked)) (table.class_of (table.words asked) t) stack
@@ -478,7 +478,7 @@ module _ {T : Type 0} (table : Ghosts T)
       ap (after_at now t) (sym is)
       ∙ ap (λ (w : Words). stack_after (table.moves w) (table.class_of w t) stack) (sym same)
 
-  pub due_same : (t : ℕ) (now : Standing T) (asked : T) (stack : List Sym) → table.words asked ≡ table.words now.table
+  pub due_same : (t : ℕ) (now : SliceState T) (asked : T) (stack : List Sym) → table.words asked ≡ table.words now.table
       → stack ≡ now.stack
       → steps_at (table.moves (table.words asked)) (table.class_of (table.words asked) t) stack
       ≡ due_at now t now.stack

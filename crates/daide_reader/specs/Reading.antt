@@ -12,7 +12,7 @@ use Rattle.daide_reader.specs.Bounds.{most_symbols, most_tokens}
 use Rattle.daide_reader.specs.declared.outline.Outline.{Outline}
 use Rattle.daide_reader.specs.ViablePrefix.{IsMessageOf}
 use Rattle.daide_reader.specs.ErrorPlace.{IsAllowedPrefix, IsErrorPlace}
-use Rattle.daide_grammar.specs.Table.Brackets.{counted}
+use Rattle.daide_grammar.specs.Table.Brackets.{excess_or_none}
 use Rattle.daide_reader.specs.Outline.{IsOutlineOf}
 
 -- a reader over a table of type T
@@ -60,22 +60,22 @@ pub record Expects (language : Sym → List ℕ → Type 0) (first : Sym) (max_d
   pub follows : (r : List ℕ) → StackMatches language stack r ↔ language first (p ++ r)
 
 -- the error place lies within the tokens
-pub record HasPlace (language : List ℕ → Type 0) (max_depth : ℕ) (p : List ℕ) (i : ℕ) : Type 0 where
+pub record HasErrorIndex (language : List ℕ → Type 0) (max_depth : ℕ) (p : List ℕ) (i : ℕ) : Type 0 where
   pub inside : i < length p
   pub is_place : IsErrorPlace (IsMessageOf language) max_depth p i
 
 -- where the tokens have no place yet, the stack says what may follow; else the place is theirs
 abbrev pub StackOrPlace : (Sym → List ℕ → Type 0) → Sym → ℕ → List Sym → Option ℕ → List ℕ → Type 0
 StackOrPlace language first max_depth stack place p =
-    MatchOption place (Expects language first max_depth stack p) (HasPlace (language first) max_depth p)
+    MatchOption place (Expects language first max_depth stack p) (HasErrorIndex (language first) max_depth p)
 
 -- the tokens since `start` are p, of a message that the symbol `first` stands for
-pub record StandsAfter {T : Type 0} (table : Ghosts T) (words : Words) (first : Sym) (max_depth : ℕ)
+pub record HasReadPrefix {T : Type 0} (table : Ghosts T) (words : Words) (first : Sym) (max_depth : ℕ)
     (v : Reading T) (p : List ℕ) : Type 0 where
   pub words_kept : table.words v.table ≡ words
   pub depth_kept : v.max_depth ≡ max_depth
   pub outline : IsOutlineOf v.outline p
-  pub unclosed : v.unclosed ≡ (if begins_with_prn p then Some 0 else counted p)
+  pub unclosed : v.unclosed ≡ (if begins_with_prn p then Some 0 else excess_or_none p)
   pub place : begins_with_prn p ≡ false → StackOrPlace (table.language words) first max_depth v.stack v.place p
   pub steps : steps_since table.asked v ≤ 4 * length p + (if v.finished then 4 else 0)
 
@@ -83,7 +83,7 @@ pub record StandsAfter {T : Type 0} (table : Ghosts T) (words : Words) (first : 
 pub record IsSteady (lawful : List Sym → ℕ → Type 0) (size max_depth : ℕ) (stack : List Sym)
     (outline : Outline) (unclosed place : Option ℕ) : Type 0 where
   pub small : size ≤ most_symbols
-  pub deepest : 8 * max_depth + 16 ≤ size
+  pub at_depth_limit : 8 * max_depth + 16 ≤ size
   pub counts : IfSome unclosed (λ n. n ≤ outline.tokens)
   pub tokens : outline.tokens ≤ most_tokens
   pub fresh : outline.tokens ≡ 0 → outline.is_prn ≡ false

@@ -7,10 +7,10 @@ use Rattle.daide_grammar.specs.declared.predict.Predict.{Ghosts}
 use Rattle.daide_grammar.specs.Paired.{begins_with_prn}
 use Rattle.daide_grammar.specs.Words.{Words}
 use Rattle.daide_reader.specs.Outline.{outline_of}
-use Rattle.daide_reader.specs.Reading.{IsRaised, StandsAfter, reading}
+use Rattle.daide_reader.specs.Reading.{IsRaised, HasReadPrefix, reading}
 
 -- a table, and a stack of symbols, the next one first
-pub record Standing (T : Type 0) : Type 0 where
+pub record SliceState (T : Type 0) : Type 0 where
   pub table : T
   pub stack : List Sym
 
@@ -22,7 +22,7 @@ place_behind before (Some i) = Some (before + i)
 -- the tokens of the body from one on were read up to another, where `opened` brackets are open, or up to one that no
 -- message continues, whatever tokens the message had before the body
 pub record ReadsTo {T : Type 0} (table : Ghosts T) (max_depth : ℕ) (body : List ℕ) (read unclosed : ℕ)
-    (old : Standing T) (tokens : ℕ) (opened place : Option ℕ) (new : Standing T) : Type 0 where
+    (old : SliceState T) (tokens : ℕ) (opened place : Option ℕ) (new : SliceState T) : Type 0 where
   pub words : table.words new.table ≡ table.words old.table
   pub goes_on : read ≤ tokens
   pub counts : IfSome opened (λ n. n ≤ unclosed + (tokens - read))
@@ -33,11 +33,11 @@ pub record ReadsTo {T : Type 0} (table : Ghosts T) (max_depth : ℕ) (body : Lis
   pub raised : IsRaised (4 * (tokens - read)) (table.asked old.table) (table.asked new.table)
   pub stands_after : (words : Words) (first : Sym) (depth base : ℕ) (before : List ℕ)
       → begins_with_prn (before ++ tokens_of body) ≡ false →
-      StandsAfter table words first depth
+      HasReadPrefix table words first depth
       (reading old.table max_depth old.stack (outline_of (before ++ take read (tokens_of body))) (Some unclosed) None
       base)
       (before ++ take read (tokens_of body)) →
-      StandsAfter table words first depth
+      HasReadPrefix table words first depth
       (reading new.table max_depth new.stack (outline_of (before ++ take tokens (tokens_of body))) opened
       (place_behind (length before) place) base)
       (before ++ take tokens (tokens_of body))

@@ -5,7 +5,7 @@ ghost use Rattle.daide_token.specs.Token.{tokens_of};
 ghost use Rattle.daide_grammar.specs.declared.symbol.Sym.{Sym};
 ghost use Rattle.daide_grammar.specs.Words.{Words};
 ghost use Rattle.daide_reader.specs.Bounds.{longest_message};
-ghost use Rattle.daide_reader.specs.Reading.{StandsAfter, tokens_read};
+ghost use Rattle.daide_reader.specs.Reading.{HasReadPrefix, tokens_read};
 ghost use Rattle.daide_reader.specs.Verdict.{HasVerdict};
 ghost use Rattle.daide_reader.specs.ViablePrefix.{IsMessageOf};
 
@@ -22,11 +22,11 @@ impl<T: Predict, const N: usize> Reader<T, N> {
         requires unfinished { self.old.finished ≡ false }
         requires room { length body.now ≤ longest_message }
         ensures verdict { (words : Words) (first : Sym) (max_depth : ℕ) →
-            StandsAfter T.Predict words first max_depth self.old [] →
+            HasReadPrefix T.Predict words first max_depth self.old [] →
             HasVerdict (IsMessageOf (T.language words first)) max_depth (tokens_of body.now) result }
         ensures stands_after { (words : Words) (first : Sym) (max_depth : ℕ) →
-            StandsAfter T.Predict words first max_depth self.old [] →
-            StandsAfter T.Predict words first max_depth self.new (tokens_of body.now) }
+            HasReadPrefix T.Predict words first max_depth self.old [] →
+            HasReadPrefix T.Predict words first max_depth self.new (tokens_of body.now) }
         ensures words { T.words self.new.table ≡ T.words self.old.table }
         ensures depth { self.new.max_depth ≡ self.old.max_depth }
         ensures base { self.new.asked_before ≡ self.old.asked_before }

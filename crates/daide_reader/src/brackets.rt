@@ -53,7 +53,7 @@ pub fn recount(opened: &mut u16, token: Token, class: Column, limit: u16) -> boo
     requires told { is_bracket class ≡ (is_bra_token token || is_ket_token token) }
     ensures fits { result ≡ true → is_bra_token token ≡ true → opened.old ≢ limit }
     ensures counted { count_one (is_bra_token token) (is_ket_token token) (Some opened.old) ≡ open_count opened.new }
-    ensures refused { result ≡ false → (is_bra_token token ≡ true) × (opened.old ≡ limit) }
+    ensures reject_at { result ≡ false → (is_bra_token token ≡ true) × (opened.old ≡ limit) }
 {
     if class.is_bracket() {
         if is_bra(token) {

@@ -2,7 +2,7 @@
 
 ghost use Rattle.std.specs.Prelude.{◌≡◌, ◌≤◌, ◌<◌, ◌+◌, ◌%◌, ◌^◌, ◌++◌, List, None, Some, IfSome, IfNone, take, length, reverse};
 ghost use Rattle.daide_token.specs.Class.{class_of as known_class};
-ghost use Rattle.daide_grammar.specs.Table.Rules.{rest_of};
+ghost use Rattle.daide_grammar.specs.Table.ParseActions.{rest_of};
 ghost use Rattle.daide_grammar.specs.Table.Stacks.{stack_after};
 ghost use Rattle.daide_reader.specs.Bounds.{most_symbols};
 ghost use Rattle.daide_reader.specs.Stack.{steps_at};
@@ -55,7 +55,7 @@ pub(crate) fn follow<T: Predict, const N: usize>(
         stack_after (T.moves (T.words table.old)) class (reverse (take count cells.old))
         ≡ Some (reverse (take left cells.new))) }
     ensures inside { IfSome result (λ left. left ≤ N) }
-    ensures refused { IfNone result
+    ensures reject_at { IfNone result
         (stack_after (T.moves (T.words table.old)) class (reverse (take count cells.old)) ≡ None) }
     ensures words { T.words table.new ≡ T.words table.old }
     ensures steps { T.asked table.new % 2 ^ 64
@@ -96,7 +96,7 @@ pub(crate) fn follow_word<T: Predict, const N: usize>(
         stack_after (T.moves (T.words table.old)) (T.class_of (T.words table.old) token)
         (reverse (take (top + 1) cells.old)) ≡ Some (reverse (take left cells.new))) }
     ensures inside { IfSome result (λ left. left ≤ N) }
-    ensures refused { IfNone result
+    ensures reject_at { IfNone result
         (stack_after (T.moves (T.words table.old)) (T.class_of (T.words table.old) token)
         (reverse (take (top + 1) cells.old)) ≡ None) }
     ensures words { T.words table.new ≡ T.words table.old }

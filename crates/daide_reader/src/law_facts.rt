@@ -18,19 +18,19 @@ use daide_grammar::predict::Predict;
 /// table and by the grammar; and that table relays what the grammar relays.
 fn verdicts_at_values()
     ensures place { (m : List ℕ) →
-        let message = IsMessageOf (⟦<Plain as Predict>⟧.language [] (⟦<Plain as Predict>⟧.opening Client L0)) in
+        let message = IsMessageOf (⟦<Plain as Predict>⟧.language [] (⟦<Plain as Predict>⟧.start_symbol Client L0)) in
         HasVerdict message 62 m (Huh 1) → ¬ HasVerdict message 62 m (Huh 0) }
     ensures prn { (m : List ℕ) →
-        let message = IsMessageOf (⟦<Plain as Predict>⟧.language [] (⟦<Plain as Predict>⟧.opening ServerEnd L60)) in
+        let message = IsMessageOf (⟦<Plain as Predict>⟧.language [] (⟦<Plain as Predict>⟧.start_symbol ServerEnd L60)) in
         HasVerdict message 62 m Prn → ¬ HasVerdict message 62 m Relay }
     ensures some { (v : Verdict) × HasVerdict
-        (IsMessageOf (⟦<Plain as Predict>⟧.language [] (⟦<Plain as Predict>⟧.opening Client L0))) 62
+        (IsMessageOf (⟦<Plain as Predict>⟧.language [] (⟦<Plain as Predict>⟧.start_symbol Client L0))) 62
         (0x4803 ∷ 0x4000 ∷ []) v }
     ensures grammar { (v : Verdict) × HasVerdict (IsMessage Client L0) 62 (0x4803 ∷ 0x4000 ∷ []) v }
     ensures relayed { (table : Plain) (m : List ℕ) →
         HasVerdict (IsMessageOver (⟦<Plain as Predict>⟧.words table) Client L60) 62 m Relay →
         HasVerdict (IsMessageOf (⟦<Plain as Predict>⟧.language (⟦<Plain as Predict>⟧.words table)
-        (⟦<Plain as Predict>⟧.opening Client L60))) 62 m Relay }
+        (⟦<Plain as Predict>⟧.start_symbol Client L60))) 62 m Relay }
 {
     laws::message_has_one_verdict::<Plain>();
     laws::message_has_a_verdict::<Plain>();

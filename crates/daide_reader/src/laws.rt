@@ -25,7 +25,7 @@ pub fn message_has_one_verdict<T: Predict>()
 /// Each list of tokens has a verdict, by the messages of any table: one that no reader need compute.
 pub fn message_has_a_verdict<T: Predict>()
     ensures { (words : Words) (side : Side2) (level : Level) (max_depth : ℕ) (m : List ℕ) →
-        (v : Verdict) × HasVerdict (IsMessageOf (T.language words (T.opening side level))) max_depth m v }
+        (v : Verdict) × HasVerdict (IsMessageOf (T.language words (T.start_symbol side level))) max_depth m v }
 {}
 
 /// So has each list of tokens by the grammar: whatever a side says at whatever level.
@@ -39,7 +39,7 @@ pub fn grammar_has_a_verdict()
 pub fn plain_verdicts_are_the_grammars()
     ensures { (table : Plain) (side : Side2) (level : Level) (max_depth : ℕ) (m : List ℕ) (v : Verdict) →
         let words = ⟦<Plain as Predict>⟧.words table in
-        let first = ⟦<Plain as Predict>⟧.opening side level in
+        let first = ⟦<Plain as Predict>⟧.start_symbol side level in
         HasVerdict (IsMessageOf (⟦<Plain as Predict>⟧.language words first)) max_depth m v
         ↔ HasVerdict (IsMessageOver words side level) max_depth m v }
 {}

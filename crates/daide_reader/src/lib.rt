@@ -12,10 +12,10 @@ mod cells;
 mod law_facts;
 pub mod laws;
 mod outline;
+mod parse_stack;
 pub mod reader;
 mod slice;
 mod stack;
-mod symbols;
 pub mod verdict;
 
 pub use reader::Reader;

@@ -14,14 +14,14 @@ ghost use Rattle.daide_reader.specs.ViablePrefix.{IsMessageOf};
 ghost use Rattle.daide_reader.specs.ErrorPlace.{AreAllowed};
 ghost use Rattle.daide_reader.specs.Verdict.{HasVerdict};
 ghost use Rattle.daide_reader.specs.Outline.{IsOutlineOf};
-ghost use Rattle.daide_reader.specs.Reading.{HasPlace, StandsAfter, IsSettled, IsRaised, tokens_read, brackets_open, steps_since};
+ghost use Rattle.daide_reader.specs.Reading.{HasErrorIndex, HasReadPrefix, IsSettled, IsRaised, tokens_read, brackets_open, steps_since};
 ghost use Rattle.daide_reader.specs.declared.verdict.Verdict.TheVariants.{Prn};
 
 use crate::brackets::are_open;
 use crate::outline::{MOST_TOKENS, Outline};
+use crate::parse_stack::ParseStack;
 use crate::slice::{count_from, place_behind};
 use crate::stack::may_all_end;
-use crate::symbols::Symbols;
 use crate::verdict::Verdict;
 use daide_grammar::level::Level;
 use daide_grammar::predict::Predict;
@@ -34,11 +34,11 @@ use std::marker::Model;
 ///
 /// A message goes from `start` over `push`, once for each token, or `read`, once for each piece of its
 /// body, to `finish`; then the next one may start. A contract sees a reader as a `Reading`, and
-/// `StandsAfter` is what that says of the tokens since `start`. No call takes memory, and none refuses.
+/// `HasReadPrefix` is what that says of the tokens since `start`. No call takes memory, and none refuses.
 #[derive(Drop)]
 pub struct Reader<T: Predict, const N: usize> {
     max_depth: u16,
-    stack: Symbols<Symbol, N>,
+    stack: ParseStack<Symbol, N>,
     outline: Outline,
     unclosed: Option<u16>,
     place: Option<u16>,
@@ -75,7 +75,7 @@ impl<T: Predict, const N: usize> Reader<T, N> {
         requires low { 4 ≤ max_depth }
         requires high { 8 * max_depth + 16 ≤ N }
         requires size { N ≤ most_symbols }
-        ensures stands_after { StandsAfter T.Predict (T.words table) (T.opening Side2.Client Level.L0)
+        ensures stands_after { HasReadPrefix T.Predict (T.words table) (T.start_symbol Side2.Client Level.L0)
             max_depth result [] }
         ensures table { result.table ≡ table }
         ensures base { result.asked_before ≡ T.asked table }
@@ -83,7 +83,7 @@ impl<T: Predict, const N: usize> Reader<T, N> {
     {
         let first = table.start(Side2::Client, Level::L0);
         let asked_before = table.asked();
-        let mut stack = Symbols::new(Symbol::closing());
+        let mut stack = ParseStack::new(Symbol::closing());
         stack.push(first);
         Reader {
             table,
@@ -100,7 +100,7 @@ impl<T: Predict, const N: usize> Reader<T, N> {
     /// Begins a message of the side at the level. What was read before is forgotten; the table, its
     /// words and its count stay.
     pub fn start(&mut self, side: Side2, level: Level)
-        ensures stands_after { StandsAfter T.Predict (T.words self.old.table) (T.opening side level)
+        ensures stands_after { HasReadPrefix T.Predict (T.words self.old.table) (T.start_symbol side level)
             self.old.max_depth self.new [] }
         ensures table { self.new.table ≡ self.old.table }
         ensures base { self.new.asked_before ≡ T.asked self.old.table }
@@ -121,8 +121,8 @@ impl<T: Predict, const N: usize> Reader<T, N> {
         requires room { tokens_read self.old < most_tokens }
         requires unfinished { self.old.finished ≡ false }
         ensures stands_after { (words : Words) (first : Sym) (max_depth : ℕ) (p : List ℕ) →
-            StandsAfter T.Predict words first max_depth self.old p →
-            StandsAfter T.Predict words first max_depth self.new (p ++ token ∷ []) }
+            HasReadPrefix T.Predict words first max_depth self.old p →
+            HasReadPrefix T.Predict words first max_depth self.new (p ++ token ∷ []) }
         ensures tokens { tokens_read self.new ≡ tokens_read self.old + 1 }
         ensures words { T.words self.new.table ≡ T.words self.old.table }
         ensures depth { self.new.max_depth ≡ self.old.max_depth }
@@ -146,9 +146,9 @@ impl<T: Predict, const N: usize> Reader<T, N> {
         requires read_before { 2 * tokens_read self.old ≤ length body.now }
         requires room { length body.now ≤ longest_message }
         ensures stands_after { (words : Words) (first : Sym) (max_depth : ℕ) →
-            StandsAfter T.Predict words first max_depth self.old
+            HasReadPrefix T.Predict words first max_depth self.old
             (tokens_of (take (2 * tokens_read self.old) body.now)) →
-            StandsAfter T.Predict words first max_depth self.new (tokens_of body.now) }
+            HasReadPrefix T.Predict words first max_depth self.new (tokens_of body.now) }
         ensures unchanged { tokens_read self.old ≡ length body.now / 2 → self.new ≡ self.old }
         ensures tokens { tokens_read self.new ≡ length body.now / 2 }
         ensures words { T.words self.new.table ≡ T.words self.old.table }
@@ -177,8 +177,8 @@ impl<T: Predict, const N: usize> Reader<T, N> {
         requires plain { outline.is_prn ≡ false → self.old.outline.is_prn ≡ false }
         ensures stands_after { (words : Words) (first : Sym) (max_depth : ℕ) (p : List ℕ) →
             IsOutlineOf outline (p ++ tokens_of body.now) →
-            StandsAfter T.Predict words first max_depth self.old p →
-            StandsAfter T.Predict words first max_depth self.new (p ++ tokens_of body.now) }
+            HasReadPrefix T.Predict words first max_depth self.old p →
+            HasReadPrefix T.Predict words first max_depth self.new (p ++ tokens_of body.now) }
         ensures tokens { tokens_read self.new ≡ outline.tokens }
         ensures words { T.words self.new.table ≡ T.words self.old.table }
         ensures depth { self.new.max_depth ≡ self.old.max_depth }
@@ -198,7 +198,9 @@ impl<T: Predict, const N: usize> Reader<T, N> {
             return;
         }
         let open = self.unclosed.unwrap_or(0);
-        let reached = self.stack.run(&mut self.table, body, open, self.max_depth);
+        let reached = self
+            .stack
+            .read_tokens(&mut self.table, body, open, self.max_depth);
         self.place = place_behind(before, reached.place);
         self.unclosed = count_from(reached.unclosed, body, reached.tokens);
     }
@@ -208,11 +210,11 @@ impl<T: Predict, const N: usize> Reader<T, N> {
     pub fn finish(&mut self) -> Verdict
         requires { self.old.finished ≡ false }
         ensures verdict { (words : Words) (first : Sym) (max_depth : ℕ) (m : List ℕ) →
-            StandsAfter T.Predict words first max_depth self.old m →
+            HasReadPrefix T.Predict words first max_depth self.old m →
             HasVerdict (IsMessageOf (T.language words first)) max_depth m result }
         ensures stands_after { (words : Words) (first : Sym) (max_depth : ℕ) (m : List ℕ) →
-            StandsAfter T.Predict words first max_depth self.old m →
-            StandsAfter T.Predict words first max_depth self.new m }
+            HasReadPrefix T.Predict words first max_depth self.old m →
+            HasReadPrefix T.Predict words first max_depth self.new m }
         ensures words { T.words self.new.table ≡ T.words self.old.table }
         ensures depth { self.new.max_depth ≡ self.old.max_depth }
         ensures base { self.new.asked_before ≡ self.old.asked_before }
@@ -258,7 +260,7 @@ impl<T: Predict, const N: usize> Reader<T, N> {
     pub fn open(&self) -> usize
         ensures exact { result ≡ brackets_open self.now }
         ensures open { (words : Words) (first : Sym) (max_depth : ℕ) (p : List ℕ) →
-            StandsAfter T.Predict words first max_depth self.now p → result ≡ open_brackets p }
+            HasReadPrefix T.Predict words first max_depth self.now p → result ≡ open_brackets p }
     {
         self.unclosed.unwrap_or(0) as usize
     }
@@ -268,9 +270,9 @@ impl<T: Predict, const N: usize> Reader<T, N> {
     pub fn place(&self) -> Option<u16>
         ensures exact { result ≡ self.now.place }
         ensures place { (words : Words) (first : Sym) (max_depth : ℕ) (p : List ℕ) → begins_with_prn p ≡ false →
-            StandsAfter T.Predict words first max_depth self.now p →
+            HasReadPrefix T.Predict words first max_depth self.now p →
             MatchOption result (AreAllowed (IsMessageOf (T.language words first)) max_depth p)
-            (HasPlace (T.language words first) max_depth p) }
+            (HasErrorIndex (T.language words first) max_depth p) }
     {
         self.place
     }
@@ -281,7 +283,7 @@ impl<T: Predict, const N: usize> Reader<T, N> {
         ensures few { result ≤ 8 * brackets_open self.now + 16 }
         ensures at_most { result ≤ 8 * self.now.max_depth + 16 }
         ensures entries { (words : Words) (first : Sym) (max_depth : ℕ) (p : List ℕ) →
-            StandsAfter T.Predict words first max_depth self.now p → result ≤ 8 * open_brackets p + 16 }
+            HasReadPrefix T.Predict words first max_depth self.now p → result ≤ 8 * open_brackets p + 16 }
         ensures empty_once_placed { IsSome self.now.place → result ≡ 0 }
     {
         self.stack.len()
@@ -307,7 +309,7 @@ impl<T: Predict, const N: usize> Reader<T, N> {
     pub fn steps(&self) -> u64
         ensures exact { result ≡ steps_since T.asked self.now }
         ensures steps { (words : Words) (first : Sym) (max_depth : ℕ) (p : List ℕ) →
-            StandsAfter T.Predict words first max_depth self.now p →
+            HasReadPrefix T.Predict words first max_depth self.now p →
             result ≤ 4 * length p + (if self.now.finished then 4 else 0) }
     {
         self.total().wrapping_sub(self.asked_before)

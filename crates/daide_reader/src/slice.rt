@@ -22,7 +22,7 @@ use daide_token::token::Token;
 
 /// How far the tokens of a body were read: all of them, or up to the first that no message continues.
 #[derive(Clone, Copy)]
-pub struct Reached {
+pub struct RunEnd {
     pub tokens: usize,
     pub unclosed: Option<u16>,
     pub place: Option<u16>,
@@ -33,7 +33,7 @@ pub struct Reached {
 /// One token against the stack of the first `count` cells, with the open brackets before it: how many
 /// cells the stack has then, and the open brackets, where the token is taken.
 #[cold]
-fn step<T: Predict, const N: usize>(
+fn read_token<T: Predict, const N: usize>(
     table: &mut T,
     cells: &mut [Symbol; N],
     count: usize,
@@ -54,7 +54,7 @@ fn step<T: Predict, const N: usize>(
         ≡ Some (reverse (take r cells.new))) }
     ensures inside { IfSome result (λ r. r ≤ N) }
     ensures counted { count_one (is_bra_token token) (is_ket_token token) (Some opened.old) ≡ open_count opened.new }
-    ensures refused { IfNone result (((is_bra_token token ≡ true) × (opened.old ≡ limit))
+    ensures reject_at { IfNone result (((is_bra_token token ≡ true) × (opened.old ≡ limit))
         ⊎ (stack_after (T.moves (T.words table.old)) (T.class_of (T.words table.old) token)
         (reverse (take count cells.old)) ≡ None)) }
     ensures words { T.words table.new ≡ T.words table.old }
@@ -72,14 +72,14 @@ fn step<T: Predict, const N: usize>(
 
 /// Where reading ends at a token that is not taken, which is counted.
 #[inline(always)]
-fn refused(opened: u16, place: usize) -> Reached
+fn reject_at(opened: u16, place: usize) -> RunEnd
     requires { place < most_tokens }
     ensures tokens { result.tokens ≡ place + 1 }
     ensures unclosed { result.unclosed ≡ open_count opened }
     ensures place { result.place ≡ Some place }
     ensures count { result.count ≡ 0 }
 {
-    Reached {
+    RunEnd {
         tokens: place + 1,
         unclosed: if opened == 65535 { None } else { Some(opened) },
         place: Some(place as u16),
@@ -90,7 +90,7 @@ fn refused(opened: u16, place: usize) -> Reached
 /// Reads the tokens of a body from one on, so many that they can't open a bracket too many, whatever they are. So
 /// neither the depth nor the room for a rest is looked at, token by token.
 #[inline(always)]
-fn stretch<T: Predict, const N: usize>(
+fn run_below_depth_limit<T: Predict, const N: usize>(
     table: &mut T,
     cells: &mut [Symbol; N],
     count: usize,
@@ -98,10 +98,10 @@ fn stretch<T: Predict, const N: usize>(
     read: usize,
     unclosed: u16,
     max_depth: u16,
-) -> Reached
+) -> RunEnd
     requires size { N ≤ most_symbols }
     requires count { count ≤ N }
-    requires deepest { 8 * max_depth + 16 ≤ N }
+    requires at_depth_limit { 8 * max_depth + 16 ≤ N }
     requires room { length body.now ≤ longest_message }
     requires read { read < length body.now / 2 }
     requires deep { unclosed < max_depth }
@@ -123,7 +123,7 @@ fn stretch<T: Predict, const N: usize>(
         let token = token_at(body, next);
         let known = Column::known(token);
         if left == 0 {
-            return refused(opened.wrapping_add(known.bracket_step()), next);
+            return reject_at(opened.wrapping_add(known.bracket_step()), next);
         }
         let top = left - 1;
         let answer = table.predict_token(cells[top], token, known);
@@ -134,7 +134,7 @@ fn stretch<T: Predict, const N: usize>(
         } else if answer.is_stop() {
             opened = opened.wrapping_add(known.bracket_step());
             let Some(now) = follow_word(table, cells, top, token, known) else {
-                return refused(opened, next);
+                return reject_at(opened, next);
             };
             left = now;
             next += 1;
@@ -142,7 +142,7 @@ fn stretch<T: Predict, const N: usize>(
             left = top;
         }
     }
-    Reached {
+    RunEnd {
         tokens: end,
         unclosed: Some(opened),
         place: None,
@@ -153,17 +153,17 @@ fn stretch<T: Predict, const N: usize>(
 /// Reads the tokens of a body, with the stack and the open brackets of those before it. Neither they nor a place
 /// in the message is known here: a place is told in the body.
 #[inline(always)]
-pub fn run<T: Predict, const N: usize>(
+pub fn read_tokens<T: Predict, const N: usize>(
     table: &mut T,
     cells: &mut [Symbol; N],
     count: usize,
     body: &[u8],
     unclosed: u16,
     max_depth: u16,
-) -> Reached
+) -> RunEnd
     requires size { N ≤ most_symbols }
     requires count { count ≤ N }
-    requires deepest { 8 * max_depth + 16 ≤ N }
+    requires at_depth_limit { 8 * max_depth + 16 ≤ N }
     requires room { length body.now ≤ longest_message }
     requires deep { unclosed ≤ max_depth }
     requires lawful { T.lawful (T.words table.old) (reverse (take count cells.old)) unclosed }
@@ -180,7 +180,7 @@ pub fn run<T: Predict, const N: usize>(
     let mut next = 0;
     while next < body.len() / 2 {
         if opened < max_depth {
-            let reached = stretch(table, cells, left, body, next, opened, max_depth);
+            let reached = run_below_depth_limit(table, cells, left, body, next, opened, max_depth);
             if reached.place.is_some() {
                 return reached;
             }
@@ -189,14 +189,14 @@ pub fn run<T: Predict, const N: usize>(
             next = reached.tokens;
         } else {
             let token = token_at(body, next);
-            let Some(now) = step(table, cells, left, &mut opened, token, max_depth) else {
-                return refused(opened, next);
+            let Some(now) = read_token(table, cells, left, &mut opened, token, max_depth) else {
+                return reject_at(opened, next);
             };
             left = now;
             next += 1;
         }
     }
-    Reached {
+    RunEnd {
         tokens: body.len() / 2,
         unclosed: Some(opened),
         place: None,

@@ -7,12 +7,12 @@ ghost use Rattle.std.specs.List.{list_all};
 ghost use Rattle.daide_grammar.specs.Table.Stacks.{ends_asked};
 ghost use Rattle.daide_reader.specs.Bounds.{most_symbols};
 
-use crate::symbols::Symbols;
+use crate::parse_stack::ParseStack;
 use daide_grammar::predict::Predict;
 use daide_grammar::symbol::Symbol;
 
 /// Whether every symbol on the stack may be empty. It asks from the top, up to the first that may not.
-pub fn may_all_end<T: Predict, const N: usize>(table: &mut T, stack: &Symbols<Symbol, N>) -> bool
+pub fn may_all_end<T: Predict, const N: usize>(table: &mut T, stack: &ParseStack<Symbol, N>) -> bool
     requires { N ≤ most_symbols }
     ensures all { result ≡ list_all (T.ends (T.words table.old)) (reverse stack.now) }
     ensures words { T.words table.new ≡ T.words table.old }

@@ -8,38 +8,38 @@ use Rattle.daide_frame.specs.declared.side.Side.TheVariants.{Bot, Server}
 use Rattle.daide_frame.specs.declared.head.Head.{Head}
 use Rattle.daide_frame.specs.declared.cutter.Step.{Step}
 use Rattle.daide_frame.specs.declared.cutter.Step.TheVariants.{More, Headed, Bodied, Fault}
-use Rattle.daide_frame.specs.Frames.{Item, is_nothing, last_items, fed, fed_items, told, head_in, missing, IsFault}
+use Rattle.daide_frame.specs.Frames.{FrameEvent, is_nothing, last_items, fed, fed_items, items_of_step, head_in, missing, IsFault}
 use Rattle.daide_frame.specs.Frames.{IsWholeBody}
 use Rattle.daide_frame.proofs.FramesLemmas.{head_in-short}
 use Rattle.daide_reader.specs.declared.verdict.Verdict.{Verdict}
 use Rattle.daide_reader.specs.Reading.{IsRaised}
 use Rattle.daide_reader.proofs.ReadingLemmas.{raised_more, raised_none}
-use Rattle.daide_machine.specs.declared.note.Note.{Note}
-use Rattle.daide_machine.specs.declared.note.Note.TheVariants as Notes
-use Rattle.daide_machine.specs.Events.{other, bytes_come}
-use Rattle.daide_machine.specs.Machine.{Sent, Outcome, SessionState, Coming, Runs, IsRight, coming}
-use Rattle.daide_machine.specs.Machine.{with_pending}
-use Rattle.daide_machine.specs.Machine.{is_over, items_outcome, asked_by}
-use Rattle.daide_machine.specs.Summary.{tallied}
-use Rattle.daide_machine.specs.Wires.{SessionView, Holding, waiting, holding, sent_to, note_of, held_after, counts_from}
-use Rattle.daide_machine.specs.Wires.{is_dm_head, asked_at_most, looked_at_most, Goes, Takes}
-use Rattle.daide_machine.proofs.PieceRuns.{piece_runs, piece_outcome, IsTaken}
-use Rattle.daide_session.specs.declared.stage.Stage.{Stage}
-use Rattle.daide_traffic.specs.Both.{at}
-use Rattle.daide_traffic.specs.Traffic.{Arrival, Traffic, Keeps, IsGrown, pending}
-use Rattle.daide_session.specs.Session.{state_of, gateway_of}
-use Rattle.daide_session.specs.Reaction.{Asks, IsUnread, Reacts}
+use Rattle.daide_protocol.specs.declared.note.Note.{Note}
+use Rattle.daide_protocol.specs.declared.note.Note.TheVariants as Notes
+use Rattle.daide_protocol.specs.Events.{other, bytes_come}
+use Rattle.daide_protocol.specs.Machine.{Sent, Successor, SessionState, Coming, Runs, IsCorrectVerdict, coming}
+use Rattle.daide_protocol.specs.Machine.{with_pending}
+use Rattle.daide_protocol.specs.Machine.{is_over, items_outcome, asked_by}
+use Rattle.daide_protocol.specs.Summary.{tallied}
+use Rattle.daide_protocol.specs.Wires.{SessionView, Holding, queued, holding, sent_to, note_of, held_after, counts_from}
+use Rattle.daide_protocol.specs.Wires.{is_dm_head, asked_at_most, looked_at_most, Refines, ReceivesBytes}
+use Rattle.daide_protocol.proofs.PieceRuns.{piece_runs, piece_outcome, IsTaken}
+use Rattle.daide_session.specs.declared.protocol_state.ProtocolState.{ProtocolState}
+use Rattle.daide_channels.specs.PerSide.{at}
+use Rattle.daide_channels.specs.Channels.{ReceiveState, Channels, Keeps, IsGrown, pending}
+use Rattle.daide_session.specs.Session.{state_of, view_of}
+use Rattle.daide_session.specs.FrameEvents.{Asks, HasNoMessageBytes, HandlesFrameEvents}
 use Rattle.daide_session.specs.Work.{IsPaidBy}
-use Rattle.daide_traffic.specs.Inbound.{tokens_ended}
-use Rattle.daide_traffic.proofs.InboundLemmas.{fed_grows, few_ended, no_dm_before}
-use Rattle.daide_session.proofs.MovesLemmas.{coming_at, waits_same}
-use Rattle.daide_session.proofs.ReactionLemmas.{holding_at, holding_same}
+use Rattle.daide_channels.specs.Receiver.{tokens_ended}
+use Rattle.daide_channels.proofs.ReceiverLemmas.{fed_grows, few_ended, no_dm_before}
+use Rattle.daide_session.proofs.EmitsLemmas.{coming_at, waits_same}
+use Rattle.daide_session.proofs.FrameEventsLemmas.{holding_at, holding_same}
 use Rattle.daide_session.proofs.WorkLemmas.{at_end, end_paid, fed_paid}
 
 -- ---- the run
 
 fault_over : (s : SessionState) (side : Side) (step : Step) (head : Option Head) (body : List ℕ) (v : Verdict) →
-    is_over s.phase ≡ false → IsFault step → is_over (items_outcome s side (told step head body) v).state.phase ≡ true
+    is_over s.phase ≡ false → IsFault step → is_over (items_outcome s side (items_of_step step head body) v).state.phase ≡ true
 fault_over s side More head body v live h = absurd h
 fault_over s side Headed head body v live h = absurd h
 fault_over s side Bodied head body v live h = absurd h
@@ -52,7 +52,7 @@ pending_phase s Server bytes = refl
 -- the whole piece was taken, or a fault ended the session
 pub taken_or_over : (s : SessionState) (side : Side) (piece : List ℕ) (v : Verdict) (step : Step) (head : Option Head)
     (body : List ℕ) → is_over s.phase ≡ false →
-    fed_items s.limits.cap (coming s side).pending piece ≡ told step head body →
+    fed_items s.limits.cap (coming s side).pending piece ≡ items_of_step step head body →
     IsFault step ⊎ (fed s.limits.cap (coming s side).pending piece ≡ (coming s side).pending ++ piece) →
     IsTaken s side piece v
 taken_or_over s side piece v step head body live items h = ⊎_elim
@@ -64,72 +64,72 @@ taken_or_over s side piece v step head body live items h = ⊎_elim
     h
 
 -- the question that items ask does not look at the bytes since the last whole frame
-asks_same : (s : SessionState) (side : Side) (bytes : List ℕ) (items : List Item) (v : Verdict) →
-    IsRight (with_pending s side bytes).limits.words (with_pending s side bytes).limits.max_depth
+asks_same : (s : SessionState) (side : Side) (bytes : List ℕ) (items : List FrameEvent) (v : Verdict) →
+    IsCorrectVerdict (with_pending s side bytes).limits.words (with_pending s side bytes).limits.max_depth
     (asked_by (with_pending s side bytes) side items) v →
-    IsRight s.limits.words s.limits.max_depth (asked_by s side items) v
+    IsCorrectVerdict s.limits.words s.limits.max_depth (asked_by s side items) v
 asks_same s Bot bytes items v h = h
 asks_same s Server bytes items v h = h
 
 pub goes_piece : (g m n : SessionView) (side : Side) (piece : List ℕ) (note : Note) → is_over g.state.phase ≡ false →
     m.state ≡ with_pending g.state side (fed g.state.limits.cap (coming g.state side).pending piece) →
-    ((wire : Side) → waiting m wire ≡ waiting g wire) → m.summary ≡ g.summary →
+    ((wire : Side) → queued m wire ≡ queued g wire) → m.summary ≡ g.summary →
     ((v : Verdict) → IsTaken g.state side piece v) →
-    Reacts m side (fed_items g.state.limits.cap (coming g.state side).pending piece) note n →
-    Goes g (bytes_come side piece) note n
+    HandlesFrameEvents m side (fed_items g.state.limits.cap (coming g.state side).pending piece) note n →
+    Refines g (bytes_come side piece) note n
 goes_piece g m n side piece note live state wait counts taken r = record {
   effects = o.effects;
   run = subst (λ (s : SessionState). Runs g.state (bytes_come side piece) o.effects s)
-      (sym (r.moves.state ∙ ap (λ (x : Outcome). x.state) same))
+      (sym (r.moves.state ∙ ap (λ (x : Successor). x.state) same))
       (piece_runs piece g.state side r.verdict live (taken r.verdict) right);
   kept = λ wire. r.moves.sent wire
       ∙ (ap (λ (x : List Sent). x ++ sent_to wire (items_outcome m.state side items r.verdict).effects) (wait wire)
-      ∙ ap (λ (x : Outcome). waiting g wire ++ sent_to wire x.effects) same);
-  note = r.note ∙ ap (λ (x : Outcome). note_of x.effects) same;
+      ∙ ap (λ (x : Successor). queued g wire ++ sent_to wire x.effects) same);
+  note = r.note ∙ ap (λ (x : Successor). note_of x.effects) same;
   counts = r.moves.counts
       ∙ (ap (tallied (items_outcome m.state side items r.verdict).effects) counts
-      ∙ ap (λ (x : Outcome). tallied x.effects g.summary) same);
+      ∙ ap (λ (x : Successor). tallied x.effects g.summary) same);
 }
   where
     b : List ℕ
     b = fed g.state.limits.cap (coming g.state side).pending piece
 
-    items : List Item
+    items : List FrameEvent
     items = fed_items g.state.limits.cap (coming g.state side).pending piece
 
-    o : Outcome
+    o : Successor
     o = piece_outcome g.state side piece r.verdict
 
     same : items_outcome m.state side items r.verdict ≡ o
     same = ap (λ (s : SessionState). items_outcome s side items r.verdict) state
 
-    right : IsRight g.state.limits.words g.state.limits.max_depth (asked_by g.state side items) r.verdict
+    right : IsCorrectVerdict g.state.limits.words g.state.limits.max_depth (asked_by g.state side items) r.verdict
     right = asks_same g.state side b items r.verdict
-        (subst (λ (s : SessionState). IsRight s.limits.words s.limits.max_depth (asked_by s side items) r.verdict)
+        (subst (λ (s : SessionState). IsCorrectVerdict s.limits.words s.limits.max_depth (asked_by s side items) r.verdict)
         state r.right)
 
 -- ---- the traffic after a piece
 
-pub fed_state : (t u : Traffic) (s : Stage) (side : Side) (bytes : List ℕ) → Keeps side t u →
+pub fed_state : (t u : Channels) (s : ProtocolState) (side : Side) (bytes : List ℕ) → Keeps side t u →
     (at u.sides side).coming ≡ record { pending = bytes; noted = (at t.sides side).coming.noted } →
     state_of u s ≡ with_pending (state_of t s) side bytes
 fed_state t u s Bot bytes keeps e = rw (keeps.cap, keeps.rules, keeps.other_side, e) refl
 fed_state t u s Server bytes keeps e = rw (keeps.cap, keeps.rules, keeps.other_side, e) refl
 
 -- a side's piece was fed, and what its last byte made was gone by
-pub goes_fed : (t u v : Traffic) (s r : Stage) (side : Side) (piece : List ℕ) (step : Step) (note : Note) →
-    is_over s.phase ≡ false → Keeps side t u → u.waiting ≡ t.waiting →
+pub goes_fed : (t u v : Channels) (s r : ProtocolState) (side : Side) (piece : List ℕ) (step : Step) (note : Note) →
+    is_over s.phase ≡ false → Keeps side t u → u.queued ≡ t.queued →
     IsGrown t.cap (at t.sides side) (fed t.cap (pending t side) piece) (at u.sides side) →
-    fed_items t.cap (pending t side) piece ≡ told step (head_in u.cap (pending u side)) (drop 4 (pending u side)) →
+    fed_items t.cap (pending t side) piece ≡ items_of_step step (head_in u.cap (pending u side)) (drop 4 (pending u side)) →
     IsFault step ⊎ (pending u side ≡ pending t side ++ piece) →
-    Reacts (gateway_of u s) side (told step (head_in u.cap (pending u side)) (drop 4 (pending u side))) note
-    (gateway_of v r) →
-    Goes (gateway_of t s) (bytes_come side piece) note (gateway_of v r)
+    HandlesFrameEvents (view_of u s) side (items_of_step step (head_in u.cap (pending u side)) (drop 4 (pending u side))) note
+    (view_of v r) →
+    Refines (view_of t s) (bytes_come side piece) note (view_of v r)
 goes_fed t u v s r side piece step note live keeps wait grown items whole h =
-    goes_piece (gateway_of t s) (gateway_of u s) (gateway_of v r) side piece note live state
+    goes_piece (view_of t s) (view_of u s) (view_of v r) side piece note live state
     (λ wire. waits_same t u s s wire wait) refl
     (λ verdict. taken_or_over (state_of t s) side piece verdict step _ _ live here all)
-    (subst (λ (x : List Item). Reacts (gateway_of u s) side x note (gateway_of v r)) (sym here) h)
+    (subst (λ (x : List FrameEvent). HandlesFrameEvents (view_of u s) side x note (view_of v r)) (sym here) h)
   where
     state : state_of u s
         ≡ with_pending (state_of t s) side (fed t.cap (coming (state_of t s) side).pending piece)
@@ -138,7 +138,7 @@ goes_fed t u v s r side piece step note live keeps wait grown items whole h =
         (fed_state t u s side (fed t.cap (pending t side) piece) keeps grown.coming)
 
     here : fed_items t.cap (coming (state_of t s) side).pending piece
-        ≡ told step (head_in u.cap (pending u side)) (drop 4 (pending u side))
+        ≡ items_of_step step (head_in u.cap (pending u side)) (drop 4 (pending u side))
     here = ap (λ (c : Coming). fed_items t.cap c.pending piece) (coming_at t s side) ∙ items
 
     all : IsFault step
@@ -173,7 +173,7 @@ fed_longer limit b x piece = go (is_nothing (last_items limit (b ++ x ∷ [])))
         omega (arith, length-append b (x ∷ []), ap length g.longer, length-append (b ++ x ∷ []) g.more)
 
 -- what is not read after some bytes was no message before them
-unread_before : (limit : ℕ) (b : List ℕ) (x : ℕ) (piece : List ℕ) → IsUnread limit (fed limit b (x ∷ piece)) →
+unread_before : (limit : ℕ) (b : List ℕ) (x : ℕ) (piece : List ℕ) → HasNoMessageBytes limit (fed limit b (x ∷ piece)) →
     is_dm_head (head_in limit b) ≡ false
 unread_before limit b x piece h = ⊎_elim
     (λ (e : drop 4 (fed limit b (x ∷ piece)) ≡ []).
@@ -193,7 +193,7 @@ record TakesIn (limit : ℕ) (piece : List ℕ) (note : Note) (old new : Holding
   raised : IsRaised (asked_at_most piece) old.total new.total
   looked_at : IsRaised (looked_at_most piece) old.looked_at new.looked_at
 
-takes_in : (limit : ℕ) (a b : Arrival) (new : Holding) (x : ℕ) (piece : List ℕ) (note : Note) →
+takes_in : (limit : ℕ) (a b : ReceiveState) (new : Holding) (x : ℕ) (piece : List ℕ) (note : Note) →
     IsGrown limit a (fed limit a.coming.pending (x ∷ piece)) b →
     IsRaised (4 * tokens_ended limit a.coming.pending (x ∷ piece)) a.holding.total b.holding.total →
     IsRaised (looked_at_most (x ∷ piece)) a.holding.looked_at b.holding.looked_at →
@@ -203,8 +203,8 @@ takes_in limit a b new x piece note pending raised looked_at held asks = record 
   bytes = held ∙ ap (held_after note) grown.held;
   base = ⊎_elim
       (λ (e : new.total_before ≡ b.holding.total_before). e ∙ grown.base)
-      (λ (e : IsUnread limit b.holding.held × (new.total_before ≡ b.holding.total)).
-      from_now (subst (λ (y : List ℕ). IsUnread limit y) grown.held e.0) e.1)
+      (λ (e : HasNoMessageBytes limit b.holding.held × (new.total_before ≡ b.holding.total)).
+      from_now (subst (λ (y : List ℕ). HasNoMessageBytes limit y) grown.held e.0) e.1)
       asks.base
       ∙ sym (counts_idle (head_in limit a.holding.held) (head_in limit fed_bytes) a.holding uncounted);
   no_message = λ none. asks.no_message (ap (λ (y : List ℕ). is_dm_head (head_in limit y)) grown.held ∙ none)
@@ -227,21 +227,21 @@ takes_in limit a b new x piece note pending raised looked_at held asks = record 
         grown.uncounted (ap (λ (y : List ℕ). is_dm_head (head_in limit y)) (sym grown.held_before) ∙ e)
 
     -- the bytes after the piece, of which nothing was read
-    from_now : IsUnread limit fed_bytes → new.total_before ≡ b.holding.total →
+    from_now : HasNoMessageBytes limit fed_bytes → new.total_before ≡ b.holding.total →
         new.total_before ≡ a.holding.total_before
     from_now unread e = e ∙ (⊎_elim
         (λ (none : drop 4 fed_bytes ≡ []). grown.bodiless none)
         (λ (none : is_dm_head (head_in limit fed_bytes) ≡ false). grown.no_message none)
         unread ∙ sym (uncounted (unread_before limit a.holding.held x piece unread)))
 
-takes_piece : (t u v : Traffic) (s r : Stage) (side : Side) (x : ℕ) (piece : List ℕ) (items : List Item)
+takes_piece : (t u v : Channels) (s r : ProtocolState) (side : Side) (x : ℕ) (piece : List ℕ) (items : List FrameEvent)
     (note : Note) → Keeps side t u →
     IsGrown t.cap (at t.sides side) (fed t.cap (pending t side) (x ∷ piece)) (at u.sides side) →
     IsRaised (4 * tokens_ended t.cap (pending t side) (x ∷ piece)) (at t.sides side).holding.total
     (at u.sides side).holding.total →
     IsRaised (looked_at_most (x ∷ piece)) (at t.sides side).holding.looked_at (at u.sides side).holding.looked_at →
-    Reacts (gateway_of u s) side items note (gateway_of v r) →
-    Takes (gateway_of t s) side (x ∷ piece) note (gateway_of v r)
+    HandlesFrameEvents (view_of u s) side items note (view_of v r) →
+    ReceivesBytes (view_of t s) side (x ∷ piece) note (view_of v r)
 takes_piece t u v s r side x piece items note keeps grown raised looked_at h = record {
   nothing = λ none. absurd (cc);
   bytes = taken.bytes;
@@ -253,65 +253,65 @@ takes_piece t u v s r side x piece items note keeps grown raised looked_at h = r
 }
   where
     now : Holding
-    now = holding (gateway_of v r) side
+    now = holding (view_of v r) side
 
     asks : Asks t.cap (at u.sides side).holding now
     asks = subst (λ (n : ℕ). Asks n (at u.sides side).holding now) keeps.cap
         (subst (λ (k : Holding). Asks u.cap k now) (holding_at u s side) h.asks)
 
-    taken : TakesIn t.cap (x ∷ piece) note (holding (gateway_of t s) side) now
+    taken : TakesIn t.cap (x ∷ piece) note (holding (view_of t s) side) now
     taken = subst (λ (k : Holding). TakesIn t.cap (x ∷ piece) note k now) (sym (holding_at t s side))
         (takes_in t.cap (at t.sides side) (at u.sides side) now x piece note grown raised looked_at
         (h.held ∙ ap (λ (k : Holding). held_after note k.held) (holding_at u s side)) asks)
 
 -- the same for any piece that has a byte
-pub takes_some : (t u v : Traffic) (s r : Stage) (side : Side) (piece : List ℕ) (items : List Item) (note : Note) →
+pub takes_some : (t u v : Channels) (s r : ProtocolState) (side : Side) (piece : List ℕ) (items : List FrameEvent) (note : Note) →
     0 < length piece → Keeps side t u →
     IsGrown t.cap (at t.sides side) (fed t.cap (pending t side) piece) (at u.sides side) →
     IsRaised (4 * tokens_ended t.cap (pending t side) piece) (at t.sides side).holding.total
     (at u.sides side).holding.total →
     IsRaised (looked_at_most piece) (at t.sides side).holding.looked_at (at u.sides side).holding.looked_at →
-    Reacts (gateway_of u s) side items note (gateway_of v r) →
-    Takes (gateway_of t s) side piece note (gateway_of v r)
+    HandlesFrameEvents (view_of u s) side items note (view_of v r) →
+    ReceivesBytes (view_of t s) side piece note (view_of v r)
 takes_some t u v s r side [] items note some keeps grown raised looked_at h = absurd (omega (arith, some))
 takes_some t u v s r side (x ∷ piece) items note some keeps grown raised looked_at h =
     takes_piece t u v s r side x piece items note keeps grown raised looked_at h
 
 -- its table was asked for the tokens that the piece ended, and at the message's end
-pub piece_worked : (t u v : Traffic) (s r : Stage) (side : Side) (piece : List ℕ) (items : List Item) (step : Step)
-    (note : Note) → (gateway_of v r).state.limits ≡ (gateway_of t s).state.limits → 0 < missing t.cap (pending t side) →
+pub piece_worked : (t u v : Channels) (s r : ProtocolState) (side : Side) (piece : List ℕ) (items : List FrameEvent) (step : Step)
+    (note : Note) → (view_of v r).state.limits ≡ (view_of t s).state.limits → 0 < missing t.cap (pending t side) →
     Keeps side t u → IsGrown t.cap (at t.sides side) (fed t.cap (pending t side) piece) (at u.sides side) →
     IsRaised (4 * tokens_ended t.cap (pending t side) piece) (at t.sides side).holding.total
     (at u.sides side).holding.total →
     (step ≡ Bodied → IsWholeBody (head_in u.cap (pending u side)) (drop 4 (pending u side))) →
     (step ≡ Bodied) ⊎ ((at v.sides side).holding.total ≡ (at u.sides side).holding.total) →
-    Reacts (gateway_of u s) side items note (gateway_of v r) →
-    IsPaidBy (length piece) side (gateway_of t s) (gateway_of v r)
+    HandlesFrameEvents (view_of u s) side items note (view_of v r) →
+    IsPaidBy (length piece) side (view_of t s) (view_of v r)
 piece_worked t u v s r side piece items step note limits wanted keeps grown raised full unasked h =
-    fed_paid side (gateway_of t s) (gateway_of v r) mid piece note limits
+    fed_paid side (view_of t s) (view_of v r) mid piece note limits
     (subst (λ (b : List ℕ). 0 < missing t.cap b) (sym before) wanted)
     (h.held ∙ ap (λ (k : Holding). held_after note k.held) (holding_at u s side)
     ∙ ap (held_after note) (now ∙ ap (λ (b : List ℕ). fed t.cap b piece) (sym before)))
     (subst (λ (k : Holding). IsRaised (4 * tokens_ended t.cap k.held piece) k.total mid.total) (sym (holding_at t s side))
     (subst (λ (b : List ℕ). IsRaised (4 * tokens_ended t.cap b piece) (at t.sides side).holding.total mid.total)
     (sym grown.held_before) raised))
-    (subst (λ (b : List ℕ). IsRaised (at_end t.cap b) mid.total (holding (gateway_of v r) side).total)
+    (subst (λ (b : List ℕ). IsRaised (at_end t.cap b) mid.total (holding (view_of v r) side).total)
     (now ∙ ap (λ (b : List ℕ). fed t.cap b piece) (sym before))
-    (end_paid t.cap mid (holding (gateway_of v r) side) step asks whole
+    (end_paid t.cap mid (holding (view_of v r) side) step asks whole
     (subst (λ (k : Holding). (step ≡ Bodied) ⊎ (k.total ≡ mid.total)) (sym (holding_at v r side)) unasked)))
   where
     mid : Holding
     mid = (at u.sides side).holding
 
-    before : (holding (gateway_of t s) side).held ≡ pending t side
+    before : (holding (view_of t s) side).held ≡ pending t side
     before = ap (λ (k : Holding). k.held) (holding_at t s side) ∙ grown.held_before
 
     now : mid.held ≡ fed t.cap (pending t side) piece
     now = grown.held
 
-    asks : Asks t.cap mid (holding (gateway_of v r) side)
-    asks = subst (λ (n : ℕ). Asks n mid (holding (gateway_of v r) side)) keeps.cap
-        (subst (λ (k : Holding). Asks u.cap k (holding (gateway_of v r) side)) (holding_at u s side) h.asks)
+    asks : Asks t.cap mid (holding (view_of v r) side)
+    asks = subst (λ (n : ℕ). Asks n mid (holding (view_of v r) side)) keeps.cap
+        (subst (λ (k : Holding). Asks u.cap k (holding (view_of v r) side)) (holding_at u s side) h.asks)
 
     whole : step ≡ Bodied → IsWholeBody (head_in t.cap mid.held) (drop 4 mid.held)
     whole bodied =
@@ -322,12 +322,12 @@ piece_worked t u v s r side piece items step note limits wanted keeps grown rais
 -- ---- no byte
 
 pub goes_nowhere : (g : SessionView) (side : Side) (piece : List ℕ) → length piece ≡ 0 →
-    Goes g (bytes_come side piece) Notes.Nothing g
+    Refines g (bytes_come side piece) Notes.Nothing g
 goes_nowhere g side [] e =
     record {
       effects = [];
       run = (refl, refl);
-      kept = λ one. sym (append-nil (waiting g one));
+      kept = λ one. sym (append-nil (queued g one));
       note = refl;
       counts = refl;
     }
@@ -338,7 +338,7 @@ counts_same None h = refl
 counts_same (Some head) h = refl
 
 pub takes_nothing : (g : SessionView) (side : Side) (piece : List ℕ) → length piece ≡ 0 →
-    Takes g side piece Notes.Nothing g
+    ReceivesBytes g side piece Notes.Nothing g
 takes_nothing g side [] e = record {
   nothing = λ _. refl;
   bytes = refl;

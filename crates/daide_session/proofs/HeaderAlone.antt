@@ -5,14 +5,14 @@ use Rattle.daide_frame.specs.declared.head.Head.{Head}
 use Rattle.daide_frame.specs.declared.code.Code.{Code}
 use Rattle.daide_frame.specs.declared.code.Code.TheVariants.{InvalidToken}
 use Rattle.daide_frame.specs.declared.cutter.Step.TheVariants.{Headed}
-use Rattle.daide_frame.specs.Head.{head_of}
-use Rattle.daide_frame.specs.Frames.{Item, Begun, Whole, Wrong, is_nothing, first_items, last_items}
-use Rattle.daide_frame.specs.Frames.{alien_in, fed, fed_items, told}
+use Rattle.daide_frame.specs.Head.{parse_head}
+use Rattle.daide_frame.specs.Frames.{FrameEvent, Begun, Whole, Wrong, is_nothing, first_items, last_items}
+use Rattle.daide_frame.specs.Frames.{alien_in, fed, fed_items, items_of_step}
 use Rattle.daide_frame.proofs.ListLemmas.{ltb_no, eqb_no}
-use Rattle.daide_frame.proofs.FramesLemmas.{last_items-body4, head_of-append4, at_body}
+use Rattle.daide_frame.proofs.FramesLemmas.{last_items-body4, parse_head-append4, at_body}
 
 -- whether the first of some items is a header
-abbrev begins : List Item → Bool
+abbrev begins : List FrameEvent → Bool
 begins [] = false
 begins (Begun head ∷ items) = true
 begins (Whole head body ∷ items) = false
@@ -30,19 +30,19 @@ body_begins_none head v None = go (eqb head.len (length v))
     go true = refl
     go false = refl
 
-refused : (limit p q r s y : ℕ) (w : List ℕ) (code : Code) → head_of (p ∷ q ∷ r ∷ s ∷ []) limit ≡ Err code →
+refused : (limit p q r s y : ℕ) (w : List ℕ) (code : Code) → parse_head (p ∷ q ∷ r ∷ s ∷ []) limit ≡ Err code →
     begins (last_items limit (p ∷ q ∷ r ∷ s ∷ y ∷ w)) ≡ false
 unfolding last_items first_items
 refused limit p q r s y w code e =
     rw (ltb_no (length (p ∷ q ∷ r ∷ s ∷ y ∷ w)) 4 (omega arith))
-    (rw (head_of-append4 limit p q r s (y ∷ w))
+    (rw (parse_head-append4 limit p q r s (y ∷ w))
     (rw e (rw (eqb_no 4 (length (p ∷ q ∷ r ∷ s ∷ y ∷ w)) (omega arith)) refl)))
 
 -- with a fifth byte none begins
 fifth : (limit p q r s y : ℕ) (w : List ℕ) → begins (last_items limit (p ∷ q ∷ r ∷ s ∷ y ∷ w)) ≡ false
-fifth limit p q r s y w = go (head_of (p ∷ q ∷ r ∷ s ∷ []) limit) refl
+fifth limit p q r s y w = go (parse_head (p ∷ q ∷ r ∷ s ∷ []) limit) refl
   where
-    go : (o : Result Head Code) → head_of (p ∷ q ∷ r ∷ s ∷ []) limit ≡ o →
+    go : (o : Result Head Code) → parse_head (p ∷ q ∷ r ∷ s ∷ []) limit ≡ o →
         begins (last_items limit (p ∷ q ∷ r ∷ s ∷ y ∷ w)) ≡ false
     go (Ok head) e = rw (last_items-body4 limit p q r s (y ∷ w) head e (omega arith))
         (body_begins_none head (y ∷ w) (alien_in head (y ∷ w)))
@@ -70,5 +70,5 @@ header_alone limit b (x ∷ piece) e =
 
 -- where a header is told, nothing of its body came
 pub headed_alone : (limit : ℕ) (b piece body : List ℕ) (head : Head) →
-    fed_items limit b piece ≡ told Headed (Some head) body → drop 4 (fed limit b piece) ≡ []
+    fed_items limit b piece ≡ items_of_step Headed (Some head) body → drop 4 (fed limit b piece) ≡ []
 headed_alone limit b piece body head e = header_alone limit b piece (ap begins e)

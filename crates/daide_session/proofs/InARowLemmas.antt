@@ -20,12 +20,12 @@ use Rattle.daide_reader.specs.declared.verdict.Verdict.TheVariants.{Relay, Prn, 
 use Rattle.daide_words.specs.Table.OverWords.{are_free}
 use Rattle.daide_words.proofs.WordsGrow.{levels-only-add-over}
 use Rattle.daide_words.proofs.PairedOverWords.{huh-err-over}
-use Rattle.daide_machine.specs.Events.{other}
-use Rattle.daide_machine.specs.Machine.{Limits, Sent, is_dm, side2_of}
-use Rattle.daide_machine.specs.Fates.{Came, IsJudged}
-use Rattle.daide_machine.specs.Passing.{IsFrame, HasCome, IsPassed, IsWithinPrn, IsWithinHuh, MayBeSent, no_message}
-use Rattle.daide_machine.specs.Passing.{passed, within_prn, within_huh}
-use Rattle.daide_machine.proofs.PassingLemmas.{not_report}
+use Rattle.daide_protocol.specs.Events.{other}
+use Rattle.daide_protocol.specs.Machine.{Limits, Sent, is_dm, side2_of}
+use Rattle.daide_protocol.specs.Fates.{Came, IsJudged}
+use Rattle.daide_protocol.specs.Passing.{IsFrame, HasCome, IsPassed, IsWithinPrn, IsWithinHuh, MayBeSent, no_message}
+use Rattle.daide_protocol.specs.Passing.{passed, within_prn, within_huh}
+use Rattle.daide_protocol.proofs.PassingLemmas.{not_report}
 use Rattle.daide_session.specs.InARow.{IsVerdictAtOneLevel, passes, too_deep, IsVerdictOfNext, at_one_level, lower}
 
 -- ---- a frame has one kind and one body

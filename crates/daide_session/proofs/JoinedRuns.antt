@@ -14,34 +14,34 @@ use Rattle.daide_frame.specs.declared.head.Kind.TheVariants.{Im, Rm, Dm, Fm, Em}
 use Rattle.daide_frame.specs.declared.head.Head.{Head}
 use Rattle.daide_frame.specs.declared.code.Code.{Code}
 use Rattle.daide_frame.specs.declared.code.Code.TheVariants.{WrongEndian, UnknownMessage, WrongLength}
-use Rattle.daide_frame.specs.Head.{kind_number, kind_of, has_right_length, judged, head_of, head_bytes, is_im}
-use Rattle.daide_frame.specs.Frames.{Item, Begun, Whole, Wrong, Placed, alien_in, items_of_body, items_from_head}
-use Rattle.daide_frame.specs.Frames.{first_items, items_of, frame_end, moved, or_nothing, cut_frames, cut}
+use Rattle.daide_frame.specs.Head.{kind_number, kind_of, has_right_length, judged, parse_head, head_bytes, is_im}
+use Rattle.daide_frame.specs.Frames.{FrameEvent, Begun, Whole, Wrong, EventAtOffset, alien_in, items_of_body, items_from_head}
+use Rattle.daide_frame.specs.Frames.{first_items, frame_events_of, frame_end, moved, or_nothing, cut_frames, cut}
 use Rattle.daide_frame.proofs.ListLemmas.{ltb_no}
 use Rattle.daide_frame.proofs.FramesLemmas.{first_items-short}
 use Rattle.daide_grammar.specs.declared.level.Level.{Level}
 use Rattle.daide_reader.specs.declared.verdict.Verdict.{Verdict}
 use Rattle.daide_reader.specs.declared.verdict.Verdict.TheVariants.{Relay, Prn, Huh}
 use Rattle.daide_words.specs.declared.word.Word.{Word}
-use Rattle.daide_machine.specs.declared.phase.Phase.{Phase}
-use Rattle.daide_machine.specs.Bounds.{longest_body}
-use Rattle.daide_machine.specs.Answers.{answer_bytes}
-use Rattle.daide_machine.specs.Events.{other}
-use Rattle.daide_machine.specs.Machine.{Limits, Sent, Effect, opening, answer_to}
-use Rattle.daide_machine.specs.Wires.{same_side, sent_to, bytes_of}
-use Rattle.daide_machine.specs.Heard.{bytes_from}
-use Rattle.daide_machine.specs.Fates.{Cause, Frame, Fault, End, Timeout, Came, came_in, frame_of, frames_among}
-use Rattle.daide_machine.specs.Fates.{frames_from, IsJudged, IsMessageFate, is_passed_on, is_answered_prn}
-use Rattle.daide_machine.specs.Fates.{is_answered_huh, IsFrameFate, IsFate, HaveFates}
-use Rattle.daide_machine.specs.Passing.{IsFrame, MayBeSent, no_message, passed, within_prn, within_huh}
-use Rattle.daide_machine.proofs.FrameShapes.{IsWholeFrame}
-use Rattle.daide_machine.proofs.AnswerBytes.{frame_whole}
-use Rattle.daide_machine.proofs.FateLemmas.{run_fates, frames_come}
-use Rattle.daide_machine.proofs.WireLemmas.{same_self}
-use Rattle.daide_machine.proofs.PassingLemmas.{IsGood, AreGood, run_good, only_messages}
+use Rattle.daide_protocol.specs.declared.phase.Phase.{Phase}
+use Rattle.daide_protocol.specs.Bounds.{longest_body}
+use Rattle.daide_protocol.specs.Answers.{answer_bytes}
+use Rattle.daide_protocol.specs.Events.{other}
+use Rattle.daide_protocol.specs.Machine.{Limits, Sent, Effect, initial_state, reply_to}
+use Rattle.daide_protocol.specs.Wires.{same_side, sent_to, sent_bytes}
+use Rattle.daide_protocol.specs.Heard.{bytes_from}
+use Rattle.daide_protocol.specs.Fates.{EventCause, Frame, Fault, End, Timeout, Came, came_in, whole_frame_from, frames_among}
+use Rattle.daide_protocol.specs.Fates.{frames_from, IsJudged, IsMessageFate, is_passed_on, is_answered_prn}
+use Rattle.daide_protocol.specs.Fates.{is_answered_huh, IsFrameFate, IsFate, HaveFates}
+use Rattle.daide_protocol.specs.Passing.{IsFrame, MayBeSent, no_message, passed, within_prn, within_huh}
+use Rattle.daide_protocol.proofs.FrameShapes.{IsWholeFrame}
+use Rattle.daide_protocol.proofs.AnswerBytes.{frame_whole}
+use Rattle.daide_protocol.proofs.FateLemmas.{run_fates, frames_come}
+use Rattle.daide_protocol.proofs.WireLemmas.{same_self}
+use Rattle.daide_protocol.proofs.PassingLemmas.{IsGood, AreGood, run_good, only_messages}
 use Rattle.daide_session.specs.InARow.{IsVerdictOfNext, InARowOver}
 use Rattle.daide_session.specs.Joined.{AreFirst, IsFateAtNext, HaveFatesAtNext}
-use Rattle.daide_session.specs.Joined.{JoinedGatewaysOver}
+use Rattle.daide_session.specs.Joined.{JoinedSessionsOver}
 
 -- ---- the frames that are sent are whole
 
@@ -101,9 +101,9 @@ header_is p q r s v kind body bytes more f e = go (e ∙ ap (λ (b : List ℕ). 
         (first, pad, high, rest)
 
 read_is : (p q r s : ℕ) (v rest : List ℕ) (kind : Kind) (body more : List ℕ) (cap : ℕ) (head : Head) →
-    IsHeader p q r s (v ++ rest) kind body more → length body < 2 ^ 16 → head_of (p ∷ q ∷ r ∷ s ∷ v) cap ≡ Ok head →
+    IsHeader p q r s (v ++ rest) kind body more → length body < 2 ^ 16 → parse_head (p ∷ q ∷ r ∷ s ∷ v) cap ≡ Ok head →
     made kind (length body) ≡ head
-unfolding head_of
+unfolding parse_head
 read_is p q r s v rest kind body more cap head h short e =
     let kinds : kind_of p ≡ Some kind = ap kind_of h.0 ∙ kind_is kind in
     let len : from_be_bytes w16 (r ∷ s ∷ []) ≡ length body =
@@ -114,20 +114,20 @@ read_is p q r s v rest kind body more cap head h short e =
 
 -- ---- the cut of what was sent
 
-items_of-moved : (by : ℕ) (placed : List Placed) → items_of (moved by placed) ≡ items_of placed
-items_of-moved by [] = refl
-items_of-moved by (p ∷ more) = ap (λ (t : List Item). p.item ∷ t) (items_of-moved by more)
+frame_events_of-moved : (by : ℕ) (placed : List EventAtOffset) → frame_events_of (moved by placed) ≡ frame_events_of placed
+frame_events_of-moved by [] = refl
+frame_events_of-moved by (p ∷ more) = ap (λ (t : List FrameEvent). p.item ∷ t) (frame_events_of-moved by more)
 
 -- whatever is left out at the end, and whatever comes behind it
 abbrev Fronts : ℕ → ℕ → Type 0
 Fronts cap n = (bytes rest : List ℕ) (sent : List Sent) → All (λ (s : Sent). IsSomeFrame s.bytes) sent →
-    bytes_of sent ≡ bytes ++ rest → AreFirst (frames_among (items_of (cut_frames n cap bytes))) sent
+    sent_bytes sent ≡ bytes ++ rest → AreFirst (frames_among (frame_events_of (cut_frames n cap bytes))) sent
 
 -- one frame is whole, and what is behind it is a front of the other frames
 one_front : (cap n p q r s : ℕ) (v rest : List ℕ) (head : Head) (sent : List Sent) → Fronts cap n →
-    All (λ (s : Sent). IsSomeFrame s.bytes) sent → head_of (p ∷ q ∷ r ∷ s ∷ v) cap ≡ Ok head →
-    bytes_of sent ≡ p ∷ q ∷ r ∷ s ∷ (v ++ rest) → head.len ≤ length v →
-    AreFirst (Whole head (take head.len v) ∷ frames_among (items_of (cut_frames n cap (drop head.len v)))) sent
+    All (λ (s : Sent). IsSomeFrame s.bytes) sent → parse_head (p ∷ q ∷ r ∷ s ∷ v) cap ≡ Ok head →
+    sent_bytes sent ≡ p ∷ q ∷ r ∷ s ∷ (v ++ rest) → head.len ≤ length v →
+    AreFirst (Whole head (take head.len v) ∷ frames_among (frame_events_of (cut_frames n cap (drop head.len v)))) sent
 one_front cap n p q r s v rest head [] fronts all e b l =
     absurd (cc)
 one_front cap n p q r s v rest head (frame ∷ more) fronts all e b l =
@@ -139,11 +139,11 @@ one_front cap n p q r s v rest head (frame ∷ more) fronts all e b l =
     others : All (λ (s : Sent). IsSomeFrame s.bytes) more
     others = All-tail (λ (s : Sent). IsSomeFrame s.bytes) frame more all
 
-    parts : IsHeader p q r s (v ++ rest) some.0 some.1 (bytes_of more)
-    parts = header_is p q r s (v ++ rest) some.0 some.1 frame.bytes (bytes_of more) some.2 (sym b)
+    parts : IsHeader p q r s (v ++ rest) some.0 some.1 (sent_bytes more)
+    parts = header_is p q r s (v ++ rest) some.0 some.1 frame.bytes (sent_bytes more) some.2 (sym b)
 
     same : made some.0 (length some.1) ≡ head
-    same = read_is p q r s v rest some.0 some.1 (bytes_of more) cap head parts some.2.short e
+    same = read_is p q r s v rest some.0 some.1 (sent_bytes more) cap head parts some.2.short e
 
     long : length some.1 ≡ head.len
     long = ap (λ (h : Head). h.len) same
@@ -151,11 +151,11 @@ one_front cap n p q r s v rest head (frame ∷ more) fronts all e b l =
     body_is : take head.len v ≡ some.1
     body_is =
         sym (take-append-le head.len v rest l)
-        ∙ (ap (take head.len) parts.3 ∙ take_at some.1 (bytes_of more) head.len long)
+        ∙ (ap (take head.len) parts.3 ∙ take_at some.1 (sent_bytes more) head.len long)
 
-    behind : bytes_of more ≡ drop head.len v ++ rest
+    behind : sent_bytes more ≡ drop head.len v ++ rest
     behind =
-        sym (drop_at some.1 (bytes_of more) head.len long)
+        sym (drop_at some.1 (sent_bytes more) head.len long)
         ∙ (sym (ap (drop head.len) parts.3) ∙ drop-append-le head.len v rest l)
 
     frame_is : frame.bytes ≡ head_bytes head ++ take head.len v
@@ -164,7 +164,7 @@ one_front cap n p q r s v rest head (frame ∷ more) fronts all e b l =
         (sym body_is))
 
 -- the items of one frame, and the others if it is whole
-abbrev then_others : ℕ → ℕ → List ℕ → List Placed → List Placed
+abbrev then_others : ℕ → ℕ → List ℕ → List EventAtOffset → List EventAtOffset
 then_others cap n bytes items =
     items ++ or_nothing (λ len. moved len (cut_frames n cap (drop len bytes))) (frame_end items)
 
@@ -172,46 +172,46 @@ behind_head : (n p q r s : ℕ) (v : List ℕ) → drop (4 + n) (p ∷ q ∷ r �
 behind_head n p q r s v = sym (drop-drop n 4 (p ∷ q ∷ r ∷ s ∷ v))
 
 body_front : (cap n p q r s : ℕ) (v rest : List ℕ) (head : Head) (sent : List Sent) → Fronts cap n →
-    All (λ (s : Sent). IsSomeFrame s.bytes) sent → head_of (p ∷ q ∷ r ∷ s ∷ v) cap ≡ Ok head →
-    bytes_of sent ≡ p ∷ q ∷ r ∷ s ∷ (v ++ rest) → (alien : Option ℕ) →
-    AreFirst (frames_among (items_of (then_others cap n (p ∷ q ∷ r ∷ s ∷ v)
+    All (λ (s : Sent). IsSomeFrame s.bytes) sent → parse_head (p ∷ q ∷ r ∷ s ∷ v) cap ≡ Ok head →
+    sent_bytes sent ≡ p ∷ q ∷ r ∷ s ∷ (v ++ rest) → (alien : Option ℕ) →
+    AreFirst (frames_among (frame_events_of (then_others cap n (p ∷ q ∷ r ∷ s ∷ v)
     (record { item = Begun head; at = 4 } ∷ items_of_body head v alien)))) sent
 body_front cap n p q r s v rest head sent fronts all e b (Some k) = tt
 body_front cap n p q r s v rest head sent fronts all e b None = go (leb head.len (length v)) refl
   where
     go : (k : Bool) → leb head.len (length v) ≡ k →
-        AreFirst (frames_among (items_of (then_others cap n (p ∷ q ∷ r ∷ s ∷ v)
+        AreFirst (frames_among (frame_events_of (then_others cap n (p ∷ q ∷ r ∷ s ∷ v)
         (record { item = Begun head; at = 4 }
         ∷ (cond k (record { item = Whole head (take head.len v); at = 4 + head.len } ∷ []) []))))) sent
     go false k = tt
     go true k =
-        subst (λ (items : List Item). AreFirst (Whole head (take head.len v) ∷ frames_among items) sent)
-        (sym (items_of-moved (4 + head.len) (cut_frames n cap (drop (4 + head.len) (p ∷ q ∷ r ∷ s ∷ v)))
-        ∙ ap (λ (bytes : List ℕ). items_of (cut_frames n cap bytes)) (behind_head head.len p q r s v)))
+        subst (λ (items : List FrameEvent). AreFirst (Whole head (take head.len v) ∷ frames_among items) sent)
+        (sym (frame_events_of-moved (4 + head.len) (cut_frames n cap (drop (4 + head.len) (p ∷ q ∷ r ∷ s ∷ v)))
+        ∙ ap (λ (bytes : List ℕ). frame_events_of (cut_frames n cap bytes)) (behind_head head.len p q r s v)))
         (one_front cap n p q r s v rest head sent fronts all e b (leb-true head.len (length v) k))
 
 head_front : (cap n p q r s : ℕ) (v rest : List ℕ) (sent : List Sent) → Fronts cap n →
-    All (λ (s : Sent). IsSomeFrame s.bytes) sent → bytes_of sent ≡ p ∷ q ∷ r ∷ s ∷ (v ++ rest) →
-    (o : Result Head Code) → head_of (p ∷ q ∷ r ∷ s ∷ v) cap ≡ o →
-    AreFirst (frames_among (items_of (then_others cap n (p ∷ q ∷ r ∷ s ∷ v) (items_from_head o v)))) sent
+    All (λ (s : Sent). IsSomeFrame s.bytes) sent → sent_bytes sent ≡ p ∷ q ∷ r ∷ s ∷ (v ++ rest) →
+    (o : Result Head Code) → parse_head (p ∷ q ∷ r ∷ s ∷ v) cap ≡ o →
+    AreFirst (frames_among (frame_events_of (then_others cap n (p ∷ q ∷ r ∷ s ∷ v) (items_from_head o v)))) sent
 head_front cap n p q r s v rest sent fronts all b (Err code) e = tt
 head_front cap n p q r s v rest sent fronts all b (Ok head) e =
     body_front cap n p q r s v rest head sent fronts all e b (alien_in head v)
 
 long_front : (cap n p q r s : ℕ) (v rest : List ℕ) (sent : List Sent) → Fronts cap n →
-    All (λ (s : Sent). IsSomeFrame s.bytes) sent → bytes_of sent ≡ p ∷ q ∷ r ∷ s ∷ (v ++ rest) →
-    AreFirst (frames_among (items_of (cut_frames (suc n) cap (p ∷ q ∷ r ∷ s ∷ v)))) sent
+    All (λ (s : Sent). IsSomeFrame s.bytes) sent → sent_bytes sent ≡ p ∷ q ∷ r ∷ s ∷ (v ++ rest) →
+    AreFirst (frames_among (frame_events_of (cut_frames (suc n) cap (p ∷ q ∷ r ∷ s ∷ v)))) sent
 unfolding first_items
 long_front cap n p q r s v rest sent fronts all b =
     rw (ltb_no (length (p ∷ q ∷ r ∷ s ∷ v)) 4 (omega arith))
-    (head_front cap n p q r s v rest sent fronts all b (head_of (p ∷ q ∷ r ∷ s ∷ v) cap) refl)
+    (head_front cap n p q r s v rest sent fronts all b (parse_head (p ∷ q ∷ r ∷ s ∷ v) cap) refl)
 
 short_front : (cap n : ℕ) (bytes : List ℕ) (sent : List Sent) → length bytes < 4 →
-    AreFirst (frames_among (items_of (cut_frames (suc n) cap bytes))) sent
+    AreFirst (frames_among (frame_events_of (cut_frames (suc n) cap bytes))) sent
 short_front cap n bytes sent l = rw (first_items-short cap bytes l) tt
 
 frames_front : (cap n : ℕ) (bytes rest : List ℕ) (sent : List Sent) → All (λ (s : Sent). IsSomeFrame s.bytes) sent →
-    bytes_of sent ≡ bytes ++ rest → AreFirst (frames_among (items_of (cut_frames n cap bytes))) sent
+    sent_bytes sent ≡ bytes ++ rest → AreFirst (frames_among (frame_events_of (cut_frames n cap bytes))) sent
 frames_front cap zero bytes rest sent all b = tt
 frames_front cap (suc n) [] rest sent all b = short_front cap n [] sent (omega arith)
 frames_front cap (suc n) (p ∷ []) rest sent all b = short_front cap n (p ∷ []) sent (omega arith)
@@ -221,12 +221,12 @@ frames_front cap (suc n) (p ∷ q ∷ r ∷ s ∷ v) rest sent all b =
     long_front cap n p q r s v rest sent (frames_front cap n) all b
 
 cut_front : (cap : ℕ) (bytes rest : List ℕ) (sent : List Sent) → All (λ (s : Sent). IsSomeFrame s.bytes) sent →
-    bytes_of sent ≡ bytes ++ rest → AreFirst (frames_among (items_of (cut cap bytes))) sent
+    sent_bytes sent ≡ bytes ++ rest → AreFirst (frames_among (frame_events_of (cut cap bytes))) sent
 unfolding cut
 cut_front cap bytes rest sent all b = frames_front cap (length bytes) bytes rest sent all b
 
 -- the first of them are first too
-fewer_first : (items later : List Item) (sent : List Sent) → AreFirst (items ++ later) sent → AreFirst items sent
+fewer_first : (items later : List FrameEvent) (sent : List Sent) → AreFirst (items ++ later) sent → AreFirst items sent
 fewer_first [] later sent f = tt
 fewer_first (Begun head ∷ items) later sent f = f
 fewer_first (Wrong code ∷ items) later sent f = f
@@ -241,13 +241,13 @@ module _ (limits : Limits) (small : limits.cap ≤ longest_body) (one : List Cam
   Next bytes = (body : List ℕ) (level : Level) (verdict : Verdict) → IsFrame Dm body bytes →
       IsJudged limits (other to) level body verdict → IsVerdictOfNext limits one to level body verdict
 
-  abbrev EachNext : List Item → Type 0
+  abbrev EachNext : List FrameEvent → Type 0
   EachNext [] = Unit {0}
   EachNext (Begun head ∷ items) = EachNext items
   EachNext (Wrong code ∷ items) = EachNext items
   EachNext (Whole head body ∷ items) = Next (head_bytes head ++ body) × EachNext items
 
-  first_next : (items : List Item) (sent : List Sent) → AreFirst items sent → All (λ (s : Sent). Next s.bytes) sent →
+  first_next : (items : List FrameEvent) (sent : List Sent) → AreFirst items sent → All (λ (s : Sent). Next s.bytes) sent →
       EachNext items
   first_next [] sent f all = tt
   first_next (Begun head ∷ items) sent f all = absurd f
@@ -263,7 +263,7 @@ module _ (limits : Limits) (small : limits.cap ≤ longest_body) (one : List Cam
       Next (head_bytes (record { kind = Dm; len = len }) ++ body) →
       IsMessageFate limits side noted (record { kind = Dm; len = len }) body sent →
       (verdict : Verdict) × IsVerdictOfNext limits one to noted body verdict
-      × (sent ≡ answer_to side (record { kind = Dm; len = len }) body verdict ∷ [])
+      × (sent ≡ reply_to side (record { kind = Dm; len = len }) body verdict ∷ [])
   unfolding answer_bytes
   message_fate side noted len body sent w e next fate = go fate
     where
@@ -274,7 +274,7 @@ module _ (limits : Limits) (small : limits.cap ≤ longest_body) (one : List Cam
 
       go : IsMessageFate limits side noted (record { kind = Dm; len = len }) body sent →
           (verdict : Verdict) × IsVerdictOfNext limits one to noted body verdict
-          × (sent ≡ answer_to side (record { kind = Dm; len = len }) body verdict ∷ [])
+          × (sent ≡ reply_to side (record { kind = Dm; len = len }) body verdict ∷ [])
       go (is_passed_on j s) = (Relay, judged_next Relay j, s)
       go (is_answered_prn j s) = (Prn, judged_next Prn j, s)
       go (is_answered_huh place j s) = (Huh place, judged_next (Huh place) j, s)
@@ -292,13 +292,13 @@ module _ (limits : Limits) (small : limits.cap ≤ longest_body) (one : List Cam
   frame_fate phase side noted Em len body sent w f next e k = absurd (cc)
 
   -- the messages of the side where the one stands
-  cause_fate : (phase : Phase) (cause : Cause) (sent : List Sent) → IsGood limits.cap cause →
-      IsFate limits phase cause sent → EachNext (frame_of (other to) cause) →
+  cause_fate : (phase : Phase) (cause : EventCause) (sent : List Sent) → IsGood limits.cap cause →
+      IsFate limits phase cause sent → EachNext (whole_frame_from (other to) cause) →
       IsFateAtNext (IsVerdictOfNext limits one to) to cause sent
   cause_fate phase (Frame side noted head body) sent g f next =
       frame_fate phase side noted head.kind head.len body sent g f (λ e. here e next)
     where
-      here : side ≡ other to → EachNext (frame_of (other to) (Frame side noted head body)) →
+      here : side ≡ other to → EachNext (whole_frame_from (other to) (Frame side noted head body)) →
           Next (head_bytes head ++ body)
       here e n =
           (subst EachNext (ap (λ (b : Bool). cond b (Whole head body ∷ []) []) (ap (λ (s : Side). same_side s
@@ -307,7 +307,7 @@ module _ (limits : Limits) (small : limits.cap ≤ longest_body) (one : List Cam
   cause_fate phase (End side) sent g f next = tt
   cause_fate phase Timeout sent g f next = tt
 
-  each_part : (a b : List Item) → EachNext (a ++ b) → EachNext a × EachNext b
+  each_part : (a b : List FrameEvent) → EachNext (a ++ b) → EachNext a × EachNext b
   each_part [] b n = (tt, n)
   each_part (Begun head ∷ a) b n = each_part a b n
   each_part (Wrong code ∷ a) b n = each_part a b n
@@ -318,20 +318,20 @@ module _ (limits : Limits) (small : limits.cap ≤ longest_body) (one : List Cam
   all_fates [] effects g f n = f
   all_fates (c ∷ more) [] g f n = absurd f
   all_fates (c ∷ more) (effect ∷ effects) g f n =
-      let parts = each_part (frame_of (other to) c.cause) (frames_from (other to) more) n in
+      let parts = each_part (whole_frame_from (other to) c.cause) (frames_from (other to) more) n in
       (cause_fate c.phase c.cause effect.sent g.0 f.0 parts.0, all_fates more effects g.1 f.1 parts.1)
 
 -- ---- two runs
 
-pub joined_over : (words : List Word) → InARowOver words → JoinedGatewaysOver words
+pub joined_over : (words : List Word) → InARowOver words → JoinedSessionsOver words
 joined_over words row limits to events next_events effects next_effects new next_new run next_run same small joined =
     record { in_order = in_order; fates = fates }
   where
     one : List Came
-    one = came_in (opening limits) events effects new run
+    one = came_in (initial_state limits) events effects new run
 
     next : List Came
-    next = came_in (opening limits) next_events next_effects next_new next_run
+    next = came_in (initial_state limits) next_events next_effects next_new next_run
 
     some : All (λ (s : Sent). IsSomeFrame s.bytes) (sent_to to effects)
     some =
@@ -343,13 +343,13 @@ joined_over words row limits to events next_events effects next_effects new next
     in_order =
         let come = frames_come (other to) limits next_events next_effects next_new next_run in
         fewer_first (frames_from (other to) next) come.0 (sent_to to effects)
-        (subst (λ (items : List Item). AreFirst items (sent_to to effects)) come.1
+        (subst (λ (items : List FrameEvent). AreFirst items (sent_to to effects)) come.1
         (cut_front limits.cap (bytes_from (other to) next_events) joined.0 (sent_to to effects) some joined.1))
 
     fates : HaveFatesAtNext (IsVerdictOfNext limits one to) to next next_effects
     fates =
         all_fates limits small one to next next_effects
-        (run_good (opening limits) next_events next_effects next_new next_run)
-        (run_fates (opening limits) next_events next_effects next_new next_run)
+        (run_good (initial_state limits) next_events next_effects next_new next_run)
+        (run_fates (initial_state limits) next_events next_effects next_new next_run)
         (first_next limits small one to (frames_from (other to) next) (sent_to to effects) in_order
         (row limits events effects new run same small to))

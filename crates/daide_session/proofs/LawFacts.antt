@@ -9,22 +9,22 @@ use Rattle.daide_frame.specs.declared.side.Side.TheVariants.{Bot, Server}
 use Rattle.daide_frame.specs.declared.head.Kind.TheVariants.{Dm}
 use Rattle.daide_frame.specs.declared.head.Head.{Head}
 use Rattle.daide_frame.specs.Head.{head_bytes}
-use Rattle.daide_frame.specs.Frames.{Item, Whole}
+use Rattle.daide_frame.specs.Frames.{FrameEvent, Whole}
 use Rattle.daide_grammar.specs.declared.level.Level.{Level}
 use Rattle.daide_grammar.specs.declared.level.Level.TheVariants.{L0, L10, L20, L30, L40, L50, L60}
 use Rattle.daide_grammar.specs.Level.{level_number}
 use Rattle.daide_grammar.specs.Depth.{depth_of}
 use Rattle.daide_reader.specs.declared.verdict.Verdict.{Verdict}
 use Rattle.daide_reader.specs.declared.verdict.Verdict.TheVariants.{Relay}
-use Rattle.daide_machine.specs.Events.{Event, other}
-use Rattle.daide_machine.specs.Machine.{Limits, SessionState, Sent, Effect, Runs, opening, answer_to}
-use Rattle.daide_machine.specs.Wires.{sent_to}
-use Rattle.daide_machine.specs.declared.phase.Phase.{Phase}
-use Rattle.daide_machine.specs.Fates.{Came, Frame, IsJudged, came_in, frames_from}
-use Rattle.daide_machine.specs.Passing.{HasCome, IsFrame}
-use Rattle.daide_session.specs.InARow.{IsVerdictAtOneLevel, IsVerdictOfNext, TwoGatewaysInARow, passes, too_deep, lower}
+use Rattle.daide_protocol.specs.Events.{Event, other}
+use Rattle.daide_protocol.specs.Machine.{Limits, SessionState, Sent, Effect, Runs, initial_state, reply_to}
+use Rattle.daide_protocol.specs.Wires.{sent_to}
+use Rattle.daide_protocol.specs.declared.phase.Phase.{Phase}
+use Rattle.daide_protocol.specs.Fates.{Came, Frame, IsJudged, came_in, frames_from}
+use Rattle.daide_protocol.specs.Passing.{HasCome, IsFrame}
+use Rattle.daide_session.specs.InARow.{IsVerdictAtOneLevel, IsVerdictOfNext, TwoSessionsInARow, passes, too_deep, lower}
 use Rattle.daide_session.specs.InARow.{at_one_level}
-use Rattle.daide_session.specs.Joined.{AreFirst, AreJoined, HaveFatesAtNext, JoinedGateways, LevelsAgreeTowardTheBot}
+use Rattle.daide_session.specs.Joined.{AreFirst, AreJoined, HaveFatesAtNext, JoinedSessions, LevelsAgreeTowardTheBot}
 
 -- the operator's limits: by default, without words
 abbrev usual : Limits
@@ -59,12 +59,12 @@ module _ (came : List Came) (to : Side) (shallow : AreShallow came to) (body : L
 -- ---- in a row
 
 -- at level 60 the next gateway passes on whatever message the one sends it
-next_passes_on : TwoGatewaysInARow → (events : List Event) (effects : List Effect) (new : SessionState)
-    (run : Runs (opening usual) events effects new) → AreShallow (came_in (opening usual) events effects new run) Bot →
+next_passes_on : TwoSessionsInARow → (events : List Event) (effects : List Effect) (new : SessionState)
+    (run : Runs (initial_state usual) events effects new) → AreShallow (came_in (initial_state usual) events effects new run) Bot →
     All (λ (sent : Sent). (body : List ℕ) (verdict : Verdict) → IsFrame Dm body sent.bytes →
     IsJudged usual Server L60 body verdict → verdict ≡ Relay) (sent_to Bot effects)
 next_passes_on law events effects new run shallow k d less body verdict frame judged =
-    not_lower (came_in (opening usual) events effects new run) Bot shallow body verdict
+    not_lower (came_in (initial_state usual) events effects new run) Bot shallow body verdict
     (law [] refl usual events effects new run refl (omega arith) Bot k d less body L60 verdict frame judged)
 
 -- ---- joined
@@ -79,7 +79,7 @@ module _ (phase : Phase) (noted : Level) (head : Head) (body : List ℕ) where
   first_move : (Is : Level → List ℕ → Verdict → Type 0) (to : Side) (came : List Came) (effects : List Effect) →
       HasFirst (other to) came → head.kind ≡ Dm → HaveFatesAtNext Is to came effects →
       (effect : Effect) × (more : List Effect) × (effects ≡ effect ∷ more)
-      × ((verdict : Verdict) × Is noted body verdict × (effect.sent ≡ answer_to (other to) head body verdict ∷ []))
+      × ((verdict : Verdict) × Is noted body verdict × (effect.sent ≡ reply_to (other to) head body verdict ∷ []))
   first_move Is to came [] is dm h =
       absurd (subst (λ (c : List Came). HaveFatesAtNext Is to c []) is.1 h)
   first_move Is to came (effect ∷ effects) is dm h =
@@ -88,24 +88,24 @@ module _ (phase : Phase) (noted : Level) (head : Head) (body : List ℕ) where
 
   -- a move by Relay passes it on
   by_relay : (side : Side) (effect : Effect) (verdict : Verdict) → verdict ≡ Relay →
-      effect.sent ≡ answer_to side head body verdict ∷ [] → effect.sent ≡ answer_to side head body Relay ∷ []
-  by_relay side effect verdict is sent = subst (λ (v : Verdict). effect.sent ≡ answer_to side head body v ∷ []) is sent
+      effect.sent ≡ reply_to side head body verdict ∷ [] → effect.sent ≡ reply_to side head body Relay ∷ []
+  by_relay side effect verdict is sent = subst (λ (v : Verdict). effect.sent ≡ reply_to side head body v ∷ []) is sent
 
 -- A server's message that comes first to the next, nearer the bot, with the level 60 noted: it is the first frame that the
 -- one sent, and is passed on.
-first_passed_on : JoinedGateways → (phase : Phase) (head : Head) (body : List ℕ) (events next_events : List Event)
-    (effects next_effects : List Effect) (new next_new : SessionState) (run : Runs (opening usual) events effects new)
-    (next_run : Runs (opening usual) next_events next_effects next_new) → AreJoined Bot effects next_events →
-    AreShallow (came_in (opening usual) events effects new run) Bot →
-    HasFirst phase L60 head body Server (came_in (opening usual) next_events next_effects next_new next_run) →
+first_passed_on : JoinedSessions → (phase : Phase) (head : Head) (body : List ℕ) (events next_events : List Event)
+    (effects next_effects : List Effect) (new next_new : SessionState) (run : Runs (initial_state usual) events effects new)
+    (next_run : Runs (initial_state usual) next_events next_effects next_new) → AreJoined Bot effects next_events →
+    AreShallow (came_in (initial_state usual) events effects new run) Bot →
+    HasFirst phase L60 head body Server (came_in (initial_state usual) next_events next_effects next_new next_run) →
     head.kind ≡ Dm → (effect : Effect) × (more : List Effect) × (next_effects ≡ effect ∷ more)
-    × (effect.sent ≡ answer_to Server head body Relay ∷ [])
+    × (effect.sent ≡ reply_to Server head body Relay ∷ [])
 first_passed_on law phase head body events next_events effects next_effects new next_new run next_run joined shallow
     first dm =
     let goes = law [] refl usual Bot events next_events effects next_effects new next_new run next_run refl (omega arith)
     joined in
-    let came = came_in (opening usual) events effects new run in
-    let next = came_in (opening usual) next_events next_effects next_new next_run in
+    let came = came_in (initial_state usual) events effects new run in
+    let next = came_in (initial_state usual) next_events next_effects next_new next_run in
     let move = first_move phase L60 head body (IsVerdictOfNext usual came Bot) Bot next next_effects first dm goes.fates in (
       move.0,
       move.1,
@@ -113,23 +113,23 @@ first_passed_on law phase head body events next_events effects next_effects new 
       by_relay phase L60 head body Server move.0 move.3.0 (not_lower came Bot shallow body move.3.0 move.3.1) move.3.2,
     )
 
-first_frame : (frames : List Item) (sent : List Sent) (head : Head) (body : List ℕ) (more : List Item) →
+first_frame : (frames : List FrameEvent) (sent : List Sent) (head : Head) (body : List ℕ) (more : List FrameEvent) →
     frames ≡ Whole head body ∷ more → AreFirst frames sent →
     (frame : Sent) × (rest : List Sent) × (sent ≡ frame ∷ rest) × (frame.bytes ≡ head_bytes head ++ body)
-first_frame frames [] head body more is h = absurd (subst (λ (f : List Item). AreFirst f []) is h)
+first_frame frames [] head body more is h = absurd (subst (λ (f : List FrameEvent). AreFirst f []) is h)
 first_frame frames (frame ∷ rest) head body more is h =
-    (frame, rest, refl, (subst (λ (f : List Item). AreFirst f (frame ∷ rest)) is h).0)
+    (frame, rest, refl, (subst (λ (f : List FrameEvent). AreFirst f (frame ∷ rest)) is h).0)
 
-heard_in_order : JoinedGateways → (head : Head) (body : List ℕ) (more : List Item) (events next_events : List Event)
-    (effects next_effects : List Effect) (new next_new : SessionState) (run : Runs (opening usual) events effects new)
-    (next_run : Runs (opening usual) next_events next_effects next_new) → AreJoined Server effects next_events →
-    frames_from Bot (came_in (opening usual) next_events next_effects next_new next_run) ≡ Whole head body ∷ more →
+heard_in_order : JoinedSessions → (head : Head) (body : List ℕ) (more : List FrameEvent) (events next_events : List Event)
+    (effects next_effects : List Effect) (new next_new : SessionState) (run : Runs (initial_state usual) events effects new)
+    (next_run : Runs (initial_state usual) next_events next_effects next_new) → AreJoined Server effects next_events →
+    frames_from Bot (came_in (initial_state usual) next_events next_effects next_new next_run) ≡ Whole head body ∷ more →
     (frame : Sent) × (rest : List Sent) × (sent_to Server effects ≡ frame ∷ rest)
     × (frame.bytes ≡ head_bytes head ++ body)
 heard_in_order law head body more events next_events effects next_effects new next_new run next_run joined is =
     let goes = law [] refl usual Server events next_events effects next_effects new next_new run next_run refl
     (omega arith) joined in
-    first_frame (frames_from Bot (came_in (opening usual) next_events next_effects next_new next_run))
+    first_frame (frames_from Bot (came_in (initial_state usual) next_events next_effects next_new next_run))
     (sent_to Server effects) head body more is goes.in_order
 
 -- ---- toward the bot
@@ -137,18 +137,18 @@ heard_in_order law head body more events next_events effects next_effects new ne
 -- nearer the bot it is passed on also without press
 first_passed_on_to_the_bot : LevelsAgreeTowardTheBot → (phase : Phase) (head : Head) (body : List ℕ)
     (events next_events : List Event) (effects next_effects : List Effect) (new next_new : SessionState)
-    (run : Runs (opening usual) events effects new)
-    (next_run : Runs (opening usual) next_events next_effects next_new) → AreJoined Bot effects next_events →
-    AreShallow (came_in (opening usual) events effects new run) Bot →
-    HasFirst phase L0 head body Server (came_in (opening usual) next_events next_effects next_new next_run) →
+    (run : Runs (initial_state usual) events effects new)
+    (next_run : Runs (initial_state usual) next_events next_effects next_new) → AreJoined Bot effects next_events →
+    AreShallow (came_in (initial_state usual) events effects new run) Bot →
+    HasFirst phase L0 head body Server (came_in (initial_state usual) next_events next_effects next_new next_run) →
     head.kind ≡ Dm → (effect : Effect) × (more : List Effect) × (next_effects ≡ effect ∷ more)
-    × (effect.sent ≡ answer_to Server head body Relay ∷ [])
+    × (effect.sent ≡ reply_to Server head body Relay ∷ [])
 first_passed_on_to_the_bot law phase head body events next_events effects next_effects new next_new run next_run joined
     shallow first dm =
     let fates = law [] refl usual events next_events effects next_effects new next_new run next_run refl (omega arith)
     joined in
-    let came = came_in (opening usual) events effects new run in
-    let next = came_in (opening usual) next_events next_effects next_new next_run in
+    let came = came_in (initial_state usual) events effects new run in
+    let next = came_in (initial_state usual) next_events next_effects next_new next_run in
     let move = first_move phase L0 head body (λ level. IsVerdictAtOneLevel usual came Bot) Bot next next_effects first dm
     fates in (
       move.0,

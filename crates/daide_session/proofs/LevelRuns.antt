@@ -11,34 +11,34 @@ use Rattle.daide_frame.specs.declared.head.Kind.TheVariants.{Im, Rm, Dm, Fm, Em}
 use Rattle.daide_frame.specs.declared.head.Head.{Head}
 use Rattle.daide_frame.specs.declared.code.Code.{Code}
 use Rattle.daide_frame.specs.declared.code.Code.TheVariants.{InvalidToken}
-use Rattle.daide_frame.specs.Head.{head_of}
+use Rattle.daide_frame.specs.Head.{parse_head}
 use Rattle.daide_frame.specs.InitialMessage.{im_of}
-use Rattle.daide_frame.specs.Frames.{Item, Begun, Whole, Wrong, alien_in, head_part, head_in, last_items}
+use Rattle.daide_frame.specs.Frames.{FrameEvent, Begun, Whole, Wrong, alien_in, head_part, head_in, last_items}
 use Rattle.daide_frame.proofs.FramesLemmas.{last_items-short, head_in-short, head_in-whole, at_head, at_body}
-use Rattle.daide_frame.proofs.FramesLemmas.{last_items-head4, last_items-body4, head_of-append4}
+use Rattle.daide_frame.proofs.FramesLemmas.{last_items-head4, last_items-body4, parse_head-append4}
 use Rattle.daide_grammar.specs.declared.level.Level.{Level}
 use Rattle.daide_grammar.specs.declared.level.Level.TheVariants.{L0}
 use Rattle.daide_reader.specs.declared.verdict.Verdict.{Verdict}
-use Rattle.daide_machine.specs.declared.phase.Phase.{Phase}
-use Rattle.daide_machine.specs.declared.phase.Phase.TheVariants.{WaitIm, WaitRm, Open, Over}
-use Rattle.daide_machine.specs.Events.{Event, Comes, Ends, Loses, TimerExpires}
-use Rattle.daide_machine.specs.Machine.{Limits, SessionState, Sent, Effect, Outcome, Transition, Runs, IsRight}
-use Rattle.daide_machine.specs.Machine.{with_pending, with_noted, is_over, untimely, level_after, answer_to, answered}
-use Rattle.daide_machine.specs.Machine.{im_answered, whole, begun, items_outcome, popped, event_outcome, asked_by}
-use Rattle.daide_machine.specs.Machine.{question_of, question, opening}
-use Rattle.daide_machine.specs.Fates.{Cause, Frame, Fault, End, Timeout, Came, checked_frame, frame_cause, fault_or}
-use Rattle.daide_machine.specs.Fates.{items_cause, cause_at, timeout_in, came_in_phase, came_in, IsJudged, HaveFates}
-use Rattle.daide_machine.proofs.FrameShapes.{refused}
-use Rattle.daide_machine.proofs.FramesHeard.{not_both}
-use Rattle.daide_machine.proofs.FateLemmas.{run_fates}
-use Rattle.daide_machine.proofs.LimitsKept.{runs_limits}
-use Rattle.daide_machine.proofs.OneRun.{one_run}
-use Rattle.daide_machine.proofs.PieceRuns.{over_stays}
+use Rattle.daide_protocol.specs.declared.phase.Phase.{Phase}
+use Rattle.daide_protocol.specs.declared.phase.Phase.TheVariants.{WaitIm, WaitRm, Open, Over}
+use Rattle.daide_protocol.specs.Events.{Event, Comes, Ends, Loses, ImTimerExpired}
+use Rattle.daide_protocol.specs.Machine.{Limits, SessionState, Sent, Effect, Successor, Transition, Runs, IsCorrectVerdict}
+use Rattle.daide_protocol.specs.Machine.{with_pending, with_noted, is_over, untimely, level_after, reply_to, answered}
+use Rattle.daide_protocol.specs.Machine.{im_answered, frame_outcome, header_outcome, items_outcome, im_timer_expired, event_outcome, asked_by}
+use Rattle.daide_protocol.specs.Machine.{question_of, question, initial_state}
+use Rattle.daide_protocol.specs.Fates.{EventCause, Frame, Fault, End, Timeout, Came, checked_frame, frame_cause, fault_or}
+use Rattle.daide_protocol.specs.Fates.{items_cause, cause_at, timeout_in, came_in_phase, came_in, IsJudged, HaveFates}
+use Rattle.daide_protocol.proofs.FrameShapes.{refused}
+use Rattle.daide_protocol.proofs.FramesHeard.{not_both}
+use Rattle.daide_protocol.proofs.FateLemmas.{run_fates}
+use Rattle.daide_protocol.proofs.LimitsKept.{runs_limits}
+use Rattle.daide_protocol.proofs.OneRun.{one_run}
+use Rattle.daide_protocol.proofs.PieceRuns.{over_stays}
 
 -- ---- what a byte does to a side's header
 
 -- the items that end with a byte, with the header before it and the header after it
-pub data Turn (before after : Option Head) : List Item → Type 0 where
+pub data Turn (before after : Option Head) : List FrameEvent → Type 0 where
   quiet : after ≡ before → Turn before after []
   headed : (head : Head) → after ≡ Some head → Turn before after (Begun head ∷ [])
   at_once : (head : Head) → Turn before after (Begun head ∷ Whole head [] ∷ [])
@@ -77,7 +77,7 @@ body_turn head v None = go (eqb head.len (length v))
     go true = ended head v refl
     go false = quiet refl
 
-later_turn : (cap p q r s y : ℕ) (w : List ℕ) (o : Result Head Code) → head_of (p ∷ q ∷ r ∷ s ∷ []) cap ≡ o →
+later_turn : (cap p q r s y : ℕ) (w : List ℕ) (o : Result Head Code) → parse_head (p ∷ q ∷ r ∷ s ∷ []) cap ≡ o →
     Turn (head_part o) (head_part o) (last_items cap (p ∷ q ∷ r ∷ s ∷ y ∷ w))
 later_turn cap p q r s y w (Ok head) e =
     subst (Turn (Some head) (Some head)) (sym (last_items-body4 cap p q r s (y ∷ w) head e (omega arith)))
@@ -87,9 +87,9 @@ later_turn cap p q r s y w (Err code) e =
 
 -- the header of four bytes and more
 long_head : (cap p q r s : ℕ) (v : List ℕ) →
-    head_in cap (p ∷ q ∷ r ∷ s ∷ v) ≡ head_part (head_of (p ∷ q ∷ r ∷ s ∷ []) cap)
+    head_in cap (p ∷ q ∷ r ∷ s ∷ v) ≡ head_part (parse_head (p ∷ q ∷ r ∷ s ∷ []) cap)
 long_head cap p q r s v =
-    head_in-whole cap (p ∷ q ∷ r ∷ s ∷ v) (omega arith) ∙ ap head_part (head_of-append4 cap p q r s v)
+    head_in-whole cap (p ∷ q ∷ r ∷ s ∷ v) (omega arith) ∙ ap head_part (parse_head-append4 cap p q r s v)
 
 turn : (cap : ℕ) (b : List ℕ) (x : ℕ) → TurnBy cap b x
 turn cap [] x = short_turn cap [] x (omega arith)
@@ -98,15 +98,15 @@ turn cap (p ∷ q ∷ []) x = short_turn cap (p ∷ q ∷ []) x (omega arith)
 turn cap (p ∷ q ∷ r ∷ []) x =
     subst (λ (a : Option Head). Turn (head_in cap (p ∷ q ∷ r ∷ [])) a (last_items cap (p ∷ q ∷ r ∷ x ∷ [])))
     (sym (long_head cap p q r x []))
-    (subst (Turn (head_in cap (p ∷ q ∷ r ∷ [])) (head_part (head_of (p ∷ q ∷ r ∷ x ∷ []) cap)))
+    (subst (Turn (head_in cap (p ∷ q ∷ r ∷ [])) (head_part (parse_head (p ∷ q ∷ r ∷ x ∷ []) cap)))
     (sym (last_items-head4 cap p q r x))
-    (head_turn (head_in cap (p ∷ q ∷ r ∷ [])) (head_of (p ∷ q ∷ r ∷ x ∷ []) cap)))
+    (head_turn (head_in cap (p ∷ q ∷ r ∷ [])) (parse_head (p ∷ q ∷ r ∷ x ∷ []) cap)))
 turn cap (p ∷ q ∷ r ∷ s ∷ []) x =
     rw (long_head cap p q r s [], long_head cap p q r s (x ∷ []))
-    (later_turn cap p q r s x [] (head_of (p ∷ q ∷ r ∷ s ∷ []) cap) refl)
+    (later_turn cap p q r s x [] (parse_head (p ∷ q ∷ r ∷ s ∷ []) cap) refl)
 turn cap (p ∷ q ∷ r ∷ s ∷ y ∷ w) x =
     rw (long_head cap p q r s (y ∷ w), long_head cap p q r s (y ∷ w ++ x ∷ []))
-    (later_turn cap p q r s y (w ++ x ∷ []) (head_of (p ∷ q ∷ r ∷ s ∷ []) cap) refl)
+    (later_turn cap p q r s y (w ++ x ∷ []) (parse_head (p ∷ q ∷ r ∷ s ∷ []) cap) refl)
 
 -- ---- what is so of a state that is not over
 
@@ -140,7 +140,7 @@ none_timely cap phase side head e = (let bad = sym (no_head cap) ∙ e in absurd
 none_noted : (cap : ℕ) (noted level : Level) → IsNoted (head_in cap []) noted level
 none_noted cap noted level head e = (let bad = sym (no_head cap) ∙ e in absurd (cc))
 
-pub ready_first : (limits : Limits) → Ready (opening limits)
+pub ready_first : (limits : Limits) → Ready (initial_state limits)
 ready_first limits = record {
   calm = refl;
   bot = none_timely limits.cap WaitIm Bot;
@@ -172,12 +172,12 @@ IsLevelled Rm limits level noted head body sent then = then ≡ level
 IsLevelled Dm limits level noted head body sent then =
     (verdict : Verdict) × (noted ≡ level) × IsJudged limits Server level body verdict
     × (then ≡ level_after limits.top_level Dm Server verdict (tokens_of body) level)
-    × (sent ≡ answer_to Server head body verdict ∷ [])
+    × (sent ≡ reply_to Server head body verdict ∷ [])
 IsLevelled Fm limits level noted head body sent then = then ≡ level
 IsLevelled Em limits level noted head body sent then = then ≡ level
 
 -- nothing else changes it
-abbrev pub LevelAt : Limits → Level → Cause → List Sent → Level → Type 0
+abbrev pub LevelAt : Limits → Level → EventCause → List Sent → Level → Type 0
 LevelAt limits level (Frame Bot noted head body) sent then = then ≡ level
 LevelAt limits level (Frame Server noted head body) sent then =
     IsLevelled head.kind limits level noted head body sent then
@@ -199,13 +199,13 @@ levels_join limits (c ∷ a) b [] y l m n h k = absurd h
 levels_join limits (c ∷ a) b (e ∷ x) y l m n h k = (h.0, h.1, levels_join limits a b x y h.0 m n h.2 k)
 
 -- what an event makes of a state
-record Follows (limits : Limits) (level : Level) (came : List Came) (o : Outcome) : Type 0 where
+record Follows (limits : Limits) (level : Level) (came : List Came) (o : Successor) : Type 0 where
   next : Level
   levels : HaveLevels limits level came o.effects next
   ready : is_over o.state.phase ≡ false → (o.state.level ≡ next) × Ready o.state
 
 -- where the session is over
-over_follows : (limits : Limits) (level : Level) (came : List Came) (o : Outcome) → is_over o.state.phase ≡ true →
+over_follows : (limits : Limits) (level : Level) (came : List Came) (o : Successor) → is_over o.state.phase ≡ true →
     HaveLevels limits level came o.effects level → Follows limits level came o
 over_follows limits level came o e h = record {
   next = level;
@@ -215,7 +215,7 @@ over_follows limits level came o e h = record {
 
 -- ---- a whole frame
 
-abbrev one : Phase → Cause → List Came
+abbrev one : Phase → EventCause → List Came
 one phase cause = record { phase = phase; cause = cause } ∷ []
 
 abbrev made : Kind → ℕ → Head
@@ -227,7 +227,7 @@ bot_frame : (phase : Phase) (t : SessionState) (noted : Level) (kind : Kind) (le
     IsTimely phase Server (head_in t.limits.cap t.server.pending) →
     IsNoted (head_in t.limits.cap t.server.pending) t.server.noted t.level →
     Follows t.limits t.level (one t.phase (frame_cause Bot noted (made kind len) body))
-    (whole t Bot (made kind len) body v)
+    (frame_outcome t Bot (made kind len) body v)
 bot_frame WaitIm t noted Im len body v e o u c s n = checked (im_of body)
   where
     checked : (r : Result (Unit {0}) Code) →
@@ -276,9 +276,9 @@ bot_frame phase t noted Em len body v e o u c s n =
 server_frame : (phase : Phase) (t : SessionState) (noted : Level) (kind : Kind) (len : ℕ) (body : List ℕ)
     (v : Verdict) → t.phase ≡ phase → is_over phase ≡ false → untimely phase Server kind ≡ None →
     IsCalm phase t.level → IsTimely phase Bot (head_in t.limits.cap t.bot.pending) → noted ≡ t.level →
-    IsRight t.limits.words t.limits.max_depth (question_of Server noted (made kind len) body) v →
+    IsCorrectVerdict t.limits.words t.limits.max_depth (question_of Server noted (made kind len) body) v →
     Follows t.limits t.level (one t.phase (frame_cause Server noted (made kind len) body))
-    (whole t Server (made kind len) body v)
+    (frame_outcome t Server (made kind len) body v)
 server_frame WaitIm t noted Im len body v e o u c b n r = absurd (cc)
 server_frame WaitRm t noted Im len body v e o u c b n r = absurd (cc)
 server_frame Open t noted Im len body v e o u c b n r = absurd (cc)
@@ -330,10 +330,10 @@ server_frame phase t noted Em len body v e o u c b n r =
 
 -- nothing follows a whole frame
 alone : (limits : Limits) (level : Level) (came : List Came) (t : SessionState) (side : Side) (head : Head)
-    (body : List ℕ) (v : Verdict) → is_over t.phase ≡ false → Follows limits level came (whole t side head body v) →
+    (body : List ℕ) (v : Verdict) → is_over t.phase ≡ false → Follows limits level came (frame_outcome t side head body v) →
     Follows limits level came (items_outcome t side (Whole head body ∷ []) v)
 alone limits level came t side head body v o h =
-    let w = whole t side head body v in
+    let w = frame_outcome t side head body v in
     rw o (subst (λ (effects : List Effect). Follows limits level came (record { state = w.state; effects = effects }))
     (sym (append-nil w.effects)) h)
 
@@ -351,7 +351,7 @@ now_timely : (phase : Phase) (side : Side) (header : Option Head) (head : Head) 
 now_timely phase side header head a e other_head b =
     subst (λ (h : Head). untimely phase side h.kind ≡ None) (same_head header head other_head a b) e
 
-bot_items : (s : SessionState) (bytes : List ℕ) (items : List Item) (v : Verdict) → is_over s.phase ≡ false → Ready s →
+bot_items : (s : SessionState) (bytes : List ℕ) (items : List FrameEvent) (v : Verdict) → is_over s.phase ≡ false → Ready s →
     Turn (head_in s.limits.cap s.bot.pending) (head_in s.limits.cap bytes) items →
     Follows s.limits s.level
     (came_in_phase s.phase (items_cause Bot s.bot.noted s.level (untimely s.phase Bot) items))
@@ -376,7 +376,7 @@ bot_items s bytes items v o h (headed head a) = rw o (go (untimely s.phase Bot h
 
     go : (code : Option Code) → untimely s.phase Bot head.kind ≡ code →
         Follows s.limits s.level (came_in_phase s.phase (fault_or Bot code None))
-        (record { state = (begun t Bot code).state; effects = (begun t Bot code).effects ++ [] })
+        (record { state = (header_outcome t Bot code).state; effects = (header_outcome t Bot code).effects ++ [] })
     go None e = record {
       next = s.level;
       levels = (refl, refl);
@@ -399,8 +399,8 @@ bot_items s bytes items v o h (at_once head) = rw o (go (untimely s.phase Bot he
     go : (code : Option Code) → untimely s.phase Bot head.kind ≡ code →
         Follows s.limits s.level
         (came_in_phase s.phase (fault_or Bot code (Some (frame_cause Bot s.level head []))))
-        (let more = items_outcome (begun t Bot code).state Bot (Whole head [] ∷ []) v in
-        record { state = more.state; effects = (begun t Bot code).effects ++ more.effects })
+        (let more = items_outcome (header_outcome t Bot code).state Bot (Whole head [] ∷ []) v in
+        record { state = more.state; effects = (header_outcome t Bot code).effects ++ more.effects })
     go None e =
         alone s.limits s.level (one s.phase (frame_cause Bot s.level head [])) (with_noted t Bot s.level) Bot head [] v o
         (bot_frame s.phase (with_noted t Bot s.level) s.level head.kind head.len [] v refl o e h.calm h.server h.noted)
@@ -413,9 +413,9 @@ bot_items s bytes items v o h (ended head body b) =
 bot_items s bytes items v o h (wrong code) =
     rw o (over_follows s.limits s.level _ _ refl (s.level, refl, (refl, refl)))
 
-server_items : (s : SessionState) (bytes : List ℕ) (items : List Item) (v : Verdict) → is_over s.phase ≡ false →
+server_items : (s : SessionState) (bytes : List ℕ) (items : List FrameEvent) (v : Verdict) → is_over s.phase ≡ false →
     Ready s → Turn (head_in s.limits.cap s.server.pending) (head_in s.limits.cap bytes) items →
-    IsRight s.limits.words s.limits.max_depth (asked_by s Server items) v →
+    IsCorrectVerdict s.limits.words s.limits.max_depth (asked_by s Server items) v →
     Follows s.limits s.level
     (came_in_phase s.phase (items_cause Server s.server.noted s.level (untimely s.phase Server) items))
     (items_outcome (with_pending s Server bytes) Server items v)
@@ -439,7 +439,7 @@ server_items s bytes items v o h (headed head a) r = rw o (go (untimely s.phase 
 
     go : (code : Option Code) → untimely s.phase Server head.kind ≡ code →
         Follows s.limits s.level (came_in_phase s.phase (fault_or Server code None))
-        (record { state = (begun t Server code).state; effects = (begun t Server code).effects ++ [] })
+        (record { state = (header_outcome t Server code).state; effects = (header_outcome t Server code).effects ++ [] })
     go None e = record {
       next = s.level;
       levels = (refl, refl);
@@ -462,8 +462,8 @@ server_items s bytes items v o h (at_once head) r = rw o (go (untimely s.phase S
     go : (code : Option Code) → untimely s.phase Server head.kind ≡ code →
         Follows s.limits s.level
         (came_in_phase s.phase (fault_or Server code (Some (frame_cause Server s.level head []))))
-        (let more = items_outcome (begun t Server code).state Server (Whole head [] ∷ []) v in
-        record { state = more.state; effects = (begun t Server code).effects ++ more.effects })
+        (let more = items_outcome (header_outcome t Server code).state Server (Whole head [] ∷ []) v in
+        record { state = more.state; effects = (header_outcome t Server code).effects ++ more.effects })
     go None e =
         alone s.limits s.level (one s.phase (frame_cause Server s.level head [])) (with_noted t Server s.level) Server
         head [] v o
@@ -481,14 +481,14 @@ server_items s bytes items v o h (wrong code) r =
 -- ---- one event
 
 timer_follows : (phase : Phase) (s : SessionState) → Ready s →
-    Follows s.limits s.level (came_in_phase s.phase (timeout_in phase)) (popped phase s)
+    Follows s.limits s.level (came_in_phase s.phase (timeout_in phase)) (im_timer_expired phase s)
 timer_follows WaitIm s h = over_follows s.limits s.level _ _ refl (s.level, refl, (refl, refl))
 timer_follows WaitRm s h = record { next = s.level; levels = (refl, refl); ready = λ live. (refl, h) }
 timer_follows Open s h = record { next = s.level; levels = (refl, refl); ready = λ live. (refl, h) }
 timer_follows Over s h = record { next = s.level; levels = (refl, refl); ready = λ live. (refl, h) }
 
 event_follows : (s : SessionState) (event : Event) (v : Verdict) → is_over s.phase ≡ false → Ready s →
-    IsRight s.limits.words s.limits.max_depth (question s event) v →
+    IsCorrectVerdict s.limits.words s.limits.max_depth (question s event) v →
     Follows s.limits s.level (came_in_phase s.phase (cause_at s event)) (event_outcome s event v)
 event_follows s (Comes Bot x) v o h r =
     let bytes = s.bot.pending ++ x ∷ [] in
@@ -501,7 +501,7 @@ event_follows s (Ends side) v o h r =
     rw o (over_follows s.limits s.level _ _ refl (s.level, refl, (refl, refl)))
 event_follows s (Loses side) v o h r =
     rw o (over_follows s.limits s.level _ _ refl (s.level, refl, (refl, refl)))
-event_follows s TimerExpires v o h r = timer_follows s.phase s h
+event_follows s ImTimerExpired v o h r = timer_follows s.phase s h
 
 step_follows : (s : SessionState) (event : Event) (effects : List Effect) (m : SessionState) → Transition s event effects m →
     is_over s.phase ≡ false → Ready s →
@@ -528,7 +528,7 @@ over_levels s events effects new run limits level e =
 
 pub run_levels : (s : SessionState) (events : List Event) (effects : List Effect) (new : SessionState)
     (run : Runs s events effects new) → is_over s.phase ≡ false → Ready s →
-    (end : Level) × HaveLevels s.limits s.level (came_in s events effects new run) effects end
+    (queue_final : Level) × HaveLevels s.limits s.level (came_in s events effects new run) effects queue_final
 run_levels s [] effects new run o h = (s.level, (run.0, refl))
 run_levels s (event ∷ events) effects new run o h =
     go (is_over run.0.phase) refl (λ e k. run_levels run.0 events run.2 new run.4 e k)
@@ -543,19 +543,19 @@ run_levels s (event ∷ events) effects new run o h =
     later : List Came
     later = came_in run.0 events run.2 new run.4
 
-    both : (end : Level) → HaveLevels s.limits f.next later run.2 end →
-        (end : Level) × HaveLevels s.limits s.level (came_in s (event ∷ events) effects new run) effects end
-    both end k = (
-      end,
-      subst (λ (es : List Effect). HaveLevels s.limits s.level (came_in s (event ∷ events) effects new run) es end)
+    both : (queue_final : Level) → HaveLevels s.limits f.next later run.2 queue_final →
+        (queue_final : Level) × HaveLevels s.limits s.level (came_in s (event ∷ events) effects new run) effects queue_final
+    both queue_final k = (
+      queue_final,
+      subst (λ (es : List Effect). HaveLevels s.limits s.level (came_in s (event ∷ events) effects new run) es queue_final)
           (sym run.5)
-          (levels_join s.limits (came_in_phase s.phase (cause_at s event)) later run.1 run.2 s.level f.next end f.levels
+          (levels_join s.limits (came_in_phase s.phase (cause_at s event)) later run.1 run.2 s.level f.next queue_final f.levels
           k),
     )
 
     go : (b : Bool) → is_over run.0.phase ≡ b → (is_over run.0.phase ≡ false → Ready run.0 →
-        (end : Level) × HaveLevels run.0.limits run.0.level later run.2 end) →
-        (end : Level) × HaveLevels s.limits s.level (came_in s (event ∷ events) effects new run) effects end
+        (queue_final : Level) × HaveLevels run.0.limits run.0.level later run.2 queue_final) →
+        (queue_final : Level) × HaveLevels s.limits s.level (came_in s (event ∷ events) effects new run) effects queue_final
     go true e rest = both f.next (over_levels run.0 events run.2 new run.4 s.limits f.next e)
     go false e rest =
         let ready = f.ready e in

@@ -19,27 +19,27 @@ use Rattle.daide_words.specs.Accepted.{are_accepted}
 use Rattle.daide_words.specs.Word.{grammar_words}
 use Rattle.daide_words.specs.Table.OverWords.{are_free}
 use Rattle.daide_words.proofs.AcceptedCodes.{accepted_free}
-use Rattle.daide_machine.specs.declared.phase.Phase.{Phase}
-use Rattle.daide_machine.specs.Bounds.{longest_body}
-use Rattle.daide_machine.specs.Answers.{answer_bytes}
-use Rattle.daide_machine.specs.Machine.{Limits, Sent, Effect, opening, is_dm, level_after, answer_to}
-use Rattle.daide_machine.specs.Machine.{side2_of}
-use Rattle.daide_machine.specs.Wires.{same_side, frames_to, sent_to}
-use Rattle.daide_machine.specs.Fates.{Cause, Frame, Fault, End, Timeout, Came, came_in, frames_from, IsJudged, IsFate}
-use Rattle.daide_machine.specs.Fates.{HaveFates}
-use Rattle.daide_machine.specs.Passing.{IsFrame, HasCome, IsWithinPrn, IsWithinHuh, MayBeSent, no_message, passed}
-use Rattle.daide_machine.specs.Passing.{within_prn, within_huh}
-use Rattle.daide_machine.proofs.AnswerBytes.{frame_whole}
-use Rattle.daide_machine.proofs.FateLemmas.{run_fates}
-use Rattle.daide_machine.proofs.PassingLemmas.{IsGood, AreGood, run_good, EachTo, cause_may}
+use Rattle.daide_protocol.specs.declared.phase.Phase.{Phase}
+use Rattle.daide_protocol.specs.Bounds.{longest_body}
+use Rattle.daide_protocol.specs.Answers.{answer_bytes}
+use Rattle.daide_protocol.specs.Machine.{Limits, Sent, Effect, initial_state, is_dm, level_after, reply_to}
+use Rattle.daide_protocol.specs.Machine.{side2_of}
+use Rattle.daide_protocol.specs.Wires.{same_side, frames_to, sent_to}
+use Rattle.daide_protocol.specs.Fates.{EventCause, Frame, Fault, End, Timeout, Came, came_in, frames_from, IsJudged, IsFate}
+use Rattle.daide_protocol.specs.Fates.{HaveFates}
+use Rattle.daide_protocol.specs.Passing.{IsFrame, HasCome, IsWithinPrn, IsWithinHuh, MayBeSent, no_message, passed}
+use Rattle.daide_protocol.specs.Passing.{within_prn, within_huh}
+use Rattle.daide_protocol.proofs.AnswerBytes.{frame_whole}
+use Rattle.daide_protocol.proofs.FateLemmas.{run_fates}
+use Rattle.daide_protocol.proofs.PassingLemmas.{IsGood, AreGood, run_good, EachTo, cause_may}
 use Rattle.daide_session.specs.InARow.{IsVerdictAtOneLevel, passes}
-use Rattle.daide_session.specs.Joined.{AreFirst, IsFateAtNext, HaveFatesAtNext, JoinedGatewaysOver}
+use Rattle.daide_session.specs.Joined.{AreFirst, IsFateAtNext, HaveFatesAtNext, JoinedSessionsOver}
 use Rattle.daide_session.specs.Joined.{LevelsAgreeTowardTheBotOver}
 use Rattle.daide_session.proofs.InARowLemmas.{same_frame, no_dm, prn_next, huh_next}
 use Rattle.daide_session.proofs.LevelRuns.{IsLevelled, LevelAt, HaveLevels, run_levels, ready_first}
 
 -- a message of the server came
-abbrev is_message : Cause → Bool
+abbrev is_message : EventCause → Bool
 is_message (Frame Bot noted head body) = false
 is_message (Frame Server noted head body) = is_dm head.kind
 is_message (Fault side code) = false
@@ -139,7 +139,7 @@ module _ (words : Words) (free : are_free words ≡ true) (limits : Limits) (sam
           (level, quiet_at level came frame.bytes q come (h.0 (is_bot frame.to e)), more)
       go false e more = more
 
-  quiet_cause : (level next : Level) (phase : Phase) (cause : Cause) (sent rest : List Sent) → next ≡ level →
+  quiet_cause : (level next : Level) (phase : Phase) (cause : EventCause) (sent rest : List Sent) → next ≡ level →
       is_message cause ≡ false → IsGood limits.cap cause → IsFate limits phase cause sent →
       ((noted : Level) (own : List ℕ) → HasCome (record { phase = phase; cause = cause } ∷ []) Bot noted own →
       HasCome all Bot noted own) → AreSentAt next rest → AreSentAt level (frames_to Bot sent ++ rest)
@@ -154,7 +154,7 @@ module _ (words : Words) (free : are_free words ≡ true) (limits : Limits) (sam
       IsGood limits.cap (Frame Server noted (record { kind = Dm; len = len }) body) →
       IsJudged limits Server level body v → next ≡ level_after limits.top_level Dm Server v (tokens_of body) level →
       AreSentAt next rest →
-      AreSentAt level (frames_to Bot (answer_to Server (record { kind = Dm; len = len }) body v ∷ []) ++ rest)
+      AreSentAt level (frames_to Bot (reply_to Server (record { kind = Dm; len = len }) body v ∷ []) ++ rest)
   unfolding answer_bytes
   message_sent level next noted len body Relay rest good j e later = (
     next,
@@ -190,7 +190,7 @@ module _ (words : Words) (free : are_free words ≡ true) (limits : Limits) (sam
       quiet_cause level next phase (Frame Server noted (record { kind = Em; len = len }) body) sent rest h refl good fate
       come later
 
-  cause_sent : (level next : Level) (phase : Phase) (cause : Cause) (sent rest : List Sent) →
+  cause_sent : (level next : Level) (phase : Phase) (cause : EventCause) (sent rest : List Sent) →
       LevelAt limits level cause sent next → IsGood limits.cap cause → IsFate limits phase cause sent →
       ((noted : Level) (own : List ℕ) → HasCome (record { phase = phase; cause = cause } ∷ []) Bot noted own →
       HasCome all Bot noted own) → AreSentAt next rest → AreSentAt level (frames_to Bot sent ++ rest)
@@ -205,17 +205,17 @@ module _ (words : Words) (free : are_free words ≡ true) (limits : Limits) (sam
   cause_sent level next phase Timeout sent rest h good fate come later =
       quiet_cause level next phase Timeout sent rest h refl good fate come later
 
-  all_sent : (level end : Level) (came : List Came) (effects : List Effect) → HaveLevels limits level came effects end →
+  all_sent : (level queue_final : Level) (came : List Came) (effects : List Effect) → HaveLevels limits level came effects queue_final →
       AreGood limits.cap came → HaveFates limits came effects →
       ((noted : Level) (own : List ℕ) → HasCome came Bot noted own → HasCome all Bot noted own) →
       AreSentAt level (sent_to Bot effects)
-  all_sent level end [] effects h good fates come =
+  all_sent level queue_final [] effects h good fates come =
       subst (λ (es : List Effect). AreSentAt level (sent_to Bot es)) (sym h.0) tt
-  all_sent level end (c ∷ more) [] h good fates come = absurd h
-  all_sent level end (c ∷ more) (effect ∷ effects) h good fates come =
+  all_sent level queue_final (c ∷ more) [] h good fates come = absurd h
+  all_sent level queue_final (c ∷ more) (effect ∷ effects) h good fates come =
       cause_sent level h.0 c.phase c.cause effect.sent (sent_to Bot effects) h.1 good.0 fates.0
       (λ noted own k. come noted own (first_come c more noted own k))
-      (all_sent h.0 end more effects h.2 good.1 fates.1 (λ noted own k. come noted own (inr k)))
+      (all_sent h.0 queue_final more effects h.2 good.1 fates.1 (λ noted own k. come noted own (inr k)))
     where
       first_come : (c : Came) (more : List Came) (noted : Level) (own : List ℕ) → HasCome (c ∷ []) Bot noted own →
           HasCome (c ∷ more) Bot noted own
@@ -224,19 +224,19 @@ module _ (words : Words) (free : are_free words ≡ true) (limits : Limits) (sam
 
   -- ---- what the next makes of it
 
-  abbrev IsFateHere : Cause → List Sent → Type 0
+  abbrev IsFateHere : EventCause → List Sent → Type 0
   IsFateHere cause sent = IsFateAtNext (λ (level : Level). IsVerdictAtOneLevel limits all Bot) Bot cause sent
 
   -- what is left of the frames that were sent, with the level of the next
-  abbrev GoesOn : List Came → Level → Type 0
-  GoesOn more level = (sent : List Sent) × AreFirst (frames_from Server more) sent × AreSentAt level sent
+  abbrev RefinesOn : List Came → Level → Type 0
+  RefinesOn more level = (sent : List Sent) × AreFirst (frames_from Server more) sent × AreSentAt level sent
 
   server_heard : (level next noted : Level) (kind : Kind) (len : ℕ) (body : List ℕ) (moves : List Sent)
       (more : List Came) (bytes : List ℕ) (then : Level) (sent : List Sent) →
       IsLevelled kind limits level noted (record { kind = kind; len = len }) body moves next →
       IsFrame kind body bytes → IsSentAt level bytes then → AreFirst (frames_from Server more) sent →
       AreSentAt then sent →
-      IsFateHere (Frame Server noted (record { kind = kind; len = len }) body) moves × GoesOn more next
+      IsFateHere (Frame Server noted (record { kind = kind; len = len }) body) moves × RefinesOn more next
   server_heard level next noted Dm len body moves more bytes then sent h f at first later =
       let m = at.message body h.0 f h.2 in (
         λ side kind. (h.0, m.0, h.4),
@@ -259,10 +259,10 @@ module _ (words : Words) (free : are_free words ≡ true) (limits : Limits) (sam
     (sent, first, subst (λ (l : Level). AreSentAt l sent) (at.other_kind Em body refl f ∙ sym h) later),
   )
 
-  cause_heard : (level next : Level) (phase : Phase) (cause : Cause) (moves : List Sent) (more : List Came)
+  cause_heard : (level next : Level) (phase : Phase) (cause : EventCause) (moves : List Sent) (more : List Came)
       (sent : List Sent) → LevelAt limits level cause moves next → IsGood limits.cap cause →
       AreFirst (frames_from Server (record { phase = phase; cause = cause } ∷ more)) sent → AreSentAt level sent →
-      IsFateHere cause moves × GoesOn more next
+      IsFateHere cause moves × RefinesOn more next
   cause_heard level next phase (Frame Bot noted head body) moves more sent h good first at =
       (λ side kind. absurd (cc), (sent, first, subst (λ (l : Level). AreSentAt l sent) (sym h) at))
   cause_heard level next phase (Frame Server noted head body) moves more [] h good first at = absurd first
@@ -276,23 +276,23 @@ module _ (words : Words) (free : are_free words ≡ true) (limits : Limits) (sam
   cause_heard level next phase Timeout moves more sent h good first at =
       (tt, (sent, first, subst (λ (l : Level). AreSentAt l sent) (sym h) at))
 
-  all_heard : (level end : Level) (came : List Came) (effects : List Effect) (sent : List Sent) →
-      HaveLevels limits level came effects end → AreGood limits.cap came → AreFirst (frames_from Server came) sent →
+  all_heard : (level queue_final : Level) (came : List Came) (effects : List Effect) (sent : List Sent) →
+      HaveLevels limits level came effects queue_final → AreGood limits.cap came → AreFirst (frames_from Server came) sent →
       AreSentAt level sent →
       HaveFatesAtNext (λ (l : Level). IsVerdictAtOneLevel limits all Bot) Bot came effects
-  all_heard level end [] effects sent h good first at = h.0
-  all_heard level end (c ∷ more) [] sent h good first at = absurd h
-  all_heard level end (c ∷ more) (effect ∷ effects) sent h good first at =
+  all_heard level queue_final [] effects sent h good first at = h.0
+  all_heard level queue_final (c ∷ more) [] sent h good first at = absurd h
+  all_heard level queue_final (c ∷ more) (effect ∷ effects) sent h good first at =
       let here = cause_heard level h.0 c.phase c.cause effect.sent more sent h.1 good.0 first at in
-      (here.0, all_heard h.0 end more effects here.1.0 h.2 good.1 here.1.1 here.1.2)
+      (here.0, all_heard h.0 queue_final more effects here.1.0 h.2 good.1 here.1.1 here.1.2)
 
 -- ---- two runs
 
-pub levels_agree : (words : List Word) → are_accepted words ≡ true → JoinedGatewaysOver words →
+pub levels_agree : (words : List Word) → are_accepted words ≡ true → JoinedSessionsOver words →
     LevelsAgreeTowardTheBotOver words
 levels_agree words accepted joined limits events next_events effects next_effects new next_new run next_run same small
     together =
-    let first = opening limits in
+    let first = initial_state limits in
     let one = came_in first events effects new run in
     let next = came_in first next_events next_effects next_new next_run in
     let free = accepted_free words accepted in

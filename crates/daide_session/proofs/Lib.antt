@@ -1,9 +1,9 @@
 pub mod FeedLemmas
-pub mod GatewayFronts
+pub mod SessionFronts
 pub mod HeaderAlone
-pub mod MovesLemmas
+pub mod EmitsLemmas
 pub mod OpenRuns
-pub mod ReactionLemmas
+pub mod FrameEventsLemmas
 pub mod SessionLemmas
 pub mod WeightLemmas
 pub mod WrittenLemmas

@@ -7,35 +7,35 @@ use Rattle.daide_frame.specs.declared.code.Code.{Code}
 use Rattle.daide_frame.specs.declared.head.Head.{Head}
 use Rattle.daide_frame.specs.Head.{is_im}
 use Rattle.daide_frame.specs.InitialMessage.{im_of}
-use Rattle.daide_frame.specs.Frames.{Item, Begun, Whole, Wrong, last_items}
+use Rattle.daide_frame.specs.Frames.{FrameEvent, Begun, Whole, Wrong, last_items}
 use Rattle.daide_reader.specs.declared.verdict.Verdict.{Verdict}
-use Rattle.daide_machine.specs.declared.phase.Phase.{Phase}
-use Rattle.daide_machine.specs.declared.phase.Phase.TheVariants.{WaitIm, WaitRm, Open, Over}
-use Rattle.daide_machine.specs.Events.{Event, Comes, Ends, Loses, TimerExpires}
-use Rattle.daide_machine.specs.Machine.{Sent, Effect, Outcome, SessionState, Transition, Runs, coming, with_pending, is_over}
-use Rattle.daide_machine.specs.Machine.{begun, untimely, answered, im_answered, destination, is_sent}
-use Rattle.daide_machine.specs.Machine.{answer_to, item_outcome, items_outcome, popped, event_outcome}
-use Rattle.daide_machine.specs.Wires.{same_side, sent_to}
-use Rattle.daide_machine.proofs.WireLemmas.{sent_to-append}
-use Rattle.daide_machine.proofs.FramesHeard.{not_both, over_for_good, ended, lost}
-use Rattle.daide_traffic.specs.Traffic.{is_end, has_end}
+use Rattle.daide_protocol.specs.declared.phase.Phase.{Phase}
+use Rattle.daide_protocol.specs.declared.phase.Phase.TheVariants.{WaitIm, WaitRm, Open, Over}
+use Rattle.daide_protocol.specs.Events.{Event, Comes, Ends, Loses, ImTimerExpired}
+use Rattle.daide_protocol.specs.Machine.{Sent, Effect, Successor, SessionState, Transition, Runs, coming, with_pending, is_over}
+use Rattle.daide_protocol.specs.Machine.{header_outcome, untimely, answered, im_answered, destination, is_sent}
+use Rattle.daide_protocol.specs.Machine.{reply_to, item_outcome, items_outcome, im_timer_expired, event_outcome}
+use Rattle.daide_protocol.specs.Wires.{same_side, sent_to}
+use Rattle.daide_protocol.proofs.WireLemmas.{sent_to-append}
+use Rattle.daide_protocol.proofs.FramesHeard.{not_both, over_for_good, ended, lost}
+use Rattle.daide_channels.specs.Channels.{is_final_frame, has_final_frame}
 
 -- for neither wire is an end among what moves send
 abbrev pub NoEnd : List Effect → Type 0
-NoEnd effects = (wire : Side) → has_end (sent_to wire effects) ≡ false
+NoEnd effects = (wire : Side) → has_final_frame (sent_to wire effects) ≡ false
 
-pub has_end-append : (a b : List Sent) → has_end a ≡ false → has_end b ≡ false → has_end (a ++ b) ≡ false
-has_end-append [] b e f = f
-has_end-append (x ∷ a) b e f = both (is_end x.answers) (has_end a) e (λ q. has_end-append a b q f)
+pub has_final_frame-append : (a b : List Sent) → has_final_frame a ≡ false → has_final_frame b ≡ false → has_final_frame (a ++ b) ≡ false
+has_final_frame-append [] b e f = f
+has_final_frame-append (x ∷ a) b e f = both (is_final_frame x.answers) (has_final_frame a) e (λ q. has_final_frame-append a b q f)
   where
-    both : (c d : Bool) → (c || d) ≡ false → (d ≡ false → has_end (a ++ b) ≡ false) → (c || has_end (a ++ b)) ≡ false
+    both : (c d : Bool) → (c || d) ≡ false → (d ≡ false → has_final_frame (a ++ b) ≡ false) → (c || has_final_frame (a ++ b)) ≡ false
     both true d p later = absurd (cc)
     both false d p later = later p
 
 -- ---- one item
 
-begun_sends : (s : SessionState) (side : Side) (code : Option Code) → is_over (begun s side code).state.phase ≡ false →
-    NoEnd (begun s side code).effects
+begun_sends : (s : SessionState) (side : Side) (code : Option Code) → is_over (header_outcome s side code).state.phase ≡ false →
+    NoEnd (header_outcome s side code).effects
 begun_sends s side None o wire = refl
 begun_sends s side (Some code) o wire = absurd (cc)
 
@@ -47,10 +47,10 @@ answered_sends s side head body v wire = go (is_sent s.phase head.kind to) refl
     to = destination side v
 
     go : (b : Bool) → is_sent s.phase head.kind to ≡ b →
-        has_end (sent_to wire (answered s side head body v).effects) ≡ false
+        has_final_frame (sent_to wire (answered s side head body v).effects) ≡ false
     go true e = rw e (for_wire (same_side to wire))
       where
-        for_wire : (b : Bool) → has_end (cond b (answer_to side head body v ∷ []) [] ++ []) ≡ false
+        for_wire : (b : Bool) → has_final_frame (cond b (reply_to side head body v ∷ []) [] ++ []) ≡ false
         for_wire true = refl
         for_wire false = refl
     go false e = rw e refl
@@ -68,7 +68,7 @@ whole_sends : (s : SessionState) (side : Side) (head : Head) (body : List ℕ) (
 whole_sends s side head body v true o = checked_sends s side head body v (im_of body) o
 whole_sends s side head body v false o = answered_sends s side head body v
 
-item_sends : (s : SessionState) (side : Side) (item : Item) (v : Verdict) →
+item_sends : (s : SessionState) (side : Side) (item : FrameEvent) (v : Verdict) →
     is_over (item_outcome s side item v).state.phase ≡ false → NoEnd (item_outcome s side item v).effects
 item_sends s side (Begun head) v o = begun_sends s side (untimely s.phase side head.kind) o
 item_sends s side (Whole head body) v o = whole_sends s side head body v (is_im head.kind) o
@@ -76,7 +76,7 @@ item_sends s side (Wrong code) v o = absurd (cc)
 
 -- ---- items
 
-items_send : (s : SessionState) (side : Side) (items : List Item) (v : Verdict) →
+items_send : (s : SessionState) (side : Side) (items : List FrameEvent) (v : Verdict) →
     is_over (items_outcome s side items v).state.phase ≡ false → NoEnd (items_outcome s side items v).effects
 items_send s side [] v o = λ wire. refl
 items_send s side (item ∷ items) v o = go (is_over s.phase) refl (items_send first side items v)
@@ -84,14 +84,14 @@ items_send s side (item ∷ items) v o = go (is_over s.phase) refl (items_send f
     first : SessionState
     first = (item_outcome s side item v).state
 
-    last : Outcome
+    last : Successor
     last = items_outcome first side items v
 
     same : is_over s.phase ≡ false → items_outcome s side (item ∷ items) v
         ≡ record { state = last.state; effects = (item_outcome s side item v).effects ++ last.effects }
     same e = rw e refl
 
-    stays : (items : List Item) → is_over first.phase ≡ true → (items_outcome first side items v).state ≡ first
+    stays : (items : List FrameEvent) → is_over first.phase ≡ true → (items_outcome first side items v).state ≡ first
     stays [] e = refl
     stays (item ∷ items) e = rw e refl
 
@@ -100,10 +100,10 @@ items_send s side (item ∷ items) v o = go (is_over s.phase) refl (items_send f
     go true e later wire = rw e refl
     go false e later wire =
         let live : is_over last.state.phase ≡ false =
-        ap (λ (x : Outcome). is_over x.state.phase) (sym (same e)) ∙ o in
+        ap (λ (x : Successor). is_over x.state.phase) (sym (same e)) ∙ o in
         let open_first : is_over first.phase ≡ false = not_over (is_over first.phase) refl live in
         rw (same e, sent_to-append wire (item_outcome s side item v).effects last.effects)
-        (has_end-append (sent_to wire (item_outcome s side item v).effects) (sent_to wire last.effects)
+        (has_final_frame-append (sent_to wire (item_outcome s side item v).effects) (sent_to wire last.effects)
         (item_sends s side item v open_first wire) (later live wire))
       where
         not_over : (b : Bool) → is_over first.phase ≡ b → is_over last.state.phase ≡ false →
@@ -121,17 +121,17 @@ step_sends s (Comes side x) effects m t o p =
     let made = items_outcome (with_pending s side bytes) side (last_items s.limits.cap bytes) t.verdict in
     let comes : event_outcome s (Comes side x) t.verdict ≡ made = rw o refl in
     let came : made ≡ record { state = m; effects = effects } = sym comes ∙ t.outcome in
-    let live = ap (λ (q : Outcome). is_over q.state.phase) came ∙ p in
-    subst NoEnd (ap (λ (q : Outcome). q.effects) came)
+    let live = ap (λ (q : Successor). is_over q.state.phase) came ∙ p in
+    subst NoEnd (ap (λ (q : Successor). q.effects) came)
     (items_send (with_pending s side bytes) side (last_items s.limits.cap bytes) t.verdict live)
 step_sends s (Ends side) effects m t o p = absurd (not_both (is_over m.phase) (ended s side effects m t o) p)
 step_sends s (Loses side) effects m t o p = absurd (not_both (is_over m.phase) (lost s side effects m t o) p)
-step_sends s TimerExpires effects m t o p =
-    subst NoEnd (ap (λ (q : Outcome). q.effects) t.outcome)
-    (timer s.phase s (ap (λ (q : Outcome). is_over q.state.phase) t.outcome ∙ p))
+step_sends s ImTimerExpired effects m t o p =
+    subst NoEnd (ap (λ (q : Successor). q.effects) t.outcome)
+    (timer s.phase s (ap (λ (q : Successor). is_over q.state.phase) t.outcome ∙ p))
   where
-    timer : (phase : Phase) (s : SessionState) → is_over (popped phase s).state.phase ≡ false →
-        NoEnd (popped phase s).effects
+    timer : (phase : Phase) (s : SessionState) → is_over (im_timer_expired phase s).state.phase ≡ false →
+        NoEnd (im_timer_expired phase s).effects
     timer WaitIm s q wire = absurd (cc)
     timer WaitRm s q wire = refl
     timer Open s q wire = refl
@@ -148,5 +148,5 @@ run_sends s (e ∷ events) effects new run p = go (is_over s.phase) refl (is_ove
     go false o true q later = absurd (not_both (is_over new.phase) (over_for_good run.0 events run.2 new run.4 q) p)
     go false o false q later = λ wire.
         rw (run.5, sent_to-append wire run.1 run.2)
-        (has_end-append (sent_to wire run.1) (sent_to wire run.2) (step_sends s e run.1 run.0 run.3 o q wire)
+        (has_final_frame-append (sent_to wire run.1) (sent_to wire run.2) (step_sends s e run.1 run.0 run.3 o q wire)
         (later wire))

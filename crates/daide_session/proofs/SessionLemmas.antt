@@ -12,36 +12,36 @@ use Rattle.daide_grammar.specs.declared.level.Level.{Level}
 use Rattle.daide_grammar.specs.declared.level.Level.TheVariants.{L0}
 use Rattle.daide_grammar.specs.Level.{level_of_number}
 use Rattle.daide_reader.specs.declared.verdict.Verdict.TheVariants.{Relay}
-use Rattle.daide_machine.specs.declared.note.Note.{Note}
-use Rattle.daide_machine.specs.declared.note.Note.TheVariants as Notes
-use Rattle.daide_machine.specs.declared.phase.Phase.TheVariants.{WaitIm}
-use Rattle.daide_machine.specs.Events.{Event, TimerExpires, other}
-use Rattle.daide_machine.specs.Machine.{Sent, Outcome, SessionState, Question, Runs, IsRight, question, coming}
-use Rattle.daide_machine.specs.Machine.{is_over, fault, popped, event_outcome, opening}
-use Rattle.daide_machine.specs.Wires.{SessionView, waiting, sent_to, note_of, without, IsNew, Goes, Wrote}
-use Rattle.daide_machine.proofs.FramesHeard.{not_both, over_for_good, run_waits}
-use Rattle.daide_machine.proofs.EndingLemmas.{IsTold, runs_told}
-use Rattle.daide_machine.specs.declared.ending.Ending.{Ending}
-use Rattle.daide_machine.specs.declared.summary.Summary.{Summary}
-use Rattle.daide_machine.specs.Summary.{nothing_counted}
-use Rattle.daide_session.specs.declared.stage.Stage.{Stage}
-use Rattle.daide_machine.specs.declared.config.Config.{Config}
+use Rattle.daide_protocol.specs.declared.note.Note.{Note}
+use Rattle.daide_protocol.specs.declared.note.Note.TheVariants as Notes
+use Rattle.daide_protocol.specs.declared.phase.Phase.TheVariants.{WaitIm}
+use Rattle.daide_protocol.specs.Events.{Event, ImTimerExpired, other}
+use Rattle.daide_protocol.specs.Machine.{Sent, Successor, SessionState, Question, Runs, IsCorrectVerdict, question, coming}
+use Rattle.daide_protocol.specs.Machine.{is_over, fault, im_timer_expired, event_outcome, initial_state}
+use Rattle.daide_protocol.specs.Wires.{SessionView, queued, sent_to, note_of, without, IsNew, Refines, Wrote}
+use Rattle.daide_protocol.proofs.FramesHeard.{not_both, over_for_good, run_waits}
+use Rattle.daide_protocol.proofs.EndingLemmas.{IsTold, runs_reported}
+use Rattle.daide_protocol.specs.declared.ending.Ending.{Ending}
+use Rattle.daide_protocol.specs.declared.summary.Summary.{Summary}
+use Rattle.daide_protocol.specs.Summary.{nothing_counted}
+use Rattle.daide_session.specs.declared.protocol_state.ProtocolState.{ProtocolState}
+use Rattle.daide_protocol.specs.declared.config.Config.{Config}
 use Rattle.daide_words.specs.declared.word.Word.{Word}
 use Rattle.daide_words.specs.Word.{grammar_words}
-use Rattle.daide_traffic.specs.Inbound.{Rules}
-use Rattle.daide_traffic.specs.Traffic.{Traffic, IsQuiet, is_end, has_end}
-use Rattle.daide_machine.specs.Config.{limits_with}
-use Rattle.daide_session.specs.Session.{IsStanding, state_of, gateway_of, Dropped}
-use Rattle.daide_session.specs.Reaction.{Moves, stopped}
-use Rattle.daide_session.proofs.MovesLemmas.{waiting_at}
-use Rattle.daide_session.proofs.OpenRuns.{run_sends, has_end-append}
+use Rattle.daide_channels.specs.Receiver.{ReaderLimits}
+use Rattle.daide_channels.specs.Channels.{Channels, IsQuiet, is_final_frame, has_final_frame}
+use Rattle.daide_protocol.specs.Config.{limits_with}
+use Rattle.daide_session.specs.Session.{IsConsistentSession, state_of, view_of, Dropped}
+use Rattle.daide_session.specs.FrameEvents.{Emits, stopped}
+use Rattle.daide_session.proofs.EmitsLemmas.{waiting_at}
+use Rattle.daide_session.proofs.OpenRuns.{run_sends, has_final_frame-append}
 
 -- ---- one event
 
-one_event : (s : SessionState) (e : Event) (o : Outcome) → question s e ≡ None → event_outcome s e Relay ≡ o →
+one_event : (s : SessionState) (e : Event) (o : Successor) → question s e ≡ None → event_outcome s e Relay ≡ o →
     Runs s (e ∷ []) o.effects o.state
 one_event s e o q h =
-    let right = subst (λ (x : Option Question). IsRight s.limits.words s.limits.max_depth x Relay) (sym q) refl in (
+    let right = subst (λ (x : Option Question). IsCorrectVerdict s.limits.words s.limits.max_depth x Relay) (sym q) refl in (
       o.state,
       o.effects,
       [],
@@ -51,9 +51,9 @@ one_event s e o q h =
     )
 
 -- what one event makes of a session
-pub goes_event : (g n : SessionView) (e : Event) (o : Outcome) (told : Note) → question g.state e ≡ None →
-    event_outcome g.state e Relay ≡ o → Moves g o n → told ≡ note_of o.effects → Goes g (e ∷ []) told n
-goes_event g n e o told q h m t = record {
+pub goes_event : (g n : SessionView) (e : Event) (o : Successor) (reported : Note) → question g.state e ≡ None →
+    event_outcome g.state e Relay ≡ o → Emits g o n → reported ≡ note_of o.effects → Refines g (e ∷ []) reported n
+goes_event g n e o reported q h m t = record {
   effects = o.effects;
   run = subst (λ (s : SessionState). Runs g.state (e ∷ []) o.effects s) (sym m.state) (one_event g.state e o q h);
   kept = m.sent;
@@ -78,23 +78,23 @@ stopped_over s ending side = go (is_over s.phase) refl
     go false e = rw e refl
 
 -- the timer, in the phase that waits for the IM
-pub goes_popped : (g n : SessionView) (told : Note) → g.state.phase ≡ WaitIm → Moves g (fault g.state Bot ImTimeout) n →
-    told ≡ Notes.Fault ImTimeout → Goes g (TimerExpires ∷ []) told n
-goes_popped g n told waits m t =
-    let same : fault g.state Bot ImTimeout ≡ popped g.state.phase g.state = rw waits refl in
-    goes_event g n TimerExpires (popped g.state.phase g.state) told refl refl
-    (subst (λ (o : Outcome). Moves g o n) same m)
-    (t ∙ ap (λ (o : Outcome). note_of o.effects) same)
+pub goes_im_timer_expired : (g n : SessionView) (reported : Note) → g.state.phase ≡ WaitIm → Emits g (fault g.state Bot ImTimeout) n →
+    reported ≡ Notes.Fault ImTimeout → Refines g (ImTimerExpired ∷ []) reported n
+goes_im_timer_expired g n reported waits m t =
+    let same : fault g.state Bot ImTimeout ≡ im_timer_expired g.state.phase g.state = rw waits refl in
+    goes_event g n ImTimerExpired (im_timer_expired g.state.phase g.state) reported refl refl
+    (subst (λ (o : Successor). Emits g o n) same m)
+    (t ∙ ap (λ (o : Successor). note_of o.effects) same)
 
 -- ---- what holds between calls
 
-pub standing_on : (g n : SessionView) (events : List Event) (told : Note) → Goes g events told n → IsStanding g →
-    IsStanding n
-standing_on g n events told goes standing = record {
+pub standing_on : (g n : SessionView) (events : List Event) (reported : Note) → Refines g events reported n → IsConsistentSession g →
+    IsConsistentSession n
+standing_on g n events reported goes standing = record {
   wanted = λ live. run_waits g.state events goes.effects n.state goes.run live (standing.wanted (before live));
-  no_end = λ live wire. rw (goes.kept wire) (has_end-append (waiting g wire) (sent_to wire goes.effects)
+  no_end = λ live wire. rw (goes.kept wire) (has_final_frame-append (queued g wire) (sent_to wire goes.effects)
       (standing.no_end (before live) wire) (run_sends g.state events goes.effects n.state goes.run live wire));
-  ending = runs_told g.state events goes.effects n.state goes.run standing.ending;
+  ending = runs_reported g.state events goes.effects n.state goes.run standing.ending;
 }
   where
     before : is_over n.state.phase ≡ false → is_over g.state.phase ≡ false
@@ -105,26 +105,26 @@ standing_on g n events told goes standing = record {
         go true e = absurd (not_both (is_over n.state.phase)
             (over_for_good g.state events goes.effects n.state goes.run e) live)
 
-pub standing_over : (g : SessionView) → is_over g.state.phase ≡ true → IsTold g.state → IsStanding g
-standing_over g over told = record {
+pub standing_over : (g : SessionView) → is_over g.state.phase ≡ true → IsTold g.state → IsConsistentSession g
+standing_over g over reported = record {
   wanted = λ live. absurd (not_both (is_over g.state.phase) over live);
   no_end = λ live. absurd (not_both (is_over g.state.phase) over live);
-  ending = told;
+  ending = reported;
 }
 
-has_end-without : (n : ℕ) (xs : List Sent) → has_end xs ≡ false → has_end (without n xs) ≡ false
-has_end-without n [] e = e
-has_end-without n (x ∷ xs) e = go (nat_lt n (length x.bytes)) refl
+has_final_frame-without : (n : ℕ) (xs : List Sent) → has_final_frame xs ≡ false → has_final_frame (without n xs) ≡ false
+has_final_frame-without n [] e = e
+has_final_frame-without n (x ∷ xs) e = go (nat_lt n (length x.bytes)) refl
   where
     both : (b c : Bool) → (b || c) ≡ false → c ≡ false
     both true c e = absurd (cc)
     both false c e = e
 
-    go : (b : Bool) → nat_lt n (length x.bytes) ≡ b → has_end (without n (x ∷ xs)) ≡ false
+    go : (b : Bool) → nat_lt n (length x.bytes) ≡ b → has_final_frame (without n (x ∷ xs)) ≡ false
     go true t = rw t e
-    go false t = rw t (both (is_end x.answers) (has_end xs) e)
+    go false t = rw t (both (is_final_frame x.answers) (has_final_frame xs) e)
 
-pub standing_wrote : (g n : SessionView) (side : Side) (k : ℕ) → Wrote g side k n → IsStanding g → IsStanding n
+pub standing_wrote : (g n : SessionView) (side : Side) (k : ℕ) → Wrote g side k n → IsConsistentSession g → IsConsistentSession n
 standing_wrote g n side k w standing = record {
   wanted = λ live. rw w.same_state (standing.wanted (before live));
   no_end = λ live wire. by_wire side wire w.taken w.other_wire (standing.no_end (before live));
@@ -134,15 +134,15 @@ standing_wrote g n side k w standing = record {
     before : is_over n.state.phase ≡ false → is_over g.state.phase ≡ false
     before live = ap (λ (s : SessionState). is_over s.phase) (sym w.same_state) ∙ live
 
-    by_wire : (side wire : Side) → waiting n side ≡ without k (waiting g side) →
-        waiting n (other side) ≡ waiting g (other side) → ((one : Side) → has_end (waiting g one) ≡ false) →
-        has_end (waiting n wire) ≡ false
-    by_wire Bot Bot e f h = rw e (has_end-without k (waiting g Bot) (h Bot))
+    by_wire : (side wire : Side) → queued n side ≡ without k (queued g side) →
+        queued n (other side) ≡ queued g (other side) → ((one : Side) → has_final_frame (queued g one) ≡ false) →
+        has_final_frame (queued n wire) ≡ false
+    by_wire Bot Bot e f h = rw e (has_final_frame-without k (queued g Bot) (h Bot))
     by_wire Bot Server e f h = rw f (h Server)
     by_wire Server Bot e f h = rw f (h Bot)
-    by_wire Server Server e f h = rw e (has_end-without k (waiting g Server) (h Server))
+    by_wire Server Server e f h = rw e (has_final_frame-without k (queued g Server) (h Server))
 
-pub standing_dropped : (g n : SessionView) (side : Side) → Dropped g side n → IsStanding g → IsStanding n
+pub standing_dropped : (g n : SessionView) (side : Side) → Dropped g side n → IsConsistentSession g → IsConsistentSession n
 standing_dropped g n side d standing = record {
   wanted = λ live. rw d.same_state (standing.wanted (before live));
   no_end = λ live wire. by_wire side wire d.dropped d.other_wire (standing.no_end (before live));
@@ -152,9 +152,9 @@ standing_dropped g n side d standing = record {
     before : is_over n.state.phase ≡ false → is_over g.state.phase ≡ false
     before live = ap (λ (s : SessionState). is_over s.phase) (sym d.same_state) ∙ live
 
-    by_wire : (side wire : Side) → waiting n side ≡ [] →
-        waiting n (other side) ≡ waiting g (other side) → ((one : Side) → has_end (waiting g one) ≡ false) →
-        has_end (waiting n wire) ≡ false
+    by_wire : (side wire : Side) → queued n side ≡ [] →
+        queued n (other side) ≡ queued g (other side) → ((one : Side) → has_final_frame (queued g one) ≡ false) →
+        has_final_frame (queued n wire) ≡ false
     by_wire Bot Bot e f h = rw e refl
     by_wire Bot Server e f h = rw f (h Server)
     by_wire Server Bot e f h = rw f (h Bot)
@@ -163,49 +163,49 @@ standing_dropped g n side d standing = record {
 -- ---- a new session
 
 -- nothing came, and nothing is counted
-abbrev new_stage : Level → Summary → Stage
-new_stage level counts =
+abbrev new_protocol : Level → Summary → ProtocolState
+new_protocol level counts =
     record { top_level = level; phase = WaitIm; level = L0; ending = None; summary = counts }
 
-quiet_state : (cap : ℕ) (rules : Rules) (t : Traffic) (level : Level) (counts : Summary) → IsQuiet cap rules t →
-    state_of t (new_stage level counts)
-    ≡ opening (record { cap = cap; top_level = level; max_depth = rules.max_depth; words = rules.words })
+quiet_state : (cap : ℕ) (rules : ReaderLimits) (t : Channels) (level : Level) (counts : Summary) → IsQuiet cap rules t →
+    state_of t (new_protocol level counts)
+    ≡ initial_state (record { cap = cap; top_level = level; max_depth = rules.max_depth; words = rules.words })
 quiet_state cap rules t level counts q = rw (q.cap_set, q.rules_set, q.coming Bot, q.coming Server) refl
 
 -- by what a session of this configuration judges
-abbrev rules_with : Config → List Word → Rules
+abbrev rules_with : Config → List Word → ReaderLimits
 rules_with config words = record { max_depth = config.max_depth; words = grammar_words words }
 
-pub new_of : (config : Config) (words : List Word) (t : Traffic) (level : Level) (counts : Summary) →
+pub new_of : (config : Config) (words : List Word) (t : Channels) (level : Level) (counts : Summary) →
     IsQuiet config.max_body (rules_with config words) t → level ≡ unwrap_or (level_of_number config.top_level) L0 →
-    counts ≡ nothing_counted → IsNew (limits_with config words) (gateway_of t (new_stage level counts))
+    counts ≡ nothing_counted → IsNew (limits_with config words) (view_of t (new_protocol level counts))
 new_of config words t level counts q e none = record {
   state = quiet_state config.max_body (rules_with config words) t level counts q
-      ∙ ap (λ (l : Level). opening
+      ∙ ap (λ (l : Level). initial_state
       (record {
         cap = config.max_body;
         top_level = l;
         max_depth = config.max_depth;
         words = grammar_words words;
       })) e;
-  to_bot = q.waiting Bot;
-  to_server = q.waiting Server;
+  to_bot = q.queued Bot;
+  to_server = q.queued Server;
   held = (q.held Bot, q.held Server);
   unasked = (q.unasked Bot, q.unasked Server);
   unlooked = (q.unlooked Bot, q.unlooked Server);
   uncounted = none;
 }
 
-pub standing_new : (cap : ℕ) (rules : Rules) (t : Traffic) (level : Level) (counts : Summary) → IsQuiet cap rules t →
-    IsStanding (gateway_of t (new_stage level counts))
+pub standing_new : (cap : ℕ) (rules : ReaderLimits) (t : Channels) (level : Level) (counts : Summary) → IsQuiet cap rules t →
+    IsConsistentSession (view_of t (new_protocol level counts))
 standing_new cap rules t level counts q = record {
   wanted = λ live side. subst (λ (s : SessionState). 0 < missing s.limits.cap (coming s side).pending)
       (sym (quiet_state cap rules t level counts q)) (by_side side);
-  no_end = λ live wire. ap has_end (waiting_at t (new_stage level counts) wire ∙ q.waiting wire);
+  no_end = λ live wire. ap has_final_frame (waiting_at t (new_protocol level counts) wire ∙ q.queued wire);
   ending = refl;
 }
   where
-    by_side : (side : Side) → 0 < missing cap (coming (opening
+    by_side : (side : Side) → 0 < missing cap (coming (initial_state
         (record { cap = cap; top_level = level; max_depth = rules.max_depth; words = rules.words })) side).pending
     by_side Bot = omega (arith, missing-short cap [] (omega arith))
     by_side Server = omega (arith, missing-short cap [] (omega arith))

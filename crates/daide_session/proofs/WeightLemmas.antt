@@ -8,15 +8,15 @@ use Rattle.daide_frame.specs.declared.side.Side.{Side}
 use Rattle.daide_frame.specs.declared.side.Side.TheVariants.{Bot, Server}
 use Rattle.daide_frame.specs.Frames.{announced, head_in}
 use Rattle.daide_grammar.specs.Paired.{begins_with_prn}
-use Rattle.daide_grammar.specs.Depth.{open_brackets, closes_early, bras}
+use Rattle.daide_grammar.specs.Depth.{open_brackets, has_unmatched_ket, bras}
 use Rattle.daide_reader.proofs.BodyLemmas.{tokens_of-length}
-use Rattle.daide_machine.specs.Wires.{Holding, waiting, is_awaited, is_dm_head}
-use Rattle.daide_machine.specs.Weight.{tokens_held, direction_bound, weight_of, weight_bound, steps_bound, IsTied}
-use Rattle.daide_session.specs.declared.stage.Stage.{Stage}
-use Rattle.daide_traffic.specs.Both.{at}
-use Rattle.daide_traffic.specs.Traffic.{Traffic, pending}
-use Rattle.daide_session.specs.Session.{gateway_of}
-use Rattle.daide_session.proofs.ReactionLemmas.{holding_at}
+use Rattle.daide_protocol.specs.Wires.{Holding, queued, is_awaited, is_dm_head}
+use Rattle.daide_protocol.specs.Weight.{tokens_held, direction_bound, weight_of, weight_bound, steps_bound, IsTied}
+use Rattle.daide_session.specs.declared.protocol_state.ProtocolState.{ProtocolState}
+use Rattle.daide_channels.specs.PerSide.{at}
+use Rattle.daide_channels.specs.Channels.{Channels, pending}
+use Rattle.daide_session.specs.Session.{view_of}
+use Rattle.daide_session.proofs.FrameEventsLemmas.{holding_at}
 
 -- ---- the open brackets of a message that is held
 
@@ -24,9 +24,9 @@ bras_few : (p : List ℕ) → bras p ≤ length p
 bras_few p = count_by-le-length (λ t. t == bra) p
 
 open_few : (p : List ℕ) → open_brackets p ≤ length p
-open_few p = go (begins_with_prn p || closes_early p) refl
+open_few p = go (begins_with_prn p || has_unmatched_ket p) refl
   where
-    go : (b : Bool) → (begins_with_prn p || closes_early p) ≡ b → open_brackets p ≤ length p
+    go : (b : Bool) → (begins_with_prn p || has_unmatched_ket p) ≡ b → open_brackets p ≤ length p
     go true e = rw e (omega arith)
     go false e = rw e (let few = bras_few p in omega (arith, few))
 
@@ -63,36 +63,36 @@ light limit held body entries same within capped short few =
 
 -- ---- the weight
 
-pub weight_is : (t : Traffic) (s : Stage) (x y : List ℕ) (a b k l : ℕ) →
+pub weight_is : (t : Channels) (s : ProtocolState) (x y : List ℕ) (a b k l : ℕ) →
     x ≡ drop 4 t.sides.bot.holding.held → a ≡ t.sides.bot.holding.entries →
     y ≡ drop 4 t.sides.server.holding.held → b ≡ t.sides.server.holding.entries →
-    k ≡ length t.waiting.bot → l ≡ length t.waiting.server →
-    length x + a + (length y + b) + (k + l) ≡ weight_of (gateway_of t s)
+    k ≡ length t.queued.bot → l ≡ length t.queued.server →
+    length x + a + (length y + b) + (k + l) ≡ weight_of (view_of t s)
 unfolding weight_of
 weight_is t s x y a b k l ex ea ey eb ek el = rw (ex, ea, ey, eb, ek, el) refl
 
-pub weight_few : (t : Traffic) (s : Stage) (a b c d k l : ℕ) → a + b ≤ direction_bound t.cap t.sides.bot.holding.held →
+pub weight_few : (t : Channels) (s : ProtocolState) (a b c d k l : ℕ) → a + b ≤ direction_bound t.cap t.sides.bot.holding.held →
     c + d ≤ direction_bound t.cap t.sides.server.holding.held → k ≤ 3 → l ≤ 3 →
-    a + b + (c + d) + (k + l) ≤ weight_bound (gateway_of t s)
+    a + b + (c + d) + (k + l) ≤ weight_bound (view_of t s)
 unfolding weight_bound
 weight_few t s a b c d k l x y m n = omega (arith, x, y, m, n)
 
 -- what is held of a side that waits for no answer, as both its calls tell it
-pub tied_by : (t : Traffic) (s : Stage) →
-    (is_awaited (at t.waiting) Bot ≡ false → t.sides.bot.holding.held ≡ pending t Bot) →
-    (is_awaited (at t.waiting) Server ≡ false → t.sides.server.holding.held ≡ pending t Server) →
-    IsTied (gateway_of t s)
+pub tied_by : (t : Channels) (s : ProtocolState) →
+    (is_awaited (at t.queued) Bot ≡ false → t.sides.bot.holding.held ≡ pending t Bot) →
+    (is_awaited (at t.queued) Server ≡ false → t.sides.server.holding.held ≡ pending t Server) →
+    IsTied (view_of t s)
 tied_by t s bot server Bot free = bot free
 tied_by t s bot server Server free = server free
 
 -- ---- the steps
 
-pub steps_few : (t : Traffic) (s : Stage) (side : Side) (steps : ℕ) →
-    steps ≤ 4 * length (tokens_held t.cap (at t.sides side).holding.held) + cond (is_awaited (at t.waiting) side) 4 0 →
-    steps ≤ steps_bound (gateway_of t s) side
+pub steps_few : (t : Channels) (s : ProtocolState) (side : Side) (steps : ℕ) →
+    steps ≤ 4 * length (tokens_held t.cap (at t.sides side).holding.held) + cond (is_awaited (at t.queued) side) 4 0 →
+    steps ≤ steps_bound (view_of t s) side
 steps_few t s side steps few =
     subst (λ (h : Holding).
-    steps ≤ 4 * length (tokens_held t.cap h.held) + cond (is_awaited (waiting (gateway_of t s)) side) 4 0)
+    steps ≤ 4 * length (tokens_held t.cap h.held) + cond (is_awaited (queued (view_of t s)) side) 4 0)
     (sym (holding_at t s side)) few
 
 -- what holds of each side

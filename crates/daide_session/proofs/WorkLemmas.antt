@@ -14,17 +14,17 @@ use Rattle.daide_frame.proofs.FramesLemmas.{head_in-short}
 use Rattle.daide_reader.specs.Reading.{IsRaised}
 use Rattle.daide_reader.proofs.BodyLemmas.{tokens_of-length}
 use Rattle.daide_reader.proofs.ReadingLemmas.{raised_none}
-use Rattle.daide_machine.specs.declared.note.Deed.TheVariants as Deeds
-use Rattle.daide_machine.specs.declared.note.Note.{Note}
-use Rattle.daide_machine.specs.declared.note.Note.TheVariants as Notes
-use Rattle.daide_machine.specs.Machine.{Limits}
-use Rattle.daide_machine.specs.Weight.{tokens_held}
-use Rattle.daide_machine.specs.Wires.{AsksNothing, SessionView, Holding, HoldsTheSame, holding, held_after, is_dm_head}
-use Rattle.daide_traffic.specs.Inbound.{tokens_ended}
-use Rattle.daide_traffic.proofs.InboundLemmas.{Grows, all_held, below_four, fed_grows, head_in-more, no_dm_before}
-use Rattle.daide_traffic.proofs.InboundLemmas.{none_held, not_below_four}
+use Rattle.daide_protocol.specs.declared.note.Deed.TheVariants as Deeds
+use Rattle.daide_protocol.specs.declared.note.Note.{Note}
+use Rattle.daide_protocol.specs.declared.note.Note.TheVariants as Notes
+use Rattle.daide_protocol.specs.Machine.{Limits}
+use Rattle.daide_protocol.specs.Weight.{tokens_held}
+use Rattle.daide_protocol.specs.Wires.{AsksNothing, SessionView, Holding, HoldsTheSame, holding, held_after, is_dm_head}
+use Rattle.daide_channels.specs.Receiver.{tokens_ended}
+use Rattle.daide_channels.proofs.ReceiverLemmas.{Grows, all_held, below_four, fed_grows, head_in-more, no_dm_before}
+use Rattle.daide_channels.proofs.ReceiverLemmas.{none_held, not_below_four}
 use Rattle.daide_session.specs.Work.{is_whole_message, answers_for, left_of, unspent, IsPaidBy, HoldsNoMore}
-use Rattle.daide_session.specs.Reaction.{Asks}
+use Rattle.daide_session.specs.FrameEvents.{Asks}
 
 -- ---- nothing is asked
 
@@ -144,9 +144,9 @@ piece_paid cap b piece e wanted few = by_test (is_dm_head (head_in cap now)) ref
     by_test false q =
         let before = no_dm_before cap b g.more (ap (λ (x : List ℕ). is_dm_head (head_in cap x)) (sym g.longer) ∙ q) in
         let none : length (tokens_held cap now) ≡ 0 = ap length (none_held cap now q) in
-        let end : at_end cap now ≡ 0 = rw q refl in
+        let queue_final : at_end cap now ≡ 0 = rw q refl in
         let free = no_answers cap b before in
-        omega (arith, few, longer, no_longer, ended, left_now, left_before, none, end, free)
+        omega (arith, few, longer, no_longer, ended, left_now, left_before, none, queue_final, free)
     by_test true q = by_header (nat_lt (length b) 4) refl
       where
         tokens : length (tokens_held cap now) ≡ (length now - 4) / 2

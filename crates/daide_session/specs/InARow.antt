@@ -13,12 +13,12 @@ use Rattle.daide_reader.specs.declared.verdict.Verdict.TheVariants.{Relay, Huh}
 use Rattle.daide_words.specs.declared.word.Word.{Word}
 use Rattle.daide_words.specs.Accepted.{are_accepted}
 use Rattle.daide_words.specs.Word.{grammar_words}
-use Rattle.daide_machine.specs.Bounds.{longest_body}
-use Rattle.daide_machine.specs.Events.{Event, other}
-use Rattle.daide_machine.specs.Machine.{Limits, SessionState, Sent, Effect, Runs, opening}
-use Rattle.daide_machine.specs.Wires.{sent_to}
-use Rattle.daide_machine.specs.Fates.{Came, came_in, IsJudged}
-use Rattle.daide_machine.specs.Passing.{IsFrame, HasCome, IsWithinHuh}
+use Rattle.daide_protocol.specs.Bounds.{longest_body}
+use Rattle.daide_protocol.specs.Events.{Event, other}
+use Rattle.daide_protocol.specs.Machine.{Limits, SessionState, Sent, Effect, Runs, initial_state}
+use Rattle.daide_protocol.specs.Wires.{sent_to}
+use Rattle.daide_protocol.specs.Fates.{Came, came_in, IsJudged}
+use Rattle.daide_protocol.specs.Passing.{IsFrame, HasCome, IsWithinHuh}
 
 -- What the next gateway makes of a message that one sends it, where no level is between them: it is passed on; unless
 -- it is the one's own answer HUH, too deep by the bracket that the answer adds. It is never answered with PRN.
@@ -42,13 +42,13 @@ pub data IsVerdictOfNext (limits : Limits) (came : List Came) (to : Side) (level
 -- next, its own answers too, has at the next such a verdict, by whatever level is noted for it there.
 abbrev pub InARowOver : List Word → Type 0
 InARowOver words = (limits : Limits) (events : List Event) (effects : List Effect)
-    (new : SessionState) (run : Runs (opening limits) events effects new) →
+    (new : SessionState) (run : Runs (initial_state limits) events effects new) →
     limits.words ≡ grammar_words words → limits.cap ≤ longest_body → (to : Side) →
     All (λ (sent : Sent). (body : List ℕ) (level : Level) (verdict : Verdict) → IsFrame Dm body sent.bytes →
     IsJudged limits (other to) level body verdict →
-    IsVerdictOfNext limits (came_in (opening limits) events effects new run) to level body verdict)
+    IsVerdictOfNext limits (came_in (initial_state limits) events effects new run) to level body verdict)
     (sent_to to effects)
 
 -- So it is with all words that are accepted one after the other.
-abbrev pub TwoGatewaysInARow : Type 0
-TwoGatewaysInARow = (words : List Word) → are_accepted words ≡ true → InARowOver words
+abbrev pub TwoSessionsInARow : Type 0
+TwoSessionsInARow = (words : List Word) → are_accepted words ≡ true → InARowOver words

@@ -5,27 +5,27 @@ use Rattle.daide_frame.specs.declared.side.Side.{Side}
 use Rattle.daide_frame.specs.declared.side.Side.TheVariants.{Bot}
 use Rattle.daide_frame.specs.declared.head.Kind.TheVariants.{Dm}
 use Rattle.daide_frame.specs.Head.{head_bytes}
-use Rattle.daide_frame.specs.Frames.{Item, Begun, Whole, Wrong}
+use Rattle.daide_frame.specs.Frames.{FrameEvent, Begun, Whole, Wrong}
 use Rattle.daide_grammar.specs.declared.level.Level.{Level}
 use Rattle.daide_reader.specs.declared.verdict.Verdict.{Verdict}
 use Rattle.daide_words.specs.declared.word.Word.{Word}
 use Rattle.daide_words.specs.Accepted.{are_accepted}
 use Rattle.daide_words.specs.Word.{grammar_words}
-use Rattle.daide_machine.specs.Bounds.{longest_body}
-use Rattle.daide_machine.specs.Events.{Event, other}
-use Rattle.daide_machine.specs.Machine.{Limits, SessionState, Sent, Effect, Runs, opening, answer_to}
-use Rattle.daide_machine.specs.Wires.{sent_to, bytes_of}
-use Rattle.daide_machine.specs.Heard.{bytes_from}
-use Rattle.daide_machine.specs.Fates.{Cause, Frame, Fault, End, Timeout, Came, came_in, frames_from}
+use Rattle.daide_protocol.specs.Bounds.{longest_body}
+use Rattle.daide_protocol.specs.Events.{Event, other}
+use Rattle.daide_protocol.specs.Machine.{Limits, SessionState, Sent, Effect, Runs, initial_state, reply_to}
+use Rattle.daide_protocol.specs.Wires.{sent_to, sent_bytes}
+use Rattle.daide_protocol.specs.Heard.{bytes_from}
+use Rattle.daide_protocol.specs.Fates.{EventCause, Frame, Fault, End, Timeout, Came, came_in, frames_from}
 use Rattle.daide_session.specs.InARow.{IsVerdictAtOneLevel, IsVerdictOfNext}
 
 -- what came to the next of the side where the one stands is a front of the bytes that the one sent toward it, in
 -- whatever pieces, and whatever else happens to either
 abbrev pub AreJoined : Side → List Effect → List Event → Type 0
-AreJoined to sent events = (rest : List ℕ) × (bytes_of (sent_to to sent) ≡ bytes_from (other to) events ++ rest)
+AreJoined to sent events = (rest : List ℕ) × (sent_bytes (sent_to to sent) ≡ bytes_from (other to) events ++ rest)
 
 -- these whole frames are the first of those that were sent, byte for byte and in their order
-abbrev pub AreFirst : List Item → List Sent → Type 0
+abbrev pub AreFirst : List FrameEvent → List Sent → Type 0
 AreFirst [] sent = Unit {0}
 AreFirst (Begun head ∷ items) sent = ⊥
 AreFirst (Wrong code ∷ items) sent = ⊥
@@ -34,10 +34,10 @@ AreFirst (Whole head body ∷ items) (frame ∷ sent) = (frame.bytes ≡ head_by
 
 -- a message from the one is answered at the next by a verdict that is so of the level noted for it there and of its
 -- body
-abbrev pub IsFateAtNext : (Level → List ℕ → Verdict → Type 0) → Side → Cause → List Sent → Type 0
+abbrev pub IsFateAtNext : (Level → List ℕ → Verdict → Type 0) → Side → EventCause → List Sent → Type 0
 IsFateAtNext Is to (Frame side noted head body) sent =
     side ≡ other to → head.kind ≡ Dm →
-    (verdict : Verdict) × Is noted body verdict × (sent ≡ answer_to side head body verdict ∷ [])
+    (verdict : Verdict) × Is noted body verdict × (sent ≡ reply_to side head body verdict ∷ [])
 IsFateAtNext Is to (Fault side code) sent = Unit {0}
 IsFateAtNext Is to (End side) sent = Unit {0}
 IsFateAtNext Is to Timeout sent = Unit {0}
@@ -51,25 +51,25 @@ HaveFatesAtNext Is to (came ∷ more) (effect ∷ effects) =
 
 -- The next hears the frames that the one sent. Each message among them it passes on toward that side, or answers with
 -- HUH for a lower level or for one bracket, never with PRN.
-pub record GoesByWhatItIsSent (limits : Limits) (one : List Came) (to : Side) (sent : List Effect) (next : List Came)
+pub record RefinesByWhatItIsSent (limits : Limits) (one : List Came) (to : Side) (sent : List Effect) (next : List Came)
     (effects : List Effect) : Type 0 where
   pub in_order : AreFirst (frames_from (other to) next) (sent_to to sent)
   pub fates : HaveFatesAtNext (IsVerdictOfNext limits one to) to next effects
 
 -- Of any run of the one and any run of the next, with the same limits and these words, where the next stands toward a
 -- side, and hears of it what the one sent.
-abbrev pub JoinedGatewaysOver : List Word → Type 0
-JoinedGatewaysOver words = (limits : Limits) (to : Side) (events next_events : List Event)
+abbrev pub JoinedSessionsOver : List Word → Type 0
+JoinedSessionsOver words = (limits : Limits) (to : Side) (events next_events : List Event)
     (effects next_effects : List Effect) (new next_new : SessionState)
-    (run : Runs (opening limits) events effects new)
-    (next_run : Runs (opening limits) next_events next_effects next_new) →
+    (run : Runs (initial_state limits) events effects new)
+    (next_run : Runs (initial_state limits) next_events next_effects next_new) →
     limits.words ≡ grammar_words words → limits.cap ≤ longest_body → AreJoined to effects next_events →
-    GoesByWhatItIsSent limits (came_in (opening limits) events effects new run) to effects
-    (came_in (opening limits) next_events next_effects next_new next_run) next_effects
+    RefinesByWhatItIsSent limits (came_in (initial_state limits) events effects new run) to effects
+    (came_in (initial_state limits) next_events next_effects next_new next_run) next_effects
 
 -- so it is with all words that are accepted one after the other
-abbrev pub JoinedGateways : Type 0
-JoinedGateways = (words : List Word) → are_accepted words ≡ true → JoinedGatewaysOver words
+abbrev pub JoinedSessions : Type 0
+JoinedSessions = (words : List Word) → are_accepted words ≡ true → JoinedSessionsOver words
 
 -- ---- toward the bot
 
@@ -79,11 +79,11 @@ JoinedGateways = (words : List Word) → are_accepted words ≡ true → JoinedG
 abbrev pub LevelsAgreeTowardTheBotOver : List Word → Type 0
 LevelsAgreeTowardTheBotOver words = (limits : Limits) (events next_events : List Event)
     (effects next_effects : List Effect) (new next_new : SessionState)
-    (run : Runs (opening limits) events effects new)
-    (next_run : Runs (opening limits) next_events next_effects next_new) →
+    (run : Runs (initial_state limits) events effects new)
+    (next_run : Runs (initial_state limits) next_events next_effects next_new) →
     limits.words ≡ grammar_words words → limits.cap ≤ longest_body → AreJoined Bot effects next_events →
-    HaveFatesAtNext (λ level. IsVerdictAtOneLevel limits (came_in (opening limits) events effects new run) Bot) Bot
-    (came_in (opening limits) next_events next_effects next_new next_run) next_effects
+    HaveFatesAtNext (λ level. IsVerdictAtOneLevel limits (came_in (initial_state limits) events effects new run) Bot) Bot
+    (came_in (initial_state limits) next_events next_effects next_new next_run) next_effects
 
 -- so it is with all words that are accepted one after the other
 abbrev pub LevelsAgreeTowardTheBot : Type 0

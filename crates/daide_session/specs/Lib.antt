@@ -1,5 +1,5 @@
 pub mod Session
-pub mod Reaction
+pub mod FrameEvents
 pub mod Work
 pub mod Bounds
 pub mod InARow

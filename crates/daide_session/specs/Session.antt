@@ -4,48 +4,48 @@ use Rattle.daide_frame.specs.declared.side.Side.{Side}
 use Rattle.daide_frame.specs.Frames.{missing}
 use Rattle.daide_grammar.specs.declared.level.Level.{Level}
 use Rattle.daide_grammar.specs.declared.level.Level.TheVariants.{L0}
-use Rattle.daide_machine.specs.declared.phase.Phase.{Phase}
-use Rattle.daide_machine.specs.declared.phase.Phase.TheVariants.{WaitIm, WaitRm, Open, Over}
-use Rattle.daide_machine.specs.Machine.{SessionState, coming, is_over}
-use Rattle.daide_machine.specs.Events.{other}
-use Rattle.daide_machine.specs.Wires.{SessionView, waiting, LetsGo, AsksNothing, LooksAtNothing}
-use Rattle.daide_machine.specs.declared.config.Config.{Config}
+use Rattle.daide_protocol.specs.declared.phase.Phase.{Phase}
+use Rattle.daide_protocol.specs.declared.phase.Phase.TheVariants.{WaitIm, WaitRm, Open, Over}
+use Rattle.daide_protocol.specs.Machine.{SessionState, coming, is_over}
+use Rattle.daide_protocol.specs.Events.{other}
+use Rattle.daide_protocol.specs.Wires.{SessionView, queued, Releases, AsksNothing, LooksAtNothing}
+use Rattle.daide_protocol.specs.declared.config.Config.{Config}
 use Rattle.daide_session.specs.declared.session.SessionError.{SessionError}
 use Rattle.daide_session.specs.declared.session.SessionError.TheVariants as Errors
-use Rattle.daide_session.specs.declared.stage.Stage.{Stage}
-use Rattle.daide_machine.specs.Config.{config_fault}
-use Rattle.daide_traffic.specs.Fronts.{KeepsFront}
-use Rattle.daide_traffic.specs.Traffic.{Traffic, has_end}
+use Rattle.daide_session.specs.declared.protocol_state.ProtocolState.{ProtocolState}
+use Rattle.daide_protocol.specs.Config.{config_fault}
+use Rattle.daide_channels.specs.Fronts.{KeepsFront}
+use Rattle.daide_channels.specs.Channels.{Channels, has_final_frame}
 
 -- ---- the value
 
 -- the machine's state: the limits with the operator's words, where the session stands, and what came of each side
-abbrev pub state_of : Traffic → Stage → SessionState
-state_of t stage = record {
+abbrev pub state_of : Channels → ProtocolState → SessionState
+state_of t protocol = record {
   limits = record {
     cap = t.cap;
-    top_level = stage.top_level;
+    top_level = protocol.top_level;
     max_depth = t.rules.max_depth;
     words = t.rules.words;
   };
-  phase = stage.phase;
-  level = stage.level;
-  ending = stage.ending;
+  phase = protocol.phase;
+  level = protocol.level;
+  ending = protocol.ending;
   bot = t.sides.bot.coming;
   server = t.sides.server.coming;
 }
 
 -- that state, what waits for each wire, what is held of each side, and the counts
-abbrev pub gateway_of : Traffic → Stage → SessionView
-gateway_of t stage = record {
-  state = state_of t stage;
-  to_bot = t.waiting.bot;
-  to_server = t.waiting.server;
+abbrev pub view_of : Channels → ProtocolState → SessionView
+view_of t protocol = record {
+  state = state_of t protocol;
+  to_bot = t.queued.bot;
+  to_server = t.queued.server;
   bot_parts = t.parts.bot;
   server_parts = t.parts.server;
   bot = t.sides.bot.holding;
   server = t.sides.server.holding;
-  summary = stage.summary;
+  summary = protocol.summary;
 }
 
 -- the level in the phase Open, level 0 in every other phase
@@ -59,10 +59,10 @@ level_in Over level = L0
 
 -- While a session is not over, bytes of each side's next frame are missing, so none lies there whole; and no
 -- frame that waits ends the session. What ended it is known exactly once it is over.
-pub record IsStanding (g : SessionView) : Type 0 where
+pub record IsConsistentSession (g : SessionView) : Type 0 where
   pub wanted : is_over g.state.phase ≡ false → (side : Side) →
       0 < missing g.state.limits.cap (coming g.state side).pending
-  pub no_end : is_over g.state.phase ≡ false → (wire : Side) → has_end (waiting g wire) ≡ false
+  pub no_end : is_over g.state.phase ≡ false → (wire : Side) → has_final_frame (queued g wire) ≡ false
   pub ending : is_some g.state.ending ≡ is_over g.state.phase
 
 -- ---- what is dropped
@@ -71,11 +71,11 @@ pub record IsStanding (g : SessionView) : Type 0 where
 -- handed what it was, no table was asked and no token looked at
 pub record Dropped (old : SessionView) (side : Side) (new : SessionView) : Type 0 where
   pub same_state : new.state ≡ old.state
-  pub dropped : waiting new side ≡ []
-  pub other_wire : waiting new (other side) ≡ waiting old (other side)
+  pub dropped : queued new side ≡ []
+  pub other_wire : queued new (other side) ≡ queued old (other side)
   pub other_front : KeepsFront old (other side) new
   pub counts : new.summary ≡ old.summary
-  pub held : LetsGo old new
+  pub held : Releases old new
   pub asks_nothing : AsksNothing old new
   pub looks_at_nothing : LooksAtNothing old new
 

@@ -4,8 +4,8 @@ use Rattle.std.specs.Prelude.{◌≡◌, ℕ, ◌+◌, ◌-◌, ◌*◌, ◌%◌
 use Rattle.std.specs.Prelude.{if◌then◌else◌}
 use Rattle.daide_frame.specs.declared.side.Side.{Side}
 use Rattle.daide_frame.specs.Frames.{head_in, missing}
-use Rattle.daide_machine.specs.Wires.{SessionView, holding, is_dm_head}
-use Rattle.daide_machine.specs.Weight.{tokens_held}
+use Rattle.daide_protocol.specs.Wires.{SessionView, holding, is_dm_head}
+use Rattle.daide_protocol.specs.Weight.{tokens_held}
 
 -- whether the bytes of a side's frame are a whole message
 abbrev pub is_whole_message : ℕ → List ℕ → Bool

@@ -1,7 +1,7 @@
 //! Laws of what sessions send: functions without a body of their own, whose contracts are the laws.
 
-ghost use Rattle.daide_session.specs.InARow.{InARowOver, TwoGatewaysInARow};
-ghost use Rattle.daide_session.specs.Joined.{JoinedGateways, JoinedGatewaysOver};
+ghost use Rattle.daide_session.specs.InARow.{InARowOver, TwoSessionsInARow};
+ghost use Rattle.daide_session.specs.Joined.{JoinedSessions, JoinedSessionsOver};
 ghost use Rattle.daide_session.specs.Joined.{LevelsAgreeTowardTheBot, LevelsAgreeTowardTheBotOver};
 ghost use Rattle.daide_words.specs.Words.{words_of};
 
@@ -12,7 +12,7 @@ use daide_words::words::Words;
 /// one by which it was passed on, or where it is a HUH that is too deep by the bracket that an answer adds; and never
 /// with PRN, so that PRN grows no further.
 pub fn two_gateways_in_a_row()
-    ensures { TwoGatewaysInARow }
+    ensures { TwoSessionsInARow }
 {}
 
 /// So it is with the words of who holds `Words`, which are accepted.
@@ -28,14 +28,14 @@ pub fn two_gateways_in_a_row_over(words: &Words)
 /// Each message among them it passes on toward that side, unless its level for it is lower than the one by which it was
 /// passed on, or it is the one's own HUH, too deep by one bracket: that it answers with HUH, and nothing with PRN.
 pub fn joined_gateways()
-    ensures { JoinedGateways }
+    ensures { JoinedSessions }
 {
     two_gateways_in_a_row();
 }
 
 /// So it is with the words of who holds `Words`, which are accepted.
 pub fn joined_gateways_over(words: &Words)
-    ensures { JoinedGatewaysOver (words_of words.now) }
+    ensures { JoinedSessionsOver (words_of words.now) }
 {
     words.are_accepted();
     joined_gateways();

@@ -1,9 +1,9 @@
 -- The ports that a scene's system was handed back. (own)
 use Rattle.std.specs.Prelude.{◌≡◌, ◌⊎◌, List, [], ◌∷◌, ◌++◌}
-use Rattle.daide_machine.specs.System.{SystemAnswer, Begins, BeginsTurn, Accepts, Connects, Retires, Notifies, Waits}
+use Rattle.daide_protocol.specs.System.{SystemCall, Begins, BeginsTurn, Accepts, Connects, Retires, Notifies, Waits}
 
 -- Ports that are retired are kept as the last, or dropped for want of memory. No other call changes those that are kept.
-abbrev pub KeepsRetired : {P : Type 0} → List P → SystemAnswer P → List P → Type 0
+abbrev pub KeepsRetired : {P : Type 0} → List P → SystemCall P → List P → Type 0
 KeepsRetired old (Retires ports end) new = (new ≡ old ++ ports ∷ []) ⊎ (new ≡ old)
 KeepsRetired old Begins new = new ≡ old
 KeepsRetired old (BeginsTurn before after) new = new ≡ old

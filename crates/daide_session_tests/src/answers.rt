@@ -1,5 +1,5 @@
 //! The worked examples of what a frame of the bot gets, by their names in docs/EXAMPLES.md: the bytes on both wires, in
-//! an open session, whole and byte by byte. The verdicts on these messages stand in `daide_examples`.
+//! an open session, whole and byte by byte. The verdicts on these messages stand in `daide_codec_tests`.
 
 use crate::script::Act::Says;
 use crate::script::{Scene, assert_scenes};

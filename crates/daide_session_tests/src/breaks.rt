@@ -6,12 +6,12 @@
 
 use crate::relays::{NEVER, sent};
 use crate::script::WIDEST;
+use daide_driver::relaying::{RelayEnd, relay};
 use daide_frame::side::Side::{self, Bot, Server};
-use daide_machine::ports::{Ports, Pull, Put};
+use daide_protocol::ports::{Ports, Pull, Put};
 use daide_session::session::Session;
-use daide_tests::memory_ports::{Arrival, MemoryPorts, Script};
-use daide_tests::rows::holds;
-use daide_turns::relaying::{RelayEnd, relay};
+use daide_test_support::memory_ports::{MemoryPorts, Script, ScriptedRead};
+use daide_test_support::rows::holds;
 use std::alloc::Global;
 use std::test::Fail;
 
@@ -32,7 +32,7 @@ pub struct Conversation {
 
 /// The RM, and an HLO, both of which came before the bot's next message.
 const FROM_THE_SERVER: Script<'static> = Script {
-    pulls: &[Arrival::Bytes(&[1, 0, 0, 0]), Arrival::Bytes(HLO)],
+    pulls: &[ScriptedRead::Bytes(&[1, 0, 0, 0]), ScriptedRead::Bytes(HLO)],
     puts: &[],
 };
 
@@ -41,10 +41,10 @@ const FROM_THE_SERVER: Script<'static> = Script {
 pub const ANSWERS: Conversation = Conversation {
     bot: Script {
         pulls: &[
-            Arrival::Bytes(&[0, 0, 0, 4, 0, 1, 0xDA, 0x10]),
-            Arrival::Bytes(&[2, 0, 0, 2, 0x48, 0x0F]),
-            Arrival::Bytes(&[2, 0, 0, 4, 0x48, 0x03, 0x40, 0x00]),
-            Arrival::Bytes(&[2, 0, 0, 0]),
+            ScriptedRead::Bytes(&[0, 0, 0, 4, 0, 1, 0xDA, 0x10]),
+            ScriptedRead::Bytes(&[2, 0, 0, 2, 0x48, 0x0F]),
+            ScriptedRead::Bytes(&[2, 0, 0, 4, 0x48, 0x03, 0x40, 0x00]),
+            ScriptedRead::Bytes(&[2, 0, 0, 0]),
         ],
         puts: &[],
     },
@@ -81,9 +81,9 @@ const PRESS: &[u8] = &[
 const PRESS_GOES_ON: Conversation = Conversation {
     bot: Script {
         pulls: &[
-            Arrival::Bytes(&[0, 0, 0, 4, 0, 1, 0xDA, 0x10]),
-            Arrival::Bytes(NAME),
-            Arrival::Bytes(PRESS),
+            ScriptedRead::Bytes(&[0, 0, 0, 4, 0, 1, 0xDA, 0x10]),
+            ScriptedRead::Bytes(NAME),
+            ScriptedRead::Bytes(PRESS),
         ],
         puts: &[],
     },
@@ -177,7 +177,7 @@ impl Breaking {
 }
 
 impl Ports for Breaking {
-    ghost becomes = { λ _ _ _. Unit {0} };
+    ghost transition = { λ _ _ _. Unit {0} };
 
     fn pull(&mut self, side: Side, buffer: &mut [u8]) -> Pull {
         let (number, waits) = self.next_pull(side);

@@ -4,9 +4,9 @@
 use crate::breaks::{ANSWERS, Break, Breaking, KINDS, TURNS, breaking_at, end_of};
 use crate::relays::sent;
 use crate::script::WIDEST;
+use daide_driver::hub::Hub;
 use daide_frame::side::Side::{Bot, Server};
-use daide_tests::rows::holds;
-use daide_turns::hub::Hub;
+use daide_test_support::rows::holds;
 use std::alloc::Global;
 use std::test::Fail;
 

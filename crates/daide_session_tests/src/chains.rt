@@ -5,7 +5,7 @@ use crate::script::{
     IM, Look, RM, Scene, Script, WIDEST, assert_scenes, assert_scenes_within, bytes_of, script_of,
 };
 use daide_frame::side::Side::{self, Bot, Server};
-use daide_machine::config::Config;
+use daide_protocol::config::Config;
 use daide_session::session::Session;
 use std::alloc::Global;
 use std::test::Fail;

@@ -35,7 +35,7 @@ const AT_WORK: &[Act] = &[
 
 /// What could have ended it, once it is over.
 const LATER: &[Act] = &[
-    Act::TimerExpires,
+    Act::ImTimerExpired,
     Act::Says(Bot, FM),
     Act::Says(Server, EM),
     Act::Loses(Bot),
@@ -89,7 +89,7 @@ fn first_event_that_ends_a_session_is_told(rt: HostRuntime) -> Result<(), Fail> 
 /// Before the IM: the timer, and an FM that goes nowhere and is counted nowhere.
 const FIRST: &[&[Act]] = &[
     &[
-        Act::TimerExpires,
+        Act::ImTimerExpired,
         Act::Sees(Look::Ending(Some(Ending::Fault(Bot, Code::ImTimeout)), [0, 0, 0, 1])),
         Act::Ends(Bot),
         Act::Sees(Look::Ending(Some(Ending::Fault(Bot, Code::ImTimeout)), [0, 0, 0, 1])),

@@ -2,10 +2,10 @@
 
 use crate::script::{IM, PIECES, RM, Sent, bytes_of};
 use daide_frame::side::Side::{self, Bot, Server};
-use daide_machine::config::Config;
+use daide_protocol::config::Config;
 use daide_session::session::{Phase, Session, SessionError};
-use daide_tests::rows::{holds, same};
-use daide_tests::words::two_words;
+use daide_test_support::rows::{holds, same};
+use daide_test_support::words::two_words;
 use linked_list_allocator::LocalHeap;
 use std::alloc::Global;
 use std::test::Fail;

@@ -2,13 +2,13 @@
 
 use crate::relays::{NEVER, OPENS, QUIET, assert_sent};
 use crate::script::{WIDEST, bytes_of};
+use daide_driver::hub::{AddFault, Hub, HubError};
 use daide_frame::side::Side::{self, Bot, Server};
-use daide_machine::config::{Config, ConfigError};
-use daide_machine::ports::{Ports, Pull, Put};
-use daide_tests::memory_ports::{Acceptance, Arrival, MemoryPorts, Script};
-use daide_tests::rows::{holds, same};
-use daide_tests::words::two_words;
-use daide_turns::hub::{AddFault, Hub, HubError};
+use daide_protocol::config::{Config, ConfigError};
+use daide_protocol::ports::{Ports, Pull, Put};
+use daide_test_support::memory_ports::{Acceptance, MemoryPorts, Script, ScriptedRead};
+use daide_test_support::rows::{holds, same};
+use daide_test_support::words::two_words;
 use linked_list_allocator::LocalHeap;
 use std::alloc::Global;
 use std::test::Fail;
@@ -37,15 +37,15 @@ fn hub_refusals_in_order(rt: HostRuntime) -> Result<(), Fail> {
 
 /// A server that ends the session.
 const FINISHES: Script<'static> = Script {
-    pulls: &[Arrival::Bytes(&[3, 0, 0, 0])],
+    pulls: &[ScriptedRead::Bytes(&[3, 0, 0, 0])],
     puts: &[],
 };
 
 /// A bot that opens.
 const BEGINS: Script<'static> = Script {
     pulls: &[
-        Arrival::Idle,
-        Arrival::Bytes(&[0, 0, 0, 4, 0, 1, 0xDA, 0x10]),
+        ScriptedRead::Idle,
+        ScriptedRead::Bytes(&[0, 0, 0, 4, 0, 1, 0xDA, 0x10]),
     ],
     puts: &[],
 };
@@ -59,22 +59,22 @@ const KEEPS_A_BYTE: Script<'static> = Script {
 /// A bot that sends GOF and an open bracket in single bytes, and ends.
 const BY_BYTES: Script<'static> = Script {
     pulls: &[
-        Arrival::Bytes(&[0, 0, 0, 4, 0, 1, 0xDA, 0x10]),
-        Arrival::Idle,
-        Arrival::Idle,
-        Arrival::Idle,
-        Arrival::Idle,
-        Arrival::Idle,
-        Arrival::Idle,
-        Arrival::Bytes(&[2]),
-        Arrival::Bytes(&[0]),
-        Arrival::Bytes(&[0]),
-        Arrival::Bytes(&[4]),
-        Arrival::Bytes(&[0x48]),
-        Arrival::Bytes(&[0x03]),
-        Arrival::Bytes(&[0x40]),
-        Arrival::Bytes(&[0]),
-        Arrival::End,
+        ScriptedRead::Bytes(&[0, 0, 0, 4, 0, 1, 0xDA, 0x10]),
+        ScriptedRead::Idle,
+        ScriptedRead::Idle,
+        ScriptedRead::Idle,
+        ScriptedRead::Idle,
+        ScriptedRead::Idle,
+        ScriptedRead::Idle,
+        ScriptedRead::Bytes(&[2]),
+        ScriptedRead::Bytes(&[0]),
+        ScriptedRead::Bytes(&[0]),
+        ScriptedRead::Bytes(&[4]),
+        ScriptedRead::Bytes(&[0x48]),
+        ScriptedRead::Bytes(&[0x03]),
+        ScriptedRead::Bytes(&[0x40]),
+        ScriptedRead::Bytes(&[0]),
+        ScriptedRead::End,
     ],
     puts: &[],
 };
@@ -82,14 +82,14 @@ const BY_BYTES: Script<'static> = Script {
 /// A bot that sends the header of the longest body.
 const BEGINS_THE_LONGEST: Script<'static> = Script {
     pulls: &[
-        Arrival::Bytes(&[0, 0, 0, 4, 0, 1, 0xDA, 0x10]),
-        Arrival::Idle,
-        Arrival::Idle,
-        Arrival::Idle,
-        Arrival::Idle,
-        Arrival::Idle,
-        Arrival::Idle,
-        Arrival::Bytes(&[2, 0, 0xFF, 0xF6]),
+        ScriptedRead::Bytes(&[0, 0, 0, 4, 0, 1, 0xDA, 0x10]),
+        ScriptedRead::Idle,
+        ScriptedRead::Idle,
+        ScriptedRead::Idle,
+        ScriptedRead::Idle,
+        ScriptedRead::Idle,
+        ScriptedRead::Idle,
+        ScriptedRead::Bytes(&[2, 0, 0xFF, 0xF6]),
     ],
     puts: &[],
 };
@@ -105,7 +105,7 @@ struct Feeding {
 }
 
 impl Ports for Feeding {
-    ghost becomes = { λ _ _ _. Unit {0} };
+    ghost transition = { λ _ _ _. Unit {0} };
 
     fn pull(&mut self, side: Side, buffer: &mut [u8]) -> Pull {
         if side == Server || self.before > 0 {

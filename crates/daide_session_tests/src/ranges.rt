@@ -2,14 +2,14 @@
 
 use crate::relays::{NEVER, QUIET};
 use crate::script::{WIDEST, bytes_of, script_of};
+use daide_driver::hub::{AddFault, Hub};
 use daide_frame::side::Side::{self, Bot, Server};
-use daide_machine::config::Config;
-use daide_machine::ports::Ports;
+use daide_protocol::config::Config;
+use daide_protocol::ports::Ports;
 use daide_session::session::Session;
-use daide_tests::memory_ports::MemoryPorts;
-use daide_tests::rows::{holds, same};
-use daide_tests::words::two_words;
-use daide_turns::hub::{AddFault, Hub};
+use daide_test_support::memory_ports::MemoryPorts;
+use daide_test_support::rows::{holds, same};
+use daide_test_support::words::two_words;
 use std::alloc::Global;
 use std::test::Fail;
 

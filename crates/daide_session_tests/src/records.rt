@@ -5,9 +5,9 @@ use daide_frame::side::Side;
 use daide_gate::{
     Config, Ports, Pull, Record, RecordEnd, Recording, RelayEnd, Session, Words, check_log, relay,
 };
-use daide_tests::memory_ports::{Acceptance, Arrival, MemoryPorts, Script};
-use daide_tests::rows::{holds, same};
-use daide_tests::words::two_words;
+use daide_test_support::memory_ports::{Acceptance, MemoryPorts, Script, ScriptedRead};
+use daide_test_support::rows::{holds, same};
+use daide_test_support::words::two_words;
 use std::alloc::Global;
 use std::io;
 use std::io::{ErrorKind, Write};
@@ -36,7 +36,7 @@ struct Recorded {
 const SESSIONS: [Recorded; 4] = [
     Recorded {
         bot: Script {
-            pulls: &[Arrival::Bytes(&[0, 0, 0, 4, 0, 1, 0xDA, 0x10])],
+            pulls: &[ScriptedRead::Bytes(&[0, 0, 0, 4, 0, 1, 0xDA, 0x10])],
             puts: &[Acceptance::Fails],
         },
         server: OPENS,
@@ -55,7 +55,7 @@ const SESSIONS: [Recorded; 4] = [
     },
     Recorded {
         bot: Script {
-            pulls: &[Arrival::End],
+            pulls: &[ScriptedRead::End],
             puts: &[],
         },
         server: QUIET,
@@ -67,7 +67,7 @@ const SESSIONS: [Recorded; 4] = [
     Recorded {
         bot: QUIET,
         server: Script {
-            pulls: &[Arrival::End],
+            pulls: &[ScriptedRead::End],
             puts: &[],
         },
         quiet: NEVER,
@@ -117,7 +117,7 @@ fn records_are_written_and_reported(rt: HostRuntime) -> Result<(), Fail> {
 
 /// Four pieces of 1,024 bytes, of which each makes a line; the fourth finds no room.
 const LONG: Script<'static> = Script {
-    pulls: &[Arrival::Bytes(&[0xAB; 5000])],
+    pulls: &[ScriptedRead::Bytes(&[0xAB; 5000])],
     puts: &[],
 };
 

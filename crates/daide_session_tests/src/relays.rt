@@ -3,8 +3,8 @@
 use crate::script::{WIDEST, assert_bytes};
 use daide_frame::side::Side::{self, Bot, Server};
 use daide_gate::{Phase, Ports, Pull, Put, RelayEnd, Session, relay};
-use daide_tests::memory_ports::{Acceptance, Arrival, Call, MemoryPorts, Script};
-use daide_tests::rows::{holds, same};
+use daide_test_support::memory_ports::{Acceptance, Call, MemoryPorts, Script, ScriptedRead};
+use daide_test_support::rows::{holds, same};
 use linked_list_allocator::LocalHeap;
 use std::alloc::{Allocator, Global};
 use std::test::Fail;
@@ -126,7 +126,7 @@ fn no_turns_ask_nothing(rt: HostRuntime) -> Result<(), Fail> {
 
 /// A side that ends at once.
 const ENDS: Script<'static> = Script {
-    pulls: &[Arrival::End],
+    pulls: &[ScriptedRead::End],
     puts: &[],
 };
 
@@ -170,18 +170,18 @@ fn late_initial_message_is_told_to_the_bot_alone(rt: HostRuntime) -> Result<(), 
 
 /// A bot whose wire fails at its first put.
 const FAILS: Script<'static> = Script {
-    pulls: &[Arrival::Bytes(&[0, 0, 0, 4, 0, 1, 0xDA, 0x10])],
+    pulls: &[ScriptedRead::Bytes(&[0, 0, 0, 4, 0, 1, 0xDA, 0x10])],
     puts: &[Acceptance::Fails],
 };
 
 /// A server that opens.
 pub const OPENS: Script<'static> = Script {
     pulls: &[
-        Arrival::Idle,
-        Arrival::Idle,
-        Arrival::Idle,
-        Arrival::Idle,
-        Arrival::Bytes(&[1, 0, 0, 0]),
+        ScriptedRead::Idle,
+        ScriptedRead::Idle,
+        ScriptedRead::Idle,
+        ScriptedRead::Idle,
+        ScriptedRead::Bytes(&[1, 0, 0, 0]),
     ],
     puts: &[],
 };
@@ -225,11 +225,11 @@ fn each_put_is_of_the_whole_front(rt: HostRuntime) -> Result<(), Fail> {
 /// A bot that sends a body of 600 bytes at once.
 const SENDS_600: Script<'static> = Script {
     pulls: &[
-        Arrival::Bytes(&[0, 0, 0, 4, 0, 1, 0xDA, 0x10]),
-        Arrival::Idle,
-        Arrival::Idle,
-        Arrival::Bytes(&[2, 0, 0x02, 0x58]),
-        Arrival::Bytes(&[0x4B; 600]),
+        ScriptedRead::Bytes(&[0, 0, 0, 4, 0, 1, 0xDA, 0x10]),
+        ScriptedRead::Idle,
+        ScriptedRead::Idle,
+        ScriptedRead::Bytes(&[2, 0, 0x02, 0x58]),
+        ScriptedRead::Bytes(&[0x4B; 600]),
     ],
     puts: &[],
 };
@@ -279,16 +279,16 @@ fn long_body_is_pulled_512_bytes_at_once(rt: HostRuntime) -> Result<(), Fail> {
 /// A bot whose wire takes none of the first put of a HUH, then three bytes a put.
 const SLOW_BOT: Script<'static> = Script {
     pulls: &[
-        Arrival::Bytes(&[0, 0, 0, 4, 0, 1, 0xDA, 0x10]),
-        Arrival::Idle,
-        Arrival::Idle,
-        Arrival::Idle,
-        Arrival::Idle,
-        Arrival::Idle,
-        Arrival::Idle,
-        Arrival::Idle,
-        Arrival::Idle,
-        Arrival::Bytes(&[2, 0, 0, 0]),
+        ScriptedRead::Bytes(&[0, 0, 0, 4, 0, 1, 0xDA, 0x10]),
+        ScriptedRead::Idle,
+        ScriptedRead::Idle,
+        ScriptedRead::Idle,
+        ScriptedRead::Idle,
+        ScriptedRead::Idle,
+        ScriptedRead::Idle,
+        ScriptedRead::Idle,
+        ScriptedRead::Idle,
+        ScriptedRead::Bytes(&[2, 0, 0, 0]),
     ],
     puts: &[
         Acceptance::Takes(4),
@@ -311,18 +311,18 @@ const SLOW_BOT: Script<'static> = Script {
 /// Its server, whose message comes in two pieces, the second after that first put.
 const SERVER_OF_A_SLOW_BOT: Script<'static> = Script {
     pulls: &[
-        Arrival::Idle,
-        Arrival::Idle,
-        Arrival::Idle,
-        Arrival::Idle,
-        Arrival::Idle,
-        Arrival::Idle,
-        Arrival::Bytes(&[1, 0, 0, 0]),
-        Arrival::Idle,
-        Arrival::Idle,
-        Arrival::Idle,
-        Arrival::Idle,
-        Arrival::Bytes(&[
+        ScriptedRead::Idle,
+        ScriptedRead::Idle,
+        ScriptedRead::Idle,
+        ScriptedRead::Idle,
+        ScriptedRead::Idle,
+        ScriptedRead::Idle,
+        ScriptedRead::Bytes(&[1, 0, 0, 0]),
+        ScriptedRead::Idle,
+        ScriptedRead::Idle,
+        ScriptedRead::Idle,
+        ScriptedRead::Idle,
+        ScriptedRead::Bytes(&[
             2, 0, 0, 0x0A, 0x48, 0x0E, 0x40, 0, 0x47, 0, 0x07, 0x6D, 0x40, 0x01,
         ]),
     ],
@@ -382,7 +382,7 @@ struct Watching<'a, A: Allocator + Copy> {
 }
 
 impl<'a, A: Allocator + Copy> Ports for Watching<'a, A> {
-    ghost becomes = { λ _ _ _. Unit {0} };
+    ghost transition = { λ _ _ _. Unit {0} };
 
     fn pull(&mut self, side: Side, buffer: &mut [u8]) -> Pull {
         self.ports.pull(side, buffer)
@@ -406,18 +406,18 @@ impl<'a, A: Allocator + Copy> Ports for Watching<'a, A> {
 /// A bot that opens, leaves a bracket open, and ends.
 const OPEN_BRACKET: Script<'static> = Script {
     pulls: &[
-        Arrival::Bytes(&[0, 0, 0, 4, 0, 1, 0xDA, 0x10]),
-        Arrival::Idle,
-        Arrival::Idle,
-        Arrival::Idle,
-        Arrival::Idle,
-        Arrival::Idle,
-        Arrival::Idle,
-        Arrival::Bytes(&[2, 0]),
-        Arrival::Bytes(&[0]),
-        Arrival::Bytes(&[4, 0x48, 0x03, 0x40]),
-        Arrival::Bytes(&[0]),
-        Arrival::End,
+        ScriptedRead::Bytes(&[0, 0, 0, 4, 0, 1, 0xDA, 0x10]),
+        ScriptedRead::Idle,
+        ScriptedRead::Idle,
+        ScriptedRead::Idle,
+        ScriptedRead::Idle,
+        ScriptedRead::Idle,
+        ScriptedRead::Idle,
+        ScriptedRead::Bytes(&[2, 0]),
+        ScriptedRead::Bytes(&[0]),
+        ScriptedRead::Bytes(&[4, 0x48, 0x03, 0x40]),
+        ScriptedRead::Bytes(&[0]),
+        ScriptedRead::End,
     ],
     puts: &[],
 };

@@ -6,11 +6,11 @@ ghost use Rattle.std.specs.Prelude.{◌≤◌, length};
 
 use daide_frame::side::Side::{self, Bot, Server};
 use daide_grammar::level::Level;
-use daide_machine::config::Config;
-use daide_machine::summary::Summary;
+use daide_protocol::config::Config;
+use daide_protocol::summary::Summary;
 use daide_session::session::{Ending, Note, Phase, Session};
-use daide_tests::rows::holds;
-use daide_tests::words::counted;
+use daide_test_support::rows::holds;
+use daide_test_support::words::counted;
 use std::alloc::{Allocator, Global};
 use std::test::Fail;
 
@@ -32,7 +32,7 @@ pub enum Act {
     /// The wire toward the side fails; all that waits is taken.
     Loses(Side),
     /// The timer of the initial message pops; all that waits is taken.
-    TimerExpires,
+    ImTimerExpired,
     /// This holds now.
     Sees(Look),
 }
@@ -361,7 +361,7 @@ impl Script {
                 self.session.ended(side);
             }
             Act::Loses(side) => self.session.lost(side),
-            Act::TimerExpires => {
+            Act::ImTimerExpired => {
                 self.session.im_timeout();
             }
             _ => {}
@@ -376,7 +376,7 @@ impl Script {
             Act::Sends(side, text) => self.send(alloc, side, text),
             Act::Tells(side, text, note) => self.tell(alloc, side, text, note),
             Act::Takes(side, most) => self.take(side, most),
-            Act::Ends(_) | Act::Loses(_) | Act::TimerExpires => self.hear(act),
+            Act::Ends(_) | Act::Loses(_) | Act::ImTimerExpired => self.hear(act),
             Act::Stops(side) => holds(self.session.ended(side), "an end is told once"),
             Act::Sees(look) => self.look(alloc, look),
         }

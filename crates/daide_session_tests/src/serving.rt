@@ -11,10 +11,10 @@ use daide_frame::side::Side::{Bot, Server};
 use daide_gate::serving::{ServeFault, serve};
 use daide_gate::settings::{Settings, read_settings};
 use daide_gate::system::{Cause, Connect, Notice, SessionEnd, System};
-use daide_machine::config::ConfigError;
-use daide_machine::ending::Ending;
-use daide_tests::memory_ports::{Acceptance, Arrival, MemoryPorts, Script};
-use daide_tests::rows::{holds, same};
+use daide_protocol::config::ConfigError;
+use daide_protocol::ending::Ending;
+use daide_test_support::memory_ports::{Acceptance, MemoryPorts, Script, ScriptedRead};
+use daide_test_support::rows::{holds, same};
 use linked_list_allocator::LocalHeap;
 use std::alloc::Global;
 use std::fmt::Display;
@@ -39,7 +39,7 @@ enum Event {
     Failed,
     Pending,
     Retired,
-    Told(Notice),
+    ParsedEvent(Notice),
     Waited(bool),
 }
 
@@ -148,7 +148,7 @@ impl System<MemoryPorts<'static>> for Harness {
     }
 
     fn tell(&mut self, notice: Notice) {
-        self.note(Event::Told(notice));
+        self.note(Event::ParsedEvent(notice));
     }
 
     fn wait(&mut self, accepts: bool) {
@@ -158,19 +158,19 @@ impl System<MemoryPorts<'static>> for Harness {
 
 /// A bot that ends at once.
 const ENDS: Script<'static> = Script {
-    pulls: &[Arrival::End],
+    pulls: &[ScriptedRead::End],
     puts: &[],
 };
 
 /// A bot that says nothing in its first turn, and ends in its second.
 const ENDS_LATER: Script<'static> = Script {
-    pulls: &[Arrival::Idle, Arrival::End],
+    pulls: &[ScriptedRead::Idle, ScriptedRead::End],
     puts: &[],
 };
 
 /// A bot that opens, and says no more.
 const OPENS_ALONE: Script<'static> = Script {
-    pulls: &[Arrival::Bytes(&[0, 0, 0, 4, 0, 1, 0xDA, 0x10])],
+    pulls: &[ScriptedRead::Bytes(&[0, 0, 0, 4, 0, 1, 0xDA, 0x10])],
     puts: &[],
 };
 
@@ -232,7 +232,7 @@ const RUNS: &[(Scene, Limits, &[Event])] = &[
             Event::Begun,
             Event::Came,
             Event::Failed,
-            Event::Told(Notice::CannotReach),
+            Event::ParsedEvent(Notice::CannotReach),
         ],
     ),
     // one at once: the next comes when the first is gone
@@ -277,7 +277,7 @@ const RUNS: &[(Scene, Limits, &[Event])] = &[
             Event::Waited(false),
             Event::Begun,
             Event::Failed,
-            Event::Told(Notice::CannotReach),
+            Event::ParsedEvent(Notice::CannotReach),
             Event::Begun,
             Event::Came,
             Event::Ready,
@@ -331,7 +331,7 @@ const RUNS: &[(Scene, Limits, &[Event])] = &[
             Event::TurnBegun,
             Event::Waited(false),
             Event::Begun,
-            Event::Told(Notice::TurnsSpent),
+            Event::ParsedEvent(Notice::TurnsSpent),
             Event::Retired,
         ],
     ),
@@ -376,7 +376,7 @@ const SPENT: &[Event] = &[
     Event::Waited(false),
     Event::Begun,
     Event::Begun,
-    Event::Told(Notice::TurnsSpent),
+    Event::ParsedEvent(Notice::TurnsSpent),
     Event::Retired,
 ];
 
@@ -405,7 +405,7 @@ fn spent_turns_end_an_open_wire(rt: HostRuntime) -> Result<(), Fail> {
 
 /// A bot that begins with no IM and takes nothing, so that its EM waits.
 const WRONG_AND_FULL: Script<'static> = Script {
-    pulls: &[Arrival::Bytes(&[2, 0, 0, 0])],
+    pulls: &[ScriptedRead::Bytes(&[2, 0, 0, 0])],
     puts: &[Acceptance::Takes(0); 9],
 };
 
@@ -481,7 +481,7 @@ fn each_of_many_bots_is_served(rt: HostRuntime) -> Result<(), Fail> {
         !stage
             .events
             .iter()
-            .any(|event| matches!(event, Event::Told(_))),
+            .any(|event| matches!(event, Event::ParsedEvent(_))),
         "nothing is told",
     )
 }

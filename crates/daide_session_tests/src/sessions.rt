@@ -1,6 +1,6 @@
 //! The worked examples of sessions, by their names in docs/EXAMPLES.md.
 
-use crate::script::Act::{Ends, Loses, Says, Sees, Sends, Stops, Takes, Tells, TimerExpires};
+use crate::script::Act::{Ends, ImTimerExpired, Loses, Says, Sees, Sends, Stops, Takes, Tells};
 use crate::script::{
     Act, IM, Look, RM, Scene, WIDEST, assert_acts, assert_scenes, assert_scenes_within, bytes_of,
     script_of,
@@ -9,9 +9,9 @@ use daide_frame::code::Code;
 use daide_frame::head::{Head, Kind};
 use daide_frame::side::Side::{Bot, Server};
 use daide_grammar::level::Level;
-use daide_machine::config::{Config, ConfigError};
+use daide_protocol::config::{Config, ConfigError};
 use daide_session::session::{Deed, Note, Phase, Session, SessionError};
-use daide_tests::rows::{holds, same};
+use daide_test_support::rows::{holds, same};
 use std::alloc::Global;
 use std::test::Fail;
 
@@ -143,7 +143,7 @@ const FINALS: &[Scene] = &[
     ),
     (&[Says(Server, "03 00 00 00"), Ends(Bot)], FM, ""),
     (&[Says(Bot, "03 FF 00 00")], "", FM),
-    (&[Says(Bot, "04 00 00 02 00 FF"), TimerExpires], "", EM),
+    (&[Says(Bot, "04 00 00 02 00 FF"), ImTimerExpired], "", EM),
     (&[Says(Server, "04 7F 00 02 00 FF")], EM, ""),
     (&[Says(Server, "04 00 00 04")], FM, "04 00 00 02 00 09"),
     (&[Says(Bot, "03 00 00 02")], "04 00 00 02 00 09", FM),
@@ -151,7 +151,7 @@ const FINALS: &[Scene] = &[
     (&[Loses(Bot), Ends(Server)], "", FM),
     (&[Loses(Server), Loses(Bot)], FM, ""),
     (
-        &[TimerExpires, Says(Bot, "02 00 00 02  48 0F")],
+        &[ImTimerExpired, Says(Bot, "02 00 00 02  48 0F")],
         "",
         "02 00 00 02  48 0F",
     ),
@@ -178,7 +178,7 @@ const BEFORE_THE_IM: &[Scene] = &[
     (&[Says(Server, "04 00 00 02 00 FF")], EM, ""),
     (&[Loses(Bot)], "", ""),
     (&[Loses(Server)], FM, ""),
-    (&[Ends(Bot), TimerExpires, Ends(Server)], "", ""),
+    (&[Ends(Bot), ImTimerExpired, Ends(Server)], "", ""),
     (
         &[Says(Bot, "00 00 00 04  00 02 10 DA")],
         "04 00 00 02 00 03",
@@ -191,7 +191,7 @@ const BEFORE_THE_IM: &[Scene] = &[
     ),
     (&[Says(Bot, "00 00 00 04  00 01"), Ends(Bot)], "", ""),
     (
-        &[Says(Bot, "00 00 00 04  00 01"), TimerExpires],
+        &[Says(Bot, "00 00 00 04  00 01"), ImTimerExpired],
         "04 00 00 02 00 01",
         "",
     ),
@@ -204,7 +204,7 @@ fn each_event_before_the_im(rt: HostRuntime) -> Result<(), Fail> {
 }
 
 const BEFORE_THE_RM: &[Scene] = &[
-    (&[Says(Bot, IM), TimerExpires, Says(Server, RM)], RM, IM),
+    (&[Says(Bot, IM), ImTimerExpired, Says(Server, RM)], RM, IM),
     (
         &[
             Says(Bot, IM),
@@ -564,7 +564,7 @@ const ENDS_IN_THE_OPEN: &[Scene] = &[
         &[
             Says(Server, "04 00 00 02 00 01"),
             Says(Server, "03 00 00 00"),
-            TimerExpires,
+            ImTimerExpired,
         ],
         "04 00 00 02 00 01",
         "",
@@ -572,7 +572,7 @@ const ENDS_IN_THE_OPEN: &[Scene] = &[
 ];
 
 const ENDS_AT_FIRST: &[Scene] = &[
-    (&[TimerExpires, TimerExpires], "04 00 00 02 00 01", ""),
+    (&[ImTimerExpired, ImTimerExpired], "04 00 00 02 00 01", ""),
     (&[Ends(Bot)], "", ""),
     (&[Ends(Server)], FM, ""),
     (&[Says(Bot, "03 00 00 00"), Says(Server, RM)], "", ""),

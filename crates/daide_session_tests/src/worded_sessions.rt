@@ -6,7 +6,7 @@ use crate::script::Act::Says;
 use crate::script::{PIECES, Script, WIDEST, script_over};
 use daide_frame::side::Side::{self, Bot, Server};
 use daide_session::session::Session;
-use daide_tests::words::two_words;
+use daide_test_support::words::two_words;
 use daide_words::Words;
 use std::alloc::Global;
 use std::test::Fail;

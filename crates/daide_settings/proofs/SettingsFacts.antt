@@ -12,7 +12,7 @@ use Rattle.daide_settings.specs.declared.settings.key.Key.TheVariants.{Words, St
 use Rattle.daide_settings.specs.declared.settings.key.TheConstants.Key.{ALL}
 use Rattle.daide_settings.specs.declared.settings.SettingsError.TheVariants.{NotToml, Unknown, Missing}
 use Rattle.daide_settings.specs.declared.settings.SettingsError.TheVariants.{WrongType, Range}
-use Rattle.daide_settings.specs.Settings.{is_in_range, address_of, number_of, judged_members}
+use Rattle.daide_settings.specs.Settings.{is_in_range, address_of, read_number, judged_members}
 use Rattle.daide_settings.specs.Settings.{judged_settings}
 use Rattle.daide_settings.specs.WordSettings.{words_judged}
 use Rattle.std.proofs.Common.{Result}
@@ -194,10 +194,10 @@ unfolding judged_members
 range_before_a_later_type = refl
 
 -- a negative number is an integer out of range
-negative_number : number_of Turns (Some (integer (negsuc 0))) ≡ Err (Range Turns)
+negative_number : read_number Turns (Some (integer (negsuc 0))) ≡ Err (Range Turns)
 negative_number = refl
 
-text_for_a_number : number_of Sessions (Some (string (codes "1"))) ≡ Err (WrongType Sessions)
+text_for_a_number : read_number Sessions (Some (string (codes "1"))) ≡ Err (WrongType Sessions)
 text_for_a_number = refl
 
 number_for_an_address : address_of Listen (Some (integer (pos 1))) ≡ Err (WrongType Listen)

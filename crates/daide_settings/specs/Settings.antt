@@ -4,8 +4,8 @@ use Rattle.std.specs.Prelude.{ℕ, ℤ, pos, negsuc, ◌&&◌, ◌||◌, nat_le,
 use Rattle.std.specs.Prelude.{List, length, codes, Option, Some, None, Result, Ok, Err}
 use Rattle.std.specs.Str.{bytes_eq}
 use Rattle.toml.specs.Data.{Data, as_str, as_integer, Members, get_member}
-use Rattle.daide_machine.specs.Bounds.{longest_body, most_sessions}
-use Rattle.daide_machine.specs.Config.{is_level, is_body, is_depth}
+use Rattle.daide_protocol.specs.Bounds.{longest_body, most_sessions}
+use Rattle.daide_protocol.specs.Config.{is_level, is_body, is_depth}
 use Rattle.daide_settings.specs.declared.settings.key.Key.{Key}
 use Rattle.daide_settings.specs.declared.settings.key.Key.TheVariants.{Listen, Server, TopLevel, MaxBody, MaxDepth}
 use Rattle.daide_settings.specs.declared.settings.key.Key.TheVariants.{ImSeconds, MaxSessions, Sessions, Turns, IdleSeconds}
@@ -100,9 +100,9 @@ absent_judged key None = Err (Missing key)
 absent_judged key (Some n) = Ok n
 
 -- a number may be left out where it has a default; else it must be an integer, and in range, in this order
-abbrev pub number_of : Key → Option Data → Result ℕ SettingsError
-number_of key None = absent_judged key (default_of key)
-number_of key (Some value) = integer_judged key (as_integer value)
+abbrev pub read_number : Key → Option Data → Result ℕ SettingsError
+read_number key None = absent_judged key (default_of key)
+read_number key (Some value) = integer_judged key (as_integer value)
 
 -- ---- the document
 
@@ -131,16 +131,16 @@ abbrev pub keys_judged : Members → Result Given SettingsError
 keys_judged members =
     then_with (address_of Listen (get_member (key_text Listen) members)) (λ listen.
     then_with (address_of Server (get_member (key_text Server) members)) (λ server.
-    then_with (number_of TopLevel (get_member (key_text TopLevel) members)) (λ top_level.
-    then_with (number_of MaxBody (get_member (key_text MaxBody) members)) (λ max_body.
-    then_with (number_of MaxDepth (get_member (key_text MaxDepth) members)) (λ max_depth.
-    then_with (number_of ImSeconds (get_member (key_text ImSeconds) members)) (λ im_seconds.
-    then_with (number_of MaxSessions (get_member (key_text MaxSessions) members)) (λ max_sessions.
-    then_with (number_of Sessions (get_member (key_text Sessions) members)) (λ sessions.
-    then_with (number_of Turns (get_member (key_text Turns) members)) (λ turns.
-    then_with (number_of IdleSeconds (get_member (key_text IdleSeconds) members)) (λ idle_seconds.
+    then_with (read_number TopLevel (get_member (key_text TopLevel) members)) (λ top_level.
+    then_with (read_number MaxBody (get_member (key_text MaxBody) members)) (λ max_body.
+    then_with (read_number MaxDepth (get_member (key_text MaxDepth) members)) (λ max_depth.
+    then_with (read_number ImSeconds (get_member (key_text ImSeconds) members)) (λ im_seconds.
+    then_with (read_number MaxSessions (get_member (key_text MaxSessions) members)) (λ max_sessions.
+    then_with (read_number Sessions (get_member (key_text Sessions) members)) (λ sessions.
+    then_with (read_number Turns (get_member (key_text Turns) members)) (λ turns.
+    then_with (read_number IdleSeconds (get_member (key_text IdleSeconds) members)) (λ idle_seconds.
     then_with (words_judged (get_member (key_text Words) members)) (λ words.
-    then_with (number_of StallSeconds (get_member (key_text StallSeconds) members)) (λ stall_seconds.
+    then_with (read_number StallSeconds (get_member (key_text StallSeconds) members)) (λ stall_seconds.
     Ok (record {
       listen = listen;
       server = server;

@@ -63,21 +63,21 @@ abbrev pub three_of : List ℕ → Option (List ℕ)
 three_of name = if length name == 3 then Some name else None
 
 -- a code is a token's number
-abbrev pub code_of : ℤ → Option ℕ
-code_of (pos n) = if nat_le n 0xFFFF then Some n else None
-code_of (negsuc n) = None
+abbrev pub code_of_integer : ℤ → Option ℕ
+code_of_integer (pos n) = if nat_le n 0xFFFF then Some n else None
+code_of_integer (negsuc n) = None
 
-abbrev pub level_of : ℤ → Option Level
-level_of (pos n) = level_of_number n
-level_of (negsuc n) = None
+abbrev pub level_of_integer : ℤ → Option Level
+level_of_integer (pos n) = level_of_number n
+level_of_integer (negsuc n) = None
 
 -- the word of an entry's members
 abbrev pub word_of_members : Members → Option Word
 word_of_members members =
     word_of_parts (option_and_then three_of (text_in (codes "name") members))
-    (option_and_then code_of (number_in (codes "code") members))
+    (option_and_then code_of_integer (number_in (codes "code") members))
     (option_and_then slot_named (text_in (codes "slot") members))
-    (option_and_then level_of (number_in (codes "level") members))
+    (option_and_then level_of_integer (number_in (codes "level") members))
     (option_and_then operand_named (text_in (codes "operand") members))
 
 -- the word of an entry

@@ -15,11 +15,11 @@ ghost use Rattle.toml.specs.View.{view, table_view};
 ghost use Rattle.toml.specs.Parse.{parse_document};
 ghost use Rattle.daide_settings.specs.Given.{given_of};
 ghost use Rattle.daide_settings.specs.Settings.{key_text, is_known as is_known_key, is_in_range};
-ghost use Rattle.daide_settings.specs.Settings.{address_of, number_of as judged_number, has_only_known as knows_all};
+ghost use Rattle.daide_settings.specs.Settings.{address_of, read_number as judged_number, has_only_known as knows_all};
 ghost use Rattle.daide_settings.specs.Settings.{judged_members, judged_settings};
 
 pub use address::Address;
-use daide_machine::config::Config;
+use daide_protocol::config::Config;
 use daide_words::Words;
 pub use key::Key;
 use key::is_known;

@@ -8,23 +8,23 @@ use Rattle.daide_token.specs.Token.{tokens_of}
 use Rattle.daide_words.specs.declared.word.Word.{Word}
 use Rattle.daide_reader.specs.declared.verdict.Verdict.{Verdict}
 use Rattle.daide_reader.specs.declared.verdict.Verdict.TheVariants.{Relay, Prn, Huh}
-use Rattle.daide_machine.specs.Answers.{prn_open, huh_open, err_word, close_word, answer_body}
+use Rattle.daide_protocol.specs.Answers.{prn_open, huh_open, err_bytes, close_bytes, answer_body}
 use Rattle.daide_show.specs.Shown.{is_relay, line, printed, verdict_lines, verdict_name}
 
 copied : (parts copy : List ℕ) → AllZip (λ x y. y ≡ x) parts copy → copy ≡ parts
 copied parts copy each = same_from_all_zip (λ x y. y ≡ x) parts copy each (λ x y e. e)
 
-pub prn_of_parts : (body answer : List ℕ) → AllZip (λ x y. y ≡ x) (prn_open ++ (body ++ (close_word ++ []))) answer →
+pub prn_of_parts : (body answer : List ℕ) → AllZip (λ x y. y ≡ x) (prn_open ++ (body ++ (close_bytes ++ []))) answer →
     answer ≡ answer_body body Prn
 prn_of_parts body answer each = copied _ _ each
 
 pub huh_of_parts : (body before after answer : List ℕ) (place : ℕ) → before ≡ take (2 * place) body →
     after ≡ drop (2 * place) body
-    → AllZip (λ x y. y ≡ x) (huh_open ++ (before ++ (err_word ++ (after ++ (close_word ++ []))))) answer →
+    → AllZip (λ x y. y ≡ x) (huh_open ++ (before ++ (err_bytes ++ (after ++ (close_bytes ++ []))))) answer →
     answer ≡ answer_body body (Huh place)
 huh_of_parts body before after answer place front back each =
-    copied _ _ each ∙ ap (λ (l : List ℕ). huh_open ++ (l ++ (err_word ++ (after ++ close_word)))) front
-    ∙ ap (λ (l : List ℕ). huh_open ++ (take (2 * place) body ++ (err_word ++ (l ++ close_word)))) back
+    copied _ _ each ∙ ap (λ (l : List ℕ). huh_open ++ (l ++ (err_bytes ++ (after ++ close_bytes)))) front
+    ∙ ap (λ (l : List ℕ). huh_open ++ (take (2 * place) body ++ (err_bytes ++ (l ++ close_bytes)))) back
     ∙ simp append_assoc
 
 pub even_prn : (body : List ℕ) → length body % 2 ≡ 0 → length (answer_body body Prn) % 2 ≡ 0

@@ -10,28 +10,28 @@ use Rattle.daide_grammar.specs.SideMessages.{IsMessageOver}
 use Rattle.daide_words.specs.Word.{grammar_words}
 use Rattle.daide_reader.specs.declared.verdict.Verdict.{Verdict}
 use Rattle.daide_reader.proofs.VerdictLemmas.{verdict_is_one}
-use Rattle.daide_machine.specs.Bounds.{longest_body, greatest_depth}
+use Rattle.daide_protocol.specs.Bounds.{longest_body, greatest_depth}
 use Rattle.daide_show.specs.declared.frame_view.ShowFault.{ShowFault}
 use Rattle.daide_show.specs.declared.frame_view.ShowFault.TheVariants.{TooLong, NotHex}
-use Rattle.daide_show.specs.Input.{limit, bytes_of}
-use Rattle.daide_machine.specs.Machine.{side2_of}
+use Rattle.daide_show.specs.Input.{limit, parse_hex}
+use Rattle.daide_protocol.specs.Machine.{side2_of}
 use Rattle.daide_explain.specs.Explained.{IsExplained}
-use Rattle.daide_show.specs.Shown.{Asked, Shown, OneFrame, faulty, whole, not_one, found_in, message_shown}
+use Rattle.daide_show.specs.Shown.{ShowRequest, Shown, OneFrame, faulty, whole, not_one, parse_frame, message_shown}
 use Rattle.daide_show.specs.Shown.{AreLines, IsMessageShownAs, IsFrameShownAs, IsOneShownAs, AreShownAs, IsShownAs}
 
 -- an explanation is one, of the message of each body and each verdict
-abbrev pub IsOneExplanation : Asked → Type 0
+abbrev pub IsOneExplanation : ShowRequest → Type 0
 IsOneExplanation asked =
     (m : List ℕ) (verdict : Verdict) (one other : List ℕ) →
     IsExplained asked.words (side2_of asked.side) asked.level greatest_depth m verdict one →
     IsExplained asked.words (side2_of asked.side) asked.level greatest_depth m verdict other → one ≡ other
 
 -- what is shown of an input's bytes, where it has some
-abbrev pub Decoded : Asked → Result (List ℕ) FromHexError → Result Shown ShowFault → Type 0
+abbrev pub Decoded : ShowRequest → Result (List ℕ) FromHexError → Result Shown ShowFault → Type 0
 Decoded asked bytes outcome =
     MatchResult bytes (λ b. AreShownAs asked b outcome) (λ _. outcome ≡ Err NotHex)
 
-module _ (asked : Asked) (once : IsOneExplanation asked) where
+module _ (asked : ShowRequest) (once : IsOneExplanation asked) where
   lines_are_one : (explained : Bool) (m : List ℕ) (verdict : Verdict) (one other : List ℕ) →
       MatchBool explained
       (IsExplained asked.words (side2_of asked.side) asked.level greatest_depth m verdict one) (one ≡ []) →
@@ -70,14 +70,14 @@ module _ (asked : Asked) (once : IsOneExplanation asked) where
 
   bytes_are_one : (bytes : Result (List ℕ) FromHexError) (one other : Result Shown ShowFault) →
       Decoded asked bytes one → Decoded asked bytes other → one ≡ other
-  bytes_are_one (Ok bytes) one other x y = one_is_one (found_in longest_body bytes) one other x y
+  bytes_are_one (Ok bytes) one other x y = one_is_one (parse_frame longest_body bytes) one other x y
   bytes_are_one (Err e) one other x y = x ∙ sym y
 
   pub shown_is_one : (input : List ℕ) (one other : Result Shown ShowFault) → IsShownAs asked input one →
       IsShownAs asked input other → one ≡ other
   shown_is_one input one other x y = by_length (ltb limit (length input)) x y
     where
-      by_length : (long : Bool) → MatchBool long (one ≡ Err TooLong) (Decoded asked (bytes_of input) one) →
-          MatchBool long (other ≡ Err TooLong) (Decoded asked (bytes_of input) other) → one ≡ other
+      by_length : (long : Bool) → MatchBool long (one ≡ Err TooLong) (Decoded asked (parse_hex input) one) →
+          MatchBool long (other ≡ Err TooLong) (Decoded asked (parse_hex input) other) → one ≡ other
       by_length true x y = x ∙ sym y
-      by_length false x y = bytes_are_one (bytes_of input) one other x y
+      by_length false x y = bytes_are_one (parse_hex input) one other x y

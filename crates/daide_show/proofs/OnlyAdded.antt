@@ -15,13 +15,13 @@ use Rattle.daide_words.specs.Word.{grammar_words}
 use Rattle.daide_reader.specs.declared.verdict.Verdict.{Verdict}
 use Rattle.daide_reader.specs.declared.verdict.Verdict.TheVariants.{Relay, Prn, Huh}
 use Rattle.daide_reader.proofs.VerdictLemmas.{verdict_is_one}
-use Rattle.daide_machine.specs.Bounds.{longest_body, greatest_depth}
-use Rattle.daide_machine.specs.Machine.{side2_of}
+use Rattle.daide_protocol.specs.Bounds.{longest_body, greatest_depth}
+use Rattle.daide_protocol.specs.Machine.{side2_of}
 use Rattle.daide_explain.specs.Explained.{IsExplained}
 use Rattle.daide_show.specs.declared.frame_view.ShowFault.{ShowFault}
 use Rattle.daide_show.specs.declared.frame_view.ShowFault.TheVariants.{TooLong, NotHex, NotOneFrame}
-use Rattle.daide_show.specs.Input.{limit, bytes_of}
-use Rattle.daide_show.specs.Shown.{Asked, Shown, OneFrame, faulty, whole, not_one, found_in}
+use Rattle.daide_show.specs.Input.{limit, parse_hex}
+use Rattle.daide_show.specs.Shown.{ShowRequest, Shown, OneFrame, faulty, whole, not_one, parse_frame}
 use Rattle.daide_show.specs.Shown.{kind_line, line, printed, verdict_lines, is_relay, message_shown, im_shown}
 use Rattle.daide_show.specs.Shown.{relayed_shown, fault_shown, OnlyAdds, IsMessageShownAs, IsFrameShownAs}
 use Rattle.daide_show.specs.Shown.{IsOneShownAs, IsShownAs}
@@ -38,10 +38,10 @@ moved one other a b x y adds =
     (subst (λ (o : Result Shown ShowFault). OnlyAdds a o) (sym y) adds)
 
 module _ (words : List Word) (side : Side) (level : Level) where
-  abbrev pub plainly : Asked
+  abbrev pub plainly : ShowRequest
   plainly = record { words = words; side = side; level = level; explained = false }
 
-  abbrev pub explaining : Asked
+  abbrev pub explaining : ShowRequest
   explaining = record { words = words; side = side; level = level; explained = true }
 
   -- a message that is relayed has no lines
@@ -91,14 +91,14 @@ module _ (words : List Word) (side : Side) (level : Level) where
 
   bytes_add : (bytes : Result (List ℕ) FromHexError) (one other : Result Shown ShowFault) →
       Decoded plainly bytes one → Decoded explaining bytes other → OnlyAdds one other
-  bytes_add (Ok bytes) one other x y = one_adds (found_in longest_body bytes) one other x y
+  bytes_add (Ok bytes) one other x y = one_adds (parse_frame longest_body bytes) one other x y
   bytes_add (Err e) one other x y = moved one other (Err NotHex) (Err NotHex) x y refl
 
   pub only_adds : (input : List ℕ) (one other : Result Shown ShowFault) → IsShownAs plainly input one →
       IsShownAs explaining input other → OnlyAdds one other
   only_adds input one other x y = by_length (ltb limit (length input)) x y
     where
-      by_length : (long : Bool) → MatchBool long (one ≡ Err TooLong) (Decoded plainly (bytes_of input) one) →
-          MatchBool long (other ≡ Err TooLong) (Decoded explaining (bytes_of input) other) → OnlyAdds one other
+      by_length : (long : Bool) → MatchBool long (one ≡ Err TooLong) (Decoded plainly (parse_hex input) one) →
+          MatchBool long (other ≡ Err TooLong) (Decoded explaining (parse_hex input) other) → OnlyAdds one other
       by_length true x y = moved one other (Err TooLong) (Err TooLong) x y refl
-      by_length false x y = bytes_add (bytes_of input) one other x y
+      by_length false x y = bytes_add (parse_hex input) one other x y

@@ -17,8 +17,8 @@ abbrev pub digits_of : List ℕ → List ℕ
 digits_of input = filter (λ b. not (is_blank b)) input
 
 -- the bytes of an input, two digits each and in either case; an error if there is another character, or half a byte
-abbrev pub bytes_of : List ℕ → Result (List ℕ) FromHexError
-bytes_of input = decode_of (digits_of input)
+abbrev pub parse_hex : List ℕ → Result (List ℕ) FromHexError
+parse_hex input = decode_of (digits_of input)
 
 -- part of an input was read: it is what the reader gave, it is not too long, and each turn gave a byte
 pub record IsPartlyRead (old now : Option (List ℕ)) (input : List ℕ) (turns : ℕ) : Type 0 where

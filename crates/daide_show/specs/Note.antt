@@ -6,9 +6,9 @@ use Rattle.std.specs.Fmt.{decimal}
 use Rattle.std.specs.Int.{w16, from_be_bytes}
 use Rattle.hex.specs.Hex.{is_hex_digit, upper_digits}
 use Rattle.hex.specs.declared.error.FromHexError.{FromHexError}
-use Rattle.daide_machine.specs.Bounds.{longest_body}
-use Rattle.daide_show.specs.Input.{limit, is_blank, bytes_of}
-use Rattle.daide_show.specs.Shown.{Shown, OneFrame, faulty, whole, not_one, found_in}
+use Rattle.daide_protocol.specs.Bounds.{longest_body}
+use Rattle.daide_show.specs.Input.{limit, is_blank, parse_hex}
+use Rattle.daide_show.specs.Shown.{Shown, OneFrame, faulty, whole, not_one, parse_frame}
 use Rattle.daide_show.specs.declared.frame_view.ShowFault.{ShowFault}
 use Rattle.daide_show.specs.declared.frame_view.ShowFault.TheVariants.{Read, TooLong, NotHex, NotOneFrame}
 use Rattle.daide_show.specs.declared.frame_view.ShowFault.TheVariants.{Memory, Write}
@@ -48,12 +48,12 @@ note_of_frame not_one bytes = Some (frame_note bytes)
 
 -- the note of an input by its decoded bytes, or by the error of decoding it
 abbrev pub note_of_bytes : List ℕ → Result (List ℕ) FromHexError → Option InputNote
-note_of_bytes input (Ok bytes) = note_of_frame (found_in longest_body bytes) bytes
+note_of_bytes input (Ok bytes) = note_of_frame (parse_frame longest_body bytes) bytes
 note_of_bytes input (Err error) = Some (digits_note input)
 
 -- the note of an input; one that is too long has none
 abbrev pub input_note_of : List ℕ → Option InputNote
-input_note_of input = if nat_lt limit (length input) then None else note_of_bytes input (bytes_of input)
+input_note_of input = if nat_lt limit (length input) then None else note_of_bytes input (parse_hex input)
 
 -- the fault that a note is of
 abbrev pub fault_of_note : InputNote → ShowFault

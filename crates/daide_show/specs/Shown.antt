@@ -14,7 +14,7 @@ use Rattle.daide_frame.specs.declared.head.Kind.TheVariants.{Im, Rm, Dm, Fm, Em}
 use Rattle.daide_frame.specs.Code.{code_digits}
 use Rattle.daide_frame.specs.Kind.{name_of_kind}
 use Rattle.daide_frame.specs.InitialMessage.{im_of}
-use Rattle.daide_frame.specs.Frames.{Item, Begun, Whole, Wrong, first_items, items_of}
+use Rattle.daide_frame.specs.Frames.{FrameEvent, Begun, Whole, Wrong, first_items, frame_events_of}
 use Rattle.daide_grammar.specs.declared.level.Level.{Level}
 use Rattle.daide_grammar.specs.SideMessages.{IsMessageOver}
 use Rattle.daide_words.specs.declared.word.Word.{Word}
@@ -22,11 +22,11 @@ use Rattle.daide_words.specs.Word.{grammar_words, names_of}
 use Rattle.daide_reader.specs.Verdict.{HasVerdict}
 use Rattle.daide_reader.specs.declared.verdict.Verdict.{Verdict}
 use Rattle.daide_reader.specs.declared.verdict.Verdict.TheVariants.{Relay, Prn, Huh}
-use Rattle.daide_machine.specs.Answers.{answer_body}
-use Rattle.daide_machine.specs.Bounds.{longest_body, greatest_depth}
-use Rattle.daide_machine.specs.Machine.{side2_of}
+use Rattle.daide_protocol.specs.Answers.{answer_body}
+use Rattle.daide_protocol.specs.Bounds.{longest_body, greatest_depth}
+use Rattle.daide_protocol.specs.Machine.{side2_of}
 use Rattle.daide_explain.specs.Explained.{IsExplained}
-use Rattle.daide_show.specs.Input.{limit, bytes_of}
+use Rattle.daide_show.specs.Input.{limit, parse_hex}
 use Rattle.daide_words.specs.Words.{words_of}
 use Rattle.daide_show.specs.declared.frame_view.Request.{Request}
 use Rattle.daide_show.specs.declared.frame_view.ShowFault.{ShowFault}
@@ -35,15 +35,15 @@ use Rattle.daide_show.specs.declared.frame_view.ShowFault.TheVariants.{Memory, W
 
 -- how a frame is judged and shown: the operator's words, whose frame it is, at which level, and whether a message that
 -- is not relayed is explained
-pub record Asked : Type 0 where
+pub record ShowRequest : Type 0 where
   pub words : List Word
   pub side : Side
   pub level : Level
   pub explained : Bool
 
 -- what a request asks
-abbrev pub asked_of : Request → Asked
-asked_of request = record {
+abbrev pub request_of : Request → ShowRequest
+request_of request = record {
   words = words_of request.words.now;
   side = request.side;
   level = request.level;
@@ -51,8 +51,8 @@ asked_of request = record {
 }
 
 -- a frame of a side at a level, without words and without an explanation
-abbrev pub plain_asked : Side → Level → Asked
-plain_asked side level = record { words = []; side = side; level = level; explained = false }
+abbrev pub plain_request : Side → Level → ShowRequest
+plain_request side level = record { words = []; side = side; level = level; explained = false }
 
 -- what is written, and whether the frame would be relayed
 pub record Shown : Type 0 where
@@ -114,14 +114,14 @@ message_shown words len body verdict lines = record {
 }
 
 -- the lines that explain a verdict, if it is to be explained; else there are none
-abbrev pub AreLines : Asked → List ℕ → Verdict → List ℕ → Type 0
+abbrev pub AreLines : ShowRequest → List ℕ → Verdict → List ℕ → Type 0
 AreLines asked m verdict lines =
     MatchBool asked.explained
     (IsExplained asked.words (side2_of asked.side) asked.level greatest_depth m verdict lines)
     (lines ≡ [])
 
 -- a message of a body is shown by the verdict that its side's grammar, with these words, has for it
-abbrev pub IsMessageShownAs : Asked → ℕ → List ℕ → Shown → Type 0
+abbrev pub IsMessageShownAs : ShowRequest → ℕ → List ℕ → Shown → Type 0
 IsMessageShownAs asked len body shown =
     (verdict : Verdict) × (lines : List ℕ)
     × HasVerdict (IsMessageOver (grammar_words asked.words) (side2_of asked.side) asked.level) greatest_depth
@@ -129,11 +129,11 @@ IsMessageShownAs asked len body shown =
     × AreLines asked (tokens_of body) verdict lines × (shown ≡ message_shown asked.words len body verdict lines)
 
 -- what was shown is added after what was there
-abbrev pub Adds : List ℕ → List ℕ → Bool → Shown → Type 0
-Adds old new relayed shown = (new ≡ old ++ shown.text) × (relayed ≡ shown.relayed)
+abbrev pub WritesShown : List ℕ → List ℕ → Bool → Shown → Type 0
+WritesShown old new relayed shown = (new ≡ old ++ shown.text) × (relayed ≡ shown.relayed)
 
 -- what is shown of a whole frame
-abbrev pub IsFrameShownAs : Asked → Kind → ℕ → List ℕ → Shown → Type 0
+abbrev pub IsFrameShownAs : ShowRequest → Kind → ℕ → List ℕ → Shown → Type 0
 IsFrameShownAs asked Im len body shown = shown ≡ im_shown len (im_of body)
 IsFrameShownAs asked Rm len body shown = shown ≡ relayed_shown Rm len
 IsFrameShownAs asked Dm len body shown = IsMessageShownAs asked len body shown
@@ -147,41 +147,41 @@ pub data OneFrame : Type 0 where
   not_one : OneFrame
 
 -- by how many there are, and by the items of the frame that they begin with
-abbrev pub found_among : ℕ → List Item → OneFrame
-found_among count [] = not_one
-found_among count (Begun head ∷ items) = found_among count items
-found_among count (Wrong code ∷ items) = faulty code
-found_among count (Whole head body ∷ items) = if 4 + length body == count then whole head body else not_one
+abbrev pub parse_frame_events : ℕ → List FrameEvent → OneFrame
+parse_frame_events count [] = not_one
+parse_frame_events count (Begun head ∷ items) = parse_frame_events count items
+parse_frame_events count (Wrong code ∷ items) = faulty code
+parse_frame_events count (Whole head body ∷ items) = if 4 + length body == count then whole head body else not_one
 
 -- what some bytes are under a cap
-unfoldable pub found_in : ℕ → List ℕ → OneFrame
-found_in cap bytes = found_among (length bytes) (items_of (first_items cap bytes))
+unfoldable pub parse_frame : ℕ → List ℕ → OneFrame
+parse_frame cap bytes = parse_frame_events (length bytes) (frame_events_of (first_items cap bytes))
 
 -- what is shown of a frame, or that there is not one
-abbrev pub IsOneShownAs : Asked → OneFrame → Result Shown ShowFault → Type 0
+abbrev pub IsOneShownAs : ShowRequest → OneFrame → Result Shown ShowFault → Type 0
 IsOneShownAs asked (faulty code) outcome = outcome ≡ Ok (fault_shown code)
 IsOneShownAs asked (whole head body) outcome =
     (shown : Shown) × (outcome ≡ Ok shown) × IsFrameShownAs asked head.kind head.len body shown
 IsOneShownAs asked not_one outcome = outcome ≡ Err NotOneFrame
 
 -- what is shown of some bytes
-abbrev pub AreShownAs : Asked → List ℕ → Result Shown ShowFault → Type 0
-AreShownAs asked bytes outcome = IsOneShownAs asked (found_in longest_body bytes) outcome
+abbrev pub AreShownAs : ShowRequest → List ℕ → Result Shown ShowFault → Type 0
+AreShownAs asked bytes outcome = IsOneShownAs asked (parse_frame longest_body bytes) outcome
 
 -- what is shown of an input, or the input's fault
-abbrev pub IsShownAs : Asked → List ℕ → Result Shown ShowFault → Type 0
+abbrev pub IsShownAs : ShowRequest → List ℕ → Result Shown ShowFault → Type 0
 IsShownAs asked input outcome =
     MatchBool (nat_lt limit (length input)) (outcome ≡ Err TooLong)
-    (MatchResult (bytes_of input) (λ bytes. AreShownAs asked bytes outcome) (λ _. outcome ≡ Err NotHex))
+    (MatchResult (parse_hex input) (λ bytes. AreShownAs asked bytes outcome) (λ _. outcome ≡ Err NotHex))
 
 -- what is shown of the input was written, and the answer is whether its frame would be relayed
-abbrev pub Shows : Asked → List ℕ → Bool → Option (List ℕ) → Option (List ℕ) → Type 0
+abbrev pub Shows : ShowRequest → List ℕ → Bool → Option (List ℕ) → Option (List ℕ) → Type 0
 Shows asked input relayed old new =
     (shown : Shown) × IsShownAs asked input (Ok shown) × (relayed ≡ shown.relayed) × Appends old new shown.text
 
 -- what an input has to do with a fault: those of the input are its own, a failed write comes only if there is
 -- something to show, and the reader's and memory's say nothing of it
-abbrev pub IsFaultAt : Asked → List ℕ → ShowFault → Type 0
+abbrev pub IsFaultAt : ShowRequest → List ℕ → ShowFault → Type 0
 IsFaultAt asked input Read = ⊤
 IsFaultAt asked input TooLong = IsShownAs asked input (Err TooLong)
 IsFaultAt asked input NotHex = IsShownAs asked input (Err NotHex)

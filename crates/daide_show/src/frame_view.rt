@@ -10,16 +10,16 @@ mod text;
 ghost use Rattle.std.specs.Prelude.{◌≢◌, ◌≤◌, ◌+◌, ℕ, List, length, IfOk, IfErr, IfSome, Ok, Err};
 ghost use Rattle.std.specs.Io.KnownBytes.{Consumes, Keeps};
 ghost use Rattle.daide_show.specs.Input.{limit};
-ghost use Rattle.daide_show.specs.Shown.{asked_of, plain_asked, AreShownAs, IsShownAs, Shows, IsFaultAt};
+ghost use Rattle.daide_show.specs.Shown.{request_of, plain_request, AreShownAs, IsShownAs, Shows, IsFaultAt};
 
 use daide_frame::{Cutter, Side};
 use daide_grammar::Level;
-use daide_machine::MAX_BODY;
+use daide_protocol::MAX_BODY;
 use daide_words::Words;
 use hex::FromHexError;
 pub use input::read_input;
 use input::{LIMIT, digits_of};
-use one_frame::{Found, find_frame};
+use one_frame::{ParsedInput, find_frame};
 use std::alloc::Allocator;
 use std::io::{Read, Write};
 use text::{write_fault, write_frame};
@@ -68,19 +68,19 @@ fn show_bytes<A: Allocator + Copy>(
     request: &Request<'_>,
     bytes: &[u8],
 ) -> Result<(Vec<u8, A>, bool), ShowFault>
-    ensures shown { IfOk result (λ answer. AreShownAs (asked_of request.now) bytes.now
+    ensures shown { IfOk result (λ answer. AreShownAs (request_of request.now) bytes.now
         (Ok (record { text = answer.0.items; relayed = answer.1 }))) }
     ensures refused { IfErr result (λ fault. fault ≢ ShowFault.Memory
-        → AreShownAs (asked_of request.now) bytes.now (Err fault)) }
+        → AreShownAs (request_of request.now) bytes.now (Err fault)) }
 {
     let Ok(mut cutter) = Cutter::new(alloc, MAX_BODY) else {
         return Err(ShowFault::Memory);
     };
     let mut text = Vec::new(alloc);
     let written = match find_frame(&mut cutter, bytes) {
-        Found::NotOneFrame => return Err(ShowFault::NotOneFrame),
-        Found::Fault(code) => write_fault(code, &mut text),
-        Found::Whole(head) => write_frame(alloc, request, head, cutter.body(), &mut text),
+        ParsedInput::NotOneFrame => return Err(ShowFault::NotOneFrame),
+        ParsedInput::Fault(code) => write_fault(code, &mut text),
+        ParsedInput::Whole(head) => write_frame(alloc, request, head, cutter.body(), &mut text),
     };
     match written {
         Ok(relayed) => Ok((text, relayed)),
@@ -94,10 +94,10 @@ fn text_of_input<A: Allocator + Copy>(
     request: &Request<'_>,
     input: &[u8],
 ) -> Result<(Vec<u8, A>, bool), ShowFault>
-    ensures shown { IfOk result (λ answer. IsShownAs (asked_of request.now) input.now
+    ensures shown { IfOk result (λ answer. IsShownAs (request_of request.now) input.now
         (Ok (record { text = answer.0.items; relayed = answer.1 }))) }
     ensures refused { IfErr result (λ fault. fault ≢ ShowFault.Memory
-        → IsShownAs (asked_of request.now) input.now (Err fault)) }
+        → IsShownAs (request_of request.now) input.now (Err fault)) }
 {
     if input.len() > LIMIT {
         return Err(ShowFault::TooLong);
@@ -123,10 +123,10 @@ pub fn show_input<A: Allocator + Copy, W: Write>(
 ) -> Result<bool, ShowFault>
     // What is written is what is shown for the input, and the answer is true exactly at a relay.
     ensures shown { IfOk result (λ relayed.
-        Shows (asked_of request.now) input.now relayed (W.contents writer.old) (W.contents writer.new)) }
+        Shows (request_of request.now) input.now relayed (W.contents writer.old) (W.contents writer.new)) }
 
     // A fault of the input is its own, and a write fails only if there is something to show.
-    ensures refused { IfErr result (λ fault. IsFaultAt (asked_of request.now) input.now fault) }
+    ensures refused { IfErr result (λ fault. IsFaultAt (request_of request.now) input.now fault) }
 
     // Only a failed write can leave something written.
     ensures nothing_written { IfErr result (λ fault. fault ≢ ShowFault.Write
@@ -155,11 +155,11 @@ pub fn show<A: Allocator + Copy, R: Read, W: Write>(
 ) -> Result<bool, ShowFault>
     // What is written is what is shown for the input, and the answer is true exactly at a relay.
     ensures shown { IfOk result (λ relayed. IfSome (R.remaining reader.old) (λ input.
-        Shows (plain_asked side level) input relayed (W.contents writer.old) (W.contents writer.new))) }
+        Shows (plain_request side level) input relayed (W.contents writer.old) (W.contents writer.new))) }
 
     // A fault of the input is its own, and a write fails only if there is something to show.
     ensures refused { IfErr result (λ fault. IfSome (R.remaining reader.old) (λ input.
-        IsFaultAt (plain_asked side level) input fault)) }
+        IsFaultAt (plain_request side level) input fault)) }
 
     // Only a failed write can leave something written.
     ensures nothing_written { IfErr result (λ fault. fault ≢ ShowFault.Write
@@ -187,11 +187,11 @@ pub fn show_with<A: Allocator + Copy, R: Read, W: Write>(
 ) -> Result<bool, ShowFault>
     // What is written is what is shown for the input, and the answer is true exactly at a relay.
     ensures shown { IfOk result (λ relayed. IfSome (R.remaining reader.old) (λ input.
-        Shows (asked_of request.now) input relayed (W.contents writer.old) (W.contents writer.new))) }
+        Shows (request_of request.now) input relayed (W.contents writer.old) (W.contents writer.new))) }
 
     // A fault of the input is its own, and a write fails only if there is something to show.
     ensures refused { IfErr result (λ fault. IfSome (R.remaining reader.old) (λ input.
-        IsFaultAt (asked_of request.now) input fault)) }
+        IsFaultAt (request_of request.now) input fault)) }
 
     // Only a failed write can leave something written.
     ensures nothing_written { IfErr result (λ fault. fault ≢ ShowFault.Write

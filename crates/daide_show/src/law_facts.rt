@@ -8,16 +8,16 @@ ghost use Rattle.daide_reader.specs.declared.verdict.Verdict.TheVariants.{Huh};
 ghost use Rattle.daide_show.specs.declared.frame_view.ShowFault.{ShowFault};
 ghost use Rattle.daide_show.specs.declared.frame_view.ShowFault.TheVariants.{NotHex};
 ghost use Rattle.daide_show.specs.Note.{noted_fault};
-ghost use Rattle.daide_show.specs.Shown.{IsShownAs, Shown, plain_asked, verdict_lines};
+ghost use Rattle.daide_show.specs.Shown.{IsShownAs, Shown, plain_request, verdict_lines};
 
 use crate::laws;
 
 /// An FM is shown by its kind, its length and `relay`, and in no other way; and a letter is no digit.
 fn one_way_at_two_inputs()
     ensures shown { (outcome : Result Shown ShowFault) →
-        IsShownAs (plain_asked Bot L0) (codes "03 00 00 00") outcome →
+        IsShownAs (plain_request Bot L0) (codes "03 00 00 00") outcome →
         outcome ≡ Ok (record { text = codes "FM 0" ++ 10 ∷ codes "relay" ++ 10 ∷ []; relayed = true }) }
-    ensures refused { (outcome : Result Shown ShowFault) → IsShownAs (plain_asked Bot L0) (codes "0G") outcome →
+    ensures refused { (outcome : Result Shown ShowFault) → IsShownAs (plain_request Bot L0) (codes "0G") outcome →
         outcome ≡ Err NotHex }
 {
     laws::input_is_shown_in_one_way();
@@ -34,9 +34,9 @@ fn explanation_at_a_relayed_frame()
 
 /// An input of one digit has the fault of its note, and one that is shown has none.
 fn note_at_two_inputs()
-    ensures odd { (outcome : Result Shown ShowFault) → IsShownAs (plain_asked Bot L0) (codes "0") outcome →
+    ensures odd { (outcome : Result Shown ShowFault) → IsShownAs (plain_request Bot L0) (codes "0") outcome →
         noted_fault outcome ≡ Some NotHex }
-    ensures whole { (outcome : Result Shown ShowFault) → IsShownAs (plain_asked Bot L0) (codes "03 00 00 00") outcome →
+    ensures whole { (outcome : Result Shown ShowFault) → IsShownAs (plain_request Bot L0) (codes "03 00 00 00") outcome →
         noted_fault outcome ≡ None }
 {
     laws::note_is_of_the_fault();

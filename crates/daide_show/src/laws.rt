@@ -6,17 +6,17 @@ ghost use Rattle.daide_frame.specs.declared.side.Side.{Side};
 ghost use Rattle.daide_grammar.specs.declared.level.Level.{Level};
 ghost use Rattle.daide_words.specs.declared.word.Word.{Word};
 ghost use Rattle.daide_reader.specs.declared.verdict.Verdict.{Verdict};
-ghost use Rattle.daide_machine.specs.Answers.{answer_body};
+ghost use Rattle.daide_protocol.specs.Answers.{answer_body};
 ghost use Rattle.daide_show.specs.declared.frame_view.ShowFault.{ShowFault};
 ghost use Rattle.daide_show.specs.Note.{fault_of_note, input_note_of, noted_fault};
-ghost use Rattle.daide_show.specs.Shown.{Asked, OnlyAdds, Shown, IsShownAs, is_relay, line, printed};
+ghost use Rattle.daide_show.specs.Shown.{ShowRequest, OnlyAdds, Shown, IsShownAs, is_relay, line, printed};
 ghost use Rattle.daide_show.specs.Shown.{verdict_lines, verdict_name};
 
 use daide_explain::laws::explained_in_one_way;
 
 /// An input is shown in one way, or refused with one fault: so the clauses of `show` leave it no choice.
 pub fn input_is_shown_in_one_way()
-    ensures { (asked : Asked) (input : List ℕ) (one other : Result Shown ShowFault) →
+    ensures { (asked : ShowRequest) (input : List ℕ) (one other : Result Shown ShowFault) →
         IsShownAs asked input one → IsShownAs asked input other → one ≡ other }
 {
     explained_in_one_way();
@@ -34,7 +34,7 @@ pub fn explanation_only_adds()
 
 /// An input has a note if and only if its fault is `NotHex` or `NotOneFrame`, and the note is of that fault.
 pub fn note_is_of_the_fault()
-    ensures { (asked : Asked) (input : List ℕ) (outcome : Result Shown ShowFault) → IsShownAs asked input outcome →
+    ensures { (asked : ShowRequest) (input : List ℕ) (outcome : Result Shown ShowFault) → IsShownAs asked input outcome →
         option_map fault_of_note (input_note_of input) ≡ noted_fault outcome }
 {}
 

@@ -4,14 +4,14 @@ ghost use Rattle.std.specs.Prelude.{◌≡◌, ◌<◌, length, not, slice_index
 ghost use Rattle.std.specs.Fmt.{WritesOnOk};
 ghost use Rattle.daide_show.specs.Input.{is_blank};
 ghost use Rattle.hex.specs.Hex.{is_hex_digit, upper_digits};
-ghost use Rattle.daide_machine.specs.Bounds.{longest_body};
-ghost use Rattle.daide_show.specs.Shown.{found_in};
+ghost use Rattle.daide_protocol.specs.Bounds.{longest_body};
+ghost use Rattle.daide_show.specs.Shown.{parse_frame};
 ghost use Rattle.daide_show.specs.Note.{byte_text, is_bad, digits_note, frame_note, input_note_of, note_of_frame, note_text};
 
 use crate::frame_view::input::{LIMIT, digits_of, is_blank};
-use crate::frame_view::one_frame::{Found, find_frame};
+use crate::frame_view::one_frame::{ParsedInput, find_frame};
 use daide_frame::Cutter;
-use daide_machine::MAX_BODY;
+use daide_protocol::MAX_BODY;
 use hex::FromHexError;
 use std::alloc::{AllocError, Allocator};
 use std::fmt;
@@ -133,12 +133,12 @@ fn frame_note(bytes: &[u8]) -> InputNote
 
 /// Returns why some bytes are not one frame, if they are not.
 fn note_of_frame<A: Allocator>(alloc: A, bytes: &[u8]) -> Result<Option<InputNote>, AllocError>
-    ensures { IfOk result (λ note. note ≡ note_of_frame (found_in longest_body bytes.now) bytes.now) }
+    ensures { IfOk result (λ note. note ≡ note_of_frame (parse_frame longest_body bytes.now) bytes.now) }
 {
     let mut cutter = Cutter::new(alloc, MAX_BODY)?;
     match find_frame(&mut cutter, bytes) {
-        Found::NotOneFrame => Ok(Some(frame_note(bytes))),
-        Found::Fault(_) | Found::Whole(_) => Ok(None),
+        ParsedInput::NotOneFrame => Ok(Some(frame_note(bytes))),
+        ParsedInput::Fault(_) | ParsedInput::Whole(_) => Ok(None),
     }
 }
 

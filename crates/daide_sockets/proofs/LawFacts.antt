@@ -1,8 +1,8 @@
 -- The law of `laws`, used once at two calls. The fact takes the law alone, so that a weaker one does not check.
 use Rattle.std.proofs.Common.{◌≡◌, ℕ, ◌+◌, ◌≤◌, List, [], ◌∷◌, Option, ap, arith}
-use Rattle.daide_machine.specs.System.{Connects, TransitsBy}
-use Rattle.daide_machine.specs.declared.system.Connect.TheVariants.{Ready}
-use Rattle.daide_streams.specs.Calls.{StreamCall}
+use Rattle.daide_protocol.specs.System.{Connects, TransitsBy}
+use Rattle.daide_protocol.specs.declared.system.Connect.TheVariants.{Ready}
+use Rattle.daide_buffered_io.specs.Calls.{StreamCall}
 use Rattle.daide_sockets.specs.Pairing.{Paired, RunSockets, Transits}
 use Rattle.daide_sockets.specs.PairedOnce.{SessionsComeOnce, is_same}
 

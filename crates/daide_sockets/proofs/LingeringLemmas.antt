@@ -6,10 +6,10 @@ use Rattle.std.proofs.lemmas.List.{length-append, length-take-le}
 use Rattle.std.proofs.Math.Seq.{set-append_seam}
 use Rattle.std.proofs.lemmas.Option.{slice_get_read}
 use Rattle.std.specs.declared.time.Instant.{Instant}
-use Rattle.daide_machine.specs.declared.ports.Pull.{Pull}
-use Rattle.daide_streams.specs.declared.readiness.Readiness.{Readiness}
-use Rattle.daide_streams.specs.Buffers.{Passes, IsUnwritten, IsBufferedPull}
-use Rattle.daide_streams.specs.Calls.{StreamCall, is_last_piece}
+use Rattle.daide_protocol.specs.declared.ports.Pull.{Pull}
+use Rattle.daide_buffered_io.specs.declared.readiness.Readiness.{Readiness}
+use Rattle.daide_buffered_io.specs.Buffers.{Passes, WritesNothing, IsBufferedPull}
+use Rattle.daide_buffered_io.specs.Calls.{StreamCall, is_last_piece}
 use Rattle.daide_sockets.specs.Times.{is_time_over}
 use Rattle.daide_sockets.specs.Lingering.{ClosingStream, Discards, Lingers, Leaves, IsLookedAt, LooksAtOne}
 use Rattle.daide_sockets.specs.Lingering.{LingerOrLeave, LooksAlong, IsWritingOver, ClosingsGoOn, GoOnFor, is_released}
@@ -135,9 +135,9 @@ module _ {S : Type 0} (to_give taken : S → Option (List ℕ)) (calls : S → O
         omega (arith, a, b, start, len, end, lt, le)
 
     -- what is before the next
-    behind : (from k at : ℕ) (old mid : Streams) (one : ClosingStream S) → (h : Along from k old at mid) →
+    write_buffer : (from k at : ℕ) (old mid : Streams) (one : ClosingStream S) → (h : Along from k old at mid) →
         slice_get mid at ≡ Some one → (at ≡ length (h.front ++ h.moved)) × ((back : Streams) × (h.rest ≡ one ∷ back))
-    behind from k at old mid one h e =
+    write_buffer from k at old mid one h e =
         let here : at ≡ length (h.front ++ h.moved) =
         (let start = h.start in let end = h.end in let len = length-append h.front h.moved in
         omega (arith, start, end, len)) in (
@@ -152,12 +152,12 @@ module _ {S : Type 0} (to_give taken : S → Option (List ℕ)) (calls : S → O
         slice_get mid at ≡ Some one → new ≡ slice_set mid at next → Lingers to_give taken calls now one next →
         Along from (k + 1) old (at + 1) new
     lingers_next from k at old mid new one next h e f g =
-        let place = behind from k at old mid one h e in
-        let back = place.1.0 in
-        let rest = place.1.1 in
+        let registration = write_buffer from k at old mid one h e in
+        let back = registration.1.0 in
+        let rest = registration.1.1 in
         let changed : new ≡ h.front ++ h.moved ++ next ∷ back =
         f ∙ ap (λ (l : Streams). slice_set l at next) (h.after ∙ ap (λ (l : Streams). h.front ++ h.moved ++ l) rest)
-        ∙ ap (λ (n : ℕ). slice_set (h.front ++ h.moved ++ one ∷ back) n next) place.0
+        ∙ ap (λ (n : ℕ). slice_set (h.front ++ h.moved ++ one ∷ back) n next) registration.0
         ∙ set-append_seam (h.front ++ h.moved) one back next in
         let seen_len = length-append h.seen (one ∷ []) in
         let moved_len = length-append h.moved (next ∷ []) in
@@ -183,12 +183,12 @@ module _ {S : Type 0} (to_give taken : S → Option (List ℕ)) (calls : S → O
         slice_get mid at ≡ Some one → new ≡ remove mid at → Leaves to_give taken calls now one →
         Along from (k + 1) old at new
     leaves_next from k at old mid new one h e f g =
-        let place = behind from k at old mid one h e in
-        let back = place.1.0 in
-        let rest = place.1.1 in
+        let registration = write_buffer from k at old mid one h e in
+        let back = registration.1.0 in
+        let rest = registration.1.1 in
         let changed : new ≡ h.front ++ h.moved ++ back =
         f ∙ ap (λ (l : Streams). remove l at) (h.after ∙ ap (λ (l : Streams). h.front ++ h.moved ++ l) rest)
-        ∙ ap (λ (n : ℕ). remove (h.front ++ h.moved ++ one ∷ back) n) place.0
+        ∙ ap (λ (n : ℕ). remove (h.front ++ h.moved ++ one ∷ back) n) registration.0
         ∙ removed (h.front ++ h.moved) one back in
         let seen_len = length-append h.seen (one ∷ []) in
         let len = h.len in
@@ -259,7 +259,7 @@ module _ {S : Type 0} (to_give taken : S → Option (List ℕ)) (calls : S → O
     -- a piece was dropped
     pub piece_dropped : (old new was : ClosingStream S) (bytes : List ℕ) (room : ℕ) (pull : Pull) (known still : Readiness)
         (last late result : Bool) → was ≡ old → was.quota ≡ new.quota + length bytes →
-        Passes to_give taken was.stream bytes [] new.stream → IsUnwritten taken was.stream new.stream →
+        Passes to_give taken was.stream bytes [] new.stream → WritesNothing taken was.stream new.stream →
         new.stream.has_failed ≡ was.stream.has_failed → new.released_at ≡ was.released_at →
         IsBufferedPull calls room known was.stream pull still new.stream → last ≡ is_last_piece pull new.quota →
         late ≡ is_time_over now new.released_at → result ≡ (last || late) →

@@ -1,10 +1,10 @@
 -- Each session's number is given once.
 use Rattle.std.proofs.Common.{◌≡◌, ◌≤◌, ℕ, ◌+◌, Bool, true, false, List, [], ◌∷◌, ◌++◌, Option, ap, ◌∙◌, arith}
 use Rattle.std.specs.Prelude.{nat_lt, if◌then◌else◌}
-use Rattle.daide_machine.specs.System.{SystemAnswer, Begins, BeginsTurn, Accepts, Connects, Retires, Notifies, Waits, TransitsBy}
-use Rattle.daide_machine.specs.declared.system.Connect.TheVariants.{Ready, Failed, Pending}
-use Rattle.daide_streams.specs.Calls.{StreamCall}
-use Rattle.daide_sockets.specs.Pairing.{Arriving, Paired, RunSockets, AllGoOn, LooksAt, TakesOut, Transits}
+use Rattle.daide_protocol.specs.System.{SystemCall, Begins, BeginsTurn, Accepts, Connects, Retires, Notifies, Waits, TransitsBy}
+use Rattle.daide_protocol.specs.declared.system.Connect.TheVariants.{Ready, Failed, Pending}
+use Rattle.daide_buffered_io.specs.Calls.{StreamCall}
+use Rattle.daide_sockets.specs.Pairing.{Arriving, Paired, RunSockets, AllStayPending, ChecksArrivals, TakesOut, Transits}
 use Rattle.daide_sockets.specs.PairedOnce.{is_same, handed}
 
 -- 1 where the number is still to be given
@@ -33,7 +33,7 @@ module _ {S : Type 0} (n : ℕ) where
       let rest = numbered_append xs ys in
       omega (arith, rest)
 
-  numbered_goes : (xs ys : List (Arriving S)) → AllGoOn xs ys → numbered ys ≡ numbered xs
+  numbered_goes : (xs ys : List (Arriving S)) → AllStayPending xs ys → numbered ys ≡ numbered xs
   numbered_goes [] ys h = ap numbered h
   numbered_goes (x ∷ xs) ys h =
       let same : is_same h.0.number n ≡ is_same x.number n = ap (λ (m : ℕ). is_same m n) h.3.number in
@@ -54,7 +54,7 @@ module _ {S : Type 0} (n : ℕ) where
       let e = numbered_goes h.seen h.moved h.goes in
       omega (arith, a, b, c, d, e)
 
-  looked : (old new : List (Arriving S)) (k : ℕ) → LooksAt k old new → numbered old ≡ numbered new
+  looked : (old new : List (Arriving S)) (k : ℕ) → ChecksArrivals k old new → numbered old ≡ numbered new
   looked old new k h =
       let a : numbered old ≡ numbered (h.seen ++ h.rest) = ap numbered h.split in
       let b = numbered_append h.seen h.rest in
@@ -71,7 +71,7 @@ module _ {S : Type 0} (n : ℕ) where
         let b : to_come n new.came ≡ to_come n old.came = ap (to_come n) came in
         omega (arith, a, b)
 
-    one : (answer : SystemAnswer P) (old new : RunSockets S) → Transits to_give taken calls pair old answer new →
+    one : (answer : SystemCall P) (old new : RunSockets S) → Transits to_give taken calls pair old answer new →
         handed pair n (answer ∷ []) + left new ≤ left old
     one Begins old new h = let e = kept old new h.0 h.1 in omega (arith, e)
     one (BeginsTurn before after) old new h = let e : left new ≡ left old = ap left h in omega (arith, e)
@@ -101,7 +101,7 @@ module _ {S : Type 0} (n : ℕ) where
     one (Notifies notice) old new h = let e : left new ≡ left old = ap left h in omega (arith, e)
     one (Waits more) old new h = let e : left new ≡ left old = ap left h in omega (arith, e)
 
-    handed_first : (answer : SystemAnswer P) (answers : List (SystemAnswer P)) →
+    handed_first : (answer : SystemCall P) (answers : List (SystemCall P)) →
         handed pair n (answer ∷ answers) ≡ handed pair n (answer ∷ []) + handed pair n answers
     handed_first Begins answers = omega (arith)
     handed_first (BeginsTurn before after) answers = omega (arith)
@@ -113,7 +113,7 @@ module _ {S : Type 0} (n : ℕ) where
     handed_first (Notifies notice) answers = omega (arith)
     handed_first (Waits more) answers = omega (arith)
 
-    all : (answers : List (SystemAnswer P)) (old new : RunSockets S) →
+    all : (answers : List (SystemCall P)) (old new : RunSockets S) →
         TransitsBy (Transits to_give taken calls pair) old answers new → handed pair n answers ≤ left old
     all [] old new h = omega (arith)
     all (answer ∷ answers) old new h =
@@ -122,7 +122,7 @@ module _ {S : Type 0} (n : ℕ) where
         let c = handed_first answer answers in
         omega (arith, a, b, c)
 
-    pub come_once : (old new : RunSockets S) (answers : List (SystemAnswer P)) → old.came ≡ 0 → old.arrivals ≡ [] →
+    pub come_once : (old new : RunSockets S) (answers : List (SystemCall P)) → old.came ≡ 0 → old.arrivals ≡ [] →
         TransitsBy (Transits to_give taken calls pair) old answers new → handed pair n answers ≤ 1
     come_once old new answers came arrivals h =
         let a = all answers old new h in

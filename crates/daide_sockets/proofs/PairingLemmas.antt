@@ -1,10 +1,10 @@
 -- Arrivals are looked at one by one.
 use Rattle.std.proofs.Common.{◌≡◌, ℕ, suc, ◌+◌, ◌<◌, List, [], ◌∷◌, ◌++◌, length, refl, sym, ap, ◌∙◌, arith}
 use Rattle.std.proofs.Common.{append_assoc, append-nil}
-use Rattle.daide_sockets.specs.Pairing.{Arriving, GoesOn, AllGoOn, LooksAt, TakesOut}
+use Rattle.daide_sockets.specs.Pairing.{Arriving, StaysPending, AllStayPending, ChecksArrivals, TakesOut}
 
 module _ {S : Type 0} where
-  pub nothing_looked_at : (old : List (Arriving S)) → LooksAt 0 old old
+  pub nothing_looked_at : (old : List (Arriving S)) → ChecksArrivals 0 old old
   nothing_looked_at old = record {
     seen = [];
     rest = old;
@@ -15,8 +15,8 @@ module _ {S : Type 0} where
     len = refl;
   }
 
-  go_on_snoc : (xs ys : List (Arriving S)) (x y : Arriving S) → AllGoOn xs ys → GoesOn x y →
-      AllGoOn (xs ++ x ∷ []) (ys ++ y ∷ [])
+  go_on_snoc : (xs ys : List (Arriving S)) (x y : Arriving S) → AllStayPending xs ys → StaysPending x y →
+      AllStayPending (xs ++ x ∷ []) (ys ++ y ∷ [])
   go_on_snoc [] ys x y h k = (y, [], ap (λ (l : List (Arriving S)). l ++ y ∷ []) h, k, refl)
   go_on_snoc (z ∷ xs) ys x y h k = (
     h.0,
@@ -38,7 +38,7 @@ module _ {S : Type 0} where
   tail_of [] = []
   tail_of (x ∷ xs) = xs
 
-  next_split : (n : ℕ) (old now new : List (Arriving S)) (first : Arriving S) → LooksAt n old now → n < length old →
+  next_split : (n : ℕ) (old now new : List (Arriving S)) (first : Arriving S) → ChecksArrivals n old now → n < length old →
       now ≡ first ∷ new → (out : TakesOut old first new) × (length out.seen ≡ n)
   next_split n old now new first h lt e = by h.rest h.split h.now
     where
@@ -62,13 +62,13 @@ module _ {S : Type 0} where
           )
 
   -- the first of what is left stands at the front
-  pub next_out : (n : ℕ) (old now new : List (Arriving S)) (first : Arriving S) → LooksAt n old now → n < length old →
+  pub next_out : (n : ℕ) (old now new : List (Arriving S)) (first : Arriving S) → ChecksArrivals n old now → n < length old →
       now ≡ first ∷ new → TakesOut old first new
   next_out n old now new first h lt e = (next_split n old now new first h lt e).0
 
   -- one more was looked at
-  pub one_more : (n : ℕ) (old now rest new : List (Arriving S)) (first moved : Arriving S) → LooksAt n old now →
-      n < length old → now ≡ first ∷ rest → new ≡ rest ++ moved ∷ [] → GoesOn first moved → LooksAt (n + 1) old new
+  pub one_more : (n : ℕ) (old now rest new : List (Arriving S)) (first moved : Arriving S) → ChecksArrivals n old now →
+      n < length old → now ≡ first ∷ rest → new ≡ rest ++ moved ∷ [] → StaysPending first moved → ChecksArrivals (n + 1) old new
   one_more n old now rest new first moved h lt e f k =
       let split = next_split n old now rest first h lt e in
       let out = split.0 in

@@ -3,10 +3,10 @@
 use Rattle.std.specs.Prelude.{◌≡◌, ◌⊎◌, ℕ, zero, suc, ◌+◌, ◌<◌, ◌||◌, min, Bool, true, false, List, [], ◌∷◌, ◌++◌, length, Option}
 use Rattle.std.specs.Prelude.{Some, None, slice_get, slice_set, remove}
 use Rattle.std.specs.declared.time.Instant.{Instant}
-use Rattle.daide_machine.specs.declared.ports.Pull.{Pull}
-use Rattle.daide_streams.specs.declared.readiness.Readiness.{Readiness}
-use Rattle.daide_streams.specs.Buffers.{Buffer, Passes, IsUnread, IsUnwritten, IsBufferedPull}
-use Rattle.daide_streams.specs.Calls.{StreamCall, is_last_piece}
+use Rattle.daide_protocol.specs.declared.ports.Pull.{Pull}
+use Rattle.daide_buffered_io.specs.declared.readiness.Readiness.{Readiness}
+use Rattle.daide_buffered_io.specs.Buffers.{Buffer, Passes, ReadsNothing, WritesNothing, IsBufferedPull}
+use Rattle.daide_buffered_io.specs.Calls.{StreamCall, is_last_piece}
 use Rattle.daide_sockets.specs.Times.{IsAfter, is_time_over}
 
 -- a stream that closes, how many more bytes may be dropped of it, and when it is released at the latest: none is set before
@@ -32,15 +32,15 @@ begins_closing stream = record { stream = stream; quota = drop_quota; released_a
 
 -- bytes are held for it that may still be written
 abbrev pub IsWriting : {S : Type 0} → Buffer S → Type 0
-IsWriting stream = (stream.has_failed ≡ false) × (0 < length stream.behind)
+IsWriting stream = (stream.has_failed ≡ false) × (0 < length stream.write_buffer)
 
 -- all that was held for it is written, unless a write failed or the peer is given up as stalled
 abbrev pub IsWritingOver : {S : Type 0} → Buffer S → Type 0
-IsWritingOver stream = stream.has_failed ≡ false → stream.behind ≡ []
+IsWritingOver stream = stream.has_failed ≡ false → stream.write_buffer ≡ []
 
 -- nothing was read of a stream or handed to it, and what it took is the front of what was held for it
 abbrev pub Flushes : {S : Type 0} → (S → Option (List ℕ)) → (S → Option (List ℕ)) → Buffer S → Buffer S → Type 0
-Flushes to_give taken old new = Passes to_give taken old [] [] new × IsUnread to_give old new
+Flushes to_give taken old new = Passes to_give taken old [] [] new × ReadsNothing to_give old new
 
 -- What is held is written further; once that is all, or a write failed, the last second begins at this reading of the clock.
 pub record WritesOut {S : Type 0} (to_give taken : S → Option (List ℕ)) (now : Option Instant)
@@ -56,7 +56,7 @@ pub record Discards {S : Type 0} (to_give taken : S → Option (List ℕ)) (call
     (pull : Pull) (old new : ClosingStream S) : Type 0 where
   pub bytes : List ℕ
   pub passes : Passes to_give taken old.stream bytes [] new.stream
-  pub unwritten : IsUnwritten taken old.stream new.stream
+  pub unwritten : WritesNothing taken old.stream new.stream
   pub failed : new.stream.has_failed ≡ old.stream.has_failed
   pub quota : old.quota ≡ new.quota + length bytes
   pub room : ℕ

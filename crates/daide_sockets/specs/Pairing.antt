@@ -1,11 +1,11 @@
 -- The sockets of a run beside those of its sessions, and what each answer to the loop does to them. (own)
 use Rattle.std.specs.Prelude.{◌≡◌, ◌⊎◌, ℕ, ◌+◌, nat_lt, true, false, List, [], ◌∷◌, ◌++◌, length, remove}
 use Rattle.std.specs.Prelude.{Option, Some, None, if◌then◌else◌}
-use Rattle.daide_machine.specs.System.{SystemAnswer, Begins, BeginsTurn, Accepts, Connects, Retires, Notifies, Waits}
-use Rattle.daide_machine.specs.declared.system.Connect.{Connect}
-use Rattle.daide_machine.specs.declared.system.Connect.TheVariants.{Ready, Failed, Pending}
-use Rattle.daide_streams.specs.Buffers.{Buffer}
-use Rattle.daide_streams.specs.Calls.{StreamCall}
+use Rattle.daide_protocol.specs.System.{SystemCall, Begins, BeginsTurn, Accepts, Connects, Retires, Notifies, Waits}
+use Rattle.daide_protocol.specs.declared.system.Connect.{Connect}
+use Rattle.daide_protocol.specs.declared.system.Connect.TheVariants.{Ready, Failed, Pending}
+use Rattle.daide_buffered_io.specs.Buffers.{Buffer}
+use Rattle.daide_buffered_io.specs.Calls.{StreamCall}
 use Rattle.std.specs.declared.time.Instant.{Instant}
 use Rattle.daide_sockets.specs.Lingering.{ClosingStream, begins_closing, WritesOut, ClosingsGoOn}
 
@@ -33,12 +33,12 @@ pub record RunSockets (S : Type 0) : Type 0 where
 
 -- a stream of which nothing is held, and no write failed
 abbrev pub IsFresh : {S : Type 0} → Buffer S → Type 0
-IsFresh stream = (stream.ahead ≡ []) × (stream.behind ≡ []) × (stream.has_failed ≡ false)
+IsFresh stream = (stream.read_buffer ≡ []) × (stream.write_buffer ≡ []) × (stream.has_failed ≡ false)
 
 -- a connect that was just begun, if one is
-abbrev pub IsBegun : {S : Type 0} → Option (Buffer S) → Type 0
-IsBegun None = Unit {0}
-IsBegun (Some stream) = IsFresh stream
+abbrev pub IsFreshConnect : {S : Type 0} → Option (Buffer S) → Type 0
+IsFreshConnect None = Unit {0}
+IsFreshConnect (Some stream) = IsFresh stream
 
 -- ports are those of this bot and of the server that its own connect reached, by its number
 pub record IsJoined {S : Type 0} (arrival : Arriving S) (pair : Paired S) : Type 0 where
@@ -47,25 +47,25 @@ pub record IsJoined {S : Type 0} (arrival : Arriving S) (pair : Paired S) : Type
   pub server : arrival.server ≡ Some pair.server
 
 -- the same bot, whose connect is as it was, or was begun again
-pub record GoesOn {S : Type 0} (old new : Arriving S) : Type 0 where
+pub record StaysPending {S : Type 0} (old new : Arriving S) : Type 0 where
   pub number : new.number ≡ old.number
   pub bot : new.bot ≡ old.bot
-  pub server : (new.server ≡ old.server) ⊎ IsBegun new.server
+  pub server : (new.server ≡ old.server) ⊎ IsFreshConnect new.server
 
 -- each of them goes on
-abbrev pub AllGoOn : {S : Type 0} → List (Arriving S) → List (Arriving S) → Type 0
-AllGoOn [] new = new ≡ []
-AllGoOn {S} (arrival ∷ arrivals) new = (one : Arriving S) × (others : List (Arriving S))
-    × (new ≡ one ∷ others) × GoesOn arrival one × AllGoOn arrivals others
+abbrev pub AllStayPending : {S : Type 0} → List (Arriving S) → List (Arriving S) → Type 0
+AllStayPending [] new = new ≡ []
+AllStayPending {S} (arrival ∷ arrivals) new = (one : Arriving S) × (others : List (Arriving S))
+    × (new ≡ one ∷ others) × StaysPending arrival one × AllStayPending arrivals others
 
 -- So many, from the first on, were looked at and go on; they stand behind the rest now, in their order.
-pub record LooksAt {S : Type 0} (count : ℕ) (old new : List (Arriving S)) : Type 0 where
+pub record ChecksArrivals {S : Type 0} (count : ℕ) (old new : List (Arriving S)) : Type 0 where
   pub seen : List (Arriving S)
   pub rest : List (Arriving S)
   pub moved : List (Arriving S)
   pub split : old ≡ seen ++ rest
   pub now : new ≡ rest ++ moved
-  pub goes : AllGoOn seen moved
+  pub goes : AllStayPending seen moved
   pub len : length seen ≡ count
 
 -- Some were looked at and go on; the next is taken out, as it was.
@@ -75,7 +75,7 @@ pub record TakesOut {S : Type 0} (old : List (Arriving S)) (arrival : Arriving S
   pub moved : List (Arriving S)
   pub split : old ≡ seen ++ arrival ∷ rest
   pub now : new ≡ rest ++ moved
-  pub goes : AllGoOn seen moved
+  pub goes : AllStayPending seen moved
 
 -- ---- streams that close
 
@@ -101,16 +101,16 @@ ClosesBoth {S} to_give taken old pair new = (mid : List (ClosingStream S))
 
 -- What became of the first of the arrivals: ports of that bot and of the server that its connect reached; or its bot closes;
 -- or it goes on, behind the others.
-abbrev pub FirstBecomes : {P S : Type 0} → (S → Option (List ℕ)) → (S → Option (List ℕ)) → (P → Paired S) →
+abbrev pub FirstArrivalEvolves : {P S : Type 0} → (S → Option (List ℕ)) → (S → Option (List ℕ)) → (P → Paired S) →
     RunSockets S → Connect P → RunSockets S → Type 0
-FirstBecomes {S = S} to_give taken pair old (Ready ports) new = (arrival : Arriving S)
+FirstArrivalEvolves {S = S} to_give taken pair old (Ready ports) new = (arrival : Arriving S)
     × (old.arrivals ≡ arrival ∷ new.arrivals) × IsJoined arrival (pair ports) × (new.came ≡ old.came)
     × (new.closing ≡ old.closing)
-FirstBecomes {S = S} to_give taken pair old Failed new = (arrival : Arriving S)
+FirstArrivalEvolves {S = S} to_give taken pair old Failed new = (arrival : Arriving S)
     × (old.arrivals ≡ arrival ∷ new.arrivals) × Closes to_give taken old.closing arrival.bot new.closing
     × (new.came ≡ old.came)
-FirstBecomes {S = S} to_give taken pair old Pending new = (arrival moved : Arriving S) × (rest : List (Arriving S))
-    × (old.arrivals ≡ arrival ∷ rest) × (new.arrivals ≡ rest ++ moved ∷ []) × GoesOn arrival moved
+FirstArrivalEvolves {S = S} to_give taken pair old Pending new = (arrival moved : Arriving S) × (rest : List (Arriving S))
+    × (old.arrivals ≡ arrival ∷ rest) × (new.arrivals ≡ rest ++ moved ∷ []) × StaysPending arrival moved
     × (new.came ≡ old.came) × (new.closing ≡ old.closing)
 
 -- ---- the answers to the loop
@@ -122,13 +122,13 @@ pub record Comes {S : Type 0} (old new : RunSockets S) : Type 0 where
   pub arrivals : new.arrivals ≡ old.arrivals ++ arrival ∷ []
   pub number : arrival.number ≡ new.came
   pub bot : IsFresh arrival.bot
-  pub server : IsBegun arrival.server
+  pub server : IsFreshConnect arrival.server
   pub closing : new.closing ≡ old.closing
 
 -- What a call with this answer does to the sockets; `pair` is what ports hold. Where a round begins, the streams that close
 -- go on; where a turn begins, it is with the streams of one session, and these here stay as they are.
 abbrev pub Transits : {P S : Type 0} → (S → Option (List ℕ)) → (S → Option (List ℕ)) →
-    (S → Option (List StreamCall)) → (P → Paired S) → RunSockets S → SystemAnswer P → RunSockets S → Type 0
+    (S → Option (List StreamCall)) → (P → Paired S) → RunSockets S → SystemCall P → RunSockets S → Type 0
 Transits to_give taken calls pair old Begins new = (new.came ≡ old.came) × (new.arrivals ≡ old.arrivals)
     × ClosingsGoOn to_give taken calls old.closing new.closing
 Transits to_give taken calls pair old (BeginsTurn before after) new = new ≡ old
@@ -141,7 +141,7 @@ Transits {S = S} to_give taken calls pair old (Connects Failed) new = (arrival :
     × TakesOut old.arrivals arrival new.arrivals × Closes to_give taken old.closing arrival.bot new.closing
     × (new.came ≡ old.came)
 Transits to_give taken calls pair old (Connects Pending) new =
-    (count : ℕ) × LooksAt count old.arrivals new.arrivals × (new.came ≡ old.came) × (new.closing ≡ old.closing)
+    (count : ℕ) × ChecksArrivals count old.arrivals new.arrivals × (new.came ≡ old.came) × (new.closing ≡ old.closing)
 Transits to_give taken calls pair old (Retires ports end) new = ClosesBoth to_give taken old.closing (pair ports) new.closing
     × (new.came ≡ old.came) × (new.arrivals ≡ old.arrivals)
 Transits to_give taken calls pair old (Notifies notice) new = new ≡ old

@@ -5,12 +5,12 @@
 
 ghost use Rattle.std.specs.Prelude.{◌≡◌, ◌≢◌, ◌+◌, Some, None, Err, true, false, IfOk, IfErr, IfSome, IfNone, IsSome};
 ghost use Rattle.daide_sockets.specs.Accepting.{is_accept_made, Pauses};
-ghost use Rattle.daide_sockets.specs.Pairing.{GoesOn, IsBegun, IsFresh, IsJoined};
+ghost use Rattle.daide_sockets.specs.Pairing.{StaysPending, IsFreshConnect, IsFresh, IsJoined};
 
 use crate::connection::Connection;
 use crate::poller::{Poller, Registration, after, is_past};
 use crate::ports::{Socket, SocketPorts};
-use daide_streams::readiness::Readiness;
+use daide_buffered_io::readiness::Readiness;
 use mio::Interest;
 use mio::net::{TcpListener, TcpStream};
 use std::io;
@@ -36,7 +36,7 @@ pub(crate) enum Declined {
 #[derive(Drop)]
 pub struct Acceptor<'w> {
     listener: TcpListener,
-    place: Registration<'w>,
+    registration: Registration<'w>,
     /// When the pause after an accept that failed is over; none if there is no pause.
     resumes_at: Option<Instant>,
     /// How many bots came.
@@ -49,10 +49,10 @@ impl<'w> Acceptor<'w> {
         ensures { IfSome result (λ acceptor. (acceptor.came ≡ 0) × (acceptor.resumes_at ≡ None)) }
     {
         let mut listener = listener;
-        let place = poller.follow(&mut listener, Interest::READABLE)?;
+        let registration = poller.follow(&mut listener, Interest::READABLE)?;
         Some(Acceptor {
             listener,
-            place,
+            registration,
             resumes_at: None,
             came: 0,
         })
@@ -64,8 +64,8 @@ impl<'w> Acceptor<'w> {
     {
         if is_past(poller.now().get(), self.resumes_at) {
             self.resumes_at = None;
-            self.place.flags.due.set(None);
-            self.place.flags.note(true, false);
+            self.registration.flags.due.set(None);
+            self.registration.flags.note(true, false);
         }
     }
 
@@ -74,7 +74,7 @@ impl<'w> Acceptor<'w> {
         ensures { self.new.came ≡ self.old.came }
     {
         self.resumes_at = None;
-        self.place.flags.due.set(None);
+        self.registration.flags.due.set(None);
     }
 
     /// The connection of a bot that came, and its address, if the system has one; it isn't asked during the pause after an
@@ -82,7 +82,7 @@ impl<'w> Acceptor<'w> {
     pub fn accept<R: Clock>(&mut self, poller: &Poller<R>) -> Option<(TcpStream, SocketAddr)>
         ensures { self.new.came ≡ self.old.came }
     {
-        let flags = self.place.flags;
+        let flags = self.registration.flags;
         let mut readiness = flags.readiness.get();
         let accepted = self.accept_at(poller, poller.now().get(), &mut readiness);
         flags.readiness.set(readiness);
@@ -177,7 +177,7 @@ enum Progress {
 
 /// A bot whose connect to the server is under way.
 #[derive(Drop)]
-pub(crate) struct Arrival<'w, S: Drop = Connection> {
+pub(crate) struct PendingConnection<'w, S: Drop = Connection> {
     /// Its session's number.
     number: u32,
     bot: Socket<'w, S>,
@@ -187,10 +187,10 @@ pub(crate) struct Arrival<'w, S: Drop = Connection> {
     /// When the server is given up.
     gives_up: Option<Instant>,
     /// When the time for the initial message is over.
-    im_over: Option<Instant>,
+    im_timer_expired: Option<Instant>,
 }
 
-impl<'w, S: Drop> Model for Arrival<'w, S> {
+impl<'w, S: Drop> Model for PendingConnection<'w, S> {
     ghost use Rattle.std.specs.Prelude.{◌≡◌, IfSome, option_map};
     ghost use Rattle.daide_sockets.specs.Pairing.{Arriving};
 
@@ -231,14 +231,14 @@ fn begun<'w, R: Clock, N: Net>(
             continue;
         };
         if let Some(socket) = Socket::new(poller, stream) {
-            socket.place.flags.due.set(gives_up);
+            socket.registration.flags.due.set(gives_up);
             return Some(socket.of_connect(number));
         }
     }
     None
 }
 
-impl<'w> Arrival<'w> {
+impl<'w> PendingConnection<'w> {
     /// A bot that came now, whose connect begins.
     pub(crate) fn new<R: Clock, N: Net>(
         poller: &'w Poller<R>,
@@ -246,24 +246,24 @@ impl<'w> Arrival<'w> {
         servers: &[SocketAddr],
         came: (u32, Socket<'w>),
         times: (Duration, Duration),
-    ) -> Arrival<'w>
+    ) -> PendingConnection<'w>
         ensures number { result.number ≡ came.entry.0 }
         ensures bot { result.bot ≡ came.entry.1.stream }
-        ensures server { IsBegun result.server }
+        ensures server { IsFreshConnect result.server }
     {
         let (number, bot) = came;
         let (im_time, connect_time) = times;
         let gives_up = poller.after(connect_time);
-        let im_over = poller.after(im_time);
+        let im_timer_expired = poller.after(im_time);
         let mut tried = 0;
         let server = begun(poller, net, servers, &mut tried, number, gives_up);
-        Arrival {
+        PendingConnection {
             number,
             bot,
             server,
             tried,
             gives_up,
-            im_over,
+            im_timer_expired,
         }
     }
 
@@ -272,7 +272,7 @@ impl<'w> Arrival<'w> {
         let Some(server) = &self.server else {
             return Progress::Failed;
         };
-        let flags = server.place.flags;
+        let flags = server.registration.flags;
         if !flags.readiness.get().may_write {
             return Progress::Pending;
         }
@@ -296,7 +296,7 @@ impl<'w> Arrival<'w> {
         net: &N,
         servers: &[SocketAddr],
     ) -> bool
-        ensures goes_on { GoesOn self.old self.new }
+        ensures goes_on { StaysPending self.old self.new }
         ensures reached { result ≡ false → IsSome self.new.server → self.new ≡ self.old }
     {
         match self.progress() {
@@ -322,7 +322,7 @@ impl<'w> Arrival<'w> {
     }
 }
 
-impl<'w, S: Drop> Arrival<'w, S> {
+impl<'w, S: Drop> PendingConnection<'w, S> {
     /// The ports of a bot whose server is there. Either may be silent for the first of these times, and take nothing for
     /// the second; none is for ever.
     pub(crate) fn join<R: Clock>(
@@ -338,19 +338,19 @@ impl<'w, S: Drop> Arrival<'w, S> {
         ensures unreached { IfErr result (λ left. (left.number ≡ self.entry.number)
             × (left.bot.stream ≡ self.entry.bot) × (self.entry.server ≡ None)) }
     {
-        let Arrival {
+        let PendingConnection {
             number,
             bot,
             server,
             tried: _,
             gives_up: _,
-            im_over,
+            im_timer_expired,
         } = self;
         let Some(server) = server else {
             return Err(Unreached { number, bot });
         };
-        server.place.flags.due.set(None);
-        bot.place.flags.due.set(im_over);
+        server.registration.flags.due.set(None);
+        bot.registration.flags.due.set(im_timer_expired);
         let ports = SocketPorts::new(poller, bot, server);
         Ok(ports.of_session(number, times))
     }
@@ -359,13 +359,13 @@ impl<'w, S: Drop> Arrival<'w, S> {
     pub(crate) fn give_up(self) -> Unreached<'w, S>
         ensures { (result.number ≡ self.entry.number) × (result.bot.stream ≡ self.entry.bot) }
     {
-        let Arrival {
+        let PendingConnection {
             number,
             bot,
             server: _,
             tried: _,
             gives_up: _,
-            im_over: _,
+            im_timer_expired: _,
         } = self;
         Unreached { number, bot }
     }

@@ -1,6 +1,6 @@
 //! A connection of the system's, as a stream whose two directions are apart.
 
-use daide_streams::duplex::Duplex;
+use daide_buffered_io::duplex::Duplex;
 use mio::net::TcpStream;
 use std::io;
 use std::io::{Read, Write};

@@ -2,8 +2,8 @@
 
 ghost use Rattle.daide_sockets.specs.PairedOnce.{SessionsComeOnce};
 
-use daide_machine::ports::Ports;
-use daide_streams::duplex::Duplex;
+use daide_buffered_io::duplex::Duplex;
+use daide_protocol::ports::Ports;
 
 /// Of no session ports come twice, by whatever answers the sockets of a run go on: each bot that came is joined at most
 /// once, by its own number, to the server that its own connect reached.

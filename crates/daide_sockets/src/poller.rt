@@ -8,8 +8,8 @@ ghost use Rattle.std.specs.Duration.{as_nanos};
 ghost use Rattle.std.specs.Prelude.{◌≡◌, IsNone, IfOk, false, vec_len};
 ghost use Rattle.daide_sockets.specs.Times.{IsAfter, is_past, is_time_over};
 
-use daide_streams::pool::Pool;
-use daide_streams::readiness::Readiness;
+use daide_buffered_io::pool::Pool;
+use daide_buffered_io::readiness::Readiness;
 use mio::event::{Event, Source};
 use mio::{Events, Interest, Poll, Registry, Token};
 use std::alloc::{AllocError, Global};
@@ -284,9 +284,9 @@ impl<R: Clock> Poller<R> {
             if !flags.is_taken.get() {
                 flags.take();
                 self.used.set(self.used.get().max(token.saturating_add(1)));
-                let place = Registration { flags };
+                let registration = Registration { flags };
                 self.registry.register(source, Token(token), interest).ok()?;
-                return Some(place);
+                return Some(registration);
             }
         }
         None
@@ -298,7 +298,7 @@ impl<R: Clock> Poller<R> {
     }
 
     /// How long nothing is to be done, if nothing comes; none where no moment is waited for.
-    fn patience(&self) -> Option<Duration> {
+    fn idle(&self) -> Option<Duration> {
         let now = self.now.get()?;
         let used = self.flags.iter().take(self.used.get());
         let nearest = used.filter_map(|flags| flags.awaited(now)).min()?;
@@ -348,7 +348,7 @@ impl<R: Clock> Poller<R> {
         let timeout = if self.has_news.get() {
             Some(Duration::ZERO)
         } else {
-            self.patience()
+            self.idle()
         };
         self.ask(timeout);
         self.has_news.set(false);

@@ -6,21 +6,21 @@
 //! system's read and write answered.
 
 ghost use Rattle.std.specs.Prelude.{◌≡◌, ◌≢◌, ◌<◌, IsNone, IfSome, [], min, length, take, true, false};
-ghost use Rattle.daide_machine.specs.Ports.{TurnBegins, Clock as Popped, IsPullWithin, IsPutWithin, pulled_len};
-ghost use Rattle.daide_streams.specs.Buffers.{Passes, IsUnread, IsBufferedPull};
-ghost use Rattle.daide_streams.specs.declared.readiness.Readiness.{Readiness};
-ghost use Rattle.daide_streams.specs.Streams.{Moves};
-ghost use Rattle.daide_streams.specs.Taking.{front_of, taken_len};
+ghost use Rattle.daide_protocol.specs.Ports.{TurnBegins, Clock as Popped, IsPullWithin, IsPutWithin, pulled_len};
+ghost use Rattle.daide_buffered_io.specs.Buffers.{Passes, ReadsNothing, IsBufferedPull};
+ghost use Rattle.daide_buffered_io.specs.declared.readiness.Readiness.{Readiness};
+ghost use Rattle.daide_buffered_io.specs.Streams.{Transfers};
+ghost use Rattle.daide_buffered_io.specs.Taking.{bytes_taken, taken_len};
 ghost use Rattle.daide_sockets.specs.Pairing.{IsFresh};
 
 use crate::connection::Connection;
 use crate::poller::{Flags, Poller, Registration, is_past};
 use crate::timed::Timed;
+use daide_buffered_io::buffered::Buffered;
+use daide_buffered_io::duplex::Duplex;
+use daide_buffered_io::pool::Pool;
 use daide_frame::side::Side;
-use daide_machine::ports::{Ports, Pull, Put};
-use daide_streams::buffered::Buffered;
-use daide_streams::duplex::Duplex;
-use daide_streams::pool::Pool;
+use daide_protocol::ports::{Ports, Pull, Put};
 use mio::Interest;
 use mio::net::TcpStream;
 use std::cell::Cell;
@@ -36,7 +36,7 @@ pub struct Socket<'w, S: Drop = Connection> {
     /// The connection, and what is held of it.
     pub stream: Buffered<S>,
     /// Its row, by which its flags are seen.
-    pub place: Registration<'w>,
+    pub registration: Registration<'w>,
     /// Room for what is held.
     pub(crate) pool: &'w Pool,
     /// The moment at which the clock was read last.
@@ -64,8 +64,8 @@ impl<'w> Socket<'w> {
         let _ = stream.set_nodelay(true);
         // A read stops before an urgent byte, and that is told as a priority.
         let interest = Interest::READABLE | Interest::WRITABLE | Interest::PRIORITY;
-        let place = poller.follow(&mut stream, interest)?;
-        Some(Socket::over(poller, Connection(stream), place))
+        let registration = poller.follow(&mut stream, interest)?;
+        Some(Socket::over(poller, Connection(stream), registration))
     }
 }
 
@@ -74,15 +74,15 @@ impl<'w, S: Drop> Socket<'w, S> {
     pub fn over<R: Clock>(
         poller: &'w Poller<R>,
         stream: S,
-        place: Registration<'w>,
+        registration: Registration<'w>,
     ) -> Socket<'w, S>
-        ensures stream { result.stream ≡ record { stream = stream; ahead = []; behind = []; has_failed = false } }
+        ensures stream { result.stream ≡ record { stream = stream; read_buffer = []; write_buffer = []; has_failed = false } }
         ensures timed { result.timed ≡ record { is_silent = false; is_stalled = false; ends_stalled = false } }
         ensures stall_time { IsNone result.stall_time }
     {
         Socket {
             stream: Buffered::new(stream),
-            place,
+            registration,
             pool: poller.pool(),
             clock: poller.now(),
             stall_time: None,
@@ -100,7 +100,7 @@ impl<'w, S: Drop> Socket<'w, S> {
     {
         let Socket {
             stream,
-            place,
+            registration,
             pool,
             clock,
             stall_time,
@@ -111,7 +111,7 @@ impl<'w, S: Drop> Socket<'w, S> {
         } = self;
         Socket {
             stream,
-            place,
+            registration,
             pool,
             clock,
             stall_time,
@@ -146,14 +146,16 @@ impl<S: Duplex + Drop> Socket<'_, S> {
     /// Notes what a call wrote, of so many bytes that were held before it or handed over: it took a byte if fewer are held now.
     fn note_written(&self, before: usize, waits: bool) {
         let took = self.stream.behind_len() < before;
-        self.place.flags.note_written(took, waits, self.stalls_at());
+        self.registration
+            .flags
+            .note_written(took, waits, self.stalls_at());
     }
 
     /// Gives up writing to a peer that took no byte for too long while bytes waited for it: from now on each put fails.
-    #[tactic(auto, using(daide_streams::proofs::BufferLemmas::same_passes))]
+    #[tactic(auto, using(daide_buffered_io::proofs::BufferLemmas::same_passes))]
     pub(crate) fn give_up_stalled(&mut self)
         ensures passes { Passes S.to_give S.taken self.old.stream [] [] self.new.stream }
-        ensures unread { IsUnread S.to_give self.old.stream self.new.stream }
+        ensures unread { ReadsNothing S.to_give self.old.stream self.new.stream }
         ensures stalled { self.new.timed.is_stalled ≡ true → self.old.timed.is_stalled ≡ false →
             self.new.stream.has_failed ≡ true }
         ensures patient { IsNone self.old.stall_time → self.new.timed ≡ self.old.timed }
@@ -161,7 +163,7 @@ impl<S: Duplex + Drop> Socket<'_, S> {
         ensures ends { self.new.timed.ends_stalled ≡ self.old.timed.ends_stalled }
         ensures gathering { self.new.is_gathering ≡ self.old.is_gathering }
     {
-        let flags = self.place.flags;
+        let flags = self.registration.flags;
         if self.stall_time.is_none() {
             return;
         }
@@ -175,7 +177,7 @@ impl<S: Duplex + Drop> Socket<'_, S> {
 
     /// Hands out what was read ahead, or reads what is there: what is told as `Got` is, in order, what the connection
     /// gave.
-    #[tactic(auto, using(daide_streams::proofs::BufferLemmas::same_passes))]
+    #[tactic(auto, using(daide_buffered_io::proofs::BufferLemmas::same_passes))]
     pub fn pull(&mut self, buffer: &mut [u8]) -> Pull
         ensures within { IsPullWithin result (length buffer.old) }
         ensures len { length buffer.new ≡ length buffer.old }
@@ -183,13 +185,13 @@ impl<S: Duplex + Drop> Socket<'_, S> {
             self.new.stream }
         ensures asked { (known still : Readiness)
             × IsBufferedPull S.calls (length buffer.old) known self.old.stream result still self.new.stream }
-        ensures handed { 0 < length self.old.stream.ahead →
-            result ≡ Pull.Got (min (length self.old.stream.ahead) (length buffer.old)) }
+        ensures handed { 0 < length self.old.stream.read_buffer →
+            result ≡ Pull.Got (min (length self.old.stream.read_buffer) (length buffer.old)) }
         ensures timed { self.new.timed ≡ self.old.timed }
         ensures gathering { self.new.is_gathering ≡ self.old.is_gathering }
         ensures idle { result ≡ Pull.Idle → self.new.gave ≡ false }
     {
-        let flags = self.place.flags;
+        let flags = self.registration.flags;
         let mut readiness = flags.readiness.get();
         self.gave = false;
         // Most turns of an idle session end here.
@@ -206,7 +208,7 @@ impl<S: Duplex + Drop> Socket<'_, S> {
     /// connection or behind what it took. A failure that a flush met is told here.
     pub fn put(&mut self, bytes: &[u8]) -> Put
         ensures within { IsPutWithin result (length bytes.now) }
-        ensures passes { Passes S.to_give S.taken self.old.stream [] (front_of result bytes.now) self.new.stream }
+        ensures passes { Passes S.to_give S.taken self.old.stream [] (bytes_taken result bytes.now) self.new.stream }
         ensures fails { result ≡ Put.Failed → self.new.stream.has_failed ≡ true }
         ensures failed { self.old.stream.has_failed ≡ true →
             (result ≡ Put.Failed) × (self.new.stream ≡ self.old.stream) }
@@ -214,7 +216,7 @@ impl<S: Duplex + Drop> Socket<'_, S> {
         ensures gathers { 0 < taken_len result → self.new.is_gathering ≡ true }
         ensures gathering { taken_len result ≡ 0 → self.new.is_gathering ≡ self.old.is_gathering }
     {
-        let flags = self.place.flags;
+        let flags = self.registration.flags;
         let held = self.stream.behind_len();
         let mut readiness = flags.readiness.get();
         let put = self.stream.put(self.pool, &mut readiness, bytes);
@@ -233,17 +235,17 @@ impl<S: Duplex + Drop> Socket<'_, S> {
     }
 
     /// Writes what is held, as much as the connection takes.
-    #[tactic(auto, using(daide_streams::proofs::BufferLemmas::same_passes))]
+    #[tactic(auto, using(daide_buffered_io::proofs::BufferLemmas::same_passes))]
     pub fn flush(&mut self)
         ensures passes { Passes S.to_give S.taken self.old.stream [] [] self.new.stream }
-        ensures unread { IsUnread S.to_give self.old.stream self.new.stream }
+        ensures unread { ReadsNothing S.to_give self.old.stream self.new.stream }
         ensures timed { self.new.timed ≡ self.old.timed }
         ensures gathering { self.new.is_gathering ≡ self.old.is_gathering }
     {
         if !self.stream.is_behind() {
             return;
         }
-        let flags = self.place.flags;
+        let flags = self.registration.flags;
         let held = self.stream.behind_len();
         let mut readiness = flags.readiness.get();
         self.stream.flush(self.pool, &mut readiness);
@@ -253,10 +255,10 @@ impl<S: Duplex + Drop> Socket<'_, S> {
 
     /// Writes what is held, unless its session may have more to put: an answer to what it gave, of which parts were put
     /// since the turn began. A turn in which something was put is followed by another without a wait.
-    #[tactic(auto, using(daide_streams::proofs::BufferLemmas::same_passes))]
+    #[tactic(auto, using(daide_buffered_io::proofs::BufferLemmas::same_passes))]
     fn flush_gathered(&mut self)
         ensures passes { Passes S.to_give S.taken self.old.stream [] [] self.new.stream }
-        ensures unread { IsUnread S.to_give self.old.stream self.new.stream }
+        ensures unread { ReadsNothing S.to_give self.old.stream self.new.stream }
         ensures timed { self.new.timed ≡ self.old.timed }
         ensures gathering { self.old.is_gathering ≡ true → self.old.gave ≡ true → self.new ≡ self.old }
     {
@@ -298,10 +300,10 @@ impl TurnsHeld {
 
 impl<S: Duplex + Drop> Socket<'_, S> {
     /// Writes what was held for long enough.
-    #[tactic(auto, using(daide_streams::proofs::BufferLemmas::same_passes))]
+    #[tactic(auto, using(daide_buffered_io::proofs::BufferLemmas::same_passes))]
     fn flush_late(&mut self, held: TurnsHeld)
         ensures passes { Passes S.to_give S.taken self.old.stream [] [] self.new.stream }
-        ensures unread { IsUnread S.to_give self.old.stream self.new.stream }
+        ensures unread { ReadsNothing S.to_give self.old.stream self.new.stream }
         ensures timed { self.new.timed ≡ self.old.timed }
         ensures gathering { self.new.is_gathering ≡ self.old.is_gathering }
     {
@@ -311,10 +313,10 @@ impl<S: Duplex + Drop> Socket<'_, S> {
     }
 
     /// Begins a turn: gives up writing to a stalled peer, and writes what was held for long enough. Nothing was put in it yet.
-    #[tactic(auto, using(daide_streams::proofs::BufferLemmas::flush_then, daide_streams::proofs::BufferLemmas::unread_then))]
+    #[tactic(auto, using(daide_buffered_io::proofs::BufferLemmas::flush_then, daide_buffered_io::proofs::BufferLemmas::unread_then))]
     fn begin_turn(&mut self, held: TurnsHeld)
         ensures passes { Passes S.to_give S.taken self.old.stream [] [] self.new.stream }
-        ensures unread { IsUnread S.to_give self.old.stream self.new.stream }
+        ensures unread { ReadsNothing S.to_give self.old.stream self.new.stream }
         ensures silent { self.new.timed.is_silent ≡ self.old.timed.is_silent }
         ensures ends { self.new.timed.ends_stalled ≡ self.old.timed.ends_stalled }
         ensures gathering { self.new.is_gathering ≡ false }
@@ -327,12 +329,12 @@ impl<S: Duplex + Drop> Socket<'_, S> {
 
 /// How long the peers of a session may be silent; none for ever.
 #[derive(Drop)]
-struct Patience<'w, R: Clock> {
+struct IdleTimeout<'w, R: Clock> {
     poller: &'w Poller<R>,
     time: Option<Duration>,
 }
 
-impl<R: Clock> Patience<'_, R> {
+impl<R: Clock> IdleTimeout<'_, R> {
     /// From now on nothing comes of a socket, as far as is known.
     fn begin(&self, flags: &Flags) {
         let Some(time) = self.time else {
@@ -353,8 +355,8 @@ impl<R: Clock> Patience<'_, R> {
 /// Pulls from one socket of a session. If nothing comes, nothing more comes now that is for the other: what is held for
 /// that one is written, unless parts of an answer to it were put in this turn. If nothing came for too long, one more read
 /// is made, and if that finds nothing either, the side is taken as ended. So is a stalled one of which nothing comes.
-fn pull_past<R: Clock, S: Duplex + Drop>(
-    patience: &Patience<'_, R>,
+fn pull_or_flush_peer<R: Clock, S: Duplex + Drop>(
+    idle: &IdleTimeout<'_, R>,
     own: &mut Socket<'_, S>,
     other: &mut Socket<'_, S>,
     buffer: &mut [u8],
@@ -362,16 +364,16 @@ fn pull_past<R: Clock, S: Duplex + Drop>(
     ensures within { IsPullWithin result (length buffer.old) }
     ensures len { length buffer.new ≡ length buffer.old }
     ensures own { Passes S.to_give S.taken own.old.stream (take (pulled_len result) buffer.new) [] own.new.stream }
-    ensures handed { 0 < length own.old.stream.ahead →
-        result ≡ Pull.Got (min (length own.old.stream.ahead) (length buffer.old)) }
+    ensures handed { 0 < length own.old.stream.read_buffer →
+        result ≡ Pull.Got (min (length own.old.stream.read_buffer) (length buffer.old)) }
     ensures other { Passes S.to_give S.taken other.old.stream [] [] other.new.stream }
-    ensures unread { IsUnread S.to_give other.old.stream other.new.stream }
+    ensures unread { ReadsNothing S.to_give other.old.stream other.new.stream }
     // a side that isn't taken as ended by a time is reported as its stream is read
     ensures asked { own.new.timed.is_silent ≡ false → own.new.timed.ends_stalled ≡ false → (known still : Readiness)
         × IsBufferedPull S.calls (length buffer.old) known own.old.stream result still own.new.stream }
     // a side is taken as silent or stalled by an end alone, and of what may be silent for ever none is silent
     ensures silent { result ≢ Pull.Ended → own.new.timed ≡ own.old.timed }
-    ensures patient { IsNone patience.now.time → own.new.timed.is_silent ≡ own.old.timed.is_silent }
+    ensures patient { IsNone idle.now.time → own.new.timed.is_silent ≡ own.old.timed.is_silent }
     ensures stays { own.old.timed.is_silent ≡ true → own.new.timed.is_silent ≡ true }
     // none is taken as stalled whose writes don't count as failed for that
     ensures stalled { own.new.timed.is_stalled ≡ own.old.timed.is_stalled }
@@ -380,13 +382,13 @@ fn pull_past<R: Clock, S: Duplex + Drop>(
     // the parts of an answer are written together
     ensures gathering { other.old.is_gathering ≡ true → other.old.gave ≡ true → other.new ≡ other.old }
 {
-    let is_late = patience.is_over(own.place.flags);
+    let is_late = idle.is_over(own.registration.flags);
     if is_late {
-        own.place.flags.note(true, false);
+        own.registration.flags.note(true, false);
     }
     let pull = own.pull(buffer);
     if pull != Pull::Idle {
-        patience.begin(own.place.flags);
+        idle.begin(own.registration.flags);
         return pull;
     }
     other.flush_gathered();
@@ -403,16 +405,16 @@ fn pull_past<R: Clock, S: Duplex + Drop>(
 
 /// Puts to one socket of a session. If it takes nothing, its session may have nothing more to do: what is held for the
 /// other is written, unless parts of an answer to that one were put in this turn.
-fn put_past<S: Duplex + Drop>(
+fn put_or_flush_peer<S: Duplex + Drop>(
     own: &mut Socket<'_, S>,
     other: &mut Socket<'_, S>,
     bytes: &[u8],
 ) -> Put
     ensures within { IsPutWithin result (length bytes.now) }
-    ensures own { Passes S.to_give S.taken own.old.stream [] (front_of result bytes.now) own.new.stream }
+    ensures own { Passes S.to_give S.taken own.old.stream [] (bytes_taken result bytes.now) own.new.stream }
     ensures failed { own.old.stream.has_failed ≡ true → result ≡ Put.Failed }
     ensures other { Passes S.to_give S.taken other.old.stream [] [] other.new.stream }
-    ensures unread { IsUnread S.to_give other.old.stream other.new.stream }
+    ensures unread { ReadsNothing S.to_give other.old.stream other.new.stream }
     ensures timed { (own.new.timed ≡ own.old.timed) × (other.new.timed ≡ other.old.timed) }
     ensures gathering { other.old.is_gathering ≡ true → other.old.gave ≡ true → other.new ≡ other.old }
 {
@@ -429,7 +431,7 @@ fn put_past<S: Duplex + Drop>(
 pub struct SocketPorts<'w, R: Clock, S: Drop = Connection> {
     /// Its number, from 1, in the order in which the bots of a run came; 0 of ports that no run has.
     number: u32,
-    patience: Patience<'w, R>,
+    idle: IdleTimeout<'w, R>,
     held_for_bot: TurnsHeld,
     held_for_server: TurnsHeld,
     /// Whether the time for the initial message was over when the turn began, and had not been before.
@@ -448,13 +450,13 @@ impl<'w, R: Clock, S: Drop> SocketPorts<'w, R, S> {
         ensures bot { result.bot.stream ≡ bot.entry.stream }
         ensures server { result.server.stream ≡ server.entry.stream }
         ensures number { result.number ≡ 0 }
-        ensures patient { IsNone result.patience.time }
+        ensures patient { IsNone result.idle.time }
         ensures timed { (result.bot.timed ≡ bot.entry.timed) × (result.server.timed ≡ server.entry.timed) }
     {
-        let patience = Patience { poller, time: None };
+        let idle = IdleTimeout { poller, time: None };
         SocketPorts {
             number: 0,
-            patience,
+            idle,
             held_for_bot: TurnsHeld::NONE,
             held_for_server: TurnsHeld::NONE,
             im_timer_expired: false,
@@ -473,14 +475,14 @@ impl<'w, R: Clock, S: Drop> SocketPorts<'w, R, S> {
         ensures bot { result.bot.stream ≡ self.entry.bot.stream }
         ensures server { result.server.stream ≡ self.entry.server.stream }
         ensures number { result.number ≡ number }
-        ensures time { result.patience.time ≡ times.0 }
+        ensures time { result.idle.time ≡ times.0 }
         ensures stall_time { (result.bot.stall_time ≡ times.1) × (result.server.stall_time ≡ times.1) }
         ensures timed { (result.bot.timed ≡ self.entry.bot.timed) × (result.server.timed ≡ self.entry.server.timed) }
     {
         let (time, stall_time) = times;
         let SocketPorts {
             number: _,
-            patience,
+            idle,
             held_for_bot,
             held_for_server,
             im_timer_expired,
@@ -489,15 +491,15 @@ impl<'w, R: Clock, S: Drop> SocketPorts<'w, R, S> {
         } = self;
         bot.set_stall_time(stall_time);
         server.set_stall_time(stall_time);
-        let patience = Patience {
-            poller: patience.poller,
+        let idle = IdleTimeout {
+            poller: idle.poller,
             time,
         };
-        patience.begin(bot.place.flags);
-        patience.begin(server.place.flags);
+        idle.begin(bot.registration.flags);
+        idle.begin(server.registration.flags);
         SocketPorts {
             number,
-            patience,
+            idle,
             held_for_bot,
             held_for_server,
             im_timer_expired,
@@ -527,7 +529,7 @@ impl<'w, R: Clock, S: Drop> SocketPorts<'w, R, S> {
     {
         let SocketPorts {
             number: _,
-            patience: _,
+            idle: _,
             held_for_bot: _,
             held_for_server: _,
             im_timer_expired: _,
@@ -542,9 +544,9 @@ impl<'w, R: Clock, S: Drop> SocketPorts<'w, R, S> {
         ensures bot { self.new.bot ≡ self.old.bot }
         ensures server { self.new.server ≡ self.old.server }
         ensures number { self.new.number ≡ self.old.number }
-        ensures patience { self.new.patience ≡ self.old.patience }
+        ensures idle { self.new.idle ≡ self.old.idle }
     {
-        self.patience.poller.note_turn();
+        self.idle.poller.note_turn();
         self.held_for_bot = self.held_for_bot.with_turn(self.bot.stream.behind_len());
         self.held_for_server = self
             .held_for_server
@@ -557,15 +559,15 @@ impl<R: Clock, S: Duplex + Drop> SocketPorts<'_, R, S> {
     fn begin_both(&mut self)
         ensures bot { Passes S.to_give S.taken self.old.bot.stream [] [] self.new.bot.stream }
         ensures server { Passes S.to_give S.taken self.old.server.stream [] [] self.new.server.stream }
-        ensures bot_unread { IsUnread S.to_give self.old.bot.stream self.new.bot.stream }
-        ensures server_unread { IsUnread S.to_give self.old.server.stream self.new.server.stream }
+        ensures bot_unread { ReadsNothing S.to_give self.old.bot.stream self.new.bot.stream }
+        ensures server_unread { ReadsNothing S.to_give self.old.server.stream self.new.server.stream }
         ensures silent { (self.new.bot.timed.is_silent ≡ self.old.bot.timed.is_silent)
             × (self.new.server.timed.is_silent ≡ self.old.server.timed.is_silent) }
         ensures ends { (self.new.bot.timed.ends_stalled ≡ self.old.bot.timed.ends_stalled)
             × (self.new.server.timed.ends_stalled ≡ self.old.server.timed.ends_stalled) }
         ensures gathering { (self.new.bot.is_gathering ≡ false) × (self.new.server.is_gathering ≡ false) }
         ensures number { self.new.number ≡ self.old.number }
-        ensures patience { self.new.patience ≡ self.old.patience }
+        ensures idle { self.new.idle ≡ self.old.idle }
     {
         self.bot.begin_turn(self.held_for_bot);
         self.server.begin_turn(self.held_for_server);
@@ -576,10 +578,10 @@ impl<R: Clock, S: Duplex + Drop> SocketPorts<'_, R, S> {
         ensures bot { self.new.bot ≡ self.old.bot }
         ensures server { self.new.server ≡ self.old.server }
         ensures number { self.new.number ≡ self.old.number }
-        ensures patience { self.new.patience ≡ self.old.patience }
+        ensures idle { self.new.idle ≡ self.old.idle }
     {
-        let due = &self.bot.place.flags.due;
-        let is_over = self.patience.poller.is_over(due.get());
+        let due = &self.bot.registration.flags.due;
+        let is_over = self.idle.poller.is_over(due.get());
         if is_over {
             due.set(None);
         }
@@ -589,7 +591,7 @@ impl<R: Clock, S: Duplex + Drop> SocketPorts<'_, R, S> {
     /// Begins a turn of the session: counts it, gives up writing to a stalled peer, writes what was held for long enough,
     /// and reads the deadline of the initial message. Nothing is read, and nothing was put in it yet.
     pub fn begin_turn(&mut self)
-        ensures begins { Moves S.to_give S.taken (self.old.bot.stream, self.old.server.stream) TurnBegins
+        ensures begins { Transfers S.to_give S.taken (self.old.bot.stream, self.old.server.stream) TurnBegins
             (self.new.bot.stream, self.new.server.stream) }
         ensures silent { (self.new.bot.timed.is_silent ≡ self.old.bot.timed.is_silent)
             × (self.new.server.timed.is_silent ≡ self.old.server.timed.is_silent) }
@@ -597,7 +599,7 @@ impl<R: Clock, S: Duplex + Drop> SocketPorts<'_, R, S> {
             × (self.new.server.timed.ends_stalled ≡ self.old.server.timed.ends_stalled) }
         ensures gathering { (self.new.bot.is_gathering ≡ false) × (self.new.server.is_gathering ≡ false) }
         ensures number { self.new.number ≡ self.old.number }
-        ensures patience { self.new.patience ≡ self.old.patience }
+        ensures idle { self.new.idle ≡ self.old.idle }
     {
         self.count_turn();
         self.begin_both();
@@ -606,25 +608,25 @@ impl<R: Clock, S: Duplex + Drop> SocketPorts<'_, R, S> {
 }
 
 impl<R: Clock, S: Duplex + Drop> Ports for SocketPorts<'_, R, S> {
-    ghost becomes = { λ old answer new. Moves S.to_give S.taken (old.bot.stream, old.server.stream) answer
+    ghost transition = { λ old answer new. Transfers S.to_give S.taken (old.bot.stream, old.server.stream) answer
         (new.bot.stream, new.server.stream) };
 
     fn pull(&mut self, side: Side, buffer: &mut [u8]) -> Pull {
         match side {
-            Side::Bot => pull_past(&self.patience, &mut self.bot, &mut self.server, buffer),
-            Side::Server => pull_past(&self.patience, &mut self.server, &mut self.bot, buffer),
+            Side::Bot => pull_or_flush_peer(&self.idle, &mut self.bot, &mut self.server, buffer),
+            Side::Server => pull_or_flush_peer(&self.idle, &mut self.server, &mut self.bot, buffer),
         }
     }
 
     fn put(&mut self, side: Side, bytes: &[u8]) -> Put {
         match side {
-            Side::Bot => put_past(&mut self.bot, &mut self.server, bytes),
-            Side::Server => put_past(&mut self.server, &mut self.bot, bytes),
+            Side::Bot => put_or_flush_peer(&mut self.bot, &mut self.server, bytes),
+            Side::Server => put_or_flush_peer(&mut self.server, &mut self.bot, bytes),
         }
     }
 
     fn clock_popped(&mut self) -> bool
-        ensures becomes { Moves S.to_give S.taken (self.old.bot.stream, self.old.server.stream) (Popped result)
+        ensures transition { Transfers S.to_give S.taken (self.old.bot.stream, self.old.server.stream) (Popped result)
             (self.new.bot.stream, self.new.server.stream) }
         ensures answer { result ≡ self.old.im_timer_expired }
         ensures same { self.new ≡ self.old }

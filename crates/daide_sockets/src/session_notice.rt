@@ -1,15 +1,15 @@
 //! The lines that a run writes about each of its sessions, if it is asked to.
 
 ghost use Rattle.std.specs.Prelude.{◌≡◌};
-ghost use Rattle.daide_machine.specs.Summary.{nothing_counted};
+ghost use Rattle.daide_protocol.specs.Summary.{nothing_counted};
 ghost use Rattle.daide_sockets.specs.Lines.{why_by, why_ended};
 
 use crate::timed::{Timed, timed_at};
 use daide_frame::code::Code;
 use daide_frame::side::Side;
-use daide_machine::ending::Ending;
-use daide_machine::summary::Summary;
-use daide_machine::system::{Cause, SessionEnd};
+use daide_protocol::ending::Ending;
+use daide_protocol::summary::Summary;
+use daide_protocol::system::{Cause, SessionEnd};
 use std::fmt;
 use std::net::SocketAddr;
 use thiserror::Error;

@@ -2,21 +2,21 @@
 
 ghost use Rattle.std.specs.Prelude.{◌≡◌, ◌⊎◌, ℕ, ◌+◌, ◌*◌, ◌^◌, ◌<◌, IfSome, None, false, [], length};
 ghost use Rattle.daide_sockets.specs.Times.{IsSeconds, IsIdleTime};
-ghost use Rattle.daide_machine.specs.Ports.{TurnBegins};
-ghost use Rattle.daide_machine.specs.System.{BeginsTurn};
-ghost use Rattle.daide_streams.specs.Streams.{Moves};
+ghost use Rattle.daide_protocol.specs.Ports.{TurnBegins};
+ghost use Rattle.daide_protocol.specs.System.{BeginsTurn};
+ghost use Rattle.daide_buffered_io.specs.Streams.{Transfers};
 ghost use Rattle.daide_sockets.specs.Lingering.{ClosingsGoOn, GoOnFor};
-ghost use Rattle.daide_sockets.specs.Pairing.{FirstBecomes, Transits, Closes};
+ghost use Rattle.daide_sockets.specs.Pairing.{FirstArrivalEvolves, Transits, Closes};
 
-use crate::admission::{Acceptor, Arrival, Unreached};
-use crate::closing::{Closings, MOST_CLOSING};
+use crate::admission::{Acceptor, PendingConnection, Unreached};
 use crate::connection::Connection;
+use crate::lingering_close::{Closings, MOST_CLOSING};
 use crate::poller::Poller;
 use crate::ports::SocketPorts;
 use crate::session_notice::SessionNotice;
-use daide_machine::system::{Connect, Notice, SessionEnd, System};
+use daide_buffered_io::duplex::Duplex;
+use daide_protocol::system::{Connect, Notice, SessionEnd, System};
 use daide_settings::Settings;
-use daide_streams::duplex::Duplex;
 use mio::net::TcpListener;
 use std::alloc::Global;
 use std::io::Write;
@@ -59,7 +59,7 @@ pub struct Sockets<'w, R: Clock + Net, E: Write + Drop> {
     /// The same in seconds, as the settings have it.
     stall_seconds: u32,
     connect_time: Duration,
-    arrivals: Vec<Arrival<'w>>,
+    arrivals: Vec<PendingConnection<'w>>,
     closings: Closings<'w>,
     /// Where lines for the operator go.
     pub errors: E,
@@ -144,7 +144,7 @@ impl<'w, R: Clock + Net, E: Write + Drop> Sockets<'w, R, E> {
     /// it is still under way, and looked at last.
     fn look_at_first(&mut self) -> Connect<SocketPorts<'w, &'w R>>
         requires { 0 < length self.old.arrivals.items }
-        ensures { FirstBecomes ⟦<Connection as Duplex>⟧.to_give ⟦<Connection as Duplex>⟧.taken
+        ensures { FirstArrivalEvolves ⟦<Connection as Duplex>⟧.to_give ⟦<Connection as Duplex>⟧.taken
             (λ ports. record { number = ports.number; bot = ports.bot.stream; server = ports.server.stream })
             (record { came = self.old.acceptor.came; arrivals = self.old.arrivals.items; closing = self.old.closings })
             result (record { came = self.new.acceptor.came; arrivals = self.new.arrivals.items; closing = self.new.closings }) }
@@ -213,7 +213,7 @@ impl<'w, R: Clock + Net, E: Write + Drop> System<SocketPorts<'w, &'w R>> for Soc
     }
 
     fn begin_turn(&mut self, ports: &mut SocketPorts<'w, &'w R>)
-        ensures ports { Moves ⟦<Connection as Duplex>⟧.to_give ⟦<Connection as Duplex>⟧.taken
+        ensures ports { Transfers ⟦<Connection as Duplex>⟧.to_give ⟦<Connection as Duplex>⟧.taken
             (ports.old.bot.stream, ports.old.server.stream) TurnBegins (ports.new.bot.stream, ports.new.server.stream) }
         ensures system { Transits ⟦<Connection as Duplex>⟧.to_give ⟦<Connection as Duplex>⟧.taken
             ⟦<Connection as Duplex>⟧.calls
@@ -239,7 +239,7 @@ impl<'w, R: Clock + Net, E: Write + Drop> System<SocketPorts<'w, &'w R>> for Soc
         };
         let times = (self.im_time, self.connect_time);
         let came = (number, bot);
-        let arrival = Arrival::new(self.poller, self.runtime, self.servers, came, times);
+        let arrival = PendingConnection::new(self.poller, self.runtime, self.servers, came, times);
         self.arrivals.push_reserved(arrival);
         self.tell_of_session(SessionNotice::Began {
             number,

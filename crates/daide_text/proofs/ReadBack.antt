@@ -11,8 +11,8 @@ use Rattle.std.proofs.lemmas.Fmt.{decimal_by_steps, decimal_nonempty}
 use Rattle.std.proofs.lemmas.List.Folds.{list_all-append}
 use Rattle.daide_token.specs.Names.{Named, name_of, names, token_named}
 use Rattle.daide_token.specs.Token.{bra, ket, number_of, token_of_number}
-use Rattle.daide_token.specs.Text.{Item, Word, Quote, added_name_of, before_items, hex_digit_of, hex_text, is_quotable}
-use Rattle.daide_token.specs.Text.{item_text, items_of, text_with, word_with}
+use Rattle.daide_token.specs.Text.{TextItem, Word, Quote, added_name_of, before_items, hex_digit_of, hex_text, is_quotable}
+use Rattle.daide_token.specs.Text.{item_text, text_items_of, text_with, text_of_token}
 use Rattle.daide_words.specs.Accepted.{is_capital}
 use Rattle.daide_text.specs.Word.{added_token, first_found, greatest_magnitude, hex_value, is_digit, magnitude}
 use Rattle.daide_text.specs.Word.{token_of_decimal, token_of_hex, token_of_name, token_of_some, token_of_word, value_after}
@@ -242,30 +242,30 @@ module _ (added : List Named) where
   word_piece t w text e h =
       (line.Word w, (sym e, λ rest ended. (h.0, h.1, ended), rw h.2 refl))
 
-  token_piece : AreReadBack → NamesComeBack → (t : ℕ) → t < 65536 → HasPiece (word_with added t) (t ∷ [])
+  token_piece : AreReadBack → NamesComeBack → (t : ℕ) → t < 65536 → HasPiece (text_of_token added t) (t ∷ [])
   token_piece back known t h = brackets (t == bra) refl (t == ket) refl
     where
       unnamed : (t == bra) ≡ false → (t == ket) ≡ false → number_of t ≡ None → name_of t ≡ None →
-          (o : Option (List ℕ)) → added_name_of added t ≡ o → HasPiece (word_with added t) (t ∷ [])
+          (o : Option (List ℕ)) → added_name_of added t ≡ o → HasPiece (text_of_token added t) (t ∷ [])
       unnamed a b c d (Some name) e =
           let k = back t name e in
-          word_piece t name (word_with added t) (rw (a, b, c, d, e) refl) (name_read t name k.0 (rw k.1 k.2))
-      unnamed a b c d None e = word_piece t (hex_text t) (word_with added t) (rw (a, b, c, d, e) refl) (hex_read t h)
+          word_piece t name (text_of_token added t) (rw (a, b, c, d, e) refl) (name_read t name k.0 (rw k.1 k.2))
+      unnamed a b c d None e = word_piece t (hex_text t) (text_of_token added t) (rw (a, b, c, d, e) refl) (hex_read t h)
 
       named : (t == bra) ≡ false → (t == ket) ≡ false → number_of t ≡ None → (o : Option (List ℕ)) → name_of t ≡ o →
-          HasPiece (word_with added t) (t ∷ [])
+          HasPiece (text_of_token added t) (t ∷ [])
       named a b c (Some name) e =
-          word_piece t name (word_with added t) (rw (a, b, c, e) refl)
+          word_piece t name (text_of_token added t) (rw (a, b, c, e) refl)
           (name_read t name (name_good t name e) (rw (known t name e) refl))
       named a b c None e = unnamed a b c e (added_name_of added t) refl
 
       numbers : (t == bra) ≡ false → (t == ket) ≡ false → (o : Option ℤ) → number_of t ≡ o →
-          HasPiece (word_with added t) (t ∷ [])
+          HasPiece (text_of_token added t) (t ∷ [])
       numbers a b (Some n) e =
-          word_piece t (signed_decimal n) (word_with added t) (rw (a, b, e) refl) (number_read t n e)
+          word_piece t (signed_decimal n) (text_of_token added t) (rw (a, b, e) refl) (number_read t n e)
       numbers a b None e = named a b e (name_of t) refl
 
-      brackets : (a : Bool) → (t == bra) ≡ a → (b : Bool) → (t == ket) ≡ b → HasPiece (word_with added t) (t ∷ [])
+      brackets : (a : Bool) → (t == bra) ≡ a → (b : Bool) → (t == ket) ≡ b → HasPiece (text_of_token added t) (t ∷ [])
       brackets true e b f =
           (line.Sign 40, (rw e refl, λ rest ended. refl, ap (λ (u : ℕ). Some (u ∷ [])) (sym (eqb-true t bra e))))
       brackets false e true f =
@@ -274,23 +274,23 @@ module _ (added : List Named) where
 
   -- ---- items
 
-  abbrev tokens_of_item : Item → List ℕ
+  abbrev tokens_of_item : TextItem → List ℕ
   tokens_of_item (Word t) = t ∷ []
   tokens_of_item (Quote characters) = map character_token characters
 
-  abbrev tokens_of_items : List Item → List ℕ
+  abbrev tokens_of_items : List TextItem → List ℕ
   tokens_of_items [] = []
   tokens_of_items (item ∷ items) = tokens_of_item item ++ tokens_of_items items
 
-  abbrev IsGood : Item → Type 0
+  abbrev IsGood : TextItem → Type 0
   IsGood (Word t) = t < 65536
   IsGood (Quote characters) = (list_all is_in_quote characters ≡ true) × (list_all is_printable characters ≡ true)
 
-  abbrev AreGood : List Item → Type 0
+  abbrev AreGood : List TextItem → Type 0
   AreGood [] = Unit {0}
   AreGood (item ∷ items) = IsGood item × AreGood items
 
-  item_piece : AreReadBack → NamesComeBack → (item : Item) → IsGood item → HasPiece (item_text added item) (tokens_of_item item)
+  item_piece : AreReadBack → NamesComeBack → (item : TextItem) → IsGood item → HasPiece (item_text added item) (tokens_of_item item)
   item_piece back known (Word t) h = token_piece back known t h
   item_piece back known (Quote characters) h = (line.Quote characters, (refl, λ rest ended. h.0, rw h.1 refl))
 
@@ -315,24 +315,24 @@ module _ (added : List Named) where
       (piece_first p.0 rest ts us (p.1.1 rest ended) p.1.2 h)
 
   -- items after another item
-  abbrev spaced : List Item → List ℕ
+  abbrev spaced : List TextItem → List ℕ
   spaced [] = []
   spaced (item ∷ items) = 32 ∷ (item_text added item ++ spaced items)
 
-  abbrev joined : List Item → List ℕ
+  abbrev joined : List TextItem → List ℕ
   joined [] = []
   joined (item ∷ items) = item_text added item ++ spaced items
 
-  joined_is : (items : List Item) → join_with_byte 32 (map (item_text added) items) ≡ joined items
+  joined_is : (items : List TextItem) → join_with_byte 32 (map (item_text added) items) ≡ joined items
   joined_is [] = refl
   joined_is (i ∷ []) = sym (append-nil (item_text added i))
   joined_is (i ∷ j ∷ items) = ap (λ text. item_text added i ++ (32 ∷ text)) (joined_is (j ∷ items))
 
-  spaced_ends : (items : List Item) → begins_in_word (spaced items) ≡ false
+  spaced_ends : (items : List TextItem) → begins_in_word (spaced items) ≡ false
   spaced_ends [] = refl
   spaced_ends (item ∷ items) = refl
 
-  spaced_read : AreReadBack → NamesComeBack → (items : List Item) → AreGood items →
+  spaced_read : AreReadBack → NamesComeBack → (items : List TextItem) → AreGood items →
       Reads (spaced items) (tokens_of_items items)
   spaced_read back known [] h = λ column. ([], refl, refl)
   spaced_read back known (item ∷ items) h =
@@ -341,7 +341,7 @@ module _ (added : List Named) where
       (has_first (item_text added item) (spaced items) (tokens_of_item item) (tokens_of_items items) (spaced_ends items)
       (item_piece back known item h.0) (spaced_read back known items h.1))
 
-  joined_read : AreReadBack → NamesComeBack → (items : List Item) → AreGood items →
+  joined_read : AreReadBack → NamesComeBack → (items : List TextItem) → AreGood items →
       Reads (joined items) (tokens_of_items items)
   joined_read back known [] h = λ column. ([], refl, refl)
   joined_read back known (item ∷ items) h =
@@ -364,7 +364,7 @@ module _ (added : List Named) where
   character_back : (t : ℕ) → is_quotable t ≡ true → character_token (t % 256) ≡ t
   character_back t e = grind (arith, nat_tests)
 
-  before_good : (c : ℕ) (items : List Item) → is_in_quote c ≡ true → is_printable c ≡ true → AreGood items →
+  before_good : (c : ℕ) (items : List TextItem) → is_in_quote c ≡ true → is_printable c ≡ true → AreGood items →
       AreGood (before_items c items)
   before_good c [] e f h =
       ((together (is_in_quote c) true e refl, together (is_printable c) true f refl), tt)
@@ -378,28 +378,28 @@ module _ (added : List Named) where
   before_good c (Word t ∷ items) e f h =
       ((together (is_in_quote c) true e refl, together (is_printable c) true f refl), h)
 
-  before_tokens : (c : ℕ) (items : List Item) → tokens_of_items (before_items c items) ≡ character_token c ∷ tokens_of_items items
+  before_tokens : (c : ℕ) (items : List TextItem) → tokens_of_items (before_items c items) ≡ character_token c ∷ tokens_of_items items
   before_tokens c [] = refl
   before_tokens c (Quote cs ∷ items) = refl
   before_tokens c (Word t ∷ items) = refl
 
-  items_good : (ts : List ℕ) → AreTokens ts → AreGood (items_of ts)
+  items_good : (ts : List ℕ) → AreTokens ts → AreGood (text_items_of ts)
   items_good [] h = tt
   items_good (t ∷ ts) h = go (is_quotable t) refl (items_good ts h.1)
     where
-      go : (b : Bool) → is_quotable t ≡ b → AreGood (items_of ts) →
-          AreGood (if b then before_items (t % 256) (items_of ts) else Word t ∷ items_of ts)
-      go true e rest = let c = character_good t e in before_good (t % 256) (items_of ts) c.0 c.1 rest
+      go : (b : Bool) → is_quotable t ≡ b → AreGood (text_items_of ts) →
+          AreGood (if b then before_items (t % 256) (text_items_of ts) else Word t ∷ text_items_of ts)
+      go true e rest = let c = character_good t e in before_good (t % 256) (text_items_of ts) c.0 c.1 rest
       go false e rest = (h.0, rest)
 
-  tokens_back : (ts : List ℕ) → tokens_of_items (items_of ts) ≡ ts
+  tokens_back : (ts : List ℕ) → tokens_of_items (text_items_of ts) ≡ ts
   tokens_back [] = refl
   tokens_back (t ∷ ts) = go (is_quotable t) refl (tokens_back ts)
     where
-      go : (b : Bool) → is_quotable t ≡ b → tokens_of_items (items_of ts) ≡ ts →
-          tokens_of_items (if b then before_items (t % 256) (items_of ts) else Word t ∷ items_of ts) ≡ t ∷ ts
+      go : (b : Bool) → is_quotable t ≡ b → tokens_of_items (text_items_of ts) ≡ ts →
+          tokens_of_items (if b then before_items (t % 256) (text_items_of ts) else Word t ∷ text_items_of ts) ≡ t ∷ ts
       go true e rest =
-          before_tokens (t % 256) (items_of ts) ∙ ap (λ (u : ℕ). u ∷ tokens_of_items (items_of ts)) (character_back t e)
+          before_tokens (t % 256) (text_items_of ts) ∙ ap (λ (u : ℕ). u ∷ tokens_of_items (text_items_of ts)) (character_back t e)
           ∙ ap (λ (l : List ℕ). t ∷ l) rest
       go false e rest = ap (λ (l : List ℕ). t ∷ l) rest
 
@@ -407,6 +407,6 @@ module _ (added : List Named) where
       IsText added (text_with added ts) ts
   unfolding text_with
   text_back back known ts h =
-      let read = joined_read back known (items_of ts) (items_good ts (are_tokens ts h)) 1 in
-      subst (λ (text : List ℕ). IsText added text ts) (sym (joined_is (items_of ts)))
-      (subst (λ (us : List ℕ). IsText added (joined (items_of ts)) us) (tokens_back ts) read)
+      let read = joined_read back known (text_items_of ts) (items_good ts (are_tokens ts h)) 1 in
+      subst (λ (text : List ℕ). IsText added text ts) (sym (joined_is (text_items_of ts)))
+      (subst (λ (us : List ℕ). IsText added (joined (text_items_of ts)) us) (tokens_back ts) read)

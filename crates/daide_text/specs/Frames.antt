@@ -3,7 +3,7 @@ use Rattle.std.specs.Prelude.{◌≡◌, ◌≢◌, ⊤, ℕ, ◌+◌, ◌*◌, 
 use Rattle.std.specs.Prelude.{List, [], ◌∷◌, ◌++◌, length, slice_index, Option, IfSome, Err}
 use Rattle.std.specs.Io.KnownBytes.{Appends}
 use Rattle.daide_token.specs.Names.{Named}
-use Rattle.daide_token.specs.Token.{bytes_of, bytes_of_tokens}
+use Rattle.daide_token.specs.Token.{token_bytes, bytes_of_tokens}
 use Rattle.daide_text.specs.Line.{IsReadAs, IsText}
 use Rattle.daide_text.specs.declared.frames.TextFault.{TextFault}
 use Rattle.daide_text.specs.declared.frames.TextFault.TheVariants.{Read, NotMessage, TooLong, TooManyLines, Memory, Write}
@@ -40,7 +40,7 @@ trimmed line = if bytes_eq (drop (length line - 1) line) (13 ∷ []) then take (
 
 -- a DM with these tokens as its body: its kind, 0, the length of the body, then the body
 abbrev pub message_frame : List ℕ → List ℕ
-message_frame ts = 2 ∷ 0 ∷ (bytes_of (2 * length ts) ++ bytes_of_tokens ts)
+message_frame ts = 2 ∷ 0 ∷ (token_bytes (2 * length ts) ++ bytes_of_tokens ts)
 
 -- a digit from 0 to 15, in upper case
 abbrev pub upper_digit_of : ℕ → ℕ

@@ -8,7 +8,7 @@ use Rattle.daide_token.specs.declared.class.Class.TheVariants.{Num, Bra, Ket, Po
 use Rattle.daide_token.specs.declared.class.Class.TheVariants.{Province, Prn, Param, Other, Alien, Word}
 use Rattle.daide_token.specs.Token.{bra, ket, prn}
 use Rattle.daide_token.specs.Class.{brackets, class_in, class_of, commands, has_one_token, is_standard}
-use Rattle.daide_token.specs.Class.{listed, orders, parameters, press, token_of, units}
+use Rattle.daide_token.specs.Class.{listed, orders, parameters, press_classes, token_of, units}
 
 -- a token's class: one that tokens have, and where it has one token alone, this one
 abbrev IsRight : ℕ → ℕ → Class → Type 0
@@ -86,7 +86,7 @@ right_in_category category code =
     by_test P (category == 0x47) _ _ (λ _. shared category code Season refl) (λ _.
     by_test P (category == 0x48) _ _ (right_where 0x48 category code commands Other refl refl) (λ _.
     by_test P (category == 0x49) _ _ (right_where 0x49 category code parameters Param refl refl) (λ _.
-    by_test P (category == 0x4A) _ _ (right_where 0x4A category code press Other refl refl) (λ _.
+    by_test P (category == 0x4A) _ _ (right_where 0x4A category code press_classes Other refl refl) (λ _.
     by_test P (category == 0x4B) _ _ (λ _. shared category code Text refl) (λ _.
     by_test P (nat_le 0x50 category && nat_le category 0x57) _ _ (λ _. shared category code Province refl)
     (λ _. shared category code Alien refl))))))))))))))

@@ -12,7 +12,7 @@ use Rattle.std.proofs.lemmas.Fmt.{decimal_by_steps, signed_decimal_injective}
 use Rattle.std.proofs.lemmas.List.Folds.{list_all-append}
 use Rattle.daide_token.specs.Token.{bra, ket, number_of, token_of_number}
 use Rattle.daide_token.specs.Names.{Named, names, name_of, token_named}
-use Rattle.daide_token.specs.Text.{hex_digit_of, hex_text, word_with, is_quotable, text_of, text_with}
+use Rattle.daide_token.specs.Text.{hex_digit_of, hex_text, text_of_token, is_quotable, text_of, text_with}
 use Rattle.daide_token.specs.TextSteps.{place_after, rest_of_text}
 use Rattle.daide_token.specs.declared.text.PrinterState.{PrinterState}
 use Rattle.daide_token.specs.declared.text.PrinterState.TheVariants as place
@@ -179,7 +179,7 @@ name-fits t name e =
 -- ---- the word of a token
 
 abbrev word : ℕ → List ℕ
-word t = word_with [] t
+word t = text_of_token [] t
 
 data Kind (t : ℕ) : Type 0 where
   is_bra : t ≡ bra → Kind t

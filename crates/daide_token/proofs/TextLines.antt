@@ -9,7 +9,7 @@ use Rattle.std.proofs.lemmas.Fmt.{decimal_by_steps}
 use Rattle.std.proofs.lemmas.List.Folds.{list_all-append}
 use Rattle.daide_token.specs.Token.{bra, ket, number_of}
 use Rattle.daide_token.specs.Names.{Named, names, name_of}
-use Rattle.daide_token.specs.Text.{added_name_of, hex_digit_of, hex_text, is_quotable, text_with, word_with}
+use Rattle.daide_token.specs.Text.{added_name_of, hex_digit_of, hex_text, is_quotable, text_with, text_of_token}
 use Rattle.daide_token.specs.TextSteps.{before_character, before_item, place_after, rest_of_text, token_text}
 use Rattle.daide_token.specs.declared.text.PrinterState.{PrinterState}
 use Rattle.daide_token.specs.declared.text.PrinterState.TheVariants as place
@@ -90,7 +90,7 @@ added_inner added t name all e =
     found_passes (λ (row : Named). row.1) (λ row. row.0 == t) (λ row. are_inner row.1) added name all e
     (λ row same inner here. ap are_inner (sym here) ∙ inner)
 
-word_inner : (added : List Named) (t : ℕ) → are_names_inner added ≡ true → are_inner (word_with added t) ≡ true
+word_inner : (added : List Named) (t : ℕ) → are_names_inner added ≡ true → are_inner (text_of_token added t) ≡ true
 word_inner added t all =
     go (t == bra) (t == ket) (number_of t) refl (name_of t) refl (added_name_of added t) refl
   where
@@ -125,9 +125,9 @@ token_inner : (added : List Named) (p : PrinterState) (t : ℕ) → are_names_in
 token_inner added p t all = go (is_quotable t) refl
   where
     go : (b : Bool) → is_quotable t ≡ b →
-        are_inner (if b then before_character p ++ (t % 256) ∷ [] else before_item p ++ word_with added t) ≡ true
+        are_inner (if b then before_character p ++ (t % 256) ∷ [] else before_item p ++ text_of_token added t) ≡ true
     go true q = both_inner (before_character p) ((t % 256) ∷ []) (before_inner p) (rw (character_inner t q) refl)
-    go false q = both_inner (before_item p) (word_with added t) (item_inner p) (word_inner added t all)
+    go false q = both_inner (before_item p) (text_of_token added t) (item_inner p) (word_inner added t all)
 
 rest_inner : (added : List Named) (p : PrinterState) (ts : List ℕ) → are_names_inner added ≡ true →
     are_inner (rest_of_text added p ts) ≡ true

@@ -7,10 +7,10 @@ use Rattle.std.proofs.lemmas.Int.{ints}
 use Rattle.std.specs.Int.RustNames.{unsigned_abs}
 use Rattle.std.specs.Fmt.{signed_decimal}
 use Rattle.std.specs.List.{list_all}
-use Rattle.daide_token.specs.Token.{bra, ket, bytes_of, number_of}
+use Rattle.daide_token.specs.Token.{bra, ket, token_bytes, number_of}
 use Rattle.daide_token.specs.Names.{Named, names, name_of}
 use Rattle.daide_token.specs.NamePages.{is_spaced, name_of_cell}
-use Rattle.daide_token.specs.Text.{added_name_of, hex_text, is_quotable, word_with}
+use Rattle.daide_token.specs.Text.{added_name_of, hex_text, is_quotable, text_of_token}
 use Rattle.daide_token.specs.TextSteps.{place_after, token_text}
 use Rattle.daide_token.specs.declared.text.PrinterState.{PrinterState}
 use Rattle.daide_token.specs.declared.text.PrinterState.TheVariants.{Quote, Word}
@@ -28,7 +28,7 @@ not_bra t less = grind (arith, nat_tests)
 not_ket : (t : ℕ) → t < 0x4000 → (t == ket) ≡ false
 not_ket t less = grind (arith, nat_tests)
 
-pub number_word : (added : List Named) (t : ℕ) (n : ℤ) → number_of t ≡ Some n → word_with added t ≡ signed_decimal n
+pub number_word : (added : List Named) (t : ℕ) (n : ℤ) → number_of t ≡ Some n → text_of_token added t ≡ signed_decimal n
 number_word added t n e =
     let less = number_small t n e in
     rw (not_bra t less) (rw (not_ket t less) (rw e refl))
@@ -66,7 +66,7 @@ named_character t name e =
     (λ row same word here. ap is_quotable (sym (eqb-true row.0 t same)) ∙ no_character row.0 word)
 
 pub named_word : (added : List Named) (t : ℕ) (name : List ℕ) → name_of t ≡ Some name → (t == bra) ≡ false →
-    (t == ket) ≡ false → word_with added t ≡ name
+    (t == ket) ≡ false → text_of_token added t ≡ name
 named_word added t name e a b = rw a (rw b (rw (named_number t name e) (rw e refl)))
 
 -- a cell of four bytes is the name behind a word
@@ -94,7 +94,7 @@ cell_place t (space ∷ letters) e long = rw (named_character t letters (sym e))
 -- its letters are the name by itself
 pub cell_word : (added : List Named) (t : ℕ) (cell : List ℕ) → name_of_cell cell ≡ name_of t → length cell ≡ 4 →
     (t == bra) ≡ false → (t == ket) ≡ false →
-    get_or cell 1 0 ∷ get_or cell 2 0 ∷ get_or cell 3 0 ∷ [] ≡ word_with added t
+    get_or cell 1 0 ∷ get_or cell 2 0 ∷ get_or cell 3 0 ∷ [] ≡ text_of_token added t
 cell_word added t [] e long a b = absurd (omega arith)
 cell_word added t (s ∷ []) e long a b = absurd (omega arith)
 cell_word added t (s ∷ x ∷ []) e long a b = absurd (omega arith)
@@ -110,12 +110,12 @@ no_name t (space ∷ letters) e other =
 
 pub unnamed_word : (added : List Named) (t : ℕ) (cell : List ℕ) → name_of_cell cell ≡ name_of t →
     (length cell ≡ 4 → ⊥) → number_of t ≡ None → (t == bra) ≡ false → (t == ket) ≡ false →
-    word_with added t ≡ unwrap_or (added_name_of added t) (hex_text t)
+    text_of_token added t ≡ unwrap_or (added_name_of added t) (hex_text t)
 unnamed_word added t cell e other number a b = rw a (rw b (rw number (rw (no_name t cell e other) refl)))
 
 -- ---- a token by its two bytes
 
-pub of_bytes : (t : ℕ) (bytes : List ℕ) → bytes ≡ bytes_of t → get_or bytes 0 0 * 256 + get_or bytes 1 0 ≡ t
+pub of_bytes : (t : ℕ) (bytes : List ℕ) → bytes ≡ token_bytes t → get_or bytes 0 0 * 256 + get_or bytes 1 0 ≡ t
 of_bytes t bytes e =
     let high : get_or bytes 0 0 ≡ t / 256 = ap (λ (b : List ℕ). get_or b 0 0) e in
     let low : get_or bytes 1 0 ≡ t % 256 = ap (λ (b : List ℕ). get_or b 1 0) e in
@@ -124,10 +124,10 @@ of_bytes t bytes e =
 category_apart : (t : ℕ) → (t / 256 ≡ 0x40 → ⊥) → ((t == bra) ≡ false) × ((t == ket) ≡ false)
 category_apart t other = (grind (arith, nat_tests), grind (arith, nat_tests))
 
-pub no_bracket : (t : ℕ) (bytes : List ℕ) → bytes ≡ bytes_of t → (get_or bytes 0 0 ≡ 0x40 → ⊥) →
+pub no_bracket : (t : ℕ) (bytes : List ℕ) → bytes ≡ token_bytes t → (get_or bytes 0 0 ≡ 0x40 → ⊥) →
     ((t == bra) ≡ false) × ((t == ket) ≡ false)
 no_bracket t bytes e other = category_apart t (λ same. other (ap (λ (b : List ℕ). get_or b 0 0) e ∙ same))
 
-pub in_brackets : (t code : ℕ) (bytes : List ℕ) → bytes ≡ bytes_of t → get_or bytes 0 0 ≡ 0x40 → get_or bytes 1 0 ≡ code →
+pub in_brackets : (t code : ℕ) (bytes : List ℕ) → bytes ≡ token_bytes t → get_or bytes 0 0 ≡ 0x40 → get_or bytes 1 0 ≡ code →
     0x4000 + code ≡ t
 in_brackets t code bytes e high low = let all = of_bytes t bytes e in omega (arith, all, high, low)

@@ -48,8 +48,8 @@ parameters =
     (0x03, Lvl) ∷ (0x04, Mrt) ∷ (0x0B, Uno) ∷ []
 
 -- category 4A: press
-abbrev pub press : List (ℕ × Class)
-press =
+abbrev pub press_classes : List (ℕ × Class)
+press_classes =
     (0x00, Aly) ∷ (0x01, And) ∷ (0x02, Bwx) ∷ (0x03, Dmz) ∷ (0x06, Fct) ∷ (0x0A, Idk) ∷ (0x0C, Ins) ∷
     (0x0E, Occ) ∷ (0x0F, Orr) ∷ (0x10, Pce) ∷ (0x13, Prp) ∷ (0x14, Qry) ∷ (0x15, Scd) ∷ (0x16, Sry) ∷
     (0x17, Sug) ∷ (0x18, Thk) ∷ (0x1A, Try) ∷ (0x1C, Vss) ∷ (0x1F, Xdo) ∷ []
@@ -68,7 +68,7 @@ class_in category code =
     if category == 0x47 then Season else
     if category == 0x48 then listed commands Other code else
     if category == 0x49 then listed parameters Param code else
-    if category == 0x4A then listed press Other code else
+    if category == 0x4A then listed press_classes Other code else
     if category == 0x4B then Text else
     if nat_le 0x50 category && nat_le category 0x57 then Province else
     Alien

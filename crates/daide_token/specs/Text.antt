@@ -23,8 +23,8 @@ abbrev pub added_name_of : List Named → ℕ → Option (List ℕ)
 added_name_of added t = option_map (λ entry. entry.1) (find (λ entry. entry.0 == t) added)
 
 -- a token by itself: a bracket's sign, a number's decimal form, the protocol's name, an added name, or its digits
-abbrev pub word_with : List Named → ℕ → List ℕ
-word_with added t =
+abbrev pub text_of_token : List Named → ℕ → List ℕ
+text_of_token added t =
     if t == bra then codes "(" else
     if t == ket then codes ")" else
     unwrap_or (option_map signed_decimal (number_of t))
@@ -35,30 +35,30 @@ abbrev pub is_quotable : ℕ → Bool
 is_quotable t = nat_le 0x4B20 t && nat_le t 0x4B7E && not (t == 0x4B27)
 
 -- an item: a token by itself, or a run of characters
-pub data Item : Type 0 where
-  Word : ℕ → Item
-  Quote : List ℕ → Item
+pub data TextItem : Type 0 where
+  Word : ℕ → TextItem
+  Quote : List ℕ → TextItem
 
 -- a character before some items: a run that stands first takes it in
-abbrev pub before_items : ℕ → List Item → List Item
+abbrev pub before_items : ℕ → List TextItem → List TextItem
 before_items character [] = Quote (character ∷ []) ∷ []
 before_items character (Quote characters ∷ items) = Quote (character ∷ characters) ∷ items
 before_items character (Word t ∷ items) = Quote (character ∷ []) ∷ Word t ∷ items
 
 -- the items of some tokens: each longest run of characters is one
-abbrev pub items_of : List ℕ → List Item
-items_of [] = []
-items_of (t ∷ ts) = if is_quotable t then before_items (t % 256) (items_of ts) else Word t ∷ items_of ts
+abbrev pub text_items_of : List ℕ → List TextItem
+text_items_of [] = []
+text_items_of (t ∷ ts) = if is_quotable t then before_items (t % 256) (text_items_of ts) else Word t ∷ text_items_of ts
 
 -- an item's text, with added names: a run stands between quotes
-abbrev pub item_text : List Named → Item → List ℕ
-item_text added (Word t) = word_with added t
+abbrev pub item_text : List Named → TextItem → List ℕ
+item_text added (Word t) = text_of_token added t
 item_text added (Quote characters) = 39 ∷ characters ++ 39 ∷ []
 
 -- the text of some tokens, without a line end
 unfoldable pub text_of : List ℕ → List ℕ
-text_of ts = join_with_byte 32 (map (item_text []) (items_of ts))
+text_of ts = join_with_byte 32 (map (item_text []) (text_items_of ts))
 
 -- the same with names that an operator added
 unfoldable pub text_with : List Named → List ℕ → List ℕ
-text_with added ts = join_with_byte 32 (map (item_text added) (items_of ts))
+text_with added ts = join_with_byte 32 (map (item_text added) (text_items_of ts))

@@ -1,6 +1,6 @@
 -- The text in the order in which it is printed: what a token adds depends on what was printed last.
 use Rattle.std.specs.Prelude.{ℕ, ◌%◌, ◌++◌, if◌then◌else◌, List, [], ◌∷◌}
-use Rattle.daide_token.specs.Text.{is_quotable, word_with}
+use Rattle.daide_token.specs.Text.{is_quotable, text_of_token}
 use Rattle.daide_token.specs.Names.{Named}
 use Rattle.daide_token.specs.declared.text.PrinterState.{PrinterState}
 use Rattle.daide_token.specs.declared.text.PrinterState.TheVariants.{Start, Word, Quote}
@@ -24,7 +24,7 @@ place_after t = if is_quotable t then Quote else Word
 -- what a token adds
 abbrev pub token_text : List Named → PrinterState → ℕ → List ℕ
 token_text added place t =
-    if is_quotable t then before_character place ++ (t % 256) ∷ [] else before_item place ++ word_with added t
+    if is_quotable t then before_character place ++ (t % 256) ∷ [] else before_item place ++ text_of_token added t
 
 -- what some tokens add
 abbrev pub some_text : List Named → PrinterState → List ℕ → List ℕ

@@ -43,8 +43,8 @@ token_of_number (pos n) = if nat_lt n 0x2000 then Some n else None
 token_of_number (negsuc n) = if nat_lt n 0x2000 then Some (0x3FFF - n) else None
 
 -- a token's two bytes, high byte first
-abbrev pub bytes_of : ℕ → List ℕ
-bytes_of t = t / 256 ∷ t % 256 ∷ []
+abbrev pub token_bytes : ℕ → List ℕ
+token_bytes t = t / 256 ∷ t % 256 ∷ []
 
 -- the token of two bytes
 abbrev pub token_of_bytes : List ℕ → ℕ
@@ -59,4 +59,4 @@ tokens_of [] = []
 -- the bytes of some tokens
 abbrev pub bytes_of_tokens : List ℕ → List ℕ
 bytes_of_tokens [] = []
-bytes_of_tokens (t ∷ ts) = bytes_of t ++ bytes_of_tokens ts
+bytes_of_tokens (t ∷ ts) = token_bytes t ++ bytes_of_tokens ts

@@ -1,7 +1,7 @@
 //! The classes of tokens, by which the grammar predicts.
 
 ghost use Rattle.std.specs.Prelude.{◌≡◌};
-ghost use Rattle.daide_token.specs.Class.{brackets, class_in, commands, listed, orders, parameters, press, units};
+ghost use Rattle.daide_token.specs.Class.{brackets, class_in, commands, listed, orders, parameters, press_classes, units};
 ghost use Rattle.daide_token.specs.declared.class.Class.TheVariants.{Other, Param};
 
 /// What the grammar tells tokens apart by: one class for a whole category, or one for a token that has a
@@ -210,7 +210,7 @@ fn parameter(code: u8) -> Class
 
 /// A token of category 4A.
 fn press(code: u8) -> Class
-    ensures { result ≡ listed press Other code }
+    ensures { result ≡ listed press_classes Other code }
 {
     match code {
         0x00 => Class::Aly,

@@ -1,4 +1,4 @@
-//! A number for each class of tokens. Printed by `daide_table`; the check is what is trusted.
+//! A number for each class of tokens. Printed by `daide_table_printer`; the check is what is trusted.
 //!
 //! The definitions compare two classes by these numbers, and so does the code.
 

@@ -9,14 +9,14 @@ ghost use Rattle.daide_token.specs.declared.class.Class.{Class};
 ghost use Rattle.daide_token.specs.declared.class.Class.TheVariants as classes;
 ghost use Rattle.daide_token.specs.Names.{name_of, token_named};
 ghost use Rattle.daide_token.specs.Text.{text_of};
-ghost use Rattle.daide_token.specs.Token.{bytes_of, bytes_of_tokens, number_of, token_of_bytes, token_of_number};
+ghost use Rattle.daide_token.specs.Token.{token_bytes, bytes_of_tokens, number_of, token_of_bytes, token_of_number};
 
 use crate::laws;
 
 /// Two bytes are one token's alone, also with the greatest low byte, and four are those of two tokens.
 fn bytes_at_values()
-    ensures token { (t : ℕ) → bytes_of t ≡ 0x48 ∷ 0x06 ∷ [] → t ≡ 0x4806 }
-    ensures bytes { (high : ℕ) → bytes_of (token_of_bytes (high ∷ 0xFF ∷ [])) ≡ high ∷ 0xFF ∷ [] }
+    ensures token { (t : ℕ) → token_bytes t ≡ 0x48 ∷ 0x06 ∷ [] → t ≡ 0x4806 }
+    ensures bytes { (high : ℕ) → token_bytes (token_of_bytes (high ∷ 0xFF ∷ [])) ≡ high ∷ 0xFF ∷ [] }
     ensures tokens { (ts : List ℕ) → bytes_of_tokens ts ≡ 0x48 ∷ 0x03 ∷ 0x40 ∷ 0x00 ∷ [] →
         ts ≡ 0x4803 ∷ 0x4000 ∷ [] }
 {

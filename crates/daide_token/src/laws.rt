@@ -7,14 +7,14 @@ ghost use Rattle.daide_token.specs.ClassNumbers.{same_class};
 ghost use Rattle.daide_token.specs.declared.class.Class.{Class};
 ghost use Rattle.daide_token.specs.Names.{name_of, token_named};
 ghost use Rattle.daide_token.specs.Text.{text_of};
-ghost use Rattle.daide_token.specs.Token.{bytes_of, bytes_of_tokens, number_of};
+ghost use Rattle.daide_token.specs.Token.{token_bytes, bytes_of_tokens, number_of};
 ghost use Rattle.daide_token.specs.Token.{token_of_bytes, token_of_number, tokens_of};
 
 /// The bytes of a token, and of a list of tokens, give it back, and so do two bytes' token its bytes.
 #[tactic(auto, using(crate::proofs::TokenLemmas::tokens_of_bytes_of_tokens))]
 pub fn bytes_come_back()
-    ensures token { (t : ℕ) → token_of_bytes (bytes_of t) ≡ t }
-    ensures bytes { (high low : ℕ) → low < 256 → bytes_of (token_of_bytes (high ∷ low ∷ [])) ≡ high ∷ low ∷ [] }
+    ensures token { (t : ℕ) → token_of_bytes (token_bytes t) ≡ t }
+    ensures bytes { (high low : ℕ) → low < 256 → token_bytes (token_of_bytes (high ∷ low ∷ [])) ≡ high ∷ low ∷ [] }
     ensures tokens { (ts : List ℕ) → tokens_of (bytes_of_tokens ts) ≡ ts }
 {}
 

@@ -6,7 +6,7 @@ ghost use Rattle.std.specs.Prelude.{unwrap_or};
 ghost use Rattle.std.specs.Fmt.{decimal, signed_decimal};
 ghost use Rattle.std.specs.Int.RustNames.{unsigned_abs};
 ghost use Rattle.daide_token.specs.Names.{Named};
-ghost use Rattle.daide_token.specs.Text.{added_name_of, hex_digit_of, hex_text, is_quotable, text_of, text_with, word_with};
+ghost use Rattle.daide_token.specs.Text.{added_name_of, hex_digit_of, hex_text, is_quotable, text_of, text_with, text_of_token};
 ghost use Rattle.daide_token.specs.TextSteps.{before_character, before_item, end_text, place_after, place_past, some_text};
 ghost use Rattle.daide_token.specs.TextSteps.{token_text};
 ghost use Rattle.daide_token.specs.Token.{number_of, tokens_of};
@@ -294,7 +294,7 @@ fn put_before_item(line: &mut [u8], from: Printed) -> usize
 /// Puts a token by itself.
 fn put_by_itself(added: &[(Token, [u8; 3])], token: Token, line: &mut [u8], len: usize) -> usize
     requires { len + 6 ≤ length line.old }
-    ensures text { take result line.new ≡ take len line.old ++ word_with added.now token }
+    ensures text { take result line.new ≡ take len line.old ++ text_of_token added.now token }
     ensures len { result ≤ len + 6 }
 {
     match token.number() {
@@ -307,7 +307,7 @@ fn put_by_itself(added: &[(Token, [u8; 3])], token: Token, line: &mut [u8], len:
 fn put_no_number(added: &[(Token, [u8; 3])], token: Token, line: &mut [u8], len: usize) -> usize
     requires room { len + 6 ≤ length line.old }
     requires word { number_of token ≡ None }
-    ensures text { take result line.new ≡ take len line.old ++ word_with added.now token }
+    ensures text { take result line.new ≡ take len line.old ++ text_of_token added.now token }
     ensures len { result ≤ len + 6 }
 {
     match token.code() {

@@ -1,7 +1,7 @@
 //! A token: two bytes, a category and a code in it, or a number of fourteen bits.
 
 ghost use Rattle.std.specs.Prelude.{◌≡◌, ℕ, option_map};
-ghost use Rattle.daide_token.specs.Token.{bytes_of, number_of, token_of_bytes, token_of_number};
+ghost use Rattle.daide_token.specs.Token.{token_bytes, number_of, token_of_bytes, token_of_number};
 ghost use Rattle.daide_token.specs.Class.{class_of, has_known_category};
 ghost use Rattle.daide_token.specs.Names.{name_of, token_named};
 
@@ -49,7 +49,7 @@ impl Token {
 
     /// The token's two bytes, high byte first.
     pub const fn to_be(self) -> [u8; 2]
-        ensures { result ≡ bytes_of self }
+        ensures { result ≡ token_bytes self }
     {
         self.code().to_be_bytes()
     }

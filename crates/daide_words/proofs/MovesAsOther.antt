@@ -6,7 +6,7 @@ use Rattle.daide_grammar.specs.declared.level.Level.{Level}
 use Rattle.daide_grammar.specs.declared.symbol.Sym.{Sym}
 use Rattle.daide_grammar.specs.Forms.{Slot}
 use Rattle.daide_grammar.specs.Words.{AddedWord}
-use Rattle.daide_grammar.specs.Table.Answers.{Answer, Take}
+use Rattle.daide_grammar.specs.Table.Answers.{TableEntry, Take}
 use Rattle.daide_grammar.specs.Table.Symbols.{slot_of, table_answer}
 use Rattle.daide_grammar.proofs.RowsAgree.{word_unknown}
 use Rattle.daide_words.specs.declared.word.Word as code
@@ -18,7 +18,7 @@ use Rattle.daide_words.proofs.DifferentWords.{place_small}
 use Rattle.daide_words.proofs.WhereStopped.{word_found}
 
 -- where a word may not stand, the answer is another
-not_there : (o : Option (Slot × Level)) (word : AddedWord) (other : Answer) → stands_for word o ≡ false →
+not_there : (o : Option (Slot × Level)) (word : AddedWord) (other : TableEntry) → stands_for word o ≡ false →
     word_answer o (Some word) other ≡ other
 not_there None word other h = refl
 not_there (Some p) word other h =

@@ -12,29 +12,29 @@ use Rattle.daide_grammar.specs.declared.numbers.TheConstants.{LEAVES_POWERS_GROU
 use Rattle.daide_grammar.specs.declared.numbers.TheConstants.{LEAVES_PROVINCES_GROUP}
 use Rattle.daide_grammar.specs.Table.Answers.{Take}
 use Rattle.daide_grammar.specs.Table.Numbers.{level_place}
-use Rattle.daide_grammar.specs.Table.Rules.{deed, rest_at}
+use Rattle.daide_grammar.specs.Table.ParseActions.{action, rest_of_action}
 use Rattle.daide_grammar.specs.Forms.{Slot}
 use Rattle.daide_grammar.specs.Table.Symbols.{slot_of}
 use Rattle.daide_words.specs.Table.Place.{grammar_place, operand_place}
 
-pub power_rule : deed LEAVES_POWER_GROUP ≡ Take (PowerGroup ∷ [])
-unfolding deed rest_at
+pub power_rule : action LEAVES_POWER_GROUP ≡ Take (PowerGroup ∷ [])
+unfolding action rest_of_action
 power_rule = refl
 
-pub powers_rule : deed LEAVES_POWERS_GROUP ≡ Take (PowersGroup ∷ [])
-unfolding deed rest_at
+pub powers_rule : action LEAVES_POWERS_GROUP ≡ Take (PowersGroup ∷ [])
+unfolding action rest_of_action
 powers_rule = refl
 
-pub provinces_rule : deed LEAVES_PROVINCES_GROUP ≡ Take (ProvincesGroup ∷ [])
-unfolding deed rest_at
+pub provinces_rule : action LEAVES_PROVINCES_GROUP ≡ Take (ProvincesGroup ∷ [])
+unfolding action rest_of_action
 provinces_rule = refl
 
-pub order_rule : deed LEAVES_ORDER_GROUP ≡ Take (OrderGroup ∷ [])
-unfolding deed rest_at
+pub order_rule : action LEAVES_ORDER_GROUP ≡ Take (OrderGroup ∷ [])
+unfolding action rest_of_action
 order_rule = refl
 
-pub arrangement_rule : (l : Level) → deed (LEAVES_ARRANGEMENT_GROUP + level_place l) ≡ Take (ArrangementGroup l ∷ [])
-unfolding deed rest_at
+pub arrangement_rule : (l : Level) → action (LEAVES_ARRANGEMENT_GROUP + level_place l) ≡ Take (ArrangementGroup l ∷ [])
+unfolding action rest_of_action
 arrangement_rule L0 = refl
 arrangement_rule L10 = refl
 arrangement_rule L20 = refl
@@ -43,8 +43,8 @@ arrangement_rule L40 = refl
 arrangement_rule L50 = refl
 arrangement_rule L60 = refl
 
-pub flat_rule : (l : Level) → deed (LEAVES_OPERAND_GROUP + level_place l) ≡ Take (OperandGroup l ∷ [])
-unfolding deed rest_at
+pub flat_rule : (l : Level) → action (LEAVES_OPERAND_GROUP + level_place l) ≡ Take (OperandGroup l ∷ [])
+unfolding action rest_of_action
 flat_rule L0 = refl
 flat_rule L10 = refl
 flat_rule L20 = refl
@@ -53,8 +53,8 @@ flat_rule L40 = refl
 flat_rule L50 = refl
 flat_rule L60 = refl
 
-pub press_rule : (l : Level) → deed (LEAVES_PRESS_GROUP + level_place l) ≡ Take (PressGroup l ∷ [])
-unfolding deed rest_at
+pub press_rule : (l : Level) → action (LEAVES_PRESS_GROUP + level_place l) ≡ Take (PressGroup l ∷ [])
+unfolding action rest_of_action
 press_rule L0 = refl
 press_rule L10 = refl
 press_rule L20 = refl

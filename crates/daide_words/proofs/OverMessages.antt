@@ -13,21 +13,21 @@ use Rattle.daide_grammar.specs.Forms.{Form}
 use Rattle.daide_grammar.specs.Matches.{Matches}
 use Rattle.daide_grammar.specs.Paired.{begins_with_prn}
 use Rattle.daide_grammar.specs.Table.Answers.{Stop}
-use Rattle.daide_grammar.specs.Table.Symbols.{entries, may_end_of, table_answer, opening_of}
+use Rattle.daide_grammar.specs.Table.Symbols.{entries, may_end_of, table_answer, start_symbol_of}
 use Rattle.daide_grammar.specs.SideMessages.{dialect_of, IsMessageOver}
 use Rattle.daide_grammar.specs.Table.Languages.{SymbolMatchesIn}
 use Rattle.daide_grammar.specs.Words.{Words}
 use Rattle.daide_words.specs.Table.OverWords.{answer_over, are_free}
 use Rattle.daide_words.specs.Table.Proved.WordDialect.{free-codes, keeps}
 use Rattle.daide_words.specs.Table.Proved.WordLaws.{laws_over}
-use Rattle.daide_grammar.proofs.Languages.{opening-form, begins-false, report-begins}
+use Rattle.daide_grammar.proofs.Languages.{start_symbol-form, begins-false, report-begins}
 
 -- PRN begins none of the forms: it is the reader's own case
-opening-stops : (words : Words) (side : Side2) (l : Level) → answer_over words (opening_of side l) Prn ≡ Stop
+start_symbol-stops : (words : Words) (side : Side2) (l : Level) → answer_over words (start_symbol_of side l) Prn ≡ Stop
 unfolding answer_over table_answer entries may_end_of
-opening-stops words Client L60 = refl
-opening-stops words ServerEnd L60 = refl
-opening-stops words _ _ = refl
+start_symbol-stops words Client L60 = refl
+start_symbol-stops words ServerEnd L60 = refl
+start_symbol-stops words _ _ = refl
 
 module _ (words : Words) (free : are_free words ≡ true) where
   -- the token PRN has the class PRN
@@ -37,21 +37,21 @@ module _ (words : Words) (free : are_free words ≡ true) where
       ∙ class_of-prn
 
   -- so no list of an opening symbol begins with PRN
-  pub form-not-prn : (side : Side2) (l : Level) (m : List ℕ) → SymbolMatchesIn (dialect_of words) (opening_of side l) m →
+  pub form-not-prn : (side : Side2) (l : Level) (m : List ℕ) → SymbolMatchesIn (dialect_of words) (start_symbol_of side l) m →
       begins_with_prn m ≡ false
   form-not-prn side l [] h = refl
   form-not-prn side l (t ∷ m) h =
-      begins-false (t == prn) (λ e. (laws_over words free).stops_none (opening_of side l) t
-      (ap (answer_over words (opening_of side l)) (class-prn t e) ∙ opening-stops words side l) m h)
+      begins-false (t == prn) (λ e. (laws_over words free).stops_none (start_symbol_of side l) t
+      (ap (answer_over words (start_symbol_of side l)) (class-prn t e) ∙ start_symbol-stops words side l) m h)
 
   -- an opening symbol stands for the messages that don't begin with PRN
-  pub opening-language : (side : Side2) (l : Level) (m : List ℕ) →
-      SymbolMatchesIn (dialect_of words) (opening_of side l) m
+  pub start_symbol-language : (side : Side2) (l : Level) (m : List ℕ) →
+      SymbolMatchesIn (dialect_of words) (start_symbol_of side l) m
       ↔ (IsMessageOver words side l m × (begins_with_prn m ≡ false))
-  opening-language side l m = (
-    λ h. (inr (subst (λ (f : Form). Matches (dialect_of words) f m) (opening-form side l) h), form-not-prn side l m h),
+  start_symbol-language side l m = (
+    λ h. (inr (subst (λ (f : Form). Matches (dialect_of words) f m) (start_symbol-form side l) h), form-not-prn side l m h),
     λ h. elim h.0 [
       | inl r ↦ absurd (report-begins m r h.1)
-      | inr f ↦ subst (λ (f : Form). Matches (dialect_of words) f m) (sym (opening-form side l)) f
+      | inr f ↦ subst (λ (f : Form). Matches (dialect_of words) f m) (sym (start_symbol-form side l)) f
     ],
   )

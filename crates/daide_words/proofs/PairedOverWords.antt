@@ -10,13 +10,13 @@ use Rattle.daide_grammar.specs.declared.side.Side2.{Side2}
 use Rattle.daide_grammar.specs.declared.side.Side2.TheVariants.{Client, ServerEnd}
 use Rattle.daide_grammar.specs.declared.symbol.Sym.TheVariants.{AnyGroup}
 use Rattle.daide_grammar.specs.Level.{level_number}
-use Rattle.daide_grammar.specs.Forms.{any_word, accepts, Slot, Press_slot, Arrangement_slot, Flat_slot, Form, from, ◌·◌}
+use Rattle.daide_grammar.specs.Forms.{any_but_brackets, is_of_kind, Slot, Press_slot, Arrangement_slot, Flat_slot, Form, from_level, ◌·◌}
 use Rattle.daide_grammar.specs.Forms.{never, tok, group}
 use Rattle.daide_grammar.specs.Matches.{Matches, bracketed}
 use Rattle.daide_grammar.specs.Balanced.{IsBalanced}
 use Rattle.daide_grammar.specs.Paired.{IsPaired}
 use Rattle.daide_grammar.specs.Table.Answers.{Take}
-use Rattle.daide_grammar.specs.Table.Symbols.{form_of, entries, may_end_of, table_answer, opening_of}
+use Rattle.daide_grammar.specs.Table.Symbols.{form_of, entries, may_end_of, table_answer, start_symbol_of}
 use Rattle.daide_grammar.specs.SideMessages.{dialect_from, dialect_of, IsMessageOver}
 use Rattle.daide_grammar.specs.Table.Languages.{SymbolMatchesIn}
 use Rattle.daide_grammar.specs.Words.{AddedWord, Words, WordSlot, press_word, arrangement_word, WordOperand}
@@ -26,14 +26,14 @@ use Rattle.daide_grammar.proofs.BalancedLemmas.{KeepsBrackets, paired, message-b
 use Rattle.daide_grammar.proofs.BalancedLemmas.{ket-accepted}
 use Rattle.daide_grammar.proofs.ErrPutIn.{err-put-in}
 use Rattle.daide_words.specs.Table.OverWords.{answer_over, are_free}
-use Rattle.daide_words.specs.Table.Proved.WordDialect.{free-codes, keeps, only_bra, only_ket}
+use Rattle.daide_words.specs.Table.Proved.WordDialect.{free-codes, keeps, only_bra_with, only_ket_with}
 use Rattle.daide_words.specs.Table.Proved.WordLaws.{laws_over}
-use Rattle.daide_words.proofs.OverMessages.{opening-language, form-not-prn}
-use Rattle.daide_grammar.proofs.Languages.{class-huh, opening-form}
+use Rattle.daide_words.proofs.OverMessages.{start_symbol-language, form-not-prn}
+use Rattle.daide_grammar.proofs.Languages.{class-huh, start_symbol-form}
 
 -- ---- brackets of added words stand in pairs
 
-any-word : (place : ℕ) → accepts any_word (Word place) ≡ true
+any-word : (place : ℕ) → is_of_kind any_but_brackets (Word place) ≡ true
 any-word place = grind (arith, nat_tests)
 
 operand-paired : (operand : WordOperand) (s : Slot) (l : Level) → paired (operand_in operand s l) ≡ true
@@ -52,9 +52,9 @@ stands-paired arrangement_word Press_slot f h = refl
 stands-paired arrangement_word Arrangement_slot f h = h
 stands-paired arrangement_word Flat_slot f h = h
 
-from-paired : (a l : Level) (f : Form) → paired f ≡ true → paired (from a l f) ≡ true
+from_level-paired : (a l : Level) (f : Form) → paired f ≡ true → paired (from_level a l f) ≡ true
 unfolding paired
-from-paired a l f h = go (nat_le (level_number a) (level_number l))
+from_level-paired a l f h = go (nat_le (level_number a) (level_number l))
   where
     go : (b : Bool) → paired (elim b [ true ↦ f | false ↦ never ]) ≡ true
     go true = h
@@ -67,12 +67,12 @@ both-true false b e f = absurd (cc)
 
 form-paired : (place : ℕ) (f : Form) → paired f ≡ true → paired (tok (Word place) · group f) ≡ true
 unfolding paired
-form-paired place f h = both-true (accepts any_word (Word place)) (paired f) (any-word place) h
+form-paired place f h = both-true (is_of_kind any_but_brackets (Word place)) (paired f) (any-word place) h
 
 word-paired : (place : ℕ) (word : AddedWord) (s : Slot) (l : Level) → paired (word_form place word s l) ≡ true
 word-paired place word s l =
-    stands-paired word.slot s (from word.level l (tok (Word place) · group (operand_in word.operand s l)))
-    (from-paired word.level l (tok (Word place) · group (operand_in word.operand s l))
+    stands-paired word.slot s (from_level word.level l (tok (Word place) · group (operand_in word.operand s l)))
+    (from_level-paired word.level l (tok (Word place) · group (operand_in word.operand s l))
     (form-paired place (operand_in word.operand s l) (operand-paired word.operand s l)))
 
 words-paired : (place : ℕ) (words : Words) (s : Slot) (l : Level) →
@@ -87,19 +87,19 @@ words-paired place (word ∷ words) s l =
 
 module _ (words : Words) (free : are_free words ≡ true) where
   keeps-brackets : KeepsBrackets (dialect_of words)
-  keeps-brackets = record { bras = only_bra words free; kets = only_ket words free }
+  keeps-brackets = record { bras = only_bra_with words free; kets = only_ket_with words free }
 
   pub over-paired : (side : Side2) (l : Level) (m : List ℕ) → IsMessageOver words side l m → IsPaired m
   over-paired side l m (inl r) = inl r
   over-paired side l m (inr f) =
       inr (
         form-not-prn words free side l m
-            (subst (λ (f : Form). Matches (dialect_of words) f m) (sym (opening-form side l)) f),
+            (subst (λ (f : Form). Matches (dialect_of words) f m) (sym (start_symbol-form side l)) f),
         message-balanced (dialect_of words) keeps-brackets (words-paired 0 words) side l m f,
       )
 
   -- HUH may come at every level from either side
-  huh-taken : (side : Side2) (l : Level) → answer_over words (opening_of side l) Huh ≡ Take (AnyGroup ∷ [])
+  huh-taken : (side : Side2) (l : Level) → answer_over words (start_symbol_of side l) Huh ≡ Take (AnyGroup ∷ [])
   unfolding answer_over table_answer entries may_end_of
   huh-taken Client L60 = refl
   huh-taken ServerEnd L60 = refl
@@ -119,11 +119,11 @@ module _ (words : Words) (free : are_free words ≡ true) where
   pub huh-over : (side : Side2) (l : Level) (a : List ℕ) → IsBalanced a →
       IsMessageOver words side l (huh ∷ bra ∷ (a ++ ket ∷ []))
   huh-over side l a h =
-      let s = opening_of side l in
+      let s = start_symbol_of side l in
       let rest = bra ∷ (a ++ ket ∷ []) in
       let taken = (laws_over words free).takes s huh (AnyGroup ∷ [])
       (ap (answer_over words s) class-kept ∙ huh-taken side l) rest in
-      ((opening-language words free side l (huh ∷ rest)).0
+      ((start_symbol-language words free side l (huh ∷ rest)).0
       (taken.1 (rest, [], sym (append-nil rest), any-grouped a h, refl))).0
 
   pub huh-err-over : (side : Side2) (l : Level) (m : List ℕ) (place : ℕ) → IsBalanced m →

@@ -9,7 +9,7 @@ use Rattle.daide_token.specs.Class.{class_of}
 use Rattle.daide_token.specs.Names.{Named}
 use Rattle.daide_grammar.specs.declared.symbol.Sym.{Sym}
 use Rattle.daide_grammar.specs.Classes.{class_number}
-use Rattle.daide_grammar.specs.Table.Rules.{is_stop}
+use Rattle.daide_grammar.specs.Table.ParseActions.{is_stop}
 use Rattle.daide_grammar.specs.SideMessages.{dialect_of}
 use Rattle.daide_grammar.specs.Table.Symbols.{table_answer}
 use Rattle.daide_grammar.proofs.RowsAgree.{word_unknown}

@@ -9,11 +9,11 @@ use Rattle.daide_token.specs.declared.class.Class.TheVariants.{Word}
 use Rattle.daide_grammar.specs.declared.level.Level.{Level}
 use Rattle.daide_grammar.specs.declared.symbol.Sym.{Sym}
 use Rattle.daide_grammar.specs.declared.symbol.Sym.TheVariants.{Closing}
-use Rattle.daide_grammar.specs.Table.Answers.{Answer, Take, Skip, Stop}
+use Rattle.daide_grammar.specs.Table.Answers.{TableEntry, Take, Skip, Stop}
 use Rattle.daide_grammar.specs.Table.Numbers.{word_number}
-use Rattle.daide_grammar.specs.Table.Rules.{is_stop}
-use Rattle.daide_grammar.specs.Forms.{Slot, accepts}
-use Rattle.daide_grammar.specs.Table.Symbols.{Entry, entries, entry_at, this_or, form_of, slot_of, may_end_of, answer_by}
+use Rattle.daide_grammar.specs.Table.ParseActions.{is_stop}
+use Rattle.daide_grammar.specs.Forms.{Slot, is_of_kind}
+use Rattle.daide_grammar.specs.Table.Symbols.{Alternative, entries, entry_at, this_or, form_of, slot_of, may_end_of, answer_by}
 use Rattle.daide_grammar.specs.Table.Symbols.{table_answer}
 use Rattle.daide_grammar.specs.Words.{AddedWord, Words}
 use Rattle.daide_grammar.specs.Table.Proved.Alternatives.{both-pass}
@@ -53,13 +53,13 @@ not_true true h = cc
 not_true false h = refl
 
 -- and no entry takes a word
-none_found : (k : ℕ) (es : List Entry) → list_all (λ e. is_plain e.kind) es ≡ true → entry_at (Word k) es ≡ None
+none_found : (k : ℕ) (es : List Alternative) → list_all (λ e. is_plain e.kind) es ≡ true → entry_at (Word k) es ≡ None
 none_found k [] h = refl
 none_found k (e ∷ es) h =
     let p = both-pass (is_plain e.kind) (list_all (λ y. is_plain y.kind) es) h in
-    step (accepts e.kind (Word k)) refl p.0 (none_found k es p.1)
+    step (is_of_kind e.kind (Word k)) refl p.0 (none_found k es p.1)
   where
-    step : (b : Bool) → accepts e.kind (Word k) ≡ b → is_plain e.kind ≡ true → entry_at (Word k) es ≡ None →
+    step : (b : Bool) → is_of_kind e.kind (Word k) ≡ b → is_plain e.kind ≡ true → entry_at (Word k) es ≡ None →
         this_or b e (entry_at (Word k) es) ≡ None
     step true a plain none = absurd (plain-no-word e.kind (Word k) k plain refl a)
     step false a plain none = none
@@ -94,7 +94,7 @@ not_stopped words s (Word k) h = slotted words s k (slot_of s) refl h
 not_stopped words s _ h = refl
 
 -- the answers that are Stops
-pub the_stop : (a : Answer) → is_stop a ≡ true → a ≡ Stop
+pub the_stop : (a : TableEntry) → is_stop a ≡ true → a ≡ Stop
 the_stop Stop h = refl
 the_stop Skip h = cc
 the_stop (Take rest) h = cc
@@ -128,7 +128,7 @@ word_told words s k e =
     word_found words s k ∙ ap (word_answer (slot_of s) (option_map grammar_word (word_at k words))) e
 
 -- without a word or without a slot it stays
-pub no_word_there : (o : Option (Slot × Level)) (a : Answer) → word_answer o None a ≡ a
+pub no_word_there : (o : Option (Slot × Level)) (a : TableEntry) → word_answer o None a ≡ a
 no_word_there None a = refl
 no_word_there (Some p) a = refl
 

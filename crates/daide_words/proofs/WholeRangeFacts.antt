@@ -13,7 +13,7 @@ use Rattle.daide_grammar.specs.declared.symbol.Sym.{Sym}
 use Rattle.daide_grammar.specs.declared.symbol.Sym.TheVariants.{Press, Arrangement, Fact, Operand}
 use Rattle.daide_grammar.specs.declared.symbol.Sym.TheVariants.{PowerGroup, PowersGroup, ProvincesGroup, OrderGroup}
 use Rattle.daide_grammar.specs.declared.symbol.Sym.TheVariants.{ArrangementGroup, OperandGroup, PressGroup}
-use Rattle.daide_grammar.specs.Table.Answers.{Answer, Take, Stop}
+use Rattle.daide_grammar.specs.Table.Answers.{TableEntry, Take, Stop}
 use Rattle.daide_grammar.specs.Table.Symbols.{entries, may_end_of, slot_of, table_answer}
 use Rattle.daide_words.specs.declared.slot.Slot.{Slot}
 use Rattle.daide_words.specs.declared.slot.Slot.TheVariants as slots
@@ -40,27 +40,27 @@ abbrev joining : List Level
 joining = L30 ∷ L40 ∷ L50 ∷ L60 ∷ []
 
 -- what one word, from a level on, means to a symbol of a level
-abbrev meaning : Slot → kinds.Operand → Level → Sym → Answer
+abbrev meaning : Slot → kinds.Operand → Level → Sym → TableEntry
 meaning slot operand first symbol =
     answer_over (grammar_words (made (codes "XYZ") 0x4A40 slot first operand ∷ [])) symbol (Word 0)
 
 -- from each level on, a row of what it means to the symbol of each of some levels
-abbrev rows_at : List Level → Slot → kinds.Operand → (Level → Sym) → List (List Answer)
+abbrev rows_at : List Level → Slot → kinds.Operand → (Level → Sym) → List (List TableEntry)
 rows_at some slot operand symbol = map (λ first. map (λ l. meaning slot operand first (symbol l)) some) levels
 
 -- a word of level 10 means these at the six levels, one of level 20 nothing at level 10 and these from there on, and so
 -- on
-abbrev from_each : List Sym → List (List Answer)
+abbrev from_each : List Sym → List (List TableEntry)
 from_each symbols =
     map (λ n. replicate n Stop ++ map (λ s. Take (s ∷ [])) (drop n symbols)) (0 ∷ 1 ∷ 2 ∷ 3 ∷ 4 ∷ 5 ∷ [])
 
 -- the same of the four levels from 30 on, which the words of levels 10, 20 and 30 have all
-abbrev from_each_joining : List Sym → List (List Answer)
+abbrev from_each_joining : List Sym → List (List TableEntry)
 from_each_joining symbols =
     map (λ n. replicate n Stop ++ map (λ s. Take (s ∷ [])) (drop n symbols)) (0 ∷ 0 ∷ 0 ∷ 1 ∷ 2 ∷ 3 ∷ [])
 
 -- nothing, whatever the levels
-abbrev nowhere : ℕ → List (List Answer)
+abbrev nowhere : ℕ → List (List TableEntry)
 nowhere n = replicate 6 (replicate n Stop)
 
 -- a press may be made of each operand, whose arrangement or press has the level of the whole

@@ -13,14 +13,14 @@ use Rattle.daide_words.specs.Accepted.{is_capital}
 use Rattle.std.specs.Prelude.{is_ok}
 use Rattle.daide_token.specs.Names.{Named}
 use Rattle.daide_words.specs.declared.word.Word.{Word}
-use Rattle.daide_words.specs.declared.word.Meaning.{Meaning}
-use Rattle.daide_words.specs.Word.{names_of, word_with, words_with}
+use Rattle.daide_words.specs.declared.word.WordMeaning.{WordMeaning}
+use Rattle.daide_words.specs.Word.{names_of, new_word, words_with}
 use Rattle.daide_words.specs.Accepted.{word_fault, are_accepted_after, are_accepted}
 use Rattle.daide_grammar.specs.Words.{most_words}
 use Rattle.daide_words.proofs.AcceptedCodes.{joined}
 
 -- the names of words that are put together are those they were put together from
-pub names_back : (names : List Named) (meanings : List Meaning) → length names ≤ length meanings →
+pub names_back : (names : List Named) (meanings : List WordMeaning) → length names ≤ length meanings →
     names_of (words_with names meanings) ≡ names
 names_back [] meanings h = refl
 names_back (name ∷ names) [] h = absurd (omega (arith, h))
@@ -28,15 +28,15 @@ names_back (name ∷ names) (meaning ∷ meanings) h =
     ap (λ (ns : List Named). name ∷ ns) (names_back names meanings (omega (arith, h)))
 
 -- one more of each is one word more
-pub words_with-append : (names : List Named) (meanings : List Meaning) (name : Named) (meaning : Meaning) →
+pub words_with-append : (names : List Named) (meanings : List WordMeaning) (name : Named) (meaning : WordMeaning) →
     length names ≡ length meanings →
     words_with (names ++ name ∷ []) (meanings ++ meaning ∷ [])
-    ≡ words_with names meanings ++ word_with name meaning ∷ []
+    ≡ words_with names meanings ++ new_word name meaning ∷ []
 words_with-append [] [] name meaning h = refl
 words_with-append [] (m ∷ meanings) name meaning h = cc
 words_with-append (n ∷ names) [] name meaning h = cc
 words_with-append (n ∷ names) (m ∷ meanings) name meaning h =
-    ap (λ (ws : List Word). word_with n m ∷ ws) (words_with-append names meanings name meaning (omega (arith, h)))
+    ap (λ (ws : List Word). new_word n m ∷ ws) (words_with-append names meanings name meaning (omega (arith, h)))
 
 -- both tests pass
 both : (a b : Bool) → (a && b) ≡ true → (a ≡ true) × (b ≡ true)
@@ -74,10 +74,10 @@ full-refused true other h = cc
 full-refused false other h = refl
 
 -- the words in the first n places of the arrays
-abbrev pub first_words : List Named → List Meaning → ℕ → List Word
+abbrev pub first_words : List Named → List WordMeaning → ℕ → List Word
 first_words names meanings n = words_with (take n names) (take n meanings)
 
-first_names : (names : List Named) (meanings : List Meaning) (n : ℕ) → n ≤ length names → n ≤ length meanings →
+first_names : (names : List Named) (meanings : List WordMeaning) (n : ℕ) → n ≤ length names → n ≤ length meanings →
     names_of (first_words names meanings n) ≡ take n names
 first_names names meanings n few enough =
     let many : length (take n names) ≡ n = length-take-le n names few in
@@ -85,7 +85,7 @@ first_names names meanings n few enough =
     names_back (take n names) (take n meanings) (omega (arith, many, more))
 
 -- an accepted word finds room
-pub has_room : (names : List Named) (meanings : List Meaning) (n : ℕ) (word : Word) → n ≤ length names →
+pub has_room : (names : List Named) (meanings : List WordMeaning) (n : ℕ) (word : Word) → n ≤ length names →
     n ≤ length meanings →
     is_ok (word_fault (names_of (first_words names meanings n)) word) ≡ true → n < most_words
 has_room names meanings n word few enough ok =
@@ -99,10 +99,10 @@ has_room names meanings n word few enough ok =
     )
 
 -- one of each put in the place behind is one word more
-pub kept : (names : List Named) (meanings : List Meaning) (n : ℕ) (name : Named) (meaning : Meaning) →
+pub kept : (names : List Named) (meanings : List WordMeaning) (n : ℕ) (name : Named) (meaning : WordMeaning) →
     n < length names → n < length meanings →
     first_words (slice_set names n name) (slice_set meanings n meaning) (n + 1)
-    ≡ first_words names meanings n ++ word_with name meaning ∷ []
+    ≡ first_words names meanings n ++ new_word name meaning ∷ []
 kept names meanings n name meaning few enough =
     let many : length (take n names) ≡ n = length-take-le n names (omega (arith, few)) in
     let more : length (take n meanings) ≡ n = length-take-le n meanings (omega (arith, enough)) in
@@ -110,13 +110,13 @@ kept names meanings n name meaning few enough =
     (words_with-append (take n names) (take n meanings) name meaning (many ∙ sym more)))
 
 -- and they stay accepted
-pub kept-accepted : (names : List Named) (meanings : List Meaning) (n : ℕ) (name : Named) (meaning : Meaning) →
+pub kept-accepted : (names : List Named) (meanings : List WordMeaning) (n : ℕ) (name : Named) (meaning : WordMeaning) →
     n < length names → n < length meanings → are_accepted (first_words names meanings n) ≡ true →
-    is_ok (word_fault (names_of (first_words names meanings n)) (word_with name meaning)) ≡ true →
+    is_ok (word_fault (names_of (first_words names meanings n)) (new_word name meaning)) ≡ true →
     are_accepted (first_words (slice_set names n name) (slice_set meanings n meaning) (n + 1)) ≡ true
 kept-accepted names meanings n name meaning few enough h ok =
     rw (kept names meanings n name meaning few enough)
-    (accepted-append [] (first_words names meanings n) (word_with name meaning) h ok)
+    (accepted-append [] (first_words names meanings n) (new_word name meaning) h ok)
 
 -- a place behind the words has none
 pub behind : (words : List Word) (k : ℕ) → length words ≤ k → word_at k words ≡ None
@@ -129,38 +129,38 @@ names-length [] = refl
 names-length (word ∷ words) = ap suc (names-length words)
 
 -- the word at a place is put together from what stands there
-word_at-words_with : (names : List Named) (meanings : List Meaning) (k : ℕ) (d : Named) (e : Meaning) →
+word_at-words_with : (names : List Named) (meanings : List WordMeaning) (k : ℕ) (d : Named) (e : WordMeaning) →
     k < length names → k < length meanings →
-    word_at k (words_with names meanings) ≡ Some (word_with (get_or names k d) (get_or meanings k e))
+    word_at k (words_with names meanings) ≡ Some (new_word (get_or names k d) (get_or meanings k e))
 word_at-words_with [] meanings k d e h i = absurd (omega (arith, h))
 word_at-words_with (n ∷ names) [] k d e h i = absurd (omega (arith, i))
 word_at-words_with (n ∷ names) (m ∷ meanings) zero d e h i = refl
 word_at-words_with (n ∷ names) (m ∷ meanings) (suc k) d e h i =
     word_at-words_with names meanings k d e (omega (arith, h)) (omega (arith, i))
 
-pub first_words-at : (names : List Named) (meanings : List Meaning) (n k : ℕ) (d : Named) (e : Meaning) →
+pub first_words-at : (names : List Named) (meanings : List WordMeaning) (n k : ℕ) (d : Named) (e : WordMeaning) →
     n ≤ length names → n ≤ length meanings → k < n →
-    word_at k (first_words names meanings n) ≡ Some (word_with (get_or names k d) (get_or meanings k e))
+    word_at k (first_words names meanings n) ≡ Some (new_word (get_or names k d) (get_or meanings k e))
 first_words-at names meanings n k d e few enough low =
     let many : length (take n names) ≡ n = length-take-le n names few in
     let more : length (take n meanings) ≡ n = length-take-le n meanings enough in
     word_at-words_with (take n names) (take n meanings) k d e (omega (arith, low, many)) (omega (arith, low, more))
-    ∙ ap (λ x. Some (word_with x (get_or (take n meanings) k e))) (get_or-take n names k d low)
-    ∙ ap (λ y. Some (word_with (get_or names k d) y)) (get_or-take n meanings k e low)
+    ∙ ap (λ x. Some (new_word x (get_or (take n meanings) k e))) (get_or-take n names k d low)
+    ∙ ap (λ y. Some (new_word (get_or names k d) y)) (get_or-take n meanings k e low)
 
-pub names-few : (names : List Named) (meanings : List Meaning) (n : ℕ) → n ≤ length names → n ≤ length meanings →
+pub names-few : (names : List Named) (meanings : List WordMeaning) (n : ℕ) → n ≤ length names → n ≤ length meanings →
     length (names_of (first_words names meanings n)) ≡ n
 names-few names meanings n few enough =
     ap length (first_names names meanings n few enough) ∙ length-take-le n names few
 
 -- words that are put together of the first names and meanings are no more than these
-within : (names : List Named) (meanings : List Meaning) (count : ℕ)
+within : (names : List Named) (meanings : List WordMeaning) (count : ℕ)
     → length (names_of (words_with (take count names) (take count meanings))) ≤ count
 within names meanings zero = omega arith
 within [] meanings (suc count) = omega arith
 within (name ∷ names) [] (suc count) = omega arith
 within (name ∷ names) (meaning ∷ meanings) (suc count) = let few = within names meanings count in omega (arith, few)
 
-pub few_names : (names : List Named) (meanings : List Meaning) (count : ℕ) → count ≤ most_words
+pub few_names : (names : List Named) (meanings : List WordMeaning) (count : ℕ) → count ≤ most_words
     → length (names_of (words_with (take count names) (take count meanings))) ≤ most_words
 few_names names meanings count few = let less = within names meanings count in omega (arith, less, few)

@@ -9,7 +9,7 @@ use Rattle.daide_grammar.specs.Words.{arrangement_in, operand_in, stands_in, wor
 use Rattle.daide_grammar.specs.SideMessages.{dialect_from, dialect_of, IsMessageOver}
 use Rattle.daide_grammar.proofs.LevelsGrow.{◌⊑◌, SlotWithin, same_slot, flat_slot, arrangements, flats, flat_arrangements}
 use Rattle.daide_grammar.proofs.LevelsGrow.{presses, Within, same, missing, ◌··◌, ◌∣∣◌, inside, name, WordsGrow}
-use Rattle.daide_grammar.proofs.LevelsGrow.{from-within, message-grows}
+use Rattle.daide_grammar.proofs.LevelsGrow.{from_level-within, message-grows}
 
 -- an arrangement of a place for words is one of every place that this one is within, at every higher level
 arrangement-within : (s t : Slot) (a b : Level) → SlotWithin s t → a ⊑ b →
@@ -46,7 +46,7 @@ word-within : (place : ℕ) (word : AddedWord) (s t : Slot) (a b : Level) → Sl
     Within (word_form place word s a) (word_form place word t b)
 word-within place word s t a b k h =
     stands-within word.slot s t k
-    (from-within word.level a b h (same ·· inside (operand-within word.operand s t a b k h)))
+    (from_level-within word.level a b h (same ·· inside (operand-within word.operand s t a b k h)))
 
 -- and so do all words
 words-grow : (place : ℕ) (words : Words) → WordsGrow (dialect_from place words)

@@ -8,7 +8,7 @@ use Rattle.daide_words.specs.declared.slot.Slot.TheVariants as slots
 use Rattle.daide_words.specs.declared.operand.Operand.{Operand}
 use Rattle.daide_words.specs.declared.operand.Operand.TheVariants as operands
 use Rattle.daide_words.specs.declared.word.Word.{Word}
-use Rattle.daide_words.specs.declared.word.Meaning.{Meaning}
+use Rattle.daide_words.specs.declared.word.WordMeaning.{WordMeaning}
 
 -- what a slot is to the grammar
 abbrev pub grammar_slot : Slot → WordSlot
@@ -42,11 +42,11 @@ abbrev pub names_of : List Word → List Named
 names_of words = map (λ word. let named : Named = (word.code, word.name) in named) words
 
 -- the word of a code, a name and a meaning
-abbrev pub word_with : Named → Meaning → Word
-word_with named meaning =
+abbrev pub new_word : Named → WordMeaning → Word
+new_word named meaning =
     record { name = named.1; code = named.0; slot = meaning.slot; level = meaning.level; operand = meaning.operand }
 
 -- the words of codes, names and meanings that are kept apart
-abbrev pub words_with : List Named → List Meaning → List Word
-words_with (named ∷ names) (meaning ∷ meanings) = word_with named meaning ∷ words_with names meanings
+abbrev pub words_with : List Named → List WordMeaning → List Word
+words_with (named ∷ names) (meaning ∷ meanings) = new_word named meaning ∷ words_with names meanings
 words_with _ _ = []

@@ -31,13 +31,13 @@ pub struct Extended {
 }
 
 impl Extended {
-    ghost use Rattle.daide_words.specs.Table.Extended.{answers_given, spoken_words};
+    ghost use Rattle.daide_words.specs.Table.Extended.{extended_look_ups, spoken_words};
 
     /// A table with these words that was never asked.
     pub fn new(words: Words) -> Extended
         ensures words { spoken_words result ≡ grammar_words (words_of words) }
         ensures all_spoken { spoken (grammar_words (words_of words)) ≡ grammar_words (words_of words) }
-        ensures asked { answers_given result ≡ 0 }
+        ensures asked { extended_look_ups result ≡ 0 }
     {
         Extended {
             words,
@@ -96,9 +96,9 @@ fn class_with(words: &Words, token: Token, class: Column) -> Column
 impl Predict for Extended {
     ghost use Rattle.daide_grammar.specs.Table.LawfulStack.{IsLawful};
     ghost use Rattle.daide_grammar.specs.Table.Languages.{SymbolMatchesIn};
-    ghost use Rattle.daide_grammar.specs.Table.Symbols.{may_end_of, opening_of};
+    ghost use Rattle.daide_grammar.specs.Table.Symbols.{may_end_of, start_symbol_of};
     ghost use Rattle.daide_words.specs.Table.OverWords.{answer_over, spoken, spoken_dialect};
-    ghost use Rattle.daide_words.specs.Table.Extended.{answers_given, spoken_words};
+    ghost use Rattle.daide_words.specs.Table.Extended.{extended_look_ups, spoken_words};
     ghost use Rattle.daide_words.specs.Table.Proved.WordLaws.{spoken_begins, spoken_laws};
 
     ghost words = { spoken_words };
@@ -111,11 +111,11 @@ impl Predict for Extended {
 
     ghost ends = { λ _. may_end_of };
 
-    ghost opening = { opening_of };
+    ghost start_symbol = { start_symbol_of };
 
     ghost lawful = { λ words. IsLawful (answer_over (spoken words)) };
 
-    ghost asked = { answers_given };
+    ghost asked = { extended_look_ups };
 
     #[inline(always)]
     fn predict(&mut self, sym: Symbol, class: Column) -> Move {

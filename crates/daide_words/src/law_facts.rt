@@ -50,7 +50,7 @@ fn prediction_at_values()
 /// Over any one word that is accepted no symbol of a bot stands for a report PRN, what a bot may say at level 20 it may
 /// say at level 60, and what a server may say there is paired. A table speaks the word.
 fn messages_at_values()
-    ensures opening { (word : Word) (m : List ℕ) → are_accepted (word ∷ []) ≡ true →
+    ensures start_symbol { (word : Word) (m : List ℕ) → are_accepted (word ∷ []) ≡ true →
         ¬ SymbolMatchesIn (dialect_of (grammar_words (word ∷ []))) (Client L20) (prn ∷ m) }
     ensures spoken { (word : Word) → are_accepted (word ∷ []) ≡ true →
         spoken (grammar_words (word ∷ [])) ≡ grammar_words (word ∷ []) }
@@ -59,7 +59,7 @@ fn messages_at_values()
     ensures paired { (word : Word) (m : List ℕ) → are_accepted (word ∷ []) ≡ true →
         IsMessageOver (grammar_words (word ∷ [])) ServerEnd L60 m → IsPaired m }
 {
-    laws::opening_stands_for_messages();
+    laws::start_symbol_stands_for_messages();
     laws::accepted_words_are_spoken();
     laws::levels_only_add();
     laws::messages_are_paired();

@@ -12,12 +12,12 @@ ghost use Rattle.daide_grammar.specs.Forms.{Slot as WordPlace};
 ghost use Rattle.daide_grammar.specs.Level.{level_number};
 ghost use Rattle.daide_grammar.specs.Balanced.{IsBalanced};
 ghost use Rattle.daide_grammar.specs.Paired.{begins_with_prn, IsPaired};
-ghost use Rattle.daide_grammar.specs.Table.Laws.{PredictLaws};
+ghost use Rattle.daide_grammar.specs.Table.Laws.{IsCorrectPrediction};
 ghost use Rattle.daide_grammar.specs.Table.LawfulStack.{IsLawful};
 ghost use Rattle.daide_grammar.specs.SideMessages.{IsMessageOver, dialect_of};
 ghost use Rattle.daide_grammar.specs.Table.Languages.{SymbolMatchesIn};
 ghost use Rattle.daide_grammar.specs.Table.Answers.{Take};
-ghost use Rattle.daide_grammar.specs.Table.Symbols.{may_end_of, opening_of, slot_of, table_answer};
+ghost use Rattle.daide_grammar.specs.Table.Symbols.{may_end_of, start_symbol_of, slot_of, table_answer};
 ghost use Rattle.daide_words.specs.declared.operand.Operand.{Operand};
 ghost use Rattle.daide_words.specs.declared.slot.Slot.{Slot};
 ghost use Rattle.daide_words.specs.declared.word.Word.{Word};
@@ -33,15 +33,15 @@ use crate::words::Words;
 /// them agree with the messages over them, and the stacks that can arise stay as small.
 pub fn added_words_keep_the_laws()
     ensures { (words : List Word) → are_accepted words ≡ true →
-        PredictLaws (dialect_of (grammar_words words)).class_of (SymbolMatchesIn (dialect_of (grammar_words words)))
+        IsCorrectPrediction (dialect_of (grammar_words words)).class_of (SymbolMatchesIn (dialect_of (grammar_words words)))
         (answer_over (grammar_words words)) may_end_of (IsLawful (answer_over (grammar_words words))) }
 {}
 
 /// The symbol that a reader starts with stands for the messages over accepted words of its side and level, but for the
 /// report PRN, which is the reader's own case.
-pub fn opening_stands_for_messages()
+pub fn start_symbol_stands_for_messages()
     ensures { (words : List Word) (side : Side2) (level : Level) (m : List ℕ) → are_accepted words ≡ true →
-        SymbolMatchesIn (dialect_of (grammar_words words)) (opening_of side level) m
+        SymbolMatchesIn (dialect_of (grammar_words words)) (start_symbol_of side level) m
         ↔ (IsMessageOver (grammar_words words) side level m × (begins_with_prn m ≡ false)) }
 {}
 
@@ -122,11 +122,11 @@ pub fn huh_answer_with_err_is_a_message()
 /// Who holds `Words` has all of these laws, and owes nothing for them.
 pub fn laws_hold_over(words: &Words)
     ensures laws { let added = grammar_words (words_of words.now) in
-        PredictLaws (dialect_of added).class_of (SymbolMatchesIn (dialect_of added)) (answer_over added) may_end_of
+        IsCorrectPrediction (dialect_of added).class_of (SymbolMatchesIn (dialect_of added)) (answer_over added) may_end_of
         (IsLawful (answer_over added)) }
-    ensures opening { (side : Side2) (level : Level) (m : List ℕ) →
+    ensures start_symbol { (side : Side2) (level : Level) (m : List ℕ) →
         let added = grammar_words (words_of words.now) in
-        SymbolMatchesIn (dialect_of added) (opening_of side level) m
+        SymbolMatchesIn (dialect_of added) (start_symbol_of side level) m
         ↔ (IsMessageOver added side level m × (begins_with_prn m ≡ false)) }
     ensures spoken { let added = grammar_words (words_of words.now) in spoken added ≡ added }
     ensures paired { (side : Side2) (level : Level) (m : List ℕ) →
@@ -149,7 +149,7 @@ pub fn laws_hold_over(words: &Words)
 {
     words.are_accepted();
     added_words_keep_the_laws();
-    opening_stands_for_messages();
+    start_symbol_stands_for_messages();
     accepted_words_are_spoken();
     messages_are_paired();
     huh_answer_is_a_message();

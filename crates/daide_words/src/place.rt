@@ -2,7 +2,7 @@
 
 ghost use Rattle.std.specs.Prelude.{◌≡◌, ◌∷◌, [], option_map, ◌≤◌, ◌<◌};
 ghost use Rattle.daide_grammar.specs.Table.Answers.{Stop, Take};
-ghost use Rattle.daide_grammar.specs.Table.Rules.{deed};
+ghost use Rattle.daide_grammar.specs.Table.ParseActions.{action};
 ghost use Rattle.daide_grammar.specs.Table.Symbols.{slot_of};
 ghost use Rattle.daide_grammar.specs.Words.{an_arrangement};
 ghost use Rattle.daide_words.specs.Word.{grammar_operand, grammar_slot, grammar_word};
@@ -22,7 +22,7 @@ use daide_grammar::symbol::{Sym, level_place};
 
 /// Where the grammar has a place for words.
 #[derive(Clone, Copy)]
-pub(crate) enum Place {
+pub(crate) enum WordPosition {
     /// Among the presses.
     Press,
     /// Among the arrangements.
@@ -32,30 +32,30 @@ pub(crate) enum Place {
 }
 
 /// The place for words of a symbol, with its level.
-pub(crate) fn slot_of(sym: Sym) -> Option<(Place, Level)>
+pub(crate) fn slot_of(sym: Sym) -> Option<(WordPosition, Level)>
     ensures { option_map (λ slot. (grammar_place slot.0, slot.1)) result ≡ slot_of sym }
 {
     match sym {
-        Sym::Press(level) => Some((Place::Press, level)),
-        Sym::Arrangement(level) => Some((Place::Arrangement, level)),
-        Sym::Fact(level) => Some((Place::Arrangement, level)),
+        Sym::Press(level) => Some((WordPosition::Press, level)),
+        Sym::Arrangement(level) => Some((WordPosition::Arrangement, level)),
+        Sym::Fact(level) => Some((WordPosition::Arrangement, level)),
         Sym::Operand(level) => Some((operand_place(level), level)),
         _ => None,
     }
 }
 
 /// What AND and ORR join: from level 50 on any arrangement.
-fn operand_place(level: Level) -> Place
+fn operand_place(level: Level) -> WordPosition
     ensures { result ≡ operand_place level }
 {
     match level {
-        Level::L50 | Level::L60 => Place::Arrangement,
-        _ => Place::Flat,
+        Level::L50 | Level::L60 => WordPosition::Arrangement,
+        _ => WordPosition::Flat,
     }
 }
 
 /// What a word means at a place for words: its operand follows where it may stand there, else no message continues so.
-pub(crate) fn move_in(word: &Word, place: Place, level: Level) -> Move
+pub(crate) fn move_in(word: &Word, place: WordPosition, level: Level) -> Move
     ensures { result ≡ if_stands (stands (grammar_word word.now) (grammar_place place) level)
         (operand_symbol (grammar_operand word.now.operand) (grammar_place place) level) Stop }
 {
@@ -69,19 +69,19 @@ pub(crate) fn move_in(word: &Word, place: Place, level: Level) -> Move
 }
 
 /// Whether what a word makes may stand at the place.
-fn may_make(slot: Slot, place: Place) -> bool
+fn may_make(slot: Slot, place: WordPosition) -> bool
     ensures { result ≡ makes (grammar_slot slot) (grammar_place place) }
 {
     match (slot, place) {
-        (Slot::Press, Place::Press) => true,
-        (Slot::Arrangement, Place::Arrangement | Place::Flat) => true,
+        (Slot::Press, WordPosition::Press) => true,
+        (Slot::Arrangement, WordPosition::Arrangement | WordPosition::Flat) => true,
         _ => false,
     }
 }
 
 /// The rule of the table that leaves a word's operand in its brackets.
-fn operand_rule(operand: Operand, place: Place, level: Level) -> u8
-    ensures { deed result ≡ Take (operand_symbol (grammar_operand operand) (grammar_place place) level ∷ []) }
+fn operand_rule(operand: Operand, place: WordPosition, level: Level) -> u8
+    ensures { action result ≡ Take (operand_symbol (grammar_operand operand) (grammar_place place) level ∷ []) }
 {
     match operand {
         Operand::Power => LEAVES_POWER_GROUP,
@@ -94,13 +94,13 @@ fn operand_rule(operand: Operand, place: Place, level: Level) -> u8
 }
 
 /// The rule that leaves an arrangement in its brackets, a flat one at a place of flat ones.
-fn arrangement_rule(place: Place, level: Level) -> u8
-    ensures { deed result ≡ Take (operand_symbol an_arrangement (grammar_place place) level ∷ []) }
+fn arrangement_rule(place: WordPosition, level: Level) -> u8
+    ensures { action result ≡ Take (operand_symbol an_arrangement (grammar_place place) level ∷ []) }
 {
     let step = level_place(level);
     match place {
-        Place::Press => LEAVES_ARRANGEMENT_GROUP + step,
-        Place::Arrangement => LEAVES_ARRANGEMENT_GROUP + step,
-        Place::Flat => LEAVES_OPERAND_GROUP + step,
+        WordPosition::Press => LEAVES_ARRANGEMENT_GROUP + step,
+        WordPosition::Arrangement => LEAVES_ARRANGEMENT_GROUP + step,
+        WordPosition::Flat => LEAVES_OPERAND_GROUP + step,
     }
 }

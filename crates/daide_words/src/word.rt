@@ -22,7 +22,7 @@ pub struct Word {
 
 /// What a word makes, from which level on, and of what.
 #[derive(Clone, Copy)]
-pub(crate) struct Meaning {
+pub(crate) struct WordMeaning {
     pub(crate) slot: Slot,
     pub(crate) level: Level,
     pub(crate) operand: Operand,

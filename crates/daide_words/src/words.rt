@@ -11,7 +11,7 @@ ghost use Rattle.daide_words.specs.Accepted.{are_accepted, is_capital, is_free_c
 
 use crate::operand::Operand;
 use crate::slot::Slot;
-use crate::word::{Meaning, Word, WordError};
+use crate::word::{Word, WordError, WordMeaning};
 use daide_grammar::level::Level;
 use daide_grammar::numbers::WORD_COUNT;
 use daide_token::token::Token;
@@ -24,7 +24,7 @@ pub const MAX_WORDS: usize = WORD_COUNT;
 #[derive(Clone, Copy)]
 pub struct Words {
     names: [(Token, [u8; 3]); MAX_WORDS],
-    meanings: [Meaning; MAX_WORDS],
+    meanings: [WordMeaning; MAX_WORDS],
     count: u8,
     ghost few: { count ≤ most_words },
     ghost accepted: { are_accepted (words_with (take count names) (take count meanings)) ≡ true },
@@ -39,7 +39,7 @@ impl Words {
     {
         Words {
             names: [(Token::from_code(0), [0; 3]); MAX_WORDS],
-            meanings: [Meaning {
+            meanings: [WordMeaning {
                 slot: Slot::Press,
                 level: Level::L0,
                 operand: Operand::Power,
@@ -59,7 +59,7 @@ impl Words {
         let place = self.count as usize;
         let name = word.name;
         self.names[place] = (word.code, name);
-        self.meanings[place] = Meaning {
+        self.meanings[place] = WordMeaning {
             slot: word.slot,
             level: word.level,
             operand: word.operand,

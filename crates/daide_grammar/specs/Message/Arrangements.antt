@@ -6,7 +6,7 @@ use Rattle.daide_grammar.specs.declared.level.Level.{Level}
 use Rattle.daide_grammar.specs.declared.level.Level.TheVariants.{L20, L30, L40, L60}
 use Rattle.daide_grammar.specs.Level.{level_number}
 use Rattle.daide_grammar.specs.Forms.{Arrangement_slot, Flat_slot, Arrangement_name, Flat_name, Fact_name, Added}
-use Rattle.daide_grammar.specs.Forms.{Form, ◌·◌, ◌∣◌, many, group, named, tok, some, maybe, from}
+use Rattle.daide_grammar.specs.Forms.{Form, ◌·◌, ◌∣◌, many, group, named, tok, some, maybe, from_level}
 use Rattle.daide_grammar.specs.Message.Lists.{power, province}
 use Rattle.daide_grammar.specs.Message.Places.{unit}
 use Rattle.daide_grammar.specs.Message.Orders.{order}
@@ -28,8 +28,8 @@ abbrev pub draw : Form
 draw = tok Drw · maybe (group (some power))
 
 -- what AND and ORR join: flat arrangements below level 50, from then on any arrangement
-abbrev pub operand : Level → Form
-operand l = elim (nat_le 50 (level_number l)) [ true ↦ arrangement l | false ↦ flat_arrangement l ]
+abbrev pub joinable : Level → Form
+joinable l = elim (nat_le 50 (level_number l)) [ true ↦ arrangement l | false ↦ flat_arrangement l ]
 
 -- the arrangements that are no AND and no ORR, with what a NOT holds: peace, an alliance against others, a draw, a
 -- solo, a NOT; from 20 an order, a zone without units; from 40 shares of the supply centres, an occupation by units
@@ -40,20 +40,20 @@ simple l inside =
     ∣ draw
     ∣ tok Slo · group power
     ∣ tok Not · group inside
-    ∣ from L20 l (tok Xdo · group order ∣ tok Dmz · group (some power) · group (some province))
-    ∣ from L40 l (tok Scd · some (group (power · many province)) ∣ tok Occ · some (group unit))
+    ∣ from_level L20 l (tok Xdo · group order ∣ tok Dmz · group (some power) · group (some province))
+    ∣ from_level L40 l (tok Scd · some (group (power · many province)) ∣ tok Occ · some (group unit))
 
 -- two or more operands, all of which or one of which is proposed
 abbrev pub joined : Level → Form
 joined l =
-    tok And · group (operand l) · some (group (operand l))
-    ∣ tok Orr · group (operand l) · some (group (operand l))
+    tok And · group (joinable l) · some (group (joinable l))
+    ∣ tok Orr · group (joinable l) · some (group (joinable l))
 
 -- a simple arrangement; from 30 operands joined by AND or ORR; an operator's word
 abbrev pub arrangement_rule : Level → Form
 arrangement_rule l =
     simple l (arrangement l)
-    ∣ from L30 l (joined l)
+    ∣ from_level L30 l (joined l)
     ∣ named (Added Arrangement_slot l)
 
 -- a simple arrangement whose NOT holds a flat one, or an operator's word
@@ -64,4 +64,4 @@ flat_rule l = simple l (flat_arrangement l) ∣ named (Added Flat_slot l)
 abbrev pub fact_rule : Level → Form
 fact_rule l =
     arrangement l
-    ∣ from L60 l (tok Qry · group (arrangement l) ∣ tok Not · group (fact l))
+    ∣ from_level L60 l (tok Qry · group (arrangement l) ∣ tok Not · group (fact l))

@@ -4,15 +4,15 @@ use Rattle.daide_token.specs.declared.class.Class.TheVariants.{Mis, Nme, Not, No
 use Rattle.daide_token.specs.declared.class.Class.TheVariants.{Sub, Sve, Tme, Yes}
 use Rattle.daide_grammar.specs.declared.level.Level.{Level}
 use Rattle.daide_grammar.specs.declared.level.Level.TheVariants.{L10}
-use Rattle.daide_grammar.specs.Forms.{Request_name, Form, ◌·◌, ◌∣◌, many, group, named, tok, maybe, from}
-use Rattle.daide_grammar.specs.Message.Lists.{power, turn, text, any}
+use Rattle.daide_grammar.specs.Forms.{Request_name, Form, ◌·◌, ◌∣◌, many, group, named, tok, maybe, from_level}
+use Rattle.daide_grammar.specs.Message.Lists.{power, season_and_year, text, any}
 use Rattle.daide_grammar.specs.Message.Orders.{order}
 use Rattle.daide_grammar.specs.Message.Arrangements.{draw}
 use Rattle.daide_grammar.specs.Message.Press.{send}
 
 -- orders, for a turn or for the present one
 abbrev pub submit : Form
-submit = tok Sub · maybe (group turn) · many (group order)
+submit = tok Sub · maybe (group season_and_year) · many (group order)
 
 -- the time that is left, or a wish to be told at so many seconds
 abbrev pub time : Form
@@ -38,7 +38,7 @@ request_rule l =
     ∣ tok Sco
     ∣ tok Now
     ∣ tok Ord
-    ∣ tok Hst · group turn
+    ∣ tok Hst · group season_and_year
     ∣ submit
     ∣ tok Mis
     ∣ tok Gof
@@ -46,7 +46,7 @@ request_rule l =
     ∣ draw
     ∣ tok Not · group cancel
     ∣ tok Adm · group text · group text
-    ∣ from L10 l (send l)
+    ∣ from_level L10 l (send l)
 
 -- what a client says yes or no to
 abbrev pub reply : Form

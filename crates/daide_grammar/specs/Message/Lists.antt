@@ -1,6 +1,6 @@
 -- Kinds of one token, and lists of tokens.
 use Rattle.daide_token.specs.declared.class.Class.TheVariants.{Num, Power, Province, Season, Text}
-use Rattle.daide_grammar.specs.Forms.{any_word, Any_name, Form, one, ◌·◌, ◌∣◌, many, group, named, tok}
+use Rattle.daide_grammar.specs.Forms.{any_but_brackets, Any_name, Form, one, ◌·◌, ◌∣◌, many, group, named, tok}
 
 -- one power
 abbrev pub power : Form
@@ -11,8 +11,8 @@ abbrev pub province : Form
 province = tok Province
 
 -- a season and the number of its year
-abbrev pub turn : Form
-turn = tok Season · tok Num
+abbrev pub season_and_year : Form
+season_and_year = tok Season · tok Num
 
 -- characters, none or more (that there may be none is our own leniency)
 abbrev pub text : Form
@@ -20,7 +20,7 @@ text = many (tok Text)
 
 -- any tokens but the brackets, none or more
 abbrev pub words : Form
-words = many (one any_word)
+words = many (one any_but_brackets)
 
 -- any list of tokens whose brackets balance
 abbrev pub any : Form
@@ -28,4 +28,4 @@ any = named Any_name
 
 -- words, and lists in brackets, in any order
 abbrev pub anything : Form
-anything = many (one any_word ∣ group any)
+anything = many (one any_but_brackets ∣ group any)

@@ -2,7 +2,7 @@
 use Rattle.daide_token.specs.declared.class.Class.TheVariants.{Bld, Cto, Cvy, Dsb, Hld, Mto, Rem, Rto, Sup, Via, Wve}
 use Rattle.daide_grammar.specs.Forms.{Order_name, Form, ◌·◌, ◌∣◌, group, named, tok, some, maybe}
 use Rattle.daide_grammar.specs.Message.Lists.{power, province}
-use Rattle.daide_grammar.specs.Message.Places.{place, unit}
+use Rattle.daide_grammar.specs.Message.Places.{province_or_coast, unit}
 
 -- an order
 abbrev pub order : Form
@@ -14,11 +14,11 @@ order = named Order_name
 abbrev pub order_tail : Form
 order_tail =
     tok Hld
-    ∣ tok Mto · place
+    ∣ tok Mto · province_or_coast
     ∣ tok Sup · group unit · maybe (tok Mto · province)
     ∣ tok Cvy · group unit · tok Cto · province
     ∣ tok Cto · province · tok Via · group (some province)
-    ∣ tok Rto · place
+    ∣ tok Rto · province_or_coast
     ∣ tok Dsb
     ∣ tok Bld
     ∣ tok Rem

@@ -4,8 +4,8 @@ use Rattle.daide_grammar.specs.Forms.{Place_name, Unit_name, Form, ◌·◌, ◌
 use Rattle.daide_grammar.specs.Message.Lists.{power, province}
 
 -- where a unit may stand
-abbrev pub place : Form
-place = named Place_name
+abbrev pub province_or_coast : Form
+province_or_coast = named Place_name
 
 -- a province, or a province and one of its coasts in brackets
 abbrev pub place_rule : Form
@@ -21,4 +21,4 @@ unit = named Unit_name
 
 -- power type place
 abbrev pub unit_rule : Form
-unit_rule = power · unit_type · place
+unit_rule = power · unit_type · province_or_coast

@@ -4,8 +4,8 @@ use Rattle.daide_token.specs.declared.class.Class.TheVariants.{Sry, Sug, Thk, Tr
 use Rattle.daide_grammar.specs.declared.level.Level.{Level}
 use Rattle.daide_grammar.specs.declared.level.Level.TheVariants.{L60}
 use Rattle.daide_grammar.specs.Forms.{Press_slot, Press_name, Send_name, Added, Form, ◌·◌, ◌∣◌}
-use Rattle.daide_grammar.specs.Forms.{group, named, tok, some, maybe, from}
-use Rattle.daide_grammar.specs.Message.Lists.{power, turn, words, any}
+use Rattle.daide_grammar.specs.Forms.{group, named, tok, some, maybe, from_level}
+use Rattle.daide_grammar.specs.Message.Lists.{power, season_and_year, words, any}
 use Rattle.daide_grammar.specs.Message.Arrangements.{arrangement, fact}
 
 -- a press of the level
@@ -33,7 +33,7 @@ press_rule l =
     ∣ tok Rej · group (press l)
     ∣ tok Bwx · group (press l)
     ∣ tok Huh · group any
-    ∣ from L60 l (asking_press l)
+    ∣ from_level L60 l (asking_press l)
     ∣ named (Added Press_slot l)
 
 -- the sending of a press to powers, in a turn or in the present one
@@ -42,4 +42,4 @@ send l = named (Send_name l)
 
 -- SND [( turn )] ( power+ ) ( press )
 abbrev pub send_rule : Level → Form
-send_rule l = tok Snd · maybe (group turn) · group (some power) · group (press l)
+send_rule l = tok Snd · maybe (group season_and_year) · group (some power) · group (press l)

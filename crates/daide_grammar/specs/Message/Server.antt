@@ -5,9 +5,9 @@ use Rattle.daide_token.specs.declared.class.Class.TheVariants.{Out, Outcome, Par
 use Rattle.daide_token.specs.declared.class.Class.TheVariants.{Thx, Tme, Uno, Yes}
 use Rattle.daide_grammar.specs.declared.level.Level.{Level}
 use Rattle.daide_grammar.specs.declared.level.Level.TheVariants.{L10}
-use Rattle.daide_grammar.specs.Forms.{Form, ◌·◌, ◌∣◌, many, group, tok, some, maybe, from}
-use Rattle.daide_grammar.specs.Message.Lists.{power, province, turn, text}
-use Rattle.daide_grammar.specs.Message.Places.{place, unit_type, unit}
+use Rattle.daide_grammar.specs.Forms.{Form, ◌·◌, ◌∣◌, many, group, tok, some, maybe, from_level}
+use Rattle.daide_grammar.specs.Message.Lists.{power, province, season_and_year, text}
+use Rattle.daide_grammar.specs.Message.Places.{province_or_coast, unit_type, unit}
 use Rattle.daide_grammar.specs.Message.Orders.{order}
 use Rattle.daide_grammar.specs.Message.Arrangements.{draw}
 use Rattle.daide_grammar.specs.Message.Press.{press, send}
@@ -31,7 +31,7 @@ owned = owner · many province
 
 -- the places that armies, fleets, or fleets from one coast can go to
 abbrev pub kind_places : Form
-kind_places = (unit_type ∣ group (tok Flt · tok Coast)) · many place
+kind_places = (unit_type ∣ group (tok Flt · tok Coast)) · many province_or_coast
 
 -- a province and where each kind of unit can go from it
 abbrev pub borders : Form
@@ -39,7 +39,7 @@ borders = province · many (group kind_places)
 
 -- a unit where it stands, with the places to which it must retreat if it is dislodged
 abbrev pub stand : Form
-stand = unit ∣ unit · tok Mrt · group (many place)
+stand = unit ∣ unit · tok Mrt · group (many province_or_coast)
 
 -- what became of an order
 abbrev pub outcome : Form
@@ -71,11 +71,11 @@ server l =
     ∣ tok Mdf · map_definition
     ∣ tok Hlo · group who · group (tok Num) · group (many (group (param · maybe (tok Num))))
     ∣ tok Sco · many (group owned)
-    ∣ tok Now · group turn · many (group stand)
+    ∣ tok Now · group season_and_year · many (group stand)
     ∣ tok Thx · group order · group (tok Note)
     ∣ tok Mis · many (group stand)
     ∣ tok Mis · group (tok Num)
-    ∣ tok Ord · group turn · group order · group (some outcome)
+    ∣ tok Ord · group season_and_year · group order · group (some outcome)
     ∣ tok Tme · group (tok Num)
     ∣ tok Yes · group (request l)
     ∣ tok Rej · group (request l)
@@ -85,9 +85,9 @@ server l =
     ∣ tok Slo · group power
     ∣ draw
     ∣ tok Off
-    ∣ tok Smr · group turn · many (group player)
+    ∣ tok Smr · group season_and_year · many (group player)
     ∣ tok Sve · group text
     ∣ tok Lod · group text
     ∣ tok Adm · group text · group text
-    ∣ from L10 l (press_message l)
+    ∣ from_level L10 l (press_message l)
     ∣ report

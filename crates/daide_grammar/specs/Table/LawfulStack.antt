@@ -5,13 +5,13 @@ use Rattle.daide_token.specs.declared.class.Class.TheVariants.{Bra, Ket}
 use Rattle.daide_grammar.specs.declared.level.Level.{Level}
 use Rattle.daide_grammar.specs.declared.side.Side2.{Side2}
 use Rattle.daide_grammar.specs.declared.symbol.Sym.{Sym}
-use Rattle.daide_grammar.specs.Table.Answers.{Answer, Take, Skip}
-use Rattle.daide_grammar.specs.Table.Symbols.{opening_of}
+use Rattle.daide_grammar.specs.Table.Answers.{TableEntry, Take, Skip}
+use Rattle.daide_grammar.specs.Table.Symbols.{start_symbol_of}
 
 -- The stacks, each with its number of open brackets: an opening symbol alone with none, and what an answer of the
 -- table makes of one. A token that is taken leaves its rest in the symbol's place; a skipped symbol is dropped.
-pub data IsLawful (moves : Sym → Class → Answer) : List Sym → ℕ → Type 0 where
-  opening : (side : Side2) (level : Level) → IsLawful moves (opening_of side level ∷ []) 0
+pub data IsLawful (moves : Sym → Class → TableEntry) : List Sym → ℕ → Type 0 where
+  start_symbol : (side : Side2) (level : Level) → IsLawful moves (start_symbol_of side level ∷ []) 0
   word : {n : ℕ} {s : Sym} {rest below : List Sym} (c : Class) →
       c ≢ Bra → c ≢ Ket → moves s c ≡ Take rest → IsLawful moves (s ∷ below) n → IsLawful moves (rest ++ below) n
   bra : {n : ℕ} {s : Sym} {rest below : List Sym} →

@@ -4,12 +4,12 @@ use Rattle.daide_token.specs.declared.class.Class.{Class}
 use Rattle.daide_token.specs.declared.class.Class.TheVariants.{Bra, Ket}
 use Rattle.daide_token.specs.Token.{bra, ket}
 use Rattle.daide_grammar.specs.declared.symbol.Sym.{Sym}
-use Rattle.daide_grammar.specs.Table.Answers.{Answer, Take, Skip, Stop}
+use Rattle.daide_grammar.specs.Table.Answers.{TableEntry, Take, Skip, Stop}
 use Rattle.daide_grammar.specs.Table.Stacks.{StackMatches, stack_after, skips_before, ends_asked}
 
 -- The laws of prediction. That two alternatives of a symbol never begin with the same class is said by `moves` being a
 -- function.
-pub record PredictLaws (class_of : ℕ → Class) (language : Sym → List ℕ → Type 0) (moves : Sym → Class → Answer)
+pub record IsCorrectPrediction (class_of : ℕ → Class) (language : Sym → List ℕ → Type 0) (moves : Sym → Class → TableEntry)
     (may_end : Sym → Bool) (lawful : List Sym → ℕ → Type 0) : Type 0 where
   -- a bracket is the only token of its class
   pub only_bra : (t : ℕ) → (class_of t ≡ Bra) ↔ (t ≡ bra)

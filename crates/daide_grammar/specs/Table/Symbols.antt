@@ -37,13 +37,13 @@ use Rattle.daide_grammar.specs.declared.symbol.Sym.TheVariants.{OneStand, StandT
 use Rattle.daide_grammar.specs.declared.symbol.Sym.TheVariants.{NoteGroup, OutcomesGroup, Outcomes, OneOutcome}
 use Rattle.daide_grammar.specs.declared.symbol.Sym.TheVariants.{CivilDisorderGroup, CivilDisorder, Players, OnePlayer}
 use Rattle.daide_grammar.specs.Level.{level_number}
-use Rattle.daide_grammar.specs.Table.Answers.{Answer, Take, Skip, Stop}
-use Rattle.daide_grammar.specs.Forms.{Slot, Press_slot, Arrangement_slot, Flat_slot, Kind, is, any_word, accepts}
-use Rattle.daide_grammar.specs.Forms.{Form, empty, ◌·◌, ◌∣◌, many, tok, group, some, maybe, from}
-use Rattle.daide_grammar.specs.Message.Lists.{power, province, turn, text, words, any}
-use Rattle.daide_grammar.specs.Message.Places.{place, unit_type, unit}
+use Rattle.daide_grammar.specs.Table.Answers.{TableEntry, Take, Skip, Stop}
+use Rattle.daide_grammar.specs.Forms.{Slot, Press_slot, Arrangement_slot, Flat_slot, TokenTest, is, any_but_brackets, is_of_kind}
+use Rattle.daide_grammar.specs.Forms.{Form, empty, ◌·◌, ◌∣◌, many, tok, group, some, maybe, from_level}
+use Rattle.daide_grammar.specs.Message.Lists.{power, province, season_and_year, text, words, any}
+use Rattle.daide_grammar.specs.Message.Places.{province_or_coast, unit_type, unit}
 use Rattle.daide_grammar.specs.Message.Orders.{order, order_tail}
-use Rattle.daide_grammar.specs.Message.Arrangements.{arrangement, fact, operand}
+use Rattle.daide_grammar.specs.Message.Arrangements.{arrangement, fact, joinable}
 use Rattle.daide_grammar.specs.Message.Press.{press, send}
 use Rattle.daide_grammar.specs.Message.Client.{request, cancel, reply, client}
 use Rattle.daide_grammar.specs.Message.Server.{who, param, owned, kind_places, borders, stand, outcome, player, server}
@@ -75,16 +75,16 @@ form_of MaybeNumber = maybe (tok Num)
 form_of ProvincesGroup = group (some province)
 form_of MaybeProvincesGroup = group (many province)
 form_of Provinces = many province
-form_of TurnGroup = group turn
-form_of OneTurn = turn
+form_of TurnGroup = group season_and_year
+form_of OneTurn = season_and_year
 form_of WordsGroup = group words
 form_of WordList = words
 form_of AnyGroup = group any
 form_of Any = any
 -- places and units
-form_of OnePlace = place
-form_of PlacesGroup = group (many place)
-form_of Places = many place
+form_of OnePlace = province_or_coast
+form_of PlacesGroup = group (many province_or_coast)
+form_of Places = many province_or_coast
 form_of UnitGroup = group unit
 form_of UnitGroups = many (group unit)
 form_of OneUnit = unit
@@ -100,27 +100,27 @@ form_of (ArrangementGroup l) = group (arrangement l)
 form_of (Arrangement l) = arrangement l
 form_of (FactGroup l) = group (fact l)
 form_of (Fact l) = fact l
-form_of (OperandGroup l) = group (operand l)
-form_of (Operands l) = many (group (operand l))
-form_of (Operand l) = operand l
+form_of (OperandGroup l) = group (joinable l)
+form_of (Operands l) = many (group (joinable l))
+form_of (Operand l) = joinable l
 form_of ShareGroup = group (power · many province)
 form_of Shares = many (group (power · many province))
 -- press
 form_of (PressGroup l) = group (press l)
 form_of (Press l) = press l
 form_of (SendGroup l) = group (send l)
-form_of (MaybeSendGroup l) = from L10 l (group (send l)) ∣ empty
+form_of (MaybeSendGroup l) = from_level L10 l (group (send l)) ∣ empty
 form_of (Send l) = send l
-form_of (SendTail l) = maybe (group turn) · group (some power) · group (press l)
+form_of (SendTail l) = maybe (group season_and_year) · group (some power) · group (press l)
 form_of (SendFirst l) =
-    turn · tok Ket · group (some power) · group (press l)
+    season_and_year · tok Ket · group (some power) · group (press l)
     ∣ some power · tok Ket · group (press l)
 -- client messages
 form_of (Client l) = client l
 form_of (RequestGroup l) = group (request l)
 form_of (Request l) = request l
-form_of SubmitTail = maybe (group turn) · many (group order)
-form_of SubmitFirst = (turn ∣ order) · tok Ket · many (group order)
+form_of SubmitTail = maybe (group season_and_year) · many (group order)
+form_of SubmitFirst = (season_and_year ∣ order) · tok Ket · many (group order)
 form_of CancelGroup = group cancel
 form_of Cancel = cancel
 form_of ReplyGroup = group reply
@@ -143,7 +143,7 @@ form_of KindList = many (group kind_places)
 form_of KindPlaces = kind_places
 form_of Stands = many (group stand)
 form_of OneStand = stand
-form_of StandTail = maybe (tok Mrt · group (many place))
+form_of StandTail = maybe (tok Mrt · group (many province_or_coast))
 form_of MissingTail = many (group stand) ∣ group (tok Num)
 form_of MissingFirst = stand · tok Ket · many (group stand) ∣ tok Num · tok Ket
 form_of NoteGroup = group (tok Note)
@@ -156,24 +156,24 @@ form_of Players = many (group player)
 form_of OnePlayer = player
 
 -- an entry of the table: on a token of the kind, these symbols take the symbol's place
-pub record Entry : Type 0 where
-  pub kind : Kind
+pub record Alternative : Type 0 where
+  pub kind : TokenTest
   pub rest : List Sym
 
 -- on a token of the class
-abbrev pub on : Class → List Sym → Entry
+abbrev pub on : Class → List Sym → Alternative
 on c rest = record { kind = is c; rest = rest }
 
 -- on any token but a bracket
-abbrev pub on_word : List Sym → Entry
-on_word rest = record { kind = any_word; rest = rest }
+abbrev pub on_word : List Sym → Alternative
+on_word rest = record { kind = any_but_brackets; rest = rest }
 
 -- the entries es, at the levels l from a on
-abbrev pub only_from : Level → Level → List Entry → List Entry
+abbrev pub only_from : Level → Level → List Alternative → List Alternative
 only_from a l es = elim (nat_le (level_number a) (level_number l)) [ true ↦ es | false ↦ [] ]
 
 -- what begins a client request
-abbrev pub request_entries : Level → List Entry
+abbrev pub request_entries : Level → List Alternative
 request_entries l =
     on Nme (TextGroup ∷ TextGroup ∷ [])
     ∷ on Obs []
@@ -195,7 +195,7 @@ request_entries l =
     ∷ only_from L10 l (on Snd (SendTail l ∷ []) ∷ [])
 
 -- what begins an arrangement that is no AND and no ORR, with the symbol of what a NOT holds
-abbrev pub simple_entries : Level → Sym → List Entry
+abbrev pub simple_entries : Level → Sym → List Alternative
 simple_entries l inside =
     on Pce (PowersGroup ∷ [])
     ∷ on Aly (PowersGroup ∷ Against ∷ PowersGroup ∷ [])
@@ -206,7 +206,7 @@ simple_entries l inside =
     ++ only_from L40 l (on Scd (ShareGroup ∷ Shares ∷ []) ∷ on Occ (UnitGroup ∷ UnitGroups ∷ []) ∷ [])
 
 -- AND and ORR
-abbrev pub joining_entries : Level → List Entry
+abbrev pub joining_entries : Level → List Alternative
 joining_entries l =
     on And (OperandGroup l ∷ OperandGroup l ∷ Operands l ∷ [])
     ∷ on Orr (OperandGroup l ∷ OperandGroup l ∷ Operands l ∷ [])
@@ -217,7 +217,7 @@ abbrev pub negated_fact : Level → Sym
 negated_fact l = elim (nat_le 60 (level_number l)) [ true ↦ FactGroup l | false ↦ ArrangementGroup l ]
 
 -- what begins a press that asks
-abbrev pub asking_entries : Level → List Entry
+abbrev pub asking_entries : Level → List Alternative
 asking_entries l =
     on Ins (ArrangementGroup l ∷ [])
     ∷ on Qry (ArrangementGroup l ∷ [])
@@ -228,7 +228,7 @@ asking_entries l =
     ∷ []
 
 -- the entries of each symbol, first one that leads to an end
-unfoldable pub entries : Sym → List Entry
+unfoldable pub entries : Sym → List Alternative
 -- single tokens
 entries Closing = on Ket [] ∷ []
 entries OnePower = on Power [] ∷ []
@@ -451,26 +451,26 @@ abbrev pub forms : List Sym → List Form
 forms [] = []
 forms (s ∷ ss) = form_of s ∷ forms ss
 
-abbrev pub this_or : Bool → Entry → Option Entry → Option Entry
+abbrev pub this_or : Bool → Alternative → Option Alternative → Option Alternative
 this_or true e o = Some e
 this_or false e o = o
 
 -- the first entry whose kind takes the class
-abbrev pub entry_at : Class → List Entry → Option Entry
+abbrev pub entry_at : Class → List Alternative → Option Alternative
 entry_at c [] = None
-entry_at c (e ∷ es) = this_or (accepts e.kind c) e (entry_at c es)
+entry_at c (e ∷ es) = this_or (is_of_kind e.kind c) e (entry_at c es)
 
 -- Take of an entry; without one Skip where the symbol may be empty, else Stop
-abbrev pub answer_by : Option Entry → Bool → Answer
+abbrev pub answer_by : Option Alternative → Bool → TableEntry
 answer_by (Some e) b = Take e.rest
 answer_by None true = Skip
 answer_by None false = Stop
 
 -- what a token of the class means to the symbol
-unfoldable pub table_answer : Sym → Class → Answer
+unfoldable pub table_answer : Sym → Class → TableEntry
 table_answer s c = answer_by (entry_at c (entries s)) (may_end_of s)
 
 -- the symbol of a side's messages at a level
-abbrev pub opening_of : Side2 → Level → Sym
-opening_of ClientSide l = Client l
-opening_of ServerSide l = Server l
+abbrev pub start_symbol_of : Side2 → Level → Sym
+start_symbol_of ClientSide l = Client l
+start_symbol_of ServerSide l = Server l

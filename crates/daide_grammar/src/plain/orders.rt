@@ -2,7 +2,7 @@
 #![tactic(auto, unfolding(crate::specs::Table::Symbols::table_answer, crate::specs::Table::Symbols::entries, crate::specs::Table::Symbols::may_end_of))]
 
 ghost use Rattle.std.specs.Prelude.{◌≡◌};
-ghost use Rattle.daide_grammar.specs.Table.Answers.{answer_of};
+ghost use Rattle.daide_grammar.specs.Table.Answers.{entry_of_meaning};
 ghost use Rattle.daide_grammar.specs.Table.Symbols.{table_answer};
 
 use crate::meaning::{Meaning, Rest};
@@ -12,7 +12,7 @@ use daide_token::class::Class;
 /// A province, or a province and a coast in brackets.
 #[inline(always)]
 pub fn one_place(class: Class) -> Meaning
-    ensures { answer_of result ≡ table_answer Sym.OnePlace class }
+    ensures { entry_of_meaning result ≡ table_answer Sym.OnePlace class }
 {
     match class {
         Class::Province => Meaning::Take(Rest::of([])),
@@ -24,7 +24,7 @@ pub fn one_place(class: Class) -> Meaning
 /// Places, none or more.
 #[inline(always)]
 pub fn places(class: Class) -> Meaning
-    ensures { answer_of result ≡ table_answer Sym.Places class }
+    ensures { entry_of_meaning result ≡ table_answer Sym.Places class }
 {
     match class {
         Class::Province => Meaning::Take(Rest::of([Sym::Places])),
@@ -41,7 +41,7 @@ pub fn places(class: Class) -> Meaning
 /// An army or a fleet.
 #[inline(always)]
 pub fn unit_type(class: Class) -> Meaning
-    ensures { answer_of result ≡ table_answer Sym.UnitType class }
+    ensures { entry_of_meaning result ≡ table_answer Sym.UnitType class }
 {
     match class {
         Class::Amy | Class::Flt => Meaning::Take(Rest::of([])),
@@ -52,7 +52,7 @@ pub fn unit_type(class: Class) -> Meaning
 /// A unit in brackets and what it shall do, or a power that waives a build.
 #[inline(always)]
 pub fn one_order(class: Class) -> Meaning
-    ensures { answer_of result ≡ table_answer Sym.OneOrder class }
+    ensures { entry_of_meaning result ≡ table_answer Sym.OneOrder class }
 {
     match class {
         Class::Bra => Meaning::Take(Rest::of([Sym::OneUnit, Sym::Closing, Sym::OrderTail])),
@@ -64,7 +64,7 @@ pub fn one_order(class: Class) -> Meaning
 /// What a unit shall do. The target of a supported move is a province and no coast.
 #[inline(always)]
 pub fn order_tail(class: Class) -> Meaning
-    ensures { answer_of result ≡ table_answer Sym.OrderTail class }
+    ensures { entry_of_meaning result ≡ table_answer Sym.OrderTail class }
 {
     match class {
         Class::Hld | Class::Dsb | Class::Bld | Class::Rem => Meaning::Take(Rest::of([])),

@@ -3,7 +3,7 @@
 
 ghost use Rattle.std.specs.Prelude.{◌≡◌, false, [], ◌∷◌};
 ghost use Rattle.daide_grammar.specs.declared.symbol.Sym.TheVariants.{OperandGroup, Operands};
-ghost use Rattle.daide_grammar.specs.Table.Answers.{Take, answer_of};
+ghost use Rattle.daide_grammar.specs.Table.Answers.{Take, entry_of_meaning};
 ghost use Rattle.daide_grammar.specs.Table.Symbols.{answer_by, entry_at, simple_entries, table_answer};
 
 use crate::level::Level;
@@ -16,7 +16,7 @@ use daide_token::class::Class;
 // It stands in line in its callers, so that the first token of an arrangement costs no call.
 #[inline(always)]
 fn simple(level: Level, inside: Sym, class: Class) -> Meaning
-    ensures { answer_of result ≡ answer_by (entry_at class (simple_entries level inside)) false }
+    ensures { entry_of_meaning result ≡ answer_by (entry_at class (simple_entries level inside)) false }
 {
     match class {
         Class::Pce => Meaning::Take(Rest::of([Sym::PowersGroup])),
@@ -44,7 +44,7 @@ fn simple(level: Level, inside: Sym, class: Class) -> Meaning
 /// What follows AND and ORR: two operands at least.
 #[inline(always)]
 fn joined(level: Level) -> Meaning
-    ensures { answer_of result ≡ Take (OperandGroup level ∷ OperandGroup level ∷ Operands level ∷ []) }
+    ensures { entry_of_meaning result ≡ Take (OperandGroup level ∷ OperandGroup level ∷ Operands level ∷ []) }
 {
     Meaning::Take(Rest::of([
         Sym::OperandGroup(level),
@@ -56,7 +56,7 @@ fn joined(level: Level) -> Meaning
 /// An arrangement. AND and ORR come from level 30 on.
 #[inline(always)]
 pub fn arrangement(level: Level, class: Class) -> Meaning
-    ensures { answer_of result ≡ table_answer (Sym.Arrangement level) class }
+    ensures { entry_of_meaning result ≡ table_answer (Sym.Arrangement level) class }
 {
     match class {
         Class::And | Class::Orr if level.number() >= 30 => joined(level),
@@ -67,7 +67,7 @@ pub fn arrangement(level: Level, class: Class) -> Meaning
 /// What AND and ORR join: an AND or ORR among them only from level 50 on, at any depth of NOT.
 #[inline(always)]
 pub fn operand(level: Level, class: Class) -> Meaning
-    ensures { answer_of result ≡ table_answer (Sym.Operand level) class }
+    ensures { entry_of_meaning result ≡ table_answer (Sym.Operand level) class }
 {
     match class {
         Class::And | Class::Orr if level.number() >= 50 => joined(level),
@@ -78,7 +78,7 @@ pub fn operand(level: Level, class: Class) -> Meaning
 /// A fact: an arrangement, and at level 60 also a query and the negation of a fact.
 #[inline(always)]
 pub fn fact(level: Level, class: Class) -> Meaning
-    ensures { answer_of result ≡ table_answer (Sym.Fact level) class }
+    ensures { entry_of_meaning result ≡ table_answer (Sym.Fact level) class }
 {
     match class {
         Class::Not if level.number() >= 60 => Meaning::Take(Rest::of([Sym::FactGroup(level)])),
@@ -92,7 +92,7 @@ pub fn fact(level: Level, class: Class) -> Meaning
 /// A press: what is said, and at level 60 also what is asked, insisted on and believed.
 #[inline(always)]
 pub fn press(level: Level, class: Class) -> Meaning
-    ensures { answer_of result ≡ table_answer (Sym.Press level) class }
+    ensures { entry_of_meaning result ≡ table_answer (Sym.Press level) class }
 {
     match class {
         Class::Prp => Meaning::Take(Rest::of([Sym::ArrangementGroup(level)])),
@@ -114,7 +114,7 @@ pub fn press(level: Level, class: Class) -> Meaning
 /// A send in brackets, which may stand from level 10 on.
 #[inline(always)]
 pub fn maybe_send_group(level: Level, class: Class) -> Meaning
-    ensures { answer_of result ≡ table_answer (Sym.MaybeSendGroup level) class }
+    ensures { entry_of_meaning result ≡ table_answer (Sym.MaybeSendGroup level) class }
 {
     match class {
         Class::Bra if level.number() >= 10 => Meaning::Take(Rest::of([
@@ -128,7 +128,7 @@ pub fn maybe_send_group(level: Level, class: Class) -> Meaning
 /// What follows the first bracket of a send: its turn, or already the powers.
 #[inline(always)]
 pub fn send_first(level: Level, class: Class) -> Meaning
-    ensures { answer_of result ≡ table_answer (Sym.SendFirst level) class }
+    ensures { entry_of_meaning result ≡ table_answer (Sym.SendFirst level) class }
 {
     match class {
         Class::Season => Meaning::Take(Rest::of([

@@ -2,7 +2,7 @@
 #![tactic(auto, unfolding(crate::specs::Table::Symbols::table_answer, crate::specs::Table::Symbols::entries, crate::specs::Table::Symbols::may_end_of))]
 
 ghost use Rattle.std.specs.Prelude.{◌≡◌};
-ghost use Rattle.daide_grammar.specs.Table.Answers.{answer_of};
+ghost use Rattle.daide_grammar.specs.Table.Answers.{entry_of_meaning};
 ghost use Rattle.daide_grammar.specs.Table.Symbols.{table_answer};
 
 use crate::level::Level;
@@ -13,7 +13,7 @@ use daide_token::class::Class;
 /// Words: any tokens but the brackets.
 #[inline(always)]
 pub fn word_list(class: Class) -> Meaning
-    ensures { answer_of result ≡ table_answer Sym.WordList class }
+    ensures { entry_of_meaning result ≡ table_answer Sym.WordList class }
 {
     match class {
         Class::Bra | Class::Ket => Meaning::Skip,
@@ -24,7 +24,7 @@ pub fn word_list(class: Class) -> Meaning
 /// Any tokens whose brackets balance.
 #[inline(always)]
 pub fn any(class: Class) -> Meaning
-    ensures { answer_of result ≡ table_answer Sym.Any class }
+    ensures { entry_of_meaning result ≡ table_answer Sym.Any class }
 {
     match class {
         Class::Bra => Meaning::Take(Rest::of([Sym::Any, Sym::Closing, Sym::Any])),
@@ -36,7 +36,7 @@ pub fn any(class: Class) -> Meaning
 /// A client request. Press is sent from level 10 on.
 #[inline(always)]
 pub fn request(level: Level, class: Class) -> Meaning
-    ensures { answer_of result ≡ table_answer (Sym.Request level) class }
+    ensures { entry_of_meaning result ≡ table_answer (Sym.Request level) class }
 {
     match class {
         Class::Nme | Class::Adm => Meaning::Take(Rest::of([Sym::TextGroup, Sym::TextGroup])),
@@ -58,7 +58,7 @@ pub fn request(level: Level, class: Class) -> Meaning
 /// A client's message: a request, a reply, or the report HUH.
 #[inline(always)]
 pub fn client(level: Level, class: Class) -> Meaning
-    ensures { answer_of result ≡ table_answer (Sym.Client level) class }
+    ensures { entry_of_meaning result ≡ table_answer (Sym.Client level) class }
 {
     match class {
         Class::Yes | Class::Rej => Meaning::Take(Rest::of([Sym::ReplyGroup])),
@@ -70,7 +70,7 @@ pub fn client(level: Level, class: Class) -> Meaning
 /// What follows the first bracket of a SUB: its turn, or already an order.
 #[inline(always)]
 pub fn submit_first(class: Class) -> Meaning
-    ensures { answer_of result ≡ table_answer Sym.SubmitFirst class }
+    ensures { entry_of_meaning result ≡ table_answer Sym.SubmitFirst class }
 {
     match class {
         Class::Season => Meaning::Take(Rest::of([Sym::OneNumber, Sym::Closing, Sym::Orders])),
@@ -89,7 +89,7 @@ pub fn submit_first(class: Class) -> Meaning
 /// What a client may take back.
 #[inline(always)]
 pub fn cancel(class: Class) -> Meaning
-    ensures { answer_of result ≡ table_answer Sym.Cancel class }
+    ensures { entry_of_meaning result ≡ table_answer Sym.Cancel class }
 {
     match class {
         Class::Sub => Meaning::Take(Rest::of([Sym::SubmitTail])),
@@ -103,7 +103,7 @@ pub fn cancel(class: Class) -> Meaning
 /// What a client says yes or no to.
 #[inline(always)]
 pub fn reply(class: Class) -> Meaning
-    ensures { answer_of result ≡ table_answer Sym.Reply class }
+    ensures { entry_of_meaning result ≡ table_answer Sym.Reply class }
 {
     match class {
         Class::Map | Class::Sve | Class::Lod => Meaning::Take(Rest::of([Sym::TextGroup])),

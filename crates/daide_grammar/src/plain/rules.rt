@@ -2,8 +2,8 @@
 
 ghost use Rattle.std.specs.Prelude.{◌≡◌, ◌<◌, ◌≤◌};
 ghost use Rattle.std.specs.Bool.{Decides};
-ghost use Rattle.daide_grammar.specs.Table.Answers.{Take, answer_of, symbols_of};
-ghost use Rattle.daide_grammar.specs.Table.Rules.{HasRule, deed, rest_of};
+ghost use Rattle.daide_grammar.specs.Table.Answers.{Take, entry_of_meaning, symbols_of};
+ghost use Rattle.daide_grammar.specs.Table.ParseActions.{HasRule, action, rest_of};
 
 use crate::meaning::{Meaning, Rest};
 use crate::numbers::{RULE_COUNT, SKIP, STOP};
@@ -11,10 +11,10 @@ use crate::predict::Move;
 use crate::symbol::{Sym, Symbol};
 
 /// The move that says what a meaning says. The rules are gone through: nobody asks this table who is in a hurry.
-#[tactic(auto, unfolding(crate::specs::Table::Rules::deed))]
+#[tactic(auto, unfolding(crate::specs::Table::ParseActions::action))]
 pub(super) fn rule_of(meaning: Meaning) -> Move
-    requires { HasRule (answer_of meaning) }
-    ensures { result ≡ answer_of meaning }
+    requires { HasRule (entry_of_meaning meaning) }
+    ensures { result ≡ entry_of_meaning meaning }
 {
     match meaning {
         Meaning::Take(rest) => rule_of_rest(&rest),
@@ -39,7 +39,7 @@ fn rule_of_rest(rest: &Rest) -> Move
 
 /// Whether a rule leaves these symbols and no others.
 fn leaves(rule: u8, wanted: &[Sym]) -> bool
-    ensures { Decides result (rest_of (deed rule) ≡ wanted.now) }
+    ensures { Decides result (rest_of (action rule) ≡ wanted.now) }
 {
     let answer = Move::of(rule);
     if answer.len() != wanted.len() {

@@ -2,7 +2,7 @@
 #![tactic(auto, unfolding(crate::specs::Table::Symbols::table_answer, crate::specs::Table::Symbols::entries, crate::specs::Table::Symbols::may_end_of))]
 
 ghost use Rattle.std.specs.Prelude.{◌≡◌};
-ghost use Rattle.daide_grammar.specs.Table.Answers.{answer_of};
+ghost use Rattle.daide_grammar.specs.Table.Answers.{entry_of_meaning};
 ghost use Rattle.daide_grammar.specs.Table.Symbols.{table_answer};
 
 use crate::level::Level;
@@ -13,7 +13,7 @@ use daide_token::class::Class;
 /// A server's message. CCD and OUT may hand back a send, and FRM hands on a press, from level 10 on.
 #[inline(always)]
 pub fn server(level: Level, class: Class) -> Meaning
-    ensures { answer_of result ≡ table_answer (Sym.Server level) class }
+    ensures { entry_of_meaning result ≡ table_answer (Sym.Server level) class }
 {
     match class {
         Class::Map | Class::Sve | Class::Lod => Meaning::Take(Rest::of([Sym::TextGroup])),
@@ -55,7 +55,7 @@ pub fn server(level: Level, class: Class) -> Meaning
 /// Whom the server greets: a power, or nobody.
 #[inline(always)]
 pub fn who(class: Class) -> Meaning
-    ensures { answer_of result ≡ table_answer Sym.Who class }
+    ensures { entry_of_meaning result ≡ table_answer Sym.Who class }
 {
     match class {
         Class::Power | Class::Uno => Meaning::Take(Rest::of([])),
@@ -66,7 +66,7 @@ pub fn who(class: Class) -> Meaning
 /// An option of the game.
 #[inline(always)]
 pub fn one_param(class: Class) -> Meaning
-    ensures { answer_of result ≡ table_answer Sym.OneParam class }
+    ensures { entry_of_meaning result ≡ table_answer Sym.OneParam class }
 {
     match class {
         Class::Lvl | Class::Mrt | Class::Uno | Class::Param => Meaning::Take(Rest::of([
@@ -79,7 +79,7 @@ pub fn one_param(class: Class) -> Meaning
 /// An owner, one power or several or nobody, and its supply centres.
 #[inline(always)]
 pub fn owned(class: Class) -> Meaning
-    ensures { answer_of result ≡ table_answer Sym.Owned class }
+    ensures { entry_of_meaning result ≡ table_answer Sym.Owned class }
 {
     match class {
         Class::Power | Class::Uno => Meaning::Take(Rest::of([Sym::Provinces])),
@@ -96,7 +96,7 @@ pub fn owned(class: Class) -> Meaning
 /// A kind of unit, or a fleet at a coast, and the places where it can go.
 #[inline(always)]
 pub fn kind_places(class: Class) -> Meaning
-    ensures { answer_of result ≡ table_answer Sym.KindPlaces class }
+    ensures { entry_of_meaning result ≡ table_answer Sym.KindPlaces class }
 {
     match class {
         Class::Amy | Class::Flt => Meaning::Take(Rest::of([Sym::Places])),
@@ -113,7 +113,7 @@ pub fn kind_places(class: Class) -> Meaning
 /// What follows the first bracket of a MIS: a number, or already a unit.
 #[inline(always)]
 pub fn missing_first(class: Class) -> Meaning
-    ensures { answer_of result ≡ table_answer Sym.MissingFirst class }
+    ensures { entry_of_meaning result ≡ table_answer Sym.MissingFirst class }
 {
     match class {
         Class::Num => Meaning::Take(Rest::of([Sym::Closing])),
@@ -131,7 +131,7 @@ pub fn missing_first(class: Class) -> Meaning
 /// What became of an order, once more or no more.
 #[inline(always)]
 pub fn outcomes(class: Class) -> Meaning
-    ensures { answer_of result ≡ table_answer Sym.Outcomes class }
+    ensures { entry_of_meaning result ≡ table_answer Sym.Outcomes class }
 {
     match class {
         Class::Note | Class::Outcome => Meaning::Take(Rest::of([Sym::Outcomes])),
@@ -142,7 +142,7 @@ pub fn outcomes(class: Class) -> Meaning
 /// What became of an order.
 #[inline(always)]
 pub fn one_outcome(class: Class) -> Meaning
-    ensures { answer_of result ≡ table_answer Sym.OneOutcome class }
+    ensures { entry_of_meaning result ≡ table_answer Sym.OneOutcome class }
 {
     match class {
         Class::Note | Class::Outcome => Meaning::Take(Rest::of([])),

@@ -1,5 +1,5 @@
-//! The symbols and classes in the order of their numbers, and a symbol's number. Printed by `daide_table`; the check is
-//! what is trusted.
+//! The symbols and classes in the order of their numbers, and a symbol's number. Printed by `daide_table_printer`; the
+//! check is what is trusted.
 
 ghost use Rattle.std.specs.Prelude.{◌≡◌, ◌+◌, ◌≤◌};
 ghost use Rattle.daide_grammar.specs.Table.Numbers.{level_place, symbol_number};

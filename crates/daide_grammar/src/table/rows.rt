@@ -1,4 +1,4 @@
-//! What each class of tokens means to each symbol. Printed by `daide_table`; the check is what is trusted.
+//! What each class of tokens means to each symbol. Printed by `daide_table_printer`; the check is what is trusted.
 //!
 //! A row has a symbol's name. It lists classes, each with the number of its rule, and last what every other class
 //! means. A symbol with a level has a row for all levels and, where more may stand from a level on, a row with that

@@ -5,7 +5,7 @@ ghost use Rattle.daide_settings.specs.Settings.{key_text, default_of};
 ghost use Rattle.daide_settings.specs.Settings.{is_known as is_known_key, is_in_range as is_in_keys_range};
 
 use daide_grammar::level::Level;
-use daide_machine::{MAX_BODY, MAX_DEPTH, MAX_SESSIONS, MIN_BODY, MIN_DEPTH};
+use daide_protocol::{MAX_BODY, MAX_DEPTH, MAX_SESSIONS, MIN_BODY, MIN_DEPTH};
 use std::fmt;
 
 /// A key of the settings, in the order in which they are judged.

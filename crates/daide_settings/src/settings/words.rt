@@ -10,8 +10,8 @@ ghost use Rattle.toml.specs.Data.{get_member};
 ghost use Rattle.toml.specs.View.{items_view, table_view, view};
 ghost use Rattle.daide_words.specs.Words.{words_of};
 ghost use Rattle.daide_words.specs.WordNames.{operand_named, slot_named};
-ghost use Rattle.daide_settings.specs.WordSettings.{accepted_words, are_entries, code_of, entries_judged, has_fields};
-ghost use Rattle.daide_settings.specs.WordSettings.{has_only, is_entry, is_field, level_of, number_in, text_in};
+ghost use Rattle.daide_settings.specs.WordSettings.{accepted_words, are_entries, code_of_integer, entries_judged, has_fields};
+ghost use Rattle.daide_settings.specs.WordSettings.{has_only, is_entry, is_field, level_of_integer, number_in, text_in};
 ghost use Rattle.daide_settings.specs.WordSettings.{three_of, word_of};
 ghost use Rattle.daide_settings.specs.WordSettings.{word_of_members, words_judged, words_of_entries};
 
@@ -104,7 +104,7 @@ fn name_in(table: &Table) -> Option<[u8; 3]>
 
 /// The token of an entry's number.
 fn code_in(table: &Table) -> Option<Token>
-    ensures { result ≡ option_and_then code_of (number_in (codes "code") (table_view table.now)) }
+    ensures { result ≡ option_and_then code_of_integer (number_in (codes "code") (table_view table.now)) }
 {
     match u16::try_from(number_in(table, "code")?) {
         Ok(code) => Some(Token::from_code(code)),
@@ -121,7 +121,7 @@ fn slot_in(table: &Table) -> Option<Slot>
 
 /// The level of an entry's number.
 fn level_in(table: &Table) -> Option<Level>
-    ensures { result ≡ option_and_then level_of (number_in (codes "level") (table_view table.now)) }
+    ensures { result ≡ option_and_then level_of_integer (number_in (codes "level") (table_view table.now)) }
 {
     match u16::try_from(number_in(table, "level")?) {
         Ok(number) => Level::of(number),

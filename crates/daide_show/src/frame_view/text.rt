@@ -8,19 +8,19 @@ ghost use Rattle.daide_grammar.specs.SideMessages.{IsMessageOver};
 ghost use Rattle.daide_words.specs.Word.{grammar_words};
 ghost use Rattle.daide_words.specs.Words.{words_of};
 ghost use Rattle.daide_reader.specs.Verdict.{HasVerdict, IsPlaceIn};
-ghost use Rattle.daide_machine.specs.Answers.{answer_body};
-ghost use Rattle.daide_machine.specs.Bounds.{longest_body, greatest_depth};
-ghost use Rattle.daide_machine.specs.Machine.{side2_of};
-ghost use Rattle.daide_show.specs.Shown.{Shown, Adds, AreLines, IsFrameShownAs, IsMessageShownAs, asked_of};
+ghost use Rattle.daide_protocol.specs.Answers.{answer_body};
+ghost use Rattle.daide_protocol.specs.Bounds.{longest_body, greatest_depth};
+ghost use Rattle.daide_protocol.specs.Machine.{side2_of};
+ghost use Rattle.daide_show.specs.Shown.{Shown, WritesShown, AreLines, IsFrameShownAs, IsMessageShownAs, request_of};
 ghost use Rattle.daide_show.specs.Shown.{line, printed, kind_line, fault_shown, relayed_shown, im_shown};
 ghost use Rattle.daide_show.specs.Shown.{verdict_lines, is_relay};
 
 use super::Request;
 use daide_explain::{Rules, verdict_of, write_explained};
 use daide_frame::{Code, Head, Kind, check_im};
-use daide_machine::MAX_DEPTH;
-use daide_machine::answers::{CLOSE_WORD, ERR_WORD, HUH_OPEN, PRN_OPEN};
-use daide_machine::rules::side2_of;
+use daide_protocol::MAX_DEPTH;
+use daide_protocol::answers::{CLOSE_WORD, ERR_WORD, HUH_OPEN, PRN_OPEN};
+use daide_protocol::transitions::side2_of;
 use daide_reader::Verdict;
 use daide_token::write_text_with;
 use daide_words::Words;
@@ -118,7 +118,7 @@ fn write_verdict<A: Allocator + Copy>(
 
 /// Writes that a frame is at fault.
 pub(super) fn write_fault<A: Allocator>(code: Code, text: &mut Vec<u8, A>) -> io::Result<bool>
-    ensures { IfOk result (λ relayed. Adds text.old.items text.new.items relayed (fault_shown code)) }
+    ensures { IfOk result (λ relayed. WritesShown text.old.items text.new.items relayed (fault_shown code)) }
 {
     let digits = code.digits();
     writeln!(text, "fault {digits}")?;
@@ -127,7 +127,7 @@ pub(super) fn write_fault<A: Allocator>(code: Code, text: &mut Vec<u8, A>) -> io
 
 /// Writes what becomes of a frame that holds no message and is good.
 fn write_relayed<A: Allocator>(head: Head, text: &mut Vec<u8, A>) -> io::Result<bool>
-    ensures { IfOk result (λ relayed. Adds text.old.items text.new.items relayed (relayed_shown head.kind head.len)) }
+    ensures { IfOk result (λ relayed. WritesShown text.old.items text.new.items relayed (relayed_shown head.kind head.len)) }
 {
     write_kind(head, text)?;
     text.write_all(b"relay\n")?;
@@ -138,7 +138,7 @@ fn write_relayed<A: Allocator>(head: Head, text: &mut Vec<u8, A>) -> io::Result<
 fn write_im<A: Allocator>(head: Head, body: &[u8], text: &mut Vec<u8, A>) -> io::Result<bool>
     requires im { head.kind ≡ Kind.Im }
     requires four { length body.now ≡ 4 }
-    ensures { IfOk result (λ relayed. Adds text.old.items text.new.items relayed (im_shown head.len (im_of body.now))) }
+    ensures { IfOk result (λ relayed. WritesShown text.old.items text.new.items relayed (im_shown head.len (im_of body.now))) }
 {
     match check_im([body[0], body[1], body[2], body[3]]) {
         Ok(()) => write_relayed(head, text),
@@ -157,7 +157,7 @@ fn write_lines<A: Allocator + Copy>(
     requires capped { length body.now ≤ longest_body }
     requires verdict { HasVerdict (IsMessageOver (grammar_words (words_of request.now.words.now))
         (side2_of request.now.side) request.now.level) greatest_depth (tokens_of body.now) verdict }
-    ensures { OnOk result ((lines : List ℕ) × AreLines (asked_of request.now) (tokens_of body.now) verdict lines
+    ensures { OnOk result ((lines : List ℕ) × AreLines (request_of request.now) (tokens_of body.now) verdict lines
         × (text.new.items ≡ text.old.items ++ lines)) }
 {
     if !request.is_explained {
@@ -178,8 +178,8 @@ fn write_message<A: Allocator + Copy>(
     requires even { length body.now % 2 ≡ 0 }
     requires capped { length body.now ≤ longest_body }
     ensures { IfOk result (λ relayed. (shown : Shown)
-        × IsMessageShownAs (asked_of request.now) head.len body.now shown
-        × Adds text.old.items text.new.items relayed shown) }
+        × IsMessageShownAs (request_of request.now) head.len body.now shown
+        × WritesShown text.old.items text.new.items relayed shown) }
 {
     let verdict = verdict_of(&rules_of(request), body);
     write_kind(head, text)?;
@@ -200,8 +200,8 @@ pub(super) fn write_frame<A: Allocator + Copy>(
     requires right { has_right_length head.kind (length body.now) ≡ true }
     requires capped { length body.now ≤ longest_body }
     ensures { IfOk result (λ relayed. (shown : Shown)
-        × IsFrameShownAs (asked_of request.now) head.kind head.len body.now shown
-        × Adds text.old.items text.new.items relayed shown) }
+        × IsFrameShownAs (request_of request.now) head.kind head.len body.now shown
+        × WritesShown text.old.items text.new.items relayed shown) }
 {
     match head.kind {
         Kind::Im => write_im(head, body, text),

@@ -11,5 +11,5 @@ unfoldable pub spoken_words : Extended → Words
 spoken_words table = grammar_words (words_of table.words)
 
 -- the answers so far, modulo 2^64: each is one of the constant table's
-abbrev pub answers_given : Extended → ℕ
-answers_given table = look_ups table.table
+abbrev pub extended_look_ups : Extended → ℕ
+extended_look_ups table = look_ups table.table

@@ -15,7 +15,7 @@ use Rattle.daide_grammar.specs.Classes.{same_class}
 use Rattle.daide_grammar.specs.Forms.{Slot, Press_slot, Arrangement_slot, Flat_slot, Dialect}
 use Rattle.daide_grammar.specs.Words.{AddedWord, Words, WordSlot, press_word, arrangement_word, WordOperand, one_power}
 use Rattle.daide_grammar.specs.Words.{some_powers, some_provinces, an_order, an_arrangement, a_press}
-use Rattle.daide_grammar.specs.Table.Answers.{Answer, Take}
+use Rattle.daide_grammar.specs.Table.Answers.{TableEntry, Take}
 use Rattle.daide_grammar.specs.Table.Symbols.{slot_of, table_answer}
 use Rattle.daide_grammar.specs.SideMessages.{dialect_of}
 
@@ -59,18 +59,18 @@ word_from k j [] = None
 word_from k j (word ∷ words) = this_word (nat_eq j k) word (word_from k (suc j) words)
 
 -- the operand follows where the word stands; else the answer is another
-abbrev pub if_stands : Bool → Sym → Answer → Answer
+abbrev pub if_stands : Bool → Sym → TableEntry → TableEntry
 if_stands true operand other = Take (operand ∷ [])
 if_stands false operand other = other
 
 -- the answer for a word, where a symbol has a slot for words and there is such a word; else another
-abbrev pub word_answer : Option (Slot × Level) → Option AddedWord → Answer → Answer
+abbrev pub word_answer : Option (Slot × Level) → Option AddedWord → TableEntry → TableEntry
 word_answer (Some p) (Some word) other = if_stands (stands word p.0 p.1) (operand_symbol word.operand p.0 p.1) other
 word_answer (Some p) None other = other
 word_answer None word other = other
 
 -- what a token of the class means to the symbol, with these words
-unfoldable pub answer_over : Words → Sym → Class → Answer
+unfoldable pub answer_over : Words → Sym → Class → TableEntry
 answer_over words s (Word place) = word_answer (slot_of s) (word_from place 0 words) (table_answer s (Word place))
 answer_over words s class = table_answer s class
 

@@ -5,7 +5,7 @@ use Rattle.daide_token.specs.Token.{prn, tokens_of}
 use Rattle.daide_grammar.specs.Paired.{begins_with_prn}
 use Rattle.daide_grammar.specs.SideMessages.{dialect_of, IsMessageOver}
 use Rattle.daide_grammar.specs.Table.Languages.{SymbolMatchesIn}
-use Rattle.daide_grammar.specs.Table.Symbols.{opening_of}
+use Rattle.daide_grammar.specs.Table.Symbols.{start_symbol_of}
 use Rattle.daide_grammar.specs.Words.{Words}
 use Rattle.daide_words.specs.Word.{grammar_words}
 use Rattle.daide_words.specs.Words.{words_of}
@@ -16,7 +16,7 @@ use Rattle.daide_words.proofs.AcceptedCodes.{accepted_free}
 use Rattle.daide_reader.specs.ViablePrefix.{IsMessageOf}
 use Rattle.daide_reader.specs.ErrorPlace.{IsAllowedPrefix}
 use Rattle.daide_explain.proofs.Allowed.{read_nothing, allowed_along, allowed_if_no_place, prn_allowed, plain_more}
-use Rattle.daide_machine.proofs.WordedVerdicts.{worded_messages}
+use Rattle.daide_protocol.proofs.WordedVerdicts.{worded_messages}
 use Rattle.daide_explain.proofs.expected.is_expected.Goals as goal
 use Rattle.daide_explain.proofs.expected.is_expected.Goals.{else-before-lt2-via-then-before-lt2+else-code-eq18451, else-before-lt2-via-else-before-lt2}
 
@@ -35,7 +35,7 @@ returns c =
     let words = grammar_words (words_of c.args.rules.now.words.now) in
     let b = c.args.before.now in
     let q = tokens_of b ++ c.args.token ∷ [] in
-    let first = opening_of c.args.rules.now.end c.args.rules.now.level in
+    let first = start_symbol_of c.args.rules.now.end c.args.rules.now.level in
     let table = c.new-reader.result.table in
     let apart : length b < 2 → (c.args.token == prn) ≡ false = λ few.
     elim c.else-before-lt2.branch [

@@ -1,6 +1,6 @@
 use Rattle.std.proofs.Common.{◌≡◌, ◌∙◌, ap, ℕ, subst}
 use Rattle.daide_token.specs.Token.{tokens_of}
-use Rattle.daide_grammar.specs.Table.Symbols.{opening_of}
+use Rattle.daide_grammar.specs.Table.Symbols.{start_symbol_of}
 use Rattle.daide_grammar.specs.SideMessages.{dialect_of}
 use Rattle.daide_grammar.specs.Table.Languages.{SymbolMatchesIn}
 use Rattle.daide_grammar.specs.Words.{Words}
@@ -13,7 +13,7 @@ use Rattle.daide_words.proofs.AcceptedCodes.{accepted_free}
 use Rattle.daide_reader.specs.ViablePrefix.{IsMessageOf}
 use Rattle.daide_reader.specs.Verdict.{HasVerdict}
 use Rattle.daide_reader.proofs.BodyLemmas.{place_in}
-use Rattle.daide_machine.proofs.WordedVerdicts.{worded_verdicts}
+use Rattle.daide_protocol.proofs.WordedVerdicts.{worded_verdicts}
 use Rattle.daide_explain.proofs.expected.verdict_of.Goals as goal
 
 pub returns-clause-verdict : goal.returns-clause-verdict
@@ -21,7 +21,7 @@ unfolding words_of
 returns-clause-verdict c =
     let words = grammar_words (words_of c.args.rules.now.words.now) in
     let m = tokens_of c.args.body.now in
-    let first = opening_of c.args.rules.now.end c.args.rules.now.level in
+    let first = start_symbol_of c.args.rules.now.end c.args.rules.now.level in
     let v = c.read_body.result in
     let read = c.read_body.ensures.verdict _ _ _ c.start.ensures.stands_after in
     let table = c.new-reader.result.table in

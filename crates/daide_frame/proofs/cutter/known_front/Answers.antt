@@ -1,5 +1,5 @@
 use Rattle.std.proofs.Common.{◌≡◌, ℕ, ◌+◌, ◌*◌, ◌-◌, ◌/◌, ◌≤◌, length, drop, arith, subst}
-use Rattle.daide_frame.specs.Frames.{first_alien, further}
+use Rattle.daide_frame.specs.Frames.{first_alien, shifted_place}
 use Rattle.daide_frame.proofs.AlienLemmas.{first_alien-known_run, known_from}
 use Rattle.daide_frame.proofs.cutter.known_front.Goals as goal
 
@@ -21,5 +21,5 @@ returns-then-are_known-clause-none c =
     let last = known_from v (tokens - 8) 8 i (tokens - i)
     (c.are_known-then-tokens-ge-TOGETHER.ensures c.if-are_known.true) less (omega (arith, more, enough)) in
     let all : i + (tokens - i) ≡ tokens = omega (arith, more) in
-    subst (λ (n : ℕ). first_alien v ≡ further (2 * n) (first_alien (drop (2 * n) v))) all
+    subst (λ (n : ℕ). first_alien v ≡ shifted_place (2 * n) (first_alien (drop (2 * n) v))) all
     (first_alien-known_run v i (tokens - i) (omega (arith, more)) last c.loop-i.invariant.1)

@@ -1,6 +1,6 @@
 use Rattle.std.proofs.Common.{◌≤◌, [], ◌∷◌, refl, ◌∙◌, arith}
 use Rattle.daide_frame.specs.Frames.{cut, first_items, is_alien, last_items, missing}
-use Rattle.daide_frame.specs.Head.{head_bytes, head_of}
+use Rattle.daide_frame.specs.Head.{head_bytes, parse_head}
 use Rattle.daide_frame.specs.declared.head.Kind.TheVariants.{Dm}
 use Rattle.daide_frame.proofs.law_facts.frames_at_values.Goals as goal
 
@@ -15,11 +15,11 @@ returns-clause-pieces c high low =
     c.any_pieces_agree.ensures 1024 (0x02 ∷ 0x00 ∷ []) (high ∷ low ∷ []) (omega arith)
 
 pub returns-clause-follow : goal.returns-clause-follow
-unfolding cut first_items head_of is_alien
+unfolding cut first_items parse_head is_alien
 returns-clause-follow c =
     c.frames_follow_one_another.ensures 1024 (0x03 ∷ 0x00 ∷ 0x00 ∷ 0x00 ∷ 0x03 ∷ 0x00 ∷ 0x00 ∷ 0x00 ∷ [])
 
 pub returns-clause-by_byte : goal.returns-clause-by_byte
-unfolding cut first_items last_items head_of is_alien
+unfolding cut first_items last_items parse_head is_alien
 returns-clause-by_byte c =
     c.frames_are_found_byte_by_byte.ensures 1024 (0x03 ∷ 0x00 ∷ 0x00 ∷ 0x00 ∷ 0x03 ∷ 0x00 ∷ 0x00 ∷ 0x00 ∷ [])

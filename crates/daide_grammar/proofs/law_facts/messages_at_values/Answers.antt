@@ -8,9 +8,9 @@ use Rattle.daide_grammar.specs.declared.side.Side2.TheVariants.{Client as BotSid
 use Rattle.daide_grammar.proofs.Apart.{numbers_apart, true_no_false}
 use Rattle.daide_grammar.proofs.law_facts.messages_at_values.Goals as goal
 
-pub returns-clause-opening : goal.returns-clause-opening
-returns-clause-opening c m said =
-    true_no_false ((c.opening_stands_for_messages.ensures BotSide L60 (prn ∷ m)).0 said).1
+pub returns-clause-start_symbol : goal.returns-clause-start_symbol
+returns-clause-start_symbol c m said =
+    true_no_false ((c.start_symbol_stands_for_messages.ensures BotSide L60 (prn ∷ m)).0 said).1
 
 pub returns-clause-any : goal.returns-clause-any
 returns-clause-any c =

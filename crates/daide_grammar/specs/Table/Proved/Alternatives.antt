@@ -8,7 +8,7 @@ use Rattle.daide_grammar.specs.declared.level.Level.{Level}
 use Rattle.daide_grammar.specs.declared.level.Level.TheVariants.{L0, L10, L20, L30, L40, L50, L60}
 use Rattle.daide_grammar.specs.Level.{level_number}
 use Rattle.daide_grammar.specs.Classes.{class_number, same_class}
-use Rattle.daide_grammar.specs.Forms.{Kind, is, any_word, accepts, Name, Place_name, Unit_name, Order_name, Any_name}
+use Rattle.daide_grammar.specs.Forms.{TokenTest, is, any_but_brackets, is_of_kind, Nonterminal, Place_name, Unit_name, Order_name, Any_name}
 use Rattle.daide_grammar.specs.Forms.{Request_name, Send_name, Press_name, Arrangement_name, Flat_name, Fact_name, Form}
 use Rattle.daide_grammar.specs.Forms.{one, never, empty, ◌·◌, ◌∣◌, many, group, named, Dialect}
 use Rattle.daide_grammar.specs.Message.Lists.{anything}
@@ -22,7 +22,7 @@ product [] ys = []
 product (x ∷ xs) ys = map (λ y. x ++ y) ys ++ product xs ys
 
 -- the alternatives of a name: itself alone, but the words and brackets of `any` stand for themselves
-unfoldable pub name_parts : Name → List (List Form)
+unfoldable pub name_parts : Nonterminal → List (List Form)
 name_parts Any_name = (anything ∷ []) ∷ []
 name_parts n = (named n ∷ []) ∷ []
 
@@ -142,13 +142,13 @@ only-one P x (inl h) = h
 only-one P x (inr h) = absurd h
 
 -- a name matches as its alternatives do
-name_parts-cover : (d : Dialect) (n : Name) (u : List ℕ) → Matches d (named n) u →
+name_parts-cover : (d : Dialect) (n : Nonterminal) (u : List ℕ) → Matches d (named n) u →
     Some-of (λ p. MatchAll d p u) (name_parts n)
 unfolding name_parts
 name_parts-cover d Any_name u (by_name m) = inl (alone d anything u m)
 name_parts-cover d n u m = inl (alone d (named n) u m)
 
-name_parts-sound : (d : Dialect) (n : Name) (u : List ℕ) → Some-of (λ p. MatchAll d p u) (name_parts n) →
+name_parts-sound : (d : Dialect) (n : Nonterminal) (u : List ℕ) → Some-of (λ p. MatchAll d p u) (name_parts n) →
     Matches d (named n) u
 unfolding name_parts
 name_parts-sound d Any_name u h = by_name (unalone d anything u (only-one (λ p. MatchAll d p u) (anything ∷ []) h))
@@ -261,21 +261,21 @@ either-passes true b e = inl refl
 either-passes false b e = inr e
 
 -- whether two kinds are the same
-abbrev pub same_kind : Kind → Kind → Bool
+abbrev pub same_kind : TokenTest → TokenTest → Bool
 same_kind (is c) (is d) = same_class c d
-same_kind any_word any_word = true
+same_kind any_but_brackets any_but_brackets = true
 same_kind _ _ = false
 
 -- a class that one accepts the same kind accepts
-pub same_kind-sound : (k m : Kind) (c : Class) → same_kind k m ≡ true → IsTrue (accepts k c) → IsTrue (accepts m c)
+pub same_kind-sound : (k m : TokenTest) (c : Class) → same_kind k m ≡ true → IsTrue (is_of_kind k c) → IsTrue (is_of_kind m c)
 same_kind-sound (is a) (is b) c e h =
     subst (λ (n : ℕ). nat_eq n (class_number c) ≡ true) (eqb-true (class_number a) (class_number b) e) h
-same_kind-sound any_word any_word c e h = h
-same_kind-sound (is a) any_word c e h = cc
-same_kind-sound any_word (is b) c e h = cc
+same_kind-sound any_but_brackets any_but_brackets c e h = h
+same_kind-sound (is a) any_but_brackets c e h = cc
+same_kind-sound any_but_brackets (is b) c e h = cc
 
 -- what the one name stands for is also what the other does
-unfoldable pub name_below : Name → Name → Bool
+unfoldable pub name_below : Nonterminal → Nonterminal → Bool
 name_below Place_name Place_name = true
 name_below Unit_name Unit_name = true
 name_below Order_name Order_name = true
@@ -290,7 +290,7 @@ name_below (Arrangement_name l) (Fact_name m) = same_level l m
 name_below _ _ = false
 
 -- the lists of a name below another are lists of the other
-name_below-sound : (d : Dialect) (n m : Name) (w : List ℕ) → name_below n m ≡ true → Matches d (named n) w →
+name_below-sound : (d : Dialect) (n m : Nonterminal) (w : List ℕ) → name_below n m ≡ true → Matches d (named n) w →
     Matches d (named m) w
 unfolding name_below
 name_below-sound d Place_name Place_name w e h = h

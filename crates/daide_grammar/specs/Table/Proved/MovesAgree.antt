@@ -9,21 +9,21 @@ use Rattle.daide_token.specs.declared.class.Class.{Class}
 use Rattle.daide_token.specs.declared.class.Class.TheVariants.{Word}
 use Rattle.daide_grammar.specs.declared.level.Level.{Level}
 use Rattle.daide_grammar.specs.Classes.{class_number, own_classes, same_class}
-use Rattle.daide_grammar.specs.Forms.{Kind, is, any_word, accepts, Slot, Press_slot, Arrangement_slot, Flat_slot, Name}
+use Rattle.daide_grammar.specs.Forms.{TokenTest, is, any_but_brackets, is_of_kind, Slot, Press_slot, Arrangement_slot, Flat_slot, Nonterminal}
 use Rattle.daide_grammar.specs.Forms.{Added, Form, named, Dialect}
 use Rattle.daide_grammar.specs.Matches.{rule, Matches, by_name, MatchAll}
-use Rattle.daide_grammar.specs.Table.Symbols.{form_of, Entry, entries, this_or, entry_at, forms, may_end_of, slot_of}
+use Rattle.daide_grammar.specs.Table.Symbols.{form_of, Alternative, entries, this_or, entry_at, forms, may_end_of, slot_of}
 use Rattle.daide_grammar.specs.Table.Symbols.{answer_by, table_answer}
 use Rattle.daide_grammar.specs.Table.Answers.{Take, Skip, Stop}
 use Rattle.daide_grammar.specs.Table.Languages.{SymbolMatchesIn}
-use Rattle.daide_grammar.specs.Table.Proved.Reading.{Reads, FirstItem, starts, ends, unopened, HeadReads, heads, heads-cover}
+use Rattle.daide_grammar.specs.Table.Proved.Reading.{LeftDerivation, FirstItem, starts, ends, unopened, HeadReads, heads, heads-cover}
 use Rattle.daide_grammar.specs.Table.Proved.Reading.{heads-sound, Some-of, Some-first, Some-second, Some-split}
 use Rattle.daide_grammar.specs.Table.Proved.Reading.{MatchAll_from_Reads, Reads_from_MatchAll}
 use Rattle.daide_grammar.specs.Table.Proved.Alternatives.{same_level, same_level-means, same_kind, same_kind-sound, parts_all}
 use Rattle.daide_grammar.specs.Table.Proved.Alternatives.{parts_all-cover, parts_all-sound, covers, covers-sound, both-pass}
 use Rattle.daide_grammar.specs.Table.Proved.Alternatives.{either-passes, alone, unalone}
 use Rattle.daide_grammar.specs.Table.Proved.RightEntries.{after, apart, all_apart, is_added, same_slot, added_right, if_same}
-use Rattle.daide_grammar.specs.Table.Proved.RightEntries.{known, entry_right, is_end, right_by, right, all_right}
+use Rattle.daide_grammar.specs.Table.Proved.RightEntries.{known, entry_right, is_end_marker, right_by, agrees_with_first, all_right}
 
 -- Added forms are not empty, and begin with added words.
 pub record Proper (d : Dialect) : Type 0 where
@@ -48,12 +48,12 @@ standard-no-word d ok None t std = tt
 standard-no-word d ok (Some p) t std = λ w m. let h = ok.by_word p.0 p.1 t w m in std h.0 h.1
 
 -- a class that one kind accepts is accepted by the same kind
-same_kind-back : (k m : Kind) (c : Class) → same_kind k m ≡ true → IsTrue (accepts m c) → IsTrue (accepts k c)
+same_kind-back : (k m : TokenTest) (c : Class) → same_kind k m ≡ true → IsTrue (is_of_kind m c) → IsTrue (is_of_kind k c)
 same_kind-back (is a) (is b) c e h =
     subst (λ (n : ℕ). nat_eq n (class_number c) ≡ true) (sym (eqb-true (class_number a) (class_number b) e)) h
-same_kind-back any_word any_word c e h = h
-same_kind-back (is a) any_word c e h = cc
-same_kind-back any_word (is b) c e h = cc
+same_kind-back any_but_brackets any_but_brackets c e h = h
+same_kind-back (is a) any_but_brackets c e h = cc
+same_kind-back any_but_brackets (is b) c e h = cc
 
 -- no test both passes and fails
 pub no-yes : (b : Bool) → b ≡ true → b ≡ false → ⊥
@@ -65,36 +65,36 @@ not-both true e h = cc
 not-both false e h = cc
 
 -- a class is accepted where one of its number is
-pub accepts-like : (k : Kind) (c d : Class) → class_number c ≡ class_number d → accepts k c ≡ accepts k d
-accepts-like (is a) c d e = ap (nat_eq (class_number a)) e
-accepts-like any_word c d e = ap (λ n. not (nat_eq 0 n) && not (nat_eq 1 n)) e
+pub is_of_kind-like : (k : TokenTest) (c d : Class) → class_number c ≡ class_number d → is_of_kind k c ≡ is_of_kind k d
+is_of_kind-like (is a) c d e = ap (nat_eq (class_number a)) e
+is_of_kind-like any_but_brackets c d e = ap (λ n. not (nat_eq 0 n) && not (nat_eq 1 n)) e
 
 -- kinds that are apart accept no class in common
-pub apart-sound : (k m : Kind) (c : Class) → apart k m ≡ true → IsTrue (accepts k c) → IsTrue (accepts m c) → ⊥
+pub apart-sound : (k m : TokenTest) (c : Class) → apart k m ≡ true → IsTrue (is_of_kind k c) → IsTrue (is_of_kind m c) → ⊥
 apart-sound (is a) (is b) c e h i =
     not-both (same_class a b) (eq-eqb (class_number a) (class_number b) (eqb-true (class_number a) (class_number c) h
     ∙ sym (eqb-true (class_number b) (class_number c) i))) e
-apart-sound (is a) any_word c e h i =
-    not-both (accepts any_word a) (accepts-like any_word a c (eqb-true (class_number a) (class_number c) h) ∙ i) e
-apart-sound any_word (is b) c e h i =
-    not-both (accepts any_word b) (accepts-like any_word b c (eqb-true (class_number b) (class_number c) i) ∙ h) e
-apart-sound any_word any_word c e h i = cc
+apart-sound (is a) any_but_brackets c e h i =
+    not-both (is_of_kind any_but_brackets a) (is_of_kind-like any_but_brackets a c (eqb-true (class_number a) (class_number c) h) ∙ i) e
+apart-sound any_but_brackets (is b) c e h i =
+    not-both (is_of_kind any_but_brackets b) (is_of_kind-like any_but_brackets b c (eqb-true (class_number b) (class_number c) i) ∙ h) e
+apart-sound any_but_brackets any_but_brackets c e h i = cc
 
 -- the entry that is found is the first, or a later one where the first doesn't take the class
-this_or-some : (b : Bool) (x : Entry) (o : Option Entry) (e : Entry) → this_or b x o ≡ Some e →
+this_or-some : (b : Bool) (x : Alternative) (o : Option Alternative) (e : Alternative) → this_or b x o ≡ Some e →
     ((b ≡ true) × (x ≡ e)) ⊎ ((b ≡ false) × (o ≡ Some e))
 this_or-some true x o e h = inl (refl, (cc))
 this_or-some false x o e h = inr (refl, h)
 
 -- where no entry is found, the first does not take the class and none is found in the rest
-this_or-none : (b : Bool) (x : Entry) (o : Option Entry) → this_or b x o ≡ None → (b ≡ false) × (o ≡ None)
+this_or-none : (b : Bool) (x : Alternative) (o : Option Alternative) → this_or b x o ≡ None → (b ≡ false) × (o ≡ None)
 this_or-none true x o h = cc
 this_or-none false x o h = (refl, h)
 
 -- a kind of the list that takes the class is a kind of an entry that takes it
-takes-any : (c : Class) (k : Kind) (es : List Entry) → list_any (λ f. same_kind k f.kind) es ≡ true →
-    accepts k c ≡ true → (x : Entry) →
-    list_all (λ f. apart x.kind f.kind) es ≡ true → accepts x.kind c ≡ true → ⊥
+takes-any : (c : Class) (k : TokenTest) (es : List Alternative) → list_any (λ f. same_kind k f.kind) es ≡ true →
+    is_of_kind k c ≡ true → (x : Alternative) →
+    list_all (λ f. apart x.kind f.kind) es ≡ true → is_of_kind x.kind c ≡ true → ⊥
 takes-any c k [] m h x a i = cc
 takes-any c k (y ∷ es) m h x a i =
     let p = both-pass (apart x.kind y.kind) (list_all (λ f. apart x.kind f.kind) es) a in
@@ -104,60 +104,60 @@ takes-any c k (y ∷ es) m h x a i =
     ]
 
 -- an entry that takes the class is the one that is found
-find-agrees : (c : Class) (k : Kind) (es : List Entry) (e : Entry) → all_apart es ≡ true → entry_at c es ≡ Some e →
-    list_any (λ f. same_kind k f.kind) es ≡ true → accepts k c ≡ true → same_kind k e.kind ≡ true
+find-agrees : (c : Class) (k : TokenTest) (es : List Alternative) (e : Alternative) → all_apart es ≡ true → entry_at c es ≡ Some e →
+    list_any (λ f. same_kind k f.kind) es ≡ true → is_of_kind k c ≡ true → same_kind k e.kind ≡ true
 unfolding all_apart
 find-agrees c k [] e a f m h = cc
 find-agrees c k (x ∷ es) e a f m h =
     let p = both-pass (list_all (λ g. apart x.kind g.kind) es) (all_apart es) a in
-    elim (this_or-some (accepts x.kind c) x (entry_at c es) e f) [
+    elim (this_or-some (is_of_kind x.kind c) x (entry_at c es) e f) [
       | inl i ↦ elim (either-passes (same_kind k x.kind) (list_any (λ g. same_kind k g.kind) es) m) [
-        | inl s ↦ subst (λ (y : Entry). same_kind k y.kind ≡ true) i.1 s
+        | inl s ↦ subst (λ (y : Alternative). same_kind k y.kind ≡ true) i.1 s
         | inr r ↦ absurd (takes-any c k es r h x p.0 i.0)
       ]
       | inr j ↦ elim (either-passes (same_kind k x.kind) (list_any (λ g. same_kind k g.kind) es) m) [
-        | inl s ↦ absurd (no-yes (accepts x.kind c) (same_kind-sound k x.kind c s h) j.0)
+        | inl s ↦ absurd (no-yes (is_of_kind x.kind c) (same_kind-sound k x.kind c s h) j.0)
         | inr r ↦ find-agrees c k es e p.1 j.1 r h
       ]
     ]
 
 -- where no entry is found, a kind of one of them accepts no such class
-find-none : (c : Class) (k : Kind) (es : List Entry) → entry_at c es ≡ None →
+find-none : (c : Class) (k : TokenTest) (es : List Alternative) → entry_at c es ≡ None →
     list_any (λ f. same_kind k f.kind) es ≡ true →
-    accepts k c ≡ true → ⊥
+    is_of_kind k c ≡ true → ⊥
 find-none c k [] f m h = cc
 find-none c k (x ∷ es) f m h =
-    let j = this_or-none (accepts x.kind c) x (entry_at c es) f in
+    let j = this_or-none (is_of_kind x.kind c) x (entry_at c es) f in
     elim (either-passes (same_kind k x.kind) (list_any (λ g. same_kind k g.kind) es) m) [
-      | inl s ↦ no-yes (accepts x.kind c) (same_kind-sound k x.kind c s h) j.0
+      | inl s ↦ no-yes (is_of_kind x.kind c) (same_kind-sound k x.kind c s h) j.0
       | inr r ↦ find-none c k es j.1 r h
     ]
 
 -- what is found is one of the entries, and takes the class
-pub find-takes : (c : Class) (es : List Entry) (e : Entry) → entry_at c es ≡ Some e → accepts e.kind c ≡ true
+pub find-takes : (c : Class) (es : List Alternative) (e : Alternative) → entry_at c es ≡ Some e → is_of_kind e.kind c ≡ true
 find-takes c [] e f = cc
 find-takes c (x ∷ es) e f =
-    elim (this_or-some (accepts x.kind c) x (entry_at c es) e f) [
-      | inl i ↦ subst (λ (y : Entry). accepts y.kind c ≡ true) i.1 i.0
+    elim (this_or-some (is_of_kind x.kind c) x (entry_at c es) e f) [
+      | inl i ↦ subst (λ (y : Alternative). is_of_kind y.kind c ≡ true) i.1 i.0
       | inr j ↦ find-takes c es e j.1
     ]
 
 -- what is found passes every test that all entries pass
-pub find-passes : (test : Entry → Bool) (c : Class) (es : List Entry) (e : Entry) → list_all test es ≡ true →
+pub find-passes : (test : Alternative → Bool) (c : Class) (es : List Alternative) (e : Alternative) → list_all test es ≡ true →
     entry_at c es ≡ Some e →
     test e ≡ true
 find-passes test c [] e a f = cc
 find-passes test c (x ∷ es) e a f =
     let p = both-pass (test x) (list_all test es) a in
-    elim (this_or-some (accepts x.kind c) x (entry_at c es) e f) [
-      | inl i ↦ subst (λ (y : Entry). test y ≡ true) i.1 p.0
+    elim (this_or-some (is_of_kind x.kind c) x (entry_at c es) e f) [
+      | inl i ↦ subst (λ (y : Alternative). test y ≡ true) i.1 p.0
       | inr j ↦ find-passes test c es e p.1 j.1
     ]
 
 -- ---- the heads that a token may stand at
 
 -- a list of a named form is one of what the name stands for
-pub named-rule : (d : Dialect) (n : Name) (w : List ℕ) → Matches d (named n) w → Matches d (rule d n) w
+pub named-rule : (d : Dialect) (n : Nonterminal) (w : List ℕ) → Matches d (named n) w → Matches d (rule d n) w
 named-rule d n w (by_name m) = m
 
 -- slots that compare as the same are the same
@@ -169,7 +169,7 @@ same_slot-means _ _ e = cc
 
 -- what stands for the words of a slot reads one of them
 pub added-reads : (d : Dialect) (p : Slot × Level) (fs : List Form) (w : List ℕ) → is_added (Some p) fs ≡ true →
-    Reads d fs w →
+    LeftDerivation d fs w →
     Matches d (d.added p.0 p.1) w
 unfolding is_added
 added-reads d p (named (Added s l) ∷ []) w e r =
@@ -182,7 +182,7 @@ added-reads d p _ w e r = cc
 -- no list begins with a token at which no added word stands
 no-added : (d : Dialect) (o : Option (Slot × Level)) (fs : List Form) (t : ℕ) (w : List ℕ) → NoWord d o t →
     is_added o fs ≡ true →
-    Reads d fs (t ∷ w) → ⊥
+    LeftDerivation d fs (t ∷ w) → ⊥
 unfolding is_added
 no-added d None fs t w std e r = cc
 no-added d (Some p) fs t w std e r = std w (added-reads d p fs (t ∷ w) e r)
@@ -205,7 +205,7 @@ if_same-either P true ps qs h = elim (Some-split P ps qs h) [ inl a ↦ inl (ref
 if_same-either P false ps qs h = inr h
 
 -- what follows the token, where the heads read it
-head-after : (d : Dialect) (ok : Proper d) (o : Option (Slot × Level)) (es : List Entry) (e : Entry) (t : ℕ)
+head-after : (d : Dialect) (ok : Proper d) (o : Option (Slot × Level)) (es : List Alternative) (e : Alternative) (t : ℕ)
     (w : List ℕ) → NoWord d o t →
     all_apart es ≡ true → entry_at (d.class_of t) es ≡ Some e →
     (hs : List FirstItem) → list_all (known o es) hs ≡ true → Some-of (HeadReads d (t ∷ w)) hs →
@@ -229,7 +229,7 @@ head-after d ok o es e t w std a f (unopened gs ∷ hs) k (inr r) =
     head-after d ok o es e t w std a f hs (both-pass (is_added o gs) (list_all (known o es) hs) k).1 r
 
 -- and the other way round
-after-head : (d : Dialect) (e : Entry) (t : ℕ) (w : List ℕ) → accepts e.kind (d.class_of t) ≡ true →
+after-head : (d : Dialect) (e : Alternative) (t : ℕ) (w : List ℕ) → is_of_kind e.kind (d.class_of t) ≡ true →
     (hs : List FirstItem) → Some-of (λ p. MatchAll d p w) (after e.kind hs) → Some-of (HeadReads d (t ∷ w)) hs
 unfolding after
 after-head d e t w i [] h = h
@@ -246,7 +246,7 @@ after-head d e t w i (ends ∷ hs) h = inr (after-head d e t w i hs h)
 after-head d e t w i (unopened gs ∷ hs) h = inr (after-head d e t w i hs h)
 
 -- no head reads a token of a class that no entry takes
-no-head : (d : Dialect) (ok : Proper d) (o : Option (Slot × Level)) (es : List Entry) (t : ℕ) (w : List ℕ) →
+no-head : (d : Dialect) (ok : Proper d) (o : Option (Slot × Level)) (es : List Alternative) (t : ℕ) (w : List ℕ) →
     NoWord d o t →
     entry_at (d.class_of t) es ≡ None →
     (hs : List FirstItem) → list_all (known o es) hs ≡ true → Some-of (HeadReads d (t ∷ w)) hs → ⊥
@@ -265,7 +265,7 @@ no-head d ok o es t w std f (unopened gs ∷ hs) k (inr r) =
     no-head d ok o es t w std f hs (both-pass (is_added o gs) (list_all (known o es) hs) k).1 r
 
 -- the empty list is read where a head ends
-end-head : (d : Dialect) (hs : List FirstItem) → list_any is_end hs ≡ true → Some-of (HeadReads d []) hs
+end-head : (d : Dialect) (hs : List FirstItem) → list_any is_end_marker hs ≡ true → Some-of (HeadReads d []) hs
 end-head d [] e = cc
 end-head d (starts m fs ∷ hs) e = inr (end-head d hs e)
 end-head d (ends ∷ hs) e = inl refl
@@ -273,15 +273,15 @@ end-head d (unopened gs ∷ hs) e = inr (end-head d hs e)
 
 -- no added word is empty
 not-added-empty : (d : Dialect) (ok : Proper d) (o : Option (Slot × Level)) (fs : List Form) → is_added o fs ≡ true →
-    Reads d fs [] → ⊥
+    LeftDerivation d fs [] → ⊥
 unfolding is_added
 not-added-empty d ok None fs e r = cc
 not-added-empty d ok (Some p) fs e r = ok.not_empty p.0 p.1 (added-reads d p fs [] e r)
 
 -- and a head ends where the empty list is read
-head-end : (d : Dialect) (ok : Proper d) (o : Option (Slot × Level)) (es : List Entry) (hs : List FirstItem) →
+head-end : (d : Dialect) (ok : Proper d) (o : Option (Slot × Level)) (es : List Alternative) (hs : List FirstItem) →
     list_all (known o es) hs ≡ true →
-    Some-of (HeadReads d []) hs → list_any is_end hs ≡ true
+    Some-of (HeadReads d []) hs → list_any is_end_marker hs ≡ true
 unfolding known
 head-end d ok o es [] k h = absurd h
 head-end d ok o es (starts m fs ∷ hs) k (inl r) = absurd r
@@ -300,7 +300,7 @@ pub record RightParts (d : Dialect) (s : Sym) : Type 0 where
   pub entries_right : list_all (entry_right (heads d 60 (form_of s ∷ []))) (entries s) ≡ true
   pub heads_known : list_all (known (slot_of s) (entries s)) (heads d 60 (form_of s ∷ [])) ≡ true
   pub kinds_apart : all_apart (entries s) ≡ true
-  pub may_end : list_any is_end (heads d 60 (form_of s ∷ [])) ≡ may_end_of s
+  pub may_end : list_any is_end_marker (heads d 60 (form_of s ∷ [])) ≡ may_end_of s
   pub added : added_right (slot_of s) (entries s) (heads d 60 (form_of s ∷ [])) ≡ true
 
 -- tests that compare as the same are the same
@@ -311,22 +311,22 @@ beq-same true false e = cc
 beq-same false true e = cc
 
 -- what the test of a symbol consists of
-right_by_parts : (o : Option (Slot × Level)) (b : Bool) (es : List Entry) (hs : List FirstItem) → right_by o b es hs ≡ true →
+right_by_parts : (o : Option (Slot × Level)) (b : Bool) (es : List Alternative) (hs : List FirstItem) → right_by o b es hs ≡ true →
     (list_all (entry_right hs) es ≡ true) × (list_all (known o es) hs ≡ true) × (all_apart es ≡ true) ×
-    (list_any is_end hs ≡ b) × (added_right o es hs ≡ true)
+    (list_any is_end_marker hs ≡ b) × (added_right o es hs ≡ true)
 unfolding right_by
 right_by_parts o b es hs e =
     let a = both-pass (((list_all (entry_right hs) es && list_all (known o es) hs) && all_apart es) && beq
-    (list_any is_end hs) b) (added_right o es hs) e in
+    (list_any is_end_marker hs) b) (added_right o es hs) e in
     let p = both-pass ((list_all (entry_right hs) es && list_all (known o es) hs) && all_apart es) (beq
-    (list_any is_end hs) b) a.0 in
+    (list_any is_end_marker hs) b) a.0 in
     let q = both-pass (list_all (entry_right hs) es && list_all (known o es) hs) (all_apart es) p.0 in
     let r = both-pass (list_all (entry_right hs) es) (list_all (known o es) hs) q.0 in
-    (r.0, r.1, q.1, beq-same (list_any is_end hs) b p.1, a.1)
+    (r.0, r.1, q.1, beq-same (list_any is_end_marker hs) b p.1, a.1)
 
 -- every symbol of the table is right
 pub right_parts : (d : Dialect) (s : Sym) → RightParts d s
-unfolding right
+unfolding agrees_with_first
 right_parts d s =
     let p = right_by_parts (slot_of s) (may_end_of s) (entries s) (heads d 60 (form_of s ∷ [])) (all_right d s) in
     record { entries_right = p.0; heads_known = p.1; kinds_apart = p.2; may_end = p.3; added = p.4 }
@@ -346,7 +346,7 @@ pub from_heads : (d : Dialect) (s : Sym) (w : List ℕ) → Some-of (HeadReads d
 from_heads d s w h = unalone d (form_of s) w (MatchAll_from_Reads d (heads-sound d 60 (form_of s ∷ []) w h))
 
 -- an entry that is right covers what follows its token, and is covered by it
-covered : (hs : List FirstItem) (e : Entry) → entry_right hs e ≡ true →
+covered : (hs : List FirstItem) (e : Alternative) → entry_right hs e ≡ true →
     (covers (parts_all (forms e.rest)) (after e.kind hs) ≡ true) × (covers (after e.kind hs) (parts_all
     (forms e.rest)) ≡ true)
 unfolding entry_right
@@ -354,7 +354,7 @@ covered hs e h = both-pass (covers (parts_all (forms e.rest)) (after e.kind hs))
     (forms e.rest))) h
 
 -- where an entry is found, the symbol's language goes on as its rest
-pub entry-law : (d : Dialect) (ok : Proper d) (s : Sym) (e : Entry) (t : ℕ) (w : List ℕ) → NoWord d (slot_of s) t →
+pub entry-law : (d : Dialect) (ok : Proper d) (s : Sym) (e : Alternative) (t : ℕ) (w : List ℕ) → NoWord d (slot_of s) t →
     entry_at (d.class_of t) (entries s) ≡ Some e →
     SymbolMatchesIn d s (t ∷ w) ↔ AllMatchIn d e.rest w
 entry-law d ok s e t w std f =
@@ -387,18 +387,18 @@ may_end-law d ok s =
 -- ---- the laws of the answers
 
 -- which entry and which end an answer comes from
-pub take-entry : (o : Option Entry) (b : Bool) (rest : List Sym) → answer_by o b ≡ Take rest →
-    (e : Entry) × (o ≡ Some e) × (e.rest ≡ rest)
+pub take-entry : (o : Option Alternative) (b : Bool) (rest : List Sym) → answer_by o b ≡ Take rest →
+    (e : Alternative) × (o ≡ Some e) × (e.rest ≡ rest)
 take-entry (Some e) b rest h = (e, refl, (cc))
 take-entry None true rest h = cc
 take-entry None false rest h = cc
 
-pub skip-entry : (o : Option Entry) (b : Bool) → answer_by o b ≡ Skip → (o ≡ None) × (b ≡ true)
+pub skip-entry : (o : Option Alternative) (b : Bool) → answer_by o b ≡ Skip → (o ≡ None) × (b ≡ true)
 skip-entry (Some e) b h = cc
 skip-entry None true h = (refl, refl)
 skip-entry None false h = cc
 
-stop-entry : (o : Option Entry) (b : Bool) → answer_by o b ≡ Stop → (o ≡ None) × (b ≡ false)
+stop-entry : (o : Option Alternative) (b : Bool) → answer_by o b ≡ Stop → (o ≡ None) × (b ≡ false)
 stop-entry (Some e) b h = cc
 stop-entry None true h = cc
 stop-entry None false h = (refl, refl)

@@ -11,18 +11,18 @@ use Rattle.daide_grammar.specs.declared.symbol.Sym.TheVariants.{RequestGroup, Se
 use Rattle.daide_grammar.specs.declared.symbol.Sym.TheVariants.{SendFirst, Send, MaybeSendGroup, Server, Press}
 use Rattle.daide_grammar.specs.declared.symbol.Sym.TheVariants.{Arrangement, Operand, Operands, Fact}
 use Rattle.daide_grammar.specs.Classes.{class_number, own_classes}
-use Rattle.daide_grammar.specs.Forms.{Kind, is, any_word, accepts, Form, Dialect}
+use Rattle.daide_grammar.specs.Forms.{TokenTest, is, any_but_brackets, is_of_kind, Form, Dialect}
 use Rattle.daide_grammar.specs.Matches.{MatchAll}
-use Rattle.daide_grammar.specs.Table.Symbols.{form_of, Entry, entries, entry_at, this_or, forms, may_end_of, slot_of}
+use Rattle.daide_grammar.specs.Table.Symbols.{form_of, Alternative, entries, entry_at, this_or, forms, may_end_of, slot_of}
 use Rattle.daide_grammar.specs.Table.Languages.{SymbolMatchesIn}
 use Rattle.daide_grammar.specs.Table.Proved.Alternatives.{both-pass, MatchAll-split}
 use Rattle.daide_grammar.specs.Table.Proved.MovesAgree.{Proper, IsStandard, standard-no-word, AllMatchIn, entry-law}
 use Rattle.daide_grammar.specs.Table.Proved.MovesAgree.{may_end-law}
 
 -- the class of a token of the kind
-abbrev pub sample : Kind → Class
+abbrev pub sample : TokenTest → Class
 sample (is c) = c
-sample any_word = Obs
+sample any_but_brackets = Obs
 
 -- whether the symbols end after so many steps, each of which takes a symbol away or replaces it by its first entry's
 -- rest
@@ -73,12 +73,12 @@ forms-append [] ss = refl
 forms-append (s ∷ rest) ss = ap (λ fs. form_of s ∷ fs) (forms-append rest ss)
 
 -- a kind accepts its sample
-takes-sample : (k : Kind) → accepts k (sample k) ≡ true
+takes-sample : (k : TokenTest) → is_of_kind k (sample k) ≡ true
 takes-sample (is c) = eq-eqb (class_number c) (class_number c) refl
-takes-sample any_word = refl
+takes-sample any_but_brackets = refl
 
 -- an entry that takes the class and stands first is the one that is found
-first-found : (c : Class) (e : Entry) (es : List Entry) → accepts e.kind c ≡ true → entry_at c (e ∷ es) ≡ Some e
+first-found : (c : Class) (e : Alternative) (es : List Alternative) → is_of_kind e.kind c ≡ true → entry_at c (e ∷ es) ≡ Some e
 first-found c e es h = ap (λ b. this_or b e (entry_at c es)) h
 
 -- the classes with a number below that of any word are those of the protocol's own tokens
@@ -90,14 +90,14 @@ skipped : (d : Dialect) (s : Sym) (ss : List Sym) → SymbolMatchesIn d s [] →
 skipped d s ss m h = (h.0, ([], h.0, m, h.1, refl))
 
 -- a token of the first entry's kind, and a list of its rest
-taken : (d : Dialect) (ok : Proper d) (s : Sym) (ss : List Sym) (e : Entry) (es : List Entry) → entries s ≡ e ∷ es →
+taken : (d : Dialect) (ok : Proper d) (s : Sym) (ss : List Sym) (e : Alternative) (es : List Alternative) → entries s ≡ e ∷ es →
     class_number (sample e.kind) < own_classes → Inhabited d (e.rest ++ ss) → Inhabited d (s ∷ ss)
 taken d ok s ss e es q h i =
     let tk = ok.token_of (sample e.kind) h in
     let k = MatchAll-split d (forms e.rest) (forms ss) i.0 (subst (λ (fs : List Form). MatchAll d fs i.0)
     (forms-append e.rest ss) i.1) in
-    let found = subst (λ (x : List Entry). entry_at (d.class_of tk.0) x ≡ Some e) (sym q)
-    (first-found (d.class_of tk.0) e es (ap (accepts e.kind) tk.1 ∙ takes-sample e.kind)) in
+    let found = subst (λ (x : List Alternative). entry_at (d.class_of tk.0) x ≡ Some e) (sym q)
+    (first-found (d.class_of tk.0) e es (ap (is_of_kind e.kind) tk.1 ∙ takes-sample e.kind)) in
     let law = entry-law d ok s e tk.0 k.0 (standard-no-word d ok (slot_of s) tk.0 (subst IsStandard (sym tk.1)
     (standard-below (sample e.kind) h))) found in
     (tk.0 ∷ (k.0 ++ k.1), (tk.0 ∷ k.0, k.1, law.1 k.2, k.3, refl))
@@ -109,7 +109,7 @@ inhabited d ok n [] h = ([], refl)
 inhabited d ok zero (s ∷ ss) h = cc
 inhabited d ok (suc n) (s ∷ ss) h = step (λ ss k. inhabited d ok n ss k) (may_end_of s) (entries s) refl refl h
   where
-    step : ((ss : List Sym) → ends_in n ss ≡ true → Inhabited d ss) → (b : Bool) (es : List Entry) → may_end_of s ≡ b →
+    step : ((ss : List Sym) → ends_in n ss ≡ true → Inhabited d ss) → (b : Bool) (es : List Alternative) → may_end_of s ≡ b →
         entries s ≡ es →
         elim b as (λ _. Bool) [
           | true ↦ ends_in n ss

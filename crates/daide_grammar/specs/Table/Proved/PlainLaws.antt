@@ -6,11 +6,11 @@ use Rattle.daide_token.specs.Token.{bra, ket}
 use Rattle.daide_token.proofs.ClassLaws.{class_bra, class_ket, class_of-bra, class_of-ket}
 use Rattle.daide_grammar.specs.declared.side.Side2.{Side2}
 use Rattle.daide_grammar.specs.declared.level.Level.{Level}
-use Rattle.daide_grammar.specs.Table.Symbols.{slot_of, may_end_of, table_answer, opening_of}
+use Rattle.daide_grammar.specs.Table.Symbols.{slot_of, may_end_of, table_answer, start_symbol_of}
 use Rattle.daide_grammar.specs.SideMessages.{standard}
 use Rattle.daide_grammar.specs.Table.Languages.{SymbolMatches}
-use Rattle.daide_grammar.specs.Table.LawfulStack.{IsLawful, opening}
-use Rattle.daide_grammar.specs.Table.Laws.{PredictLaws}
+use Rattle.daide_grammar.specs.Table.LawfulStack.{IsLawful, start_symbol}
+use Rattle.daide_grammar.specs.Table.Laws.{IsCorrectPrediction}
 use Rattle.daide_grammar.specs.Table.Proved.StandardDialect.{standard-proper, standard-words}
 use Rattle.daide_grammar.specs.Table.Proved.TableLaws.{table_laws}
 
@@ -22,9 +22,9 @@ pub only_ket : (t : ℕ) → (class_of t ≡ Ket) ↔ (t ≡ ket)
 only_ket t = (class_ket t, λ e. ap class_of e ∙ class_of-ket)
 
 -- the table keeps the laws of prediction
-pub plain_laws : PredictLaws class_of SymbolMatches table_answer may_end_of (IsLawful table_answer)
+pub plain_laws : IsCorrectPrediction class_of SymbolMatches table_answer may_end_of (IsLawful table_answer)
 plain_laws = table_laws standard standard-proper (λ s t. standard-words (slot_of s) t) only_bra only_ket
 
 -- the symbol of a side's messages alone is a stack that can arise
-pub plain_begins : (side : Side2) (level : Level) → IsLawful table_answer (opening_of side level ∷ []) 0
-plain_begins side level = opening side level
+pub plain_begins : (side : Side2) (level : Level) → IsLawful table_answer (start_symbol_of side level ∷ []) 0
+plain_begins side level = start_symbol side level

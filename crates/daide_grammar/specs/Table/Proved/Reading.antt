@@ -2,42 +2,42 @@
 use Rattle.std.proofs.Common.{◌≡◌, ℕ, zero, suc, List, [], ◌∷◌, ◌++◌, Option, Some, None, ◌⊎◌, inl, inr, IsTrue, refl}
 use Rattle.std.proofs.Common.{sym, ◌∙◌, ap, subst, append_assoc}
 use Rattle.daide_token.specs.declared.class.Class.TheVariants.{Bra, Ket}
-use Rattle.daide_grammar.specs.Forms.{Kind, is, accepts, Name, Form, one, never, empty, ◌·◌, ◌∣◌, many, group, named}
+use Rattle.daide_grammar.specs.Forms.{TokenTest, is, is_of_kind, Nonterminal, Form, one, never, empty, ◌·◌, ◌∣◌, many, group, named}
 use Rattle.daide_grammar.specs.Forms.{Added, Place_name, Dialect}
 use Rattle.daide_grammar.specs.Matches.{rule, Matches, token, nothing, both, first, second, no_more, one_more}
 use Rattle.daide_grammar.specs.Matches.{bracketed, by_name, MatchAll}
 
 -- a list of forms read from the left, token by token
-pub data Reads (d : Dialect) : List Form → List ℕ → Type 0 where
-  end : Reads d [] []
-  take : {k : Kind} {fs : List Form} {t : ℕ} {w : List ℕ} → IsTrue (accepts k (d.class_of t)) → Reads d fs w →
-      Reads d (one k ∷ fs) (t ∷ w)
-  pass : {fs : List Form} {w : List ℕ} → Reads d fs w → Reads d (empty ∷ fs) w
-  open' : {f g : Form} {fs : List Form} {w : List ℕ} → Reads d (f ∷ g ∷ fs) w → Reads d ((f · g) ∷ fs) w
-  left : {f g : Form} {fs : List Form} {w : List ℕ} → Reads d (f ∷ fs) w → Reads d ((f ∣ g) ∷ fs) w
-  right : {f g : Form} {fs : List Form} {w : List ℕ} → Reads d (g ∷ fs) w → Reads d ((f ∣ g) ∷ fs) w
-  stop : {f : Form} {fs : List Form} {w : List ℕ} → Reads d fs w → Reads d (many f ∷ fs) w
-  again : {f : Form} {fs : List Form} {w : List ℕ} → Reads d (f ∷ many f ∷ fs) w → Reads d (many f ∷ fs) w
-  enter : {f : Form} {fs : List Form} {t : ℕ} {w : List ℕ} → IsTrue (accepts (is Bra) (d.class_of t)) →
-      Reads d (f ∷ one (is Ket) ∷ fs) w →
-      Reads d (group f ∷ fs) (t ∷ w)
-  unfold' : {n : Name} {fs : List Form} {w : List ℕ} → Reads d (rule d n ∷ fs) w → Reads d (named n ∷ fs) w
+pub data LeftDerivation (d : Dialect) : List Form → List ℕ → Type 0 where
+  end : LeftDerivation d [] []
+  take : {k : TokenTest} {fs : List Form} {t : ℕ} {w : List ℕ} → IsTrue (is_of_kind k (d.class_of t)) → LeftDerivation d fs w →
+      LeftDerivation d (one k ∷ fs) (t ∷ w)
+  pass : {fs : List Form} {w : List ℕ} → LeftDerivation d fs w → LeftDerivation d (empty ∷ fs) w
+  open' : {f g : Form} {fs : List Form} {w : List ℕ} → LeftDerivation d (f ∷ g ∷ fs) w → LeftDerivation d ((f · g) ∷ fs) w
+  left : {f g : Form} {fs : List Form} {w : List ℕ} → LeftDerivation d (f ∷ fs) w → LeftDerivation d ((f ∣ g) ∷ fs) w
+  right : {f g : Form} {fs : List Form} {w : List ℕ} → LeftDerivation d (g ∷ fs) w → LeftDerivation d ((f ∣ g) ∷ fs) w
+  stop : {f : Form} {fs : List Form} {w : List ℕ} → LeftDerivation d fs w → LeftDerivation d (many f ∷ fs) w
+  again : {f : Form} {fs : List Form} {w : List ℕ} → LeftDerivation d (f ∷ many f ∷ fs) w → LeftDerivation d (many f ∷ fs) w
+  enter : {f : Form} {fs : List Form} {t : ℕ} {w : List ℕ} → IsTrue (is_of_kind (is Bra) (d.class_of t)) →
+      LeftDerivation d (f ∷ one (is Ket) ∷ fs) w →
+      LeftDerivation d (group f ∷ fs) (t ∷ w)
+  unfold' : {n : Nonterminal} {fs : List Form} {w : List ℕ} → LeftDerivation d (rule d n ∷ fs) w → LeftDerivation d (named n ∷ fs) w
 
 -- a match, and then a reading of the rest
-pub Reads-front : (d : Dialect) {f : Form} {u : List ℕ} {fs : List Form} (v : List ℕ) → Matches d f u → Reads d fs v →
-    Reads d (f ∷ fs) (u ++ v)
-Reads-front d v (token h) r = take h r
-Reads-front d v nothing r = pass r
-Reads-front d v (both {u = a} {v = b} m n) r =
-    open' (subst (Reads d _) (sym (append_assoc a b v)) (Reads-front d (b ++ v) m (Reads-front d v n r)))
-Reads-front d v (first m) r = left (Reads-front d v m r)
-Reads-front d v (second m) r = right (Reads-front d v m r)
-Reads-front d v no_more r = stop r
-Reads-front d v (one_more {u = a} {v = b} m n) r =
-    again (subst (Reads d _) (sym (append_assoc a b v)) (Reads-front d (b ++ v) m (Reads-front d v n r)))
-Reads-front d v (bracketed {u = u} o k b m e) r =
-    enter b (subst (Reads d _) (sym (append_assoc u (k ∷ []) v)) (Reads-front d (k ∷ v) m (take e r)))
-Reads-front d v (by_name m) r = unfold' (Reads-front d v m r)
+pub LeftDerivation-front : (d : Dialect) {f : Form} {u : List ℕ} {fs : List Form} (v : List ℕ) → Matches d f u → LeftDerivation d fs v →
+    LeftDerivation d (f ∷ fs) (u ++ v)
+LeftDerivation-front d v (token h) r = take h r
+LeftDerivation-front d v nothing r = pass r
+LeftDerivation-front d v (both {u = a} {v = b} m n) r =
+    open' (subst (LeftDerivation d _) (sym (append_assoc a b v)) (LeftDerivation-front d (b ++ v) m (LeftDerivation-front d v n r)))
+LeftDerivation-front d v (first m) r = left (LeftDerivation-front d v m r)
+LeftDerivation-front d v (second m) r = right (LeftDerivation-front d v m r)
+LeftDerivation-front d v no_more r = stop r
+LeftDerivation-front d v (one_more {u = a} {v = b} m n) r =
+    again (subst (LeftDerivation d _) (sym (append_assoc a b v)) (LeftDerivation-front d (b ++ v) m (LeftDerivation-front d v n r)))
+LeftDerivation-front d v (bracketed {u = u} o k b m e) r =
+    enter b (subst (LeftDerivation d _) (sym (append_assoc u (k ∷ []) v)) (LeftDerivation-front d (k ∷ v) m (take e r)))
+LeftDerivation-front d v (by_name m) r = unfold' (LeftDerivation-front d v m r)
 
 -- one form in front of a match of the rest
 front : (d : Dialect) {f : Form} (fs : List Form) {u : List ℕ} (w : List ℕ) → Matches d f u → MatchAll d fs w →
@@ -46,14 +46,14 @@ front d fs {u} w m r = (u, w, m, r, refl)
 
 -- a bracket, a match, a closing bracket and a match of the rest
 in_brackets : (d : Dialect) (f : Form) (fs : List Form) (t : ℕ) {w : List ℕ} →
-    IsTrue (accepts (is Bra) (d.class_of t)) → (u v : List ℕ) →
+    IsTrue (is_of_kind (is Bra) (d.class_of t)) → (u v : List ℕ) →
     Matches d f u → (x y : List ℕ) → Matches d (one (is Ket)) x → MatchAll d fs y → x ++ y ≡ v → u ++ v ≡ w →
     MatchAll d (group f ∷ fs) (t ∷ w)
 in_brackets d f fs t b u v m x y (token {t = k} e) r p q =
     (t ∷ (u ++ k ∷ []), y, bracketed t k b m e, r, ap (λ z. t ∷ z) (append_assoc u (k ∷ []) y ∙ ap (λ z. u ++ z) p ∙ q))
 
 -- what is read is a match of each form, in order
-pub MatchAll_from_Reads : (d : Dialect) {fs : List Form} {w : List ℕ} → Reads d fs w → MatchAll d fs w
+pub MatchAll_from_Reads : (d : Dialect) {fs : List Form} {w : List ℕ} → LeftDerivation d fs w → MatchAll d fs w
 MatchAll_from_Reads d end = refl
 MatchAll_from_Reads d (take {t = t} h r) = front d _ _ (token h) (MatchAll_from_Reads d r)
 MatchAll_from_Reads d (pass r) = front d _ _ nothing (MatchAll_from_Reads d r)
@@ -75,10 +75,10 @@ MatchAll_from_Reads d (enter {f = f} {fs = fs} {t = t} b r) =
 MatchAll_from_Reads d (unfold' r) = let h = MatchAll_from_Reads d r in (h.0, h.1, by_name h.2, h.3, h.4)
 
 -- and the other way round
-pub Reads_from_MatchAll : (d : Dialect) (fs : List Form) (w : List ℕ) → MatchAll d fs w → Reads d fs w
-Reads_from_MatchAll d [] w e = subst (Reads d []) (sym e) end
+pub Reads_from_MatchAll : (d : Dialect) (fs : List Form) (w : List ℕ) → MatchAll d fs w → LeftDerivation d fs w
+Reads_from_MatchAll d [] w e = subst (LeftDerivation d []) (sym e) end
 Reads_from_MatchAll d (f ∷ fs) w h =
-    subst (Reads d (f ∷ fs)) h.4 (Reads-front d h.1 h.2 (Reads_from_MatchAll d fs h.1 h.3))
+    subst (LeftDerivation d (f ∷ fs)) h.4 (LeftDerivation-front d h.1 h.2 (Reads_from_MatchAll d fs h.1 h.3))
 
 -- one of the items has P
 abbrev pub Some-of : {X : Type 0} → (X → Type 0) → List X → Type 0
@@ -103,33 +103,33 @@ Some-split P (x ∷ xs) ys (inr h) = elim (Some-split P xs ys h) [ inl a ↦ inl
 
 -- what a list of forms may begin with
 pub data FirstItem : Type 0 where
-  starts : Kind → List Form → FirstItem  -- a token of this kind, and then these forms
+  starts : TokenTest → List Form → FirstItem  -- a token of this kind, and then these forms
   ends : FirstItem  -- nothing: the list is empty
   unopened : List Form → FirstItem  -- as this list of forms, which was not opened
 
 -- what a head reads
 abbrev pub HeadReads : Dialect → List ℕ → FirstItem → Type 0
 HeadReads d [] (starts k fs) = ⊥
-HeadReads d (t ∷ w) (starts k fs) = IsTrue (accepts k (d.class_of t)) × Reads d fs w
+HeadReads d (t ∷ w) (starts k fs) = IsTrue (is_of_kind k (d.class_of t)) × LeftDerivation d fs w
 HeadReads d w ends = w ≡ []
-HeadReads d w (unopened fs) = Reads d fs w
+HeadReads d w (unopened fs) = LeftDerivation d fs w
 
 -- what a name stands for, but for the words that were added
-unfoldable pub opened : Dialect → Name → Option Form
+unfoldable pub opened : Dialect → Nonterminal → Option Form
 opened d (Added s l) = None
 opened d n = Some (rule d n)
 
 -- a name that opens stands for what it opens to
-pub opened-rule : (d : Dialect) (n : Name) (f : Form) → opened d n ≡ Some f → rule d n ≡ f
+pub opened-rule : (d : Dialect) (n : Nonterminal) (f : Form) → opened d n ≡ Some f → rule d n ≡ f
 unfolding opened
 opened-rule d (Added s l) f e = cc
 opened-rule d Place_name f e = cc
 opened-rule d n f e = cc
 
 -- the heads of what a name stands for, or the name's own
-abbrev pub by_opening : Option Form → FirstItem → (Form → List FirstItem) → List FirstItem
-by_opening None h then = h ∷ []
-by_opening (Some f) h then = then f
+abbrev pub by_start_symbol : Option Form → FirstItem → (Form → List FirstItem) → List FirstItem
+by_start_symbol None h then = h ∷ []
+by_start_symbol (Some f) h then = then f
 
 -- what a list of forms begins with; the number bounds how often forms are opened
 unfoldable pub heads : Dialect → ℕ → List Form → List FirstItem
@@ -142,39 +142,39 @@ heads d (suc n) ((f · g) ∷ fs) = heads d n (f ∷ g ∷ fs)
 heads d (suc n) ((f ∣ g) ∷ fs) = heads d n (f ∷ fs) ++ heads d n (g ∷ fs)
 heads d (suc n) (many f ∷ fs) = heads d n fs ++ heads d n (f ∷ many f ∷ fs)
 heads d (suc n) (group f ∷ fs) = starts (is Bra) (f ∷ one (is Ket) ∷ fs) ∷ []
-heads d (suc n) (named m ∷ fs) = by_opening (opened d m) (unopened (named m ∷ fs)) (λ f. heads d n (f ∷ fs))
+heads d (suc n) (named m ∷ fs) = by_start_symbol (opened d m) (unopened (named m ∷ fs)) (λ f. heads d n (f ∷ fs))
 
 -- an unopened head reads what its forms read
-unopened-holds : (d : Dialect) (w : List ℕ) (fs : List Form) → Reads d fs w → HeadReads d w (unopened fs)
+unopened-holds : (d : Dialect) (w : List ℕ) (fs : List Form) → LeftDerivation d fs w → HeadReads d w (unopened fs)
 unopened-holds d [] fs r = r
 unopened-holds d (t ∷ w) fs r = r
 
-unopened-reads : (d : Dialect) (w : List ℕ) (fs : List Form) → HeadReads d w (unopened fs) → Reads d fs w
+unopened-reads : (d : Dialect) (w : List ℕ) (fs : List Form) → HeadReads d w (unopened fs) → LeftDerivation d fs w
 unopened-reads d [] fs r = r
 unopened-reads d (t ∷ w) fs r = r
 
 -- the heads of a name: every reading is by one of them,
-by_opening-covers : (d : Dialect) (n : ℕ) (m : Name) (fs : List Form) (w : List ℕ) (o : Option Form) →
+by_start_symbol-covers : (d : Dialect) (n : ℕ) (m : Nonterminal) (fs : List Form) (w : List ℕ) (o : Option Form) →
     ((f : Form) → o ≡ Some f → rule d m ≡ f) →
-    ((f : Form) → Reads d (f ∷ fs) w → Some-of (HeadReads d w) (heads d n (f ∷ fs))) →
-    Reads d (named m ∷ fs) w → Some-of (HeadReads d w) (by_opening o (unopened (named m ∷ fs)) (λ f. heads d n
+    ((f : Form) → LeftDerivation d (f ∷ fs) w → Some-of (HeadReads d w) (heads d n (f ∷ fs))) →
+    LeftDerivation d (named m ∷ fs) w → Some-of (HeadReads d w) (by_start_symbol o (unopened (named m ∷ fs)) (λ f. heads d n
     (f ∷ fs)))
-by_opening-covers d n m fs w None k go r = inl (unopened-holds d w (named m ∷ fs) r)
-by_opening-covers d n m fs w (Some f) k go (unfold' r) = go f (subst (λ (g : Form). Reads d (g ∷ fs) w) (k f refl) r)
+by_start_symbol-covers d n m fs w None k go r = inl (unopened-holds d w (named m ∷ fs) r)
+by_start_symbol-covers d n m fs w (Some f) k go (unfold' r) = go f (subst (λ (g : Form). LeftDerivation d (g ∷ fs) w) (k f refl) r)
 
 -- and each reads only such
-by_opening-sound : (d : Dialect) (n : ℕ) (m : Name) (fs : List Form) (w : List ℕ) (o : Option Form) →
+by_start_symbol-sound : (d : Dialect) (n : ℕ) (m : Nonterminal) (fs : List Form) (w : List ℕ) (o : Option Form) →
     ((f : Form) → o ≡ Some f → rule d m ≡ f) →
-    ((f : Form) → Some-of (HeadReads d w) (heads d n (f ∷ fs)) → Reads d (f ∷ fs) w) →
-    Some-of (HeadReads d w) (by_opening o (unopened (named m ∷ fs)) (λ f. heads d n (f ∷ fs))) → Reads d
+    ((f : Form) → Some-of (HeadReads d w) (heads d n (f ∷ fs)) → LeftDerivation d (f ∷ fs) w) →
+    Some-of (HeadReads d w) (by_start_symbol o (unopened (named m ∷ fs)) (λ f. heads d n (f ∷ fs))) → LeftDerivation d
     (named m ∷ fs) w
-by_opening-sound d n m fs w None k go (inl h) = unopened-reads d w (named m ∷ fs) h
-by_opening-sound d n m fs w None k go (inr e) = absurd e
-by_opening-sound d n m fs w (Some f) k go h =
-    unfold' (subst (λ (g : Form). Reads d (g ∷ fs) w) (sym (k f refl)) (go f h))
+by_start_symbol-sound d n m fs w None k go (inl h) = unopened-reads d w (named m ∷ fs) h
+by_start_symbol-sound d n m fs w None k go (inr e) = absurd e
+by_start_symbol-sound d n m fs w (Some f) k go h =
+    unfold' (subst (λ (g : Form). LeftDerivation d (g ∷ fs) w) (sym (k f refl)) (go f h))
 
 -- every reading is by one of the heads
-pub heads-cover : (d : Dialect) (n : ℕ) (fs : List Form) (w : List ℕ) → Reads d fs w →
+pub heads-cover : (d : Dialect) (n : ℕ) (fs : List Form) (w : List ℕ) → LeftDerivation d fs w →
     Some-of (HeadReads d w) (heads d n fs)
 unfolding heads
 heads-cover d n [] [] r = inl refl
@@ -195,11 +195,11 @@ heads-cover d (suc n) (many f ∷ fs) w (again r) =
     Some-second _ (heads d n fs) (heads d n (f ∷ many f ∷ fs)) (heads-cover d n (f ∷ many f ∷ fs) w r)
 heads-cover d (suc n) (group f ∷ fs) w (enter b r) = inl (b, r)
 heads-cover d (suc n) (named m ∷ fs) w r =
-    by_opening-covers d n m fs w (opened d m) (opened-rule d m) (λ f h. heads-cover d n (f ∷ fs) w h) r
+    by_start_symbol-covers d n m fs w (opened d m) (opened-rule d m) (λ f h. heads-cover d n (f ∷ fs) w h) r
 
 -- and what a head reads is a reading
 pub heads-sound : (d : Dialect) (n : ℕ) (fs : List Form) (w : List ℕ) → Some-of (HeadReads d w) (heads d n fs) →
-    Reads d fs w
+    LeftDerivation d fs w
 unfolding heads
 heads-sound d n [] [] h = end
 heads-sound d n [] (t ∷ w) (inl e) = cc
@@ -230,4 +230,4 @@ heads-sound d (suc n) (group f ∷ fs) [] (inr r) = absurd r
 heads-sound d (suc n) (group f ∷ fs) (t ∷ w) (inl r) = enter r.0 r.1
 heads-sound d (suc n) (group f ∷ fs) (t ∷ w) (inr r) = absurd r
 heads-sound d (suc n) (named m ∷ fs) w h =
-    by_opening-sound d n m fs w (opened d m) (opened-rule d m) (λ f k. heads-sound d n (f ∷ fs) w k) h
+    by_start_symbol-sound d n m fs w (opened d m) (opened-rule d m) (λ f k. heads-sound d n (f ∷ fs) w k) h

@@ -11,9 +11,9 @@ use Rattle.daide_grammar.specs.declared.symbol.Sym.TheVariants.{RequestGroup, Se
 use Rattle.daide_grammar.specs.declared.symbol.Sym.TheVariants.{SendFirst, Send, MaybeSendGroup, Server, Press}
 use Rattle.daide_grammar.specs.declared.symbol.Sym.TheVariants.{Arrangement, Operand, Operands, Fact}
 use Rattle.daide_grammar.specs.Classes.{class_number, own_classes, same_class}
-use Rattle.daide_grammar.specs.Forms.{Kind, is, any_word, accepts, Slot, Press_slot, Arrangement_slot, Flat_slot, Added}
+use Rattle.daide_grammar.specs.Forms.{TokenTest, is, any_but_brackets, is_of_kind, Slot, Press_slot, Arrangement_slot, Flat_slot, Added}
 use Rattle.daide_grammar.specs.Forms.{Form, named, Dialect}
-use Rattle.daide_grammar.specs.Table.Symbols.{form_of, Entry, entries, forms, may_end_of, slot_of}
+use Rattle.daide_grammar.specs.Table.Symbols.{form_of, Alternative, entries, forms, may_end_of, slot_of}
 use Rattle.daide_grammar.specs.Table.Proved.Reading.{FirstItem, starts, ends, unopened, heads}
 use Rattle.daide_grammar.specs.Table.Proved.Reading
 use Rattle.daide_grammar.specs.Table.Proved.Alternatives.{same_level, same_kind, parts_all, covers}
@@ -25,21 +25,21 @@ if_same true ps qs = ps ++ qs
 if_same false ps qs = qs
 
 -- what follows a token of the kind
-unfoldable pub after : Kind → List FirstItem → List (List Form)
+unfoldable pub after : TokenTest → List FirstItem → List (List Form)
 after k [] = []
 after k (starts m fs ∷ hs) = if_same (same_kind m k) (parts_all fs) (after k hs)
 after k (ends ∷ hs) = after k hs
 after k (unopened fs ∷ hs) = after k hs
 
 -- no token is of both kinds
-abbrev pub apart : Kind → Kind → Bool
+abbrev pub apart : TokenTest → TokenTest → Bool
 apart (is c) (is d) = not (same_class c d)
-apart (is c) any_word = not (accepts any_word c)
-apart any_word (is c) = not (accepts any_word c)
-apart any_word any_word = false
+apart (is c) any_but_brackets = not (is_of_kind any_but_brackets c)
+apart any_but_brackets (is c) = not (is_of_kind any_but_brackets c)
+apart any_but_brackets any_but_brackets = false
 
 -- whether the kinds of the entries are pairwise apart
-unfoldable pub all_apart : List Entry → Bool
+unfoldable pub all_apart : List Alternative → Bool
 all_apart [] = true
 all_apart (e ∷ es) = list_all (λ f. apart e.kind f.kind) es && all_apart es
 
@@ -56,22 +56,22 @@ is_added (Some p) (named (Added s l) ∷ []) = same_slot s p.0 && same_level l p
 is_added _ _ = false
 
 -- a head is that of an entry, or the end, or an added word's
-unfoldable pub known : Option (Slot × Level) → List Entry → FirstItem → Bool
+unfoldable pub known : Option (Slot × Level) → List Alternative → FirstItem → Bool
 known o es (starts k fs) = list_any (λ e. same_kind k e.kind) es
 known o es ends = true
 known o es (unopened fs) = is_added o fs
 
 -- an entry is right where its rest and what follows its token cover each other
-unfoldable pub entry_right : List FirstItem → Entry → Bool
+unfoldable pub entry_right : List FirstItem → Alternative → Bool
 entry_right hs e =
     let rest = parts_all (forms e.rest) in
     let next = after e.kind hs in
     covers rest next && covers next rest
 
 -- whether a head is the end
-abbrev pub is_end : FirstItem → Bool
-is_end ends = true
-is_end _ = false
+abbrev pub is_end_marker : FirstItem → Bool
+is_end_marker ends = true
+is_end_marker _ = false
 
 -- whether a head is unopened
 abbrev pub is_unopened : FirstItem → Bool
@@ -79,30 +79,30 @@ is_unopened (unopened fs) = true
 is_unopened _ = false
 
 -- a kind of the standard's own classes
-abbrev pub is_plain : Kind → Bool
+abbrev pub is_plain : TokenTest → Bool
 is_plain (is c) = nat_lt (class_number c) own_classes
-is_plain any_word = false
+is_plain any_but_brackets = false
 
 -- where words may be added, they are heads, and no entry takes them
-unfoldable pub added_right : Option (Slot × Level) → List Entry → List FirstItem → Bool
+unfoldable pub added_right : Option (Slot × Level) → List Alternative → List FirstItem → Bool
 added_right None es hs = true
 added_right (Some p) es hs = list_any is_unopened hs && list_all (λ e. is_plain e.kind) es
 
 -- whether a symbol with these entries and heads is right: each entry is, each head is known, the kinds are apart, and
 -- the end is told
-unfoldable pub right_by : Option (Slot × Level) → Bool → List Entry → List FirstItem → Bool
+unfoldable pub right_by : Option (Slot × Level) → Bool → List Alternative → List FirstItem → Bool
 right_by o b es hs =
-    (((list_all (entry_right hs) es && list_all (known o es) hs) && all_apart es) && beq (list_any is_end hs) b)
+    (((list_all (entry_right hs) es && list_all (known o es) hs) && all_apart es) && beq (list_any is_end_marker hs) b)
     && added_right o es hs
 
 -- whether a symbol of the table is right
-unfoldable pub right : Dialect → Sym → Bool
-right d s = right_by (slot_of s) (may_end_of s) (entries s) (heads d 60 (form_of s ∷ []))
+unfoldable pub agrees_with_first : Dialect → Sym → Bool
+agrees_with_first d s = right_by (slot_of s) (may_end_of s) (entries s) (heads d 60 (form_of s ∷ []))
 
 -- a test that computes: every symbol of the table is right, whatever words are added. A wrong entry is named by the
 -- clause of its symbol
-pub all_right : (d : Dialect) (s : Sym) → IsTrue (right d s)
-unfolding right right_by added_right slot_of entry_right known is_added all_apart after entries form_of may_end_of
+pub all_right : (d : Dialect) (s : Sym) → IsTrue (agrees_with_first d s)
+unfolding agrees_with_first right_by added_right slot_of entry_right known is_added all_apart after entries form_of may_end_of
     Reading.heads Reading.opened Alternatives.parts_all Alternatives.parts Alternatives.name_parts Alternatives.product
     Alternatives.covers Alternatives.below_all Alternatives.below Alternatives.name_below
 all_right d (PressGroup L60) = refl

@@ -12,15 +12,15 @@ use Rattle.daide_grammar.specs.declared.symbol.Sym.TheVariants.{OperandGroup, Re
 use Rattle.daide_grammar.specs.declared.symbol.Sym.TheVariants.{SendTail, SendFirst, Send, MaybeSendGroup, Server}
 use Rattle.daide_grammar.specs.declared.symbol.Sym.TheVariants.{Press, Arrangement, Operand, Operands, Fact}
 use Rattle.daide_grammar.specs.Classes.{class_number, same_class}
-use Rattle.daide_grammar.specs.Forms.{Kind, is, any_word, accepts}
-use Rattle.daide_grammar.specs.Table.Symbols.{Entry, entries, may_end_of, entry_at, table_answer, answer_by, this_or, on}
-use Rattle.daide_grammar.specs.Table.Symbols.{opening_of}
-use Rattle.daide_grammar.specs.Table.Answers.{Answer, Take, Skip, Stop}
-use Rattle.daide_grammar.specs.Table.Shapes.{is_last, shape, join, shapes}
+use Rattle.daide_grammar.specs.Forms.{TokenTest, is, any_but_brackets, is_of_kind}
+use Rattle.daide_grammar.specs.Table.Symbols.{Alternative, entries, may_end_of, entry_at, table_answer, answer_by, this_or, on}
+use Rattle.daide_grammar.specs.Table.Symbols.{start_symbol_of}
+use Rattle.daide_grammar.specs.Table.Answers.{TableEntry, Take, Skip, Stop}
+use Rattle.daide_grammar.specs.Table.Shapes.{is_bottom_symbol, shape, join, shapes}
 use Rattle.daide_grammar.specs.declared.level.Level.{Level}
 use Rattle.daide_grammar.specs.declared.side.Side2.{Side2}
 use Rattle.daide_grammar.specs.declared.side.Side2.TheVariants.{Client as ClientSide, ServerEnd as ServerSide}
-use Rattle.daide_grammar.specs.Table.LawfulStack.{IsLawful, opening, word, bra, ket, skip}
+use Rattle.daide_grammar.specs.Table.LawfulStack.{IsLawful, start_symbol, word, bra, ket, skip}
 use Rattle.daide_grammar.specs.Table.Proved.Sizes.{fits, fits_below, fits_tail, is_single, begins_positive, Fits, Fits-test}
 use Rattle.daide_grammar.specs.Table.Proved.Sizes.{Fits_trans, Fits_refl, join-mono, IsCons, shapes-cons, shapes-append, caps}
 use Rattle.daide_grammar.specs.Table.Proved.Sizes.{sizes-opened, sizes-closed, sizes-skipped}
@@ -35,8 +35,8 @@ is_closing _ = false
 -- whether each symbol that must stand last does, where the bottom counts as b says
 unfoldable pub tidy : Bool → List Sym → Bool
 tidy b [] = true
-tidy b (s ∷ []) = not (is_last s) || b
-tidy b (s ∷ r ∷ ss) = (not (is_last s) || is_closing r) && tidy b (r ∷ ss)
+tidy b (s ∷ []) = not (is_bottom_symbol s) || b
+tidy b (s ∷ r ∷ ss) = (not (is_bottom_symbol s) || is_closing r) && tidy b (r ∷ ss)
 
 -- what a token of the kind does to the count of open brackets, and so to the sizes
 abbrev pub sized_by : Bool → Bool → List ℕ → List ℕ → Bool
@@ -45,23 +45,23 @@ sized_by false true rest whole = fits_tail rest whole
 sized_by false false rest whole = fits rest whole
 
 -- whether the sizes of a rest fit those of its symbol, by the kind that is taken
-unfoldable pub sized : Kind → List ℕ → List ℕ → Bool
+unfoldable pub sized : TokenTest → List ℕ → List ℕ → Bool
 sized (is c) rest whole = sized_by (same_class c Bra) (same_class c Ket) rest whole
-sized any_word rest whole = fits rest whole
+sized any_but_brackets rest whole = fits rest whole
 
 -- whether an entry's rest has last what must stand last, and fits its symbol's sizes
-unfoldable pub entry_ordered : Sym → Entry → Bool
-entry_ordered s e = tidy (is_last s) e.rest && sized e.kind (shapes e.rest) (shape s)
+unfoldable pub entry_ordered : Sym → Alternative → Bool
+entry_ordered s e = tidy (is_bottom_symbol s) e.rest && sized e.kind (shapes e.rest) (shape s)
 
 -- each entry is in order, the symbol has a size, and one that may be empty stands last and closes no bracket
 unfoldable pub ordered : Sym → Bool
 ordered s =
     (list_all (entry_ordered s) (entries s) && begins_positive (shape s))
-    && (not (may_end_of s) || (is_last s && is_single (shape s)))
+    && (not (may_end_of s) || (is_bottom_symbol s && is_single (shape s)))
 
 -- a test that computes: every symbol of the table is in order. One that is not is named by the clause that fails
 pub all_ordered : (s : Sym) → ordered s ≡ true
-unfolding ordered entry_ordered sized tidy fits shape is_last entries may_end_of
+unfolding ordered entry_ordered sized tidy fits shape is_bottom_symbol entries may_end_of
 all_ordered (PressGroup L60) = refl
 all_ordered (ArrangementGroup L60) = refl
 all_ordered (FactGroup L60) = refl
@@ -101,17 +101,17 @@ pub record Ordered (n : ℕ) (ss : List Sym) : Type 0 where
   pub tidied : tidy true ss ≡ true
 
 -- what the table's tests say of an entry that is taken
-record OrderedEntry (s : Sym) (e : Entry) : Type 0 where
-  tidied : tidy (is_last s) e.rest ≡ true
+record OrderedEntry (s : Sym) (e : Alternative) : Type 0 where
+  tidied : tidy (is_bottom_symbol s) e.rest ≡ true
   sized_so : sized e.kind (shapes e.rest) (shape s) ≡ true
 
 -- every entry that is found is in order
-ordered-entry : (s : Sym) (c : Class) (e : Entry) → entry_at c (entries s) ≡ Some e → OrderedEntry s e
+ordered-entry : (s : Sym) (c : Class) (e : Alternative) → entry_at c (entries s) ≡ Some e → OrderedEntry s e
 unfolding ordered entry_ordered
 ordered-entry s c e f =
     let p = both-pass (list_all (entry_ordered s) (entries s) && begins_positive (shape s)) _ (all_ordered s) in
     let q = both-pass (list_all (entry_ordered s) (entries s)) (begins_positive (shape s)) p.0 in
-    let r = both-pass (tidy (is_last s) e.rest) (sized e.kind (shapes e.rest) (shape s)) (find-passes
+    let r = both-pass (tidy (is_bottom_symbol s) e.rest) (sized e.kind (shapes e.rest) (shape s)) (find-passes
     (entry_ordered s) c (entries s) e q.0 f) in
     record { tidied = r.0; sized_so = r.1 }
 
@@ -128,7 +128,7 @@ skip-ends s c m = (skip-entry (entry_at c (entries s)) (may_end_of s) m).1
 -- what must stand last still does where the symbol is replaced
 tidy-one : (b : Bool) (s : Sym) → tidy b (s ∷ []) ≡ true → tidy true (s ∷ []) ≡ true
 unfolding tidy
-tidy-one b s e = or-true (not (is_last s))
+tidy-one b s e = or-true (not (is_bottom_symbol s))
 
 -- what is in order above something is in order on the bottom
 tidy-bottom : (b : Bool) (ss : List Sym) → tidy b ss ≡ true → tidy true ss ≡ true
@@ -136,7 +136,7 @@ unfolding tidy
 tidy-bottom b [] e = refl
 tidy-bottom b (s ∷ []) e = tidy-one b s e
 tidy-bottom b (s ∷ r ∷ ss) e =
-    let p = both-pass (not (is_last s) || is_closing r) (tidy b (r ∷ ss)) e in
+    let p = both-pass (not (is_bottom_symbol s) || is_closing r) (tidy b (r ∷ ss)) e in
     ap (λ (x : Bool). x && tidy true (r ∷ ss)) p.0 ∙ tidy-bottom b (r ∷ ss) p.1
 
 -- what stands last in a rest that stands last, stands last
@@ -146,44 +146,44 @@ last-handed true false q e h = cc
 last-handed false s q e h = refl
 
 -- a rest in the place of its symbol, above another
-tidy-above : (s q : Sym) (below rest : List Sym) → tidy (is_last s) rest ≡ true →
-    (not (is_last s) || is_closing q) ≡ true →
+tidy-above : (s q : Sym) (below rest : List Sym) → tidy (is_bottom_symbol s) rest ≡ true →
+    (not (is_bottom_symbol s) || is_closing q) ≡ true →
     tidy true (q ∷ below) ≡ true → tidy true (rest ++ (q ∷ below)) ≡ true
 unfolding tidy
 tidy-above s q below [] e h k = k
 tidy-above s q below (r ∷ []) e h k =
-    ap (λ (x : Bool). x && tidy true (q ∷ below)) (last-handed (is_last r) (is_last s) (is_closing q) e h) ∙ k
+    ap (λ (x : Bool). x && tidy true (q ∷ below)) (last-handed (is_bottom_symbol r) (is_bottom_symbol s) (is_closing q) e h) ∙ k
 tidy-above s q below (r ∷ r' ∷ rest) e h k =
-    let p = both-pass (not (is_last r) || is_closing r') (tidy (is_last s) (r' ∷ rest)) e in
+    let p = both-pass (not (is_bottom_symbol r) || is_closing r') (tidy (is_bottom_symbol s) (r' ∷ rest)) e in
     ap (λ (x : Bool). x && tidy true (r' ∷ (rest ++ (q ∷ below)))) p.0 ∙ tidy-above s q below (r' ∷ rest) p.1 h k
 
 -- a rest in the place of its symbol
-tidy-replaced : (s : Sym) (below rest : List Sym) → tidy (is_last s) rest ≡ true → tidy true (s ∷ below) ≡ true →
+tidy-replaced : (s : Sym) (below rest : List Sym) → tidy (is_bottom_symbol s) rest ≡ true → tidy true (s ∷ below) ≡ true →
     tidy true (rest ++ below) ≡ true
 unfolding tidy
 tidy-replaced s [] rest e h =
-    subst (λ (x : List Sym). tidy true x ≡ true) (sym (append-nil rest)) (tidy-bottom (is_last s) rest e)
+    subst (λ (x : List Sym). tidy true x ≡ true) (sym (append-nil rest)) (tidy-bottom (is_bottom_symbol s) rest e)
 tidy-replaced s (q ∷ below) rest e h =
-    let p = both-pass (not (is_last s) || is_closing q) (tidy true (q ∷ below)) h in tidy-above s q below rest e p.0 p.1
+    let p = both-pass (not (is_bottom_symbol s) || is_closing q) (tidy true (q ∷ below)) h in tidy-above s q below rest e p.0 p.1
 
 -- which of the three a class asks for
-pub sized-Bra : (k : Kind) (xs ys : List ℕ) → accepts k Bra ≡ true → sized k xs ys ≡ true → fits_below 8 xs ys ≡ true
+pub sized-Bra : (k : TokenTest) (xs ys : List ℕ) → is_of_kind k Bra ≡ true → sized k xs ys ≡ true → fits_below 8 xs ys ≡ true
 unfolding sized
 sized-Bra (is c) xs ys h e = subst (λ (b : Bool). sized_by b (same_class c Ket) xs ys ≡ true) h e
-sized-Bra any_word xs ys h e = cc
+sized-Bra any_but_brackets xs ys h e = cc
 
-pub sized-Ket : (k : Kind) (xs ys : List ℕ) → accepts k Ket ≡ true → sized k xs ys ≡ true → fits_tail xs ys ≡ true
+pub sized-Ket : (k : TokenTest) (xs ys : List ℕ) → is_of_kind k Ket ≡ true → sized k xs ys ≡ true → fits_tail xs ys ≡ true
 unfolding sized
 sized-Ket (is c) xs ys h e =
     subst (λ (m : ℕ). sized_by (nat_eq m 0) (nat_eq m 1) xs ys ≡ true) (eqb-true (class_number c) 1 h) e
-sized-Ket any_word xs ys h e = cc
+sized-Ket any_but_brackets xs ys h e = cc
 
 -- a test that doesn't pass
 not-so : (b : Bool) → (b ≡ true → ⊥) → b ≡ false
 not-so true h = absurd (h refl)
 not-so false h = refl
 
-pub sized-word : (k : Kind) (c : Class) (xs ys : List ℕ) → c ≢ Bra → c ≢ Ket → accepts k c ≡ true →
+pub sized-word : (k : TokenTest) (c : Class) (xs ys : List ℕ) → c ≢ Bra → c ≢ Ket → is_of_kind k c ≡ true →
     sized k xs ys ≡ true → fits xs ys ≡ true
 unfolding sized
 sized-word (is d) c xs ys b n h e =
@@ -194,7 +194,7 @@ sized-word (is d) c xs ys b n h e =
     (class_number d) 1 t))) in
     subst (λ (x : Bool). sized_by false x xs ys ≡ true) q (subst (λ (x : Bool). sized_by x
     (same_class d Ket) xs ys ≡ true) p e)
-sized-word any_word c xs ys b n h e = e
+sized-word any_but_brackets c xs ys b n h e = e
 
 -- every symbol has a size
 shape-cons : (s : Sym) → IsCons (shape s)
@@ -204,7 +204,7 @@ shape-cons _ = tt
 
 -- what may be empty stands last and has one size
 pub record Empty (s : Sym) : Type 0 where
-  pub last : is_last s ≡ true
+  pub last : is_bottom_symbol s ≡ true
   pub single : is_single (shape s) ≡ true
 
 -- a symbol that may be empty is so, by its test
@@ -212,25 +212,25 @@ pub empty-parts : (s : Sym) → may_end_of s ≡ true → Empty s
 unfolding ordered
 empty-parts s h =
     let p = both-pass (list_all (entry_ordered s) (entries s) && begins_positive (shape s)) _ (all_ordered s) in
-    let q = subst (λ (b : Bool). (not b || (is_last s && is_single (shape s))) ≡ true) h p.1 in
-    let t = both-pass (is_last s) (is_single (shape s)) q in
+    let q = subst (λ (b : Bool). (not b || (is_bottom_symbol s && is_single (shape s))) ≡ true) h p.1 in
+    let t = both-pass (is_bottom_symbol s) (is_single (shape s)) q in
     record { last = t.0; single = t.1 }
 
 -- what is below a symbol is in order
 tidy-under : (s : Sym) (ss : List Sym) → tidy true (s ∷ ss) ≡ true → tidy true ss ≡ true
 unfolding tidy
 tidy-under s [] h = refl
-tidy-under s (r ∷ ss) h = (both-pass (not (is_last s) || is_closing r) (tidy true (r ∷ ss)) h).1
+tidy-under s (r ∷ ss) h = (both-pass (not (is_bottom_symbol s) || is_closing r) (tidy true (r ∷ ss)) h).1
 
 -- what a table's moves keep in order: a Take's rest stands where its symbol stood, by some kind that takes the class
 pub record GoodTake (s : Sym) (c : Class) (rest : List Sym) : Type 0 where
-  pub kind : Kind
-  pub takes : accepts kind c ≡ true
-  pub tidied : tidy (is_last s) rest ≡ true
+  pub kind : TokenTest
+  pub takes : is_of_kind kind c ≡ true
+  pub tidied : tidy (is_bottom_symbol s) rest ≡ true
   pub sized_so : sized kind (shapes rest) (shape s) ≡ true
 
 -- a table whose Takes keep the order, whose skipped symbols may be empty, and whose closing bracket takes nothing else
-pub record GoodMoves (moves : Sym → Class → Answer) : Type 0 where
+pub record GoodMoves (moves : Sym → Class → TableEntry) : Type 0 where
   pub take : (s : Sym) (c : Class) (rest : List Sym) → moves s c ≡ Take rest → GoodTake s c rest
   pub skips : (s : Sym) (c : Class) → moves s c ≡ Skip → may_end_of s ≡ true
   pub closes : (c : Class) → c ≢ Ket → moves Closing c ≡ Stop
@@ -265,7 +265,7 @@ table-moves = record { take = table-take; skips = skip-ends; closes = table-clos
 
 -- the stack after a rest took the symbol's place
 replaced-rest : (n m : ℕ) (s : Sym) (c : Class) (rest below : List Sym) → GoodTake s c rest → Ordered n (s ∷ below) →
-    ((k : Kind) (xs : List ℕ) → IsCons xs → accepts k c ≡ true → sized k xs (shape s) ≡ true → Fits (join (shape s)
+    ((k : TokenTest) (xs : List ℕ) → IsCons xs → is_of_kind k c ≡ true → sized k xs (shape s) ≡ true → Fits (join (shape s)
     (shapes below)) (caps n) → Fits (join xs (shapes below)) (caps m)) →
     Ordered m (rest ++ below)
 replaced-rest n m s c rest below t o go =
@@ -277,21 +277,21 @@ replaced-rest n m s c rest below t o go =
     }
 
 -- an opening symbol alone is no higher than sixteen
-opening-sizes : (side : Side2) (level : Level) → Fits (shapes (opening_of side level ∷ [])) (caps 0)
+start_symbol-sizes : (side : Side2) (level : Level) → Fits (shapes (start_symbol_of side level ∷ [])) (caps 0)
 unfolding shape
-opening-sizes ClientSide l = (omega arith, tt)
-opening-sizes ServerSide l = (omega arith, tt)
+start_symbol-sizes ClientSide l = (omega arith, tt)
+start_symbol-sizes ServerSide l = (omega arith, tt)
 
 -- a symbol alone is in order
 tidy-alone : (s : Sym) → tidy true (s ∷ []) ≡ true
 unfolding tidy
-tidy-alone s = or-true (not (is_last s))
+tidy-alone s = or-true (not (is_bottom_symbol s))
 
 -- every stack that can arise is in order
-pub Lawful-ordered : {moves : Sym → Class → Answer} (g : GoodMoves moves) {n : ℕ} {ss : List Sym} →
+pub Lawful-ordered : {moves : Sym → Class → TableEntry} (g : GoodMoves moves) {n : ℕ} {ss : List Sym} →
     IsLawful moves ss n → Ordered n ss
-Lawful-ordered g (opening side level) =
-    record { sizes = opening-sizes side level; tidied = tidy-alone (opening_of side level) }
+Lawful-ordered g (start_symbol side level) =
+    record { sizes = start_symbol-sizes side level; tidied = tidy-alone (start_symbol_of side level) }
 Lawful-ordered g (word {n = n} {s = s} {rest = rest} {below = below} c b k m l) =
     replaced-rest n n s c rest below (g.take s _ rest m) (Lawful-ordered g l) (λ kind xs x a z f.
     Fits_trans (join xs (shapes below)) (join (shape s) (shapes below)) (caps n)

@@ -9,9 +9,9 @@ use Rattle.daide_token.specs.declared.class.Class.TheVariants.{Bra, Ket}
 use Rattle.daide_grammar.specs.declared.symbol.Sym.{Sym}
 use Rattle.daide_grammar.specs.declared.symbol.Sym.TheVariants.{Closing}
 use Rattle.daide_grammar.specs.Table.Symbols.{entries, may_end_of}
-use Rattle.daide_grammar.specs.Table.Answers.{Answer, Take, Skip, Stop}
+use Rattle.daide_grammar.specs.Table.Answers.{TableEntry, Take, Skip, Stop}
 use Rattle.daide_grammar.specs.Table.Stacks.{stack_after, skips_before, ends_asked}
-use Rattle.daide_grammar.specs.Table.Shapes.{is_last, shape, shapes}
+use Rattle.daide_grammar.specs.Table.Shapes.{is_bottom_symbol, shape, shapes}
 use Rattle.daide_grammar.specs.Table.LawfulStack.{IsLawful, bra, ket}
 use Rattle.daide_grammar.specs.Table.Proved.Alternatives.{both-pass}
 use Rattle.daide_grammar.specs.Table.Proved.Sizes.{begins_positive, shapes-cons, caps, total, total-mono, total-caps}
@@ -33,7 +33,7 @@ length-total (s ∷ ss) =
     omega (arith, total-join (shape s) (shapes ss) (shapes-cons ss), shape-positive s, length-total ss)
 
 -- at most eight entries for each open bracket, and sixteen
-pub Lawful-short : {moves : Sym → Class → Answer} (g : GoodMoves moves) (ss : List Sym) (n : ℕ) → IsLawful moves ss n →
+pub Lawful-short : {moves : Sym → Class → TableEntry} (g : GoodMoves moves) (ss : List Sym) (n : ℕ) → IsLawful moves ss n →
     length ss ≤ 8 * n + 16
 Lawful-short g ss n l =
     omega (arith, length-total ss, total-mono (shapes ss) (caps n) (Lawful-ordered g l).sizes, total-caps n)
@@ -44,20 +44,20 @@ closing-is Closing e = refl
 closing-is _ e = cc
 
 -- what must stand last stands above a closing bracket
-above-closing : (s r : Sym) (ss : List Sym) → tidy true (s ∷ r ∷ ss) ≡ true → is_last s ≡ true → r ≡ Closing
+above-closing : (s r : Sym) (ss : List Sym) → tidy true (s ∷ r ∷ ss) ≡ true → is_bottom_symbol s ≡ true → r ≡ Closing
 unfolding tidy
 above-closing s r ss h e =
-    let p = both-pass (not (is_last s) || is_closing r) (tidy true (r ∷ ss)) h in
+    let p = both-pass (not (is_bottom_symbol s) || is_closing r) (tidy true (r ∷ ss)) h in
     closing-is r (subst (λ (b : Bool). (not b || is_closing r) ≡ true) e p.0)
 
 -- what may be empty stands on the bottom, or right above a closing bracket
-pub Lawful-last : {moves : Sym → Class → Answer} (g : GoodMoves moves) {n : ℕ} (s r : Sym) (ss : List Sym) →
+pub Lawful-last : {moves : Sym → Class → TableEntry} (g : GoodMoves moves) {n : ℕ} (s r : Sym) (ss : List Sym) →
     IsLawful moves (s ∷ r ∷ ss) n →
     may_end_of s ≡ true → r ≡ Closing
 Lawful-last g s r ss l h = above-closing s r ss (Lawful-ordered g l).tidied (empty-parts s h).last
 
 -- a symbol that may be empty takes no closing bracket
-pub empty-keeps-open : {moves : Sym → Class → Answer} (g : GoodMoves moves) (s : Sym) (rest : List Sym) →
+pub empty-keeps-open : {moves : Sym → Class → TableEntry} (g : GoodMoves moves) (s : Sym) (rest : List Sym) →
     may_end_of s ≡ true →
     moves s Ket ≡ Take rest → ⊥
 empty-keeps-open g s rest h m =
@@ -66,7 +66,7 @@ empty-keeps-open g s rest h m =
     (shape s) t.takes t.sized_so)
 
 -- where no bracket is open, no closing one is taken
-pub Lawful-closing : {moves : Sym → Class → Answer} (g : GoodMoves moves) (s : Sym) (below rest : List Sym) →
+pub Lawful-closing : {moves : Sym → Class → TableEntry} (g : GoodMoves moves) (s : Sym) (below rest : List Sym) →
     IsLawful moves (s ∷ below) 0 →
     moves s Ket ≡ Take rest → ⊥
 Lawful-closing g s below rest l m =
@@ -77,7 +77,7 @@ Lawful-closing g s below rest l m =
 -- ---- the laws, as the trait states them
 
 -- a symbol that may be empty and what follows it do not begin with the same class
-pub Lawful-apart : {moves : Sym → Class → Answer} (g : GoodMoves moves) (s : Sym) (c : Class) (rest stack : List Sym)
+pub Lawful-apart : {moves : Sym → Class → TableEntry} (g : GoodMoves moves) (s : Sym) (c : Class) (rest stack : List Sym)
     (k : ℕ) →
     IsLawful moves (s ∷ stack) k → may_end_of s ≡ true → moves s c ≡ Take rest → stack_after moves c stack ≡ None
 Lawful-apart g s c rest [] k l h m = refl
@@ -86,7 +86,7 @@ Lawful-apart {moves} g s c rest (r ∷ stack) k l h m =
     let other : c ≢ Ket = λ q. empty-keeps-open g s rest h (subst (λ (x : Class). moves s x ≡ Take rest) q m) in
     stopped (moves r c) (ap (λ (x : Sym). moves x c) e ∙ g.closes c other)
   where
-    stopped : (a : Answer) → a ≡ Stop →
+    stopped : (a : TableEntry) → a ≡ Stop →
         ◌≡◌ {A = Option (List Sym)} (elim a [
           | Take x ↦ Some (x ++ stack)
           | Skip ↦ stack_after moves c stack
@@ -97,13 +97,13 @@ Lawful-apart {moves} g s c rest (r ∷ stack) k l h m =
     stopped (Take x) e = cc
 
 -- BRA leaves a lawful stack with one bracket more
-pub Lawful-open : {moves : Sym → Class → Answer} (s : Sym) (rest stack : List Sym) (k : ℕ) →
+pub Lawful-open : {moves : Sym → Class → TableEntry} (s : Sym) (rest stack : List Sym) (k : ℕ) →
     IsLawful moves (s ∷ stack) k →
     moves s Bra ≡ Take rest → IsLawful moves (rest ++ stack) (k + 1)
 Lawful-open s rest stack k l m = rw add-one (bra {s = s} m l)
 
 -- KET leaves one with a bracket less, and there was one
-pub Lawful-close : {moves : Sym → Class → Answer} (g : GoodMoves moves) (s : Sym) (rest stack : List Sym) (k : ℕ) →
+pub Lawful-close : {moves : Sym → Class → TableEntry} (g : GoodMoves moves) (s : Sym) (rest stack : List Sym) (k : ℕ) →
     IsLawful moves (s ∷ stack) k → moves s Ket ≡ Take rest → (below : ℕ) × (k ≡ below + 1) × IsLawful moves
     (rest ++ stack) below
 Lawful-close g s rest stack zero l m = absurd (Lawful-closing g s stack rest l m)
@@ -128,18 +128,18 @@ one-more true n h = omega (arith, h refl)
 one-more false n h = omega arith
 
 -- one Skip more where the symbol is skipped
-skips-one : (moves : Sym → Class → Answer) (c : Class) (s : Sym) (ss : List Sym) (n : ℕ) →
+skips-one : (moves : Sym → Class → TableEntry) (c : Class) (s : Sym) (ss : List Sym) (n : ℕ) →
     (moves s c ≡ Skip → skips_before moves c ss ≤ n) → skips_before moves c (s ∷ ss) ≤ 1 + n
 skips-one moves c s ss n h = go (moves s c) h
   where
-    go : (a : Answer) → (a ≡ Skip → skips_before moves c ss ≤ n) →
+    go : (a : TableEntry) → (a ≡ Skip → skips_before moves c ss ≤ n) →
         elim a [ Take x ↦ 0 | Skip ↦ 1 + skips_before moves c ss | Stop ↦ 0 ] ≤ 1 + n
     go (Take x) k = omega arith
     go Skip k = omega (arith, k refl)
     go Stop k = omega arith
 
 -- a token meets at most one symbol that is empty
-pub Lawful-skips : {moves : Sym → Class → Answer} (g : GoodMoves moves) (stack : List Sym) (k : ℕ) (c : Class) →
+pub Lawful-skips : {moves : Sym → Class → TableEntry} (g : GoodMoves moves) (stack : List Sym) (k : ℕ) (c : Class) →
     IsLawful moves stack k →
     skips_before moves c stack ≤ 1
 Lawful-skips g [] k c l = omega arith
@@ -150,13 +150,13 @@ Lawful-skips {moves} g (s ∷ r ∷ ss) k c l =
     below-closes : moves s c ≡ Skip → moves r c ≡ Skip → ⊥
     below-closes e q = closing-stays (ap may_end_of (sym (Lawful-last g s r ss l (g.skips s c e))) ∙ g.skips r c q)
 
-    none : (a : Answer) → (a ≡ Skip → ⊥) → elim a [ Take x ↦ 0 | Skip ↦ 1 + skips_before moves c ss | Stop ↦ 0 ] ≤ 0
+    none : (a : TableEntry) → (a ≡ Skip → ⊥) → elim a [ Take x ↦ 0 | Skip ↦ 1 + skips_before moves c ss | Stop ↦ 0 ] ≤ 0
     none (Take x) k = omega arith
     none Skip k = absurd (k refl)
     none Stop k = omega arith
 
 -- at most two answers decide whether all that is left may be empty
-pub Lawful-ends : {moves : Sym → Class → Answer} (g : GoodMoves moves) (stack : List Sym) (k : ℕ) →
+pub Lawful-ends : {moves : Sym → Class → TableEntry} (g : GoodMoves moves) (stack : List Sym) (k : ℕ) →
     IsLawful moves stack k →
     ends_asked may_end_of stack ≤ 2
 Lawful-ends g [] k l = omega arith

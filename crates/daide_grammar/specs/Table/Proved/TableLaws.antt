@@ -7,7 +7,7 @@ use Rattle.daide_grammar.specs.Forms.{Dialect}
 use Rattle.daide_grammar.specs.Table.Symbols.{may_end_of, slot_of, table_answer}
 use Rattle.daide_grammar.specs.Table.Stacks.{StackMatches}
 use Rattle.daide_grammar.specs.Table.LawfulStack.{IsLawful, word, skip}
-use Rattle.daide_grammar.specs.Table.Laws.{PredictLaws}
+use Rattle.daide_grammar.specs.Table.Laws.{IsCorrectPrediction}
 use Rattle.daide_token.specs.Token.{bra, ket}
 use Rattle.daide_grammar.specs.Table.Languages.{SymbolMatchesIn}
 use Rattle.daide_grammar.specs.Table.Proved.MovesAgree.{Proper, NoWord, AllMatchIn, take-law, skip-law, stop-law, may_end-law}
@@ -28,7 +28,7 @@ followed d (s ∷ ss) w h = (h.0, h.1, h.3, followed d ss h.1 h.4, sym h.2)
 -- the laws of a table whose dialect adds no words
 pub table_laws : (d : Dialect) (ok : Proper d) → ((s : Sym) (t : ℕ) → NoWord d (slot_of s) t) →
     ((t : ℕ) → (d.class_of t ≡ Bra) ↔ (t ≡ bra)) → ((t : ℕ) → (d.class_of t ≡ Ket) ↔ (t ≡ ket)) →
-    PredictLaws d.class_of (SymbolMatchesIn d) table_answer may_end_of (IsLawful table_answer)
+    IsCorrectPrediction d.class_of (SymbolMatchesIn d) table_answer may_end_of (IsLawful table_answer)
 table_laws d ok none bras kets = record {
   only_bra = bras;
   only_ket = kets;

@@ -1,16 +1,16 @@
 use Rattle.std.proofs.Common.{◌≡◌, ◌+◌, refl, sym, ap, ◌∙◌, subst, Ok, None, List, ℕ, ◌⊎◌, length, All, IfOk, IfErr}
-use Rattle.daide_lines.specs.declared.lines.Found.{Found}
-use Rattle.daide_lines.specs.declared.lines.Found.TheVariants.{Line}
-use Rattle.daide_lines.specs.declared.fault.LogFault.{LogFault}
-use Rattle.daide_lines.specs.declared.fault.LogFault.TheVariants.{BadLine}
-use Rattle.daide_lines.specs.Input.{line_at, rest_at}
-use Rattle.daide_lines.specs.Lines.{IsFound}
-use Rattle.daide_lines.specs.Output.{all_of}
+use Rattle.daide_log_lines.specs.declared.lines.LineEnd.{LineEnd}
+use Rattle.daide_log_lines.specs.declared.lines.LineEnd.TheVariants.{Line}
+use Rattle.daide_log_lines.specs.declared.fault.LogFault.{LogFault}
+use Rattle.daide_log_lines.specs.declared.fault.LogFault.TheVariants.{BadLine}
+use Rattle.daide_log_lines.specs.Input.{line_at, rest_after}
+use Rattle.daide_log_lines.specs.Lines.{IsFound}
+use Rattle.daide_log_lines.specs.Output.{all_of}
 use Rattle.daide_words.specs.Words.{words_of}
-use Rattle.daide_machine.specs.Wires.{SessionView}
+use Rattle.daide_protocol.specs.Wires.{SessionView}
 use Rattle.daide_log.specs.declared.heading.Preamble.{Preamble}
 use Rattle.daide_log.specs.Log.{event_in}
-use Rattle.daide_log.specs.Told.{IsReady, IsLateFault}
+use Rattle.daide_log.specs.Reporting.{IsReady, IsLateFault}
 use Rattle.daide_log.specs.Progress.{Judges, IsFinished, states_of}
 use Rattle.daide_log.proofs.EventLemmas.{plays_first, plays_more, finished_at_end, finished_at_last, fault_in_play}
 use Rattle.daide_log.proofs.EventLemmas.{unfinished, fault_handed_on, bad_in_play, at_end, at_last_line, as_line}
@@ -18,7 +18,7 @@ use Rattle.daide_log.proofs.check.play.Goals as goal
 
 pub lines-init : goal.lines-init
 lines-init g c = (
-  plays_first (g.S.Style.form (words_of c.args.account.now.head.words)) (IsReady c.args.account.now.head.limits.config (words_of c.args.account.now.head.words)) (g.R.LogReader.told c.args.input.now.reader.now) c.args.input.now.block c.args.lines
+  plays_first (g.S.Style.form (words_of c.args.account.now.head.words)) (IsReady c.args.account.now.head.limits.config (words_of c.args.account.now.head.words)) (g.R.LogReader.reader_view c.args.input.now.reader.now) c.args.input.now.block c.args.lines
       c.args.account.now.head.version
       c.args.sessions.now.items c.args.account.now.summary (all_of g.W.Write.contents c.args.account.now.output)
       c.requires.ready c.requires.lines c.requires.nothing,
@@ -29,11 +29,11 @@ lines-init g c = (
 
 pub returns-in_err-found-clause-refused : goal.returns-in_err-found-clause-refused
 returns-in_err-found-clause-refused g c =
-    fault_handed_on (g.S.Style.form (words_of c.args.account.now.head.words)) _ (g.R.LogReader.told c.find_line.new.input.reader.now)
+    fault_handed_on (g.S.Style.form (words_of c.args.account.now.head.words)) _ (g.R.LogReader.reader_view c.find_line.new.input.reader.now)
     (all_of g.W.Write.contents c.find_line.new.output) c.in_err-found.field-0.0 c.from_residual.result
     c.from_residual.ensures.1
-    (fault_in_play (g.S.Style.form (words_of c.args.account.now.head.words)) (IsReady c.args.account.now.head.limits.config (words_of c.args.account.now.head.words)) _ (g.R.LogReader.told c.lines.input.reader.now)
-    (g.R.LogReader.told c.find_line.new.input.reader.now) c.lines.input.block c.find_line.new.input.block
+    (fault_in_play (g.S.Style.form (words_of c.args.account.now.head.words)) (IsReady c.args.account.now.head.limits.config (words_of c.args.account.now.head.words)) _ (g.R.LogReader.reader_view c.lines.input.reader.now)
+    (g.R.LogReader.reader_view c.find_line.new.input.reader.now) c.lines.input.block c.find_line.new.input.block
     c.find_line.new.input.text.items c.lines.count c.args.account.now.head.version c.lines.sessions.items
     (length c.args.sessions.now.items) c.lines.account.summary (all_of g.W.Write.contents c.lines.account.output)
     (all_of g.W.Write.contents c.find_line.new.output) c.in_err-found.field-0.0 c.lines.invariant.0
@@ -60,15 +60,15 @@ judge_line-requires-clause-ready g c =
 
 pub returns-then-is_end-clause-report : goal.returns-then-is_end-clause-report
 returns-then-is_end-clause-report g c =
-    finished_at_end (g.S.Style.form (words_of c.args.account.now.head.words)) (IsReady c.args.account.now.head.limits.config (words_of c.args.account.now.head.words)) _ (g.R.LogReader.told c.lines.input.reader.now) (g.R.LogReader.told c.find_line.new.input.reader.now)
+    finished_at_end (g.S.Style.form (words_of c.args.account.now.head.words)) (IsReady c.args.account.now.head.limits.config (words_of c.args.account.now.head.words)) _ (g.R.LogReader.reader_view c.lines.input.reader.now) (g.R.LogReader.reader_view c.find_line.new.input.reader.now)
     c.lines.input.block c.find_line.new.input.block c.find_line.new.input.text.items c.lines.count
     c.args.account.now.head.version
     c.lines.sessions.items (length c.args.sessions.now.items) c.lines.account.summary
     (all_of g.W.Write.contents c.lines.account.output) (all_of g.W.Write.contents c.find_line.new.output) (all_of g.W.Write.contents c.finish.new.account.output)
     c.finish.result c.lines.invariant.0
-    (subst (λ (f : Found). IsFound (all_of g.W.Write.contents c.lines.account.output) (g.R.LogReader.told c.lines.input.reader.now) c.lines.input.block c.lines.count (Ok f)
+    (subst (λ (f : LineEnd). IsFound (all_of g.W.Write.contents c.lines.account.output) (g.R.LogReader.reader_view c.lines.input.reader.now) c.lines.input.block c.lines.count (Ok f)
     (line_at f c.find_line.new.input.block c.find_line.new.input.text.items)
-    (g.R.LogReader.told c.find_line.new.input.reader.now) (rest_at f c.find_line.new.input.block))
+    (g.R.LogReader.reader_view c.find_line.new.input.reader.now) (rest_after f c.find_line.new.input.block))
     (at_end c.in_ok-found.found (sym c.is_end.ensures ∙ c.if-is_end.true)) c.in_ok-found.ensures.found)
     c.in_ok-found.ensures.kept
     (subst (λ (h : Preamble). IfOk c.finish.result (λ answer. IsFinished (g.S.Style.form (words_of h.words)) h.version
@@ -77,8 +77,8 @@ returns-then-is_end-clause-report g c =
 
 pub returns-then-is_end-clause-refused : goal.returns-then-is_end-clause-refused
 returns-then-is_end-clause-refused g c =
-    unfinished (g.S.Style.form (words_of c.args.account.now.head.words)) (IsReady c.args.account.now.head.limits.config (words_of c.args.account.now.head.words)) _ (g.R.LogReader.told c.lines.input.reader.now) (g.R.LogReader.told c.find_line.new.input.reader.now)
-    c.lines.input.block (rest_at c.in_ok-found.found c.find_line.new.input.block)
+    unfinished (g.S.Style.form (words_of c.args.account.now.head.words)) (IsReady c.args.account.now.head.limits.config (words_of c.args.account.now.head.words)) _ (g.R.LogReader.reader_view c.lines.input.reader.now) (g.R.LogReader.reader_view c.find_line.new.input.reader.now)
+    c.lines.input.block (rest_after c.in_ok-found.found c.find_line.new.input.block)
     (line_at c.in_ok-found.found c.find_line.new.input.block c.find_line.new.input.text.items) c.lines.count
     c.args.account.now.head.version c.lines.sessions.items (length c.args.sessions.now.items) c.lines.account.summary
     (all_of g.W.Write.contents c.lines.account.output) (all_of g.W.Write.contents c.finish.new.account.output)
@@ -88,11 +88,11 @@ returns-then-is_end-clause-refused g c =
 
 pub returns-in_err-judge_line-clause-refused : goal.returns-in_err-judge_line-clause-refused
 returns-in_err-judge_line-clause-refused g c =
-    fault_handed_on (g.S.Style.form (words_of c.args.account.now.head.words)) _ (g.R.LogReader.told c.find_line.new.input.reader.now)
+    fault_handed_on (g.S.Style.form (words_of c.args.account.now.head.words)) _ (g.R.LogReader.reader_view c.find_line.new.input.reader.now)
     (all_of g.W.Write.contents c.judge_line.new.account.output) c.in_err-judge_line.field-0.0
     c.from_residual-in_err-judge_line.result c.from_residual-in_err-judge_line.ensures.1
-    (bad_in_play (g.S.Style.form (words_of c.args.account.now.head.words)) (IsReady c.args.account.now.head.limits.config (words_of c.args.account.now.head.words)) _ (g.R.LogReader.told c.lines.input.reader.now) (g.R.LogReader.told c.find_line.new.input.reader.now)
-    c.lines.input.block (rest_at c.in_ok-found.found c.find_line.new.input.block)
+    (bad_in_play (g.S.Style.form (words_of c.args.account.now.head.words)) (IsReady c.args.account.now.head.limits.config (words_of c.args.account.now.head.words)) _ (g.R.LogReader.reader_view c.lines.input.reader.now) (g.R.LogReader.reader_view c.find_line.new.input.reader.now)
+    c.lines.input.block (rest_after c.in_ok-found.found c.find_line.new.input.block)
     (line_at c.in_ok-found.found c.find_line.new.input.block c.find_line.new.input.text.items) c.lines.count
     c.args.account.now.head.version
     c.lines.sessions.items (length c.args.sessions.now.items) c.lines.account.summary
@@ -114,16 +114,16 @@ returns-in_err-judge_line-clause-refused g c =
 pub returns-then-is_last-clause-report : goal.returns-then-is_last-clause-report
 returns-then-is_last-clause-report g c =
     let line = line_at c.in_ok-found.found c.find_line.new.input.block c.find_line.new.input.text.items in
-    finished_at_last (g.S.Style.form (words_of c.args.account.now.head.words)) (IsReady c.args.account.now.head.limits.config (words_of c.args.account.now.head.words)) _ (g.R.LogReader.told c.lines.input.reader.now) (g.R.LogReader.told c.find_line.new.input.reader.now)
+    finished_at_last (g.S.Style.form (words_of c.args.account.now.head.words)) (IsReady c.args.account.now.head.limits.config (words_of c.args.account.now.head.words)) _ (g.R.LogReader.reader_view c.lines.input.reader.now) (g.R.LogReader.reader_view c.find_line.new.input.reader.now)
     c.lines.input.block c.find_line.new.input.block c.find_line.new.input.text.items c.lines.count
     c.args.account.now.head.version
     c.lines.sessions.items c.judge_line.new.sessions.items (length c.args.sessions.now.items) c.lines.account.summary
     c.judge_line.new.account.summary (all_of g.W.Write.contents c.lines.account.output) (all_of g.W.Write.contents c.find_line.new.output)
     (all_of g.W.Write.contents c.judge_line.new.account.output)
     (all_of g.W.Write.contents c.finish-then-is_last.new.account.output) c.finish-then-is_last.result c.lines.invariant.0
-    (subst (λ (f : Found). IsFound (all_of g.W.Write.contents c.lines.account.output) (g.R.LogReader.told c.lines.input.reader.now) c.lines.input.block c.lines.count (Ok f)
+    (subst (λ (f : LineEnd). IsFound (all_of g.W.Write.contents c.lines.account.output) (g.R.LogReader.reader_view c.lines.input.reader.now) c.lines.input.block c.lines.count (Ok f)
     (line_at f c.find_line.new.input.block c.find_line.new.input.text.items)
-    (g.R.LogReader.told c.find_line.new.input.reader.now) (rest_at f c.find_line.new.input.block))
+    (g.R.LogReader.reader_view c.find_line.new.input.reader.now) (rest_after f c.find_line.new.input.block))
     (at_last_line c.in_ok-found.found (sym c.is_last.ensures ∙ c.if-is_last.true)) c.in_ok-found.ensures.found)
     c.in_ok-found.ensures.kept
     (subst (λ (h : Preamble). Judges (g.S.Style.form (words_of h.words)) h.version (c.lines.count + 1)
@@ -135,7 +135,7 @@ returns-then-is_last-clause-report g c =
     (states_of c.judge_line.new.sessions.items) c.lines.account.summary c.judge_line.new.account.summary
     (all_of g.W.Write.contents c.find_line.new.output) (all_of g.W.Write.contents c.judge_line.new.account.output))
     (c.line.ensures
-    ∙ ap (λ (f : Found). line_at f c.find_line.new.input.block c.find_line.new.input.text.items)
+    ∙ ap (λ (f : LineEnd). line_at f c.find_line.new.input.block c.find_line.new.input.text.items)
     (at_last_line c.in_ok-found.found (sym c.is_last.ensures ∙ c.if-is_last.true)))
     c.in_ok-judge_line.ensures.judged))
     (subst (λ (h : Preamble). IfOk c.finish-then-is_last.result (λ answer. IsFinished (g.S.Style.form (words_of h.words))
@@ -145,8 +145,8 @@ returns-then-is_last-clause-report g c =
 
 pub returns-then-is_last-clause-refused : goal.returns-then-is_last-clause-refused
 returns-then-is_last-clause-refused g c =
-    unfinished (g.S.Style.form (words_of c.args.account.now.head.words)) (IsReady c.args.account.now.head.limits.config (words_of c.args.account.now.head.words)) _ (g.R.LogReader.told c.lines.input.reader.now) (g.R.LogReader.told c.find_line.new.input.reader.now)
-    c.lines.input.block (rest_at c.in_ok-found.found c.find_line.new.input.block)
+    unfinished (g.S.Style.form (words_of c.args.account.now.head.words)) (IsReady c.args.account.now.head.limits.config (words_of c.args.account.now.head.words)) _ (g.R.LogReader.reader_view c.lines.input.reader.now) (g.R.LogReader.reader_view c.find_line.new.input.reader.now)
+    c.lines.input.block (rest_after c.in_ok-found.found c.find_line.new.input.block)
     (line_at c.in_ok-found.found c.find_line.new.input.block c.find_line.new.input.text.items) c.lines.count
     c.args.account.now.head.version
     c.lines.sessions.items (length c.args.sessions.now.items) c.lines.account.summary
@@ -157,8 +157,8 @@ returns-then-is_last-clause-refused g c =
 
 pub lines-preserved : goal.lines-preserved
 lines-preserved g c =
-    let now = g.R.LogReader.told c.lines.input.reader.now in
-    let new = g.R.LogReader.told c.find_line.new.input.reader.now in
+    let now = g.R.LogReader.reader_view c.lines.input.reader.now in
+    let new = g.R.LogReader.reader_view c.find_line.new.input.reader.now in
     let line = line_at c.in_ok-found.found c.find_line.new.input.block c.find_line.new.input.text.items in (
       plays_more (g.S.Style.form (words_of c.args.account.now.head.words)) (IsReady c.args.account.now.head.limits.config (words_of c.args.account.now.head.words)) _ now new c.lines.input.block c.pass_line.new.block line c.lines.count
           c.args.account.now.head.version
@@ -167,7 +167,7 @@ lines-preserved g c =
           (all_of g.W.Write.contents c.find_line.new.output) (all_of g.W.Write.contents c.judge_line.new.account.output) c.lines.invariant.0
           (subst (λ (rest : List ℕ). IsFound (all_of g.W.Write.contents c.lines.account.output) now c.lines.input.block c.lines.count (Ok Line) line new rest)
           (sym c.pass_line.ensures)
-          (as_line (all_of g.W.Write.contents c.lines.account.output) now new c.lines.input.block (rest_at c.in_ok-found.found c.find_line.new.input.block) line c.lines.count
+          (as_line (all_of g.W.Write.contents c.lines.account.output) now new c.lines.input.block (rest_after c.in_ok-found.found c.find_line.new.input.block) line c.lines.count
           c.in_ok-found.found (sym c.is_end.ensures ∙ c.if-is_end.false) (sym c.is_last.ensures ∙ c.if-is_last.false)
           c.in_ok-found.ensures.found))
           c.in_ok-found.ensures.kept

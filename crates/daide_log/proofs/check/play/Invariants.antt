@@ -1,9 +1,9 @@
 use Rattle.std.proofs.Common.{◌≡◌, ◌-◌, length}
-use Rattle.daide_lines.specs.Input.{IsSameReader}
-use Rattle.daide_lines.specs.Output.{IsSameWriter, all_of}
+use Rattle.daide_log_lines.specs.Input.{IsSameReader}
+use Rattle.daide_log_lines.specs.Output.{IsSameWriter, all_of}
 use Rattle.daide_words.specs.Words.{words_of}
-use Rattle.daide_log.specs.Progress.{Begins, states_of}
-use Rattle.daide_log.specs.Told.{IsReady}
+use Rattle.daide_log.specs.Progress.{StartsReport, states_of}
+use Rattle.daide_log.specs.Reporting.{IsReady}
 use Rattle.daide_log.proofs.EventLemmas.{Plays}
 use Rattle.daide_log.proofs.check.play.Given as goal
 
@@ -12,9 +12,9 @@ abbrev pub invariant-lines : goal.invariant-lines
 invariant-lines g l =
     Plays (g.S.Style.form (words_of l.fn.account.head.words))
     (IsReady l.fn.account.head.limits.config (words_of l.fn.account.head.words))
-    (Begins (g.S.Style.form (words_of l.fn.account.head.words)) (g.R.LogReader.told l.fn.input.reader.now) l.fn.input.block
+    (StartsReport (g.S.Style.form (words_of l.fn.account.head.words)) (g.R.LogReader.reader_view l.fn.input.reader.now) l.fn.input.block
     l.lines l.fn.account.head.version (states_of l.fn.sessions.items) (all_of g.W.Write.contents l.fn.account.output))
-    (g.R.LogReader.told l.input.reader.now) l.input.block l.count l.fn.account.head.version l.sessions.items
+    (g.R.LogReader.reader_view l.input.reader.now) l.input.block l.count l.fn.account.head.version l.sessions.items
     (length l.fn.sessions.items) l.account.summary (all_of g.W.Write.contents l.account.output)
     × IsSameReader l.fn.input l.input × IsSameWriter l.fn.account.output l.account.output
     × (l.account.head ≡ l.fn.account.head)

@@ -1,14 +1,14 @@
 use Rattle.std.proofs.Common.{subst, sym, [], List, arith, ap, length, ◌∙◌, IfOk}
-use Rattle.daide_machine.specs.Wires.{SessionView}
-use Rattle.daide_lines.specs.Output.{all_of}
-use Rattle.daide_machine.specs.Machine.{SessionState, opening}
-use Rattle.daide_machine.specs.Config.{limits_with}
+use Rattle.daide_protocol.specs.Wires.{SessionView}
+use Rattle.daide_log_lines.specs.Output.{all_of}
+use Rattle.daide_protocol.specs.Machine.{SessionState, initial_state}
+use Rattle.daide_protocol.specs.Config.{limits_with}
 use Rattle.daide_words.specs.Words.{words_of}
 use Rattle.std.specs.Prelude.{not, replicate}
-use Rattle.daide_log.specs.Held.{head_of}
-use Rattle.daide_log.specs.Log.{Playing, begun}
+use Rattle.daide_log.specs.PreambleKnown.{preamble_of}
+use Rattle.daide_log.specs.Log.{Playing, state_after_preamble}
 use Rattle.daide_log.specs.Progress.{HasRead, HasReadAll, IsFinished, states_of}
-use Rattle.daide_lines.proofs.PageLemmas.{keeps_appends}
+use Rattle.daide_log_lines.proofs.PageLemmas.{keeps_appends}
 use Rattle.daide_log.proofs.LogLemmas.{fault_at_once, finished, write_failed}
 use Rattle.daide_log.proofs.PreambleLemmas.{as_many, opened_last, opened_more, memory_wanted}
 use Rattle.daide_log.proofs.check.report.Goals as goal
@@ -18,8 +18,8 @@ returns-in-Err-clause-reported g c = (
   [],
   (
     tt,
-    fault_at_once (g.S.Style.form []) (g.R.LogReader.told c.args.input.now.reader.now)
-        (g.R.LogReader.told c.read_preamble.new.input.reader.now)
+    fault_at_once (g.S.Style.form []) (g.R.LogReader.reader_view c.args.input.now.reader.now)
+        (g.R.LogReader.reader_view c.read_preamble.new.input.reader.now)
         (all_of g.W.Write.contents c.args.account.now.output)
         (all_of g.W.Write.contents c.read_preamble.new.output) c.in-Err.fault
         (c.in-Err.ensures.opened []) c.in-Err.ensures.kept_at_fault,
@@ -32,8 +32,8 @@ returns-in-Err-open_sessions-clause-reported g c =
       words,
       (
         tt,
-        memory_wanted (g.S.Style.form words) c.in-Ok.opened (g.R.LogReader.told c.args.input.now.reader.now)
-            (g.R.LogReader.told c.read_preamble.new.input.reader.now)
+        memory_wanted (g.S.Style.form words) c.in-Ok.opened (g.R.LogReader.reader_view c.args.input.now.reader.now)
+            (g.R.LogReader.reader_view c.read_preamble.new.input.reader.now)
             c.read_preamble.new.input.block (all_of g.W.Write.contents c.args.account.now.output)
             (all_of g.W.Write.contents c.read_preamble.new.output) c.in-Err-open_sessions.fault
             c.in-Err-open_sessions.ensures.refused c.in-Ok.ensures.opened c.in-Ok.ensures.kept,
@@ -52,17 +52,17 @@ pub returns-then-not-opened-clause-reported : goal.returns-then-not-opened-claus
 returns-then-not-opened-clause-reported g c =
     let head = c.in-Ok.opened.head in
     let words = words_of head.words in
-    let old = g.R.LogReader.told c.args.input.now.reader.now in
-    let new = g.R.LogReader.told c.read_preamble.new.input.reader.now in
+    let old = g.R.LogReader.reader_view c.args.input.now.reader.now in
+    let new = g.R.LogReader.reader_view c.read_preamble.new.input.reader.now in
     let first = all_of g.W.Write.contents c.args.account.now.output in
     let mid = all_of g.W.Write.contents c.read_preamble.new.output in
-    let read : HasReadAll (g.S.Style.form words) first old new c.in-Ok.opened.lines [] (begun (head_of head)) =
+    let read : HasReadAll (g.S.Style.form words) first old new c.in-Ok.opened.lines [] (state_after_preamble (preamble_of head)) =
     opened_last (g.S.Style.form words) c.in-Ok.opened first old new c.read_preamble.new.input.block (ap not c.if-not-opened.true)
     c.in-Ok.ensures.opened in (
       words,
       (
         finished (g.S.Style.form words) old new c.in-Ok.opened.lines []
-            head.version (replicate head.limits.sessions (opening (limits_with head.limits.config words)))
+            head.version (replicate head.limits.sessions (initial_state (limits_with head.limits.config words)))
             c.args.account.now.summary first mid (all_of g.W.Write.contents c.finish.new.account.output)
             c.finish.result read
             c.requires.nothing (keeps_appends first mid c.in-Ok.ensures.kept)
@@ -94,8 +94,8 @@ pub returns-clause-reported : goal.returns-clause-reported
 returns-clause-reported g c =
     let head = c.in-Ok.opened.head in
     let words = words_of head.words in
-    let old = g.R.LogReader.told c.args.input.now.reader.now in
-    let now = g.R.LogReader.told c.read_preamble.new.input.reader.now in
+    let old = g.R.LogReader.reader_view c.args.input.now.reader.now in
+    let now = g.R.LogReader.reader_view c.read_preamble.new.input.reader.now in
     let first = all_of g.W.Write.contents c.args.account.now.output in
     let read = subst (λ (s : List SessionState). HasRead (g.S.Style.form words) first old now
     c.read_preamble.new.input.block c.in-Ok.opened.lines []

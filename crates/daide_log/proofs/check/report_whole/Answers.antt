@@ -1,12 +1,12 @@
-use Rattle.daide_lines.specs.Output.{all_of}
+use Rattle.daide_log_lines.specs.Output.{all_of}
 use Rattle.daide_log.proofs.LogLemmas.{refused_rest, reported_rest}
 use Rattle.daide_log.proofs.check.report_whole.Goals as goal
 
 pub returns-clause-reported : goal.returns-clause-reported
 returns-clause-reported g c =
     let answered = c.report-answer.ensures.reported in
-    let old = g.R.LogReader.told c.args.input.now.reader.now in
-    let new = g.R.LogReader.told c.report-answer.new.input.reader.now in
+    let old = g.R.LogReader.reader_view c.args.input.now.reader.now in
+    let new = g.R.LogReader.reader_view c.report-answer.new.input.reader.now in
     let first = g.W.Write.contents c.args.account.now.output.writer.now in
     let mid = all_of g.W.Write.contents c.report-answer.new.account.output in
     let last = g.W.Write.contents c.hand_over_rest.new.output.writer.now in (

@@ -1,8 +1,8 @@
 use Rattle.std.proofs.Common.{◌≡◌, ◌∙◌, ℕ, List, Option, length, take, drop, sym, ap, subst, arith}
 use Rattle.std.proofs.Common.{length-take}
 use Rattle.daide_frame.specs.Frames.{announced}
-use Rattle.daide_machine.specs.Machine.{coming}
-use Rattle.daide_machine.specs.Wires.{holding}
+use Rattle.daide_protocol.specs.Machine.{coming}
+use Rattle.daide_protocol.specs.Wires.{holding}
 use Rattle.daide_log.specs.declared.report.Part as reports
 use Rattle.daide_log.specs.Explaining.{part_by, part_with}
 use Rattle.daide_log.specs.Explained.{is_at_fault, part_of}

@@ -1,5 +1,5 @@
 use Rattle.std.proofs.Common.{◌++◌, ◌∙◌, ℕ, List, ap}
-use Rattle.daide_machine.specs.Wires.{holding}
+use Rattle.daide_protocol.specs.Wires.{holding}
 use Rattle.daide_log.specs.Explained.{fault_lines}
 use Rattle.daide_log.proofs.EventLemmas.{on_ok}
 use Rattle.daide_log.proofs.TextLemmas.{held_of_parts}

@@ -1,12 +1,12 @@
 use Rattle.std.proofs.Common.{◌≡◌, ◌∙◌, refl, sym, ap, subst, length, ℕ, arith, inl}
-use Rattle.daide_lines.specs.Output.{all_of}
+use Rattle.daide_log_lines.specs.Output.{all_of}
 use Rattle.daide_words.specs.Words.{words_of}
-use Rattle.daide_machine.specs.declared.summary.Summary.{Summary}
+use Rattle.daide_protocol.specs.declared.summary.Summary.{Summary}
 use Rattle.daide_log.specs.declared.heading.Preamble.{Preamble}
 use Rattle.daide_log.specs.Log.{event_in}
 use Rattle.daide_log.specs.Progress.{Judges, states_of}
-use Rattle.daide_log.specs.Told.{IsReady}
-use Rattle.daide_lines.specs.Told.{event_told}
+use Rattle.daide_log.specs.Reporting.{IsReady}
+use Rattle.daide_log_lines.specs.ParsedEvents.{event_reported}
 use Rattle.daide_log.proofs.EventLemmas.{all_idle, session_judged, nothing_judged, on_ok}
 use Rattle.daide_log.proofs.PlayLemmas.{no_more}
 use Rattle.daide_log.proofs.judge.judge_line.Goals as goal
@@ -29,7 +29,7 @@ returns-in-Some-Quiet-clause-judged g c =
     c.args.account.now.summary (all_of g.W.Write.contents c.args.account.now.output)
     (all_of g.W.Write.contents c.quote.new.account.output) t.0
     (ap (λ (n : ℕ). event_in c.args.origin.version n c.args.line.now) count
-    ∙ sym (rw c.in-Some-Quiet.field-0-is at c.in-Some-Quiet.ensures.told)) t.1 t.2))
+    ∙ sym (rw c.in-Some-Quiet.field-0-is at c.in-Some-Quiet.ensures.reported)) t.1 t.2))
 
 pub returns-in_ok-quote-in-Some-Of-clause-judged : goal.returns-in_ok-quote-in-Some-Of-clause-judged
 returns-in_ok-quote-in-Some-Of-clause-judged g c =
@@ -39,15 +39,15 @@ returns-in_ok-quote-in-Some-Of-clause-judged g c =
     let within = rw c.in-Some-Of.field-0-is at c.in-Some-Of.ensures.within in
     let quoted = c.in_ok-quote-in-Some-Of.ensures.text in
     on_ok c.judge.result _ _ c.judge.ensures.judged
-    (λ told.
+    (λ reported.
     session_judged (g.S.Style.form words) words (g.met.S.Style.lawful words) c.args.origin.version c.args.origin.line
     c.in-Some-Of.session
-    (event_told c.read_told.new.bytes c.in-Some-Of.told) c.args.line.now c.args.sessions.now.items c.index_mut.result.now
+    (event_reported c.read_reported.new.bytes c.in-Some-Of.reported) c.args.line.now c.args.sessions.now.items c.index_mut.result.now
     c.judge.new.session c.source-source.result c.args.account.now.summary c.judge.new.account.summary
     (all_of g.W.Write.contents c.args.account.now.output)
     (all_of g.W.Write.contents c.quote-in-Some-Of.new.account.output)
     (all_of g.W.Write.contents c.judge.new.account.output) quoted.0
     (ap (λ (n : ℕ). event_in c.args.origin.version n c.args.line.now) count
-    ∙ sym (rw c.in-Some-Of.field-0-is at c.in-Some-Of.ensures.told))
+    ∙ sym (rw c.in-Some-Of.field-0-is at c.in-Some-Of.ensures.reported))
     within.0 (omega (arith, within.1, count)) c.index_mut.ensures.value c.source-source.ensures quoted.1 quoted.2
-    (rw (c.quote-in-Some-Of.ensures.same_head, c.quote-in-Some-Of.ensures.same_summary) at told))
+    (rw (c.quote-in-Some-Of.ensures.same_head, c.quote-in-Some-Of.ensures.same_summary) at reported))

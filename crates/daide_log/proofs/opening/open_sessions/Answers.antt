@@ -1,10 +1,10 @@
 use Rattle.std.proofs.Common.{◌≡◌, ◌∙◌, ◌∷◌, sym, ap, subst, arith, ℕ, [], All, length, length-append, replicate}
 use Rattle.std.proofs.lemmas.List.Elements.{All-push}
-use Rattle.daide_machine.specs.Machine.{opening}
-use Rattle.daide_machine.specs.Config.{limits_with}
+use Rattle.daide_protocol.specs.Machine.{initial_state}
+use Rattle.daide_protocol.specs.Config.{limits_with}
 use Rattle.daide_words.specs.Words.{words_of}
 use Rattle.daide_log.specs.Progress.{states_of}
-use Rattle.daide_log.specs.Told.{IsReady}
+use Rattle.daide_log.specs.Reporting.{IsReady}
 use Rattle.daide_log.proofs.EventLemmas.{new_is_ready, one_more_opened}
 use Rattle.daide_log.proofs.opening.open_sessions.Goals as goal
 
@@ -29,5 +29,5 @@ loop-session-preserved g c =
 pub returns-clause-begun : goal.returns-clause-begun
 returns-clause-begun g c =
     let limits = limits_with c.args.head.now.limits.config (words_of c.args.head.now.words) in
-    subst (λ (n : ℕ). states_of c.loop-session.sessions.items ≡ replicate n (opening limits))
+    subst (λ (n : ℕ). states_of c.loop-session.sessions.items ≡ replicate n (initial_state limits))
     (omega (arith, c.loop-session-test.false, c.loop-session.auto._session-end)) c.loop-session.invariant.0

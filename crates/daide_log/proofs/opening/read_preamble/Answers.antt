@@ -1,18 +1,18 @@
 use Rattle.std.proofs.Common.{◌∙◌, refl, sym, ap, subst, arith, List, ℕ, [], Ok}
-use Rattle.daide_lines.specs.Output.{all_of}
+use Rattle.daide_log_lines.specs.Output.{all_of}
 use Rattle.daide_log.specs.declared.opening.PreambleProgress.TheVariants.{More}
 use Rattle.daide_log.specs.Heading.{Unnamed, heading_after}
-use Rattle.daide_log.specs.Held.{heading_of}
+use Rattle.daide_log.specs.PreambleKnown.{heading_of}
 use Rattle.daide_log.specs.Log.{Opening}
 use Rattle.daide_log.specs.Progress.{HasRead, IsPreambleProgress}
-use Rattle.daide_lines.proofs.PageLemmas.{keeps_all, keeps_more}
+use Rattle.daide_log_lines.proofs.PageLemmas.{keeps_all, keeps_more}
 use Rattle.daide_log.proofs.LogLemmas.{nothing_read}
 use Rattle.daide_log.proofs.PreambleLemmas.{head_judged, step_kept, fault_keeps, next_is, next_held}
 use Rattle.daide_log.proofs.opening.read_preamble.Goals as goal
 
 pub lines-init : goal.lines-init
 lines-init g c =
-    let old = g.R.LogReader.told c.args.input.now.reader.now in
+    let old = g.R.LogReader.reader_view c.args.input.now.reader.now in
     let first = all_of g.W.Write.contents c.args.output.now in (
       record {
         has_read = λ words.
@@ -28,9 +28,9 @@ lines-init g c =
 
 pub returns-in-Err-clause-opened : goal.returns-in-Err-clause-opened
 returns-in-Err-clause-opened g c =
-    let old = g.R.LogReader.told c.args.input.now.reader.now in
-    let now = g.R.LogReader.told c.lines.input.reader.now in
-    let new = g.R.LogReader.told c.next_line-found.new.input.reader.now in
+    let old = g.R.LogReader.reader_view c.args.input.now.reader.now in
+    let now = g.R.LogReader.reader_view c.lines.input.reader.now in
+    let new = g.R.LogReader.reader_view c.next_line-found.new.input.reader.now in
     subst (IsPreambleProgress g.S.Style.form (all_of g.W.Write.contents c.args.output.now) old new c.next_line-found.new.input.block c.lines.count) (sym c.after_line.ensures ∙ c.in-Err.is)
     (head_judged g.S.Style.form g.met.S.Style.lawful (all_of g.W.Write.contents c.args.output.now) (all_of g.W.Write.contents c.lines.output) old now new c.lines.input.block c.next_line-found.new.input.text.items c.next_line-found.new.input.block c.lines.count
     c.next_line-found.result c.lines.heading c.with_line-more.result c.lines.invariant.0.has_read c.lines.invariant.0.kept
@@ -48,9 +48,9 @@ returns-in-Err-clause-kept_at_fault g c other =
 
 pub returns-in-Ok-Done-clause-opened : goal.returns-in-Ok-Done-clause-opened
 returns-in-Ok-Done-clause-opened g c =
-    let old = g.R.LogReader.told c.args.input.now.reader.now in
-    let now = g.R.LogReader.told c.lines.input.reader.now in
-    let new = g.R.LogReader.told c.next_line-found.new.input.reader.now in
+    let old = g.R.LogReader.reader_view c.args.input.now.reader.now in
+    let now = g.R.LogReader.reader_view c.lines.input.reader.now in
+    let new = g.R.LogReader.reader_view c.next_line-found.new.input.reader.now in
     subst (IsPreambleProgress g.S.Style.form (all_of g.W.Write.contents c.args.output.now) old new c.next_line-found.new.input.block c.lines.count)
     (sym c.after_line.ensures ∙ c.in-Ok-Done.is ∙ ap Ok c.in-Ok-Done.field-0-is)
     (head_judged g.S.Style.form g.met.S.Style.lawful (all_of g.W.Write.contents c.args.output.now) (all_of g.W.Write.contents c.lines.output) old now new c.lines.input.block c.next_line-found.new.input.text.items c.next_line-found.new.input.block c.lines.count
@@ -60,9 +60,9 @@ returns-in-Ok-Done-clause-opened g c =
 
 pub lines-preserved : goal.lines-preserved
 lines-preserved g c =
-    let old = g.R.LogReader.told c.args.input.now.reader.now in
-    let now = g.R.LogReader.told c.lines.input.reader.now in
-    let new = g.R.LogReader.told c.next_line-found.new.input.reader.now in
+    let old = g.R.LogReader.reader_view c.args.input.now.reader.now in
+    let now = g.R.LogReader.reader_view c.lines.input.reader.now in
+    let new = g.R.LogReader.reader_view c.next_line-found.new.input.reader.now in
     let first = all_of g.W.Write.contents c.args.output.now in
     let mid = all_of g.W.Write.contents c.lines.output in
     let last = all_of g.W.Write.contents c.next_line-found.new.output in

@@ -3,8 +3,8 @@ use Rattle.std.specs.Io.KnownBytes.{Appends, append_known}
 use Rattle.daide_token.specs.Names.{Named}
 use Rattle.daide_token.specs.TextSteps.{some_text}
 use Rattle.daide_token.specs.Token.{tokens_of}
-use Rattle.daide_lines.proofs.PageLemmas.{keeps_and_appends}
-use Rattle.daide_lines.specs.Output.{all_of}
+use Rattle.daide_log_lines.proofs.PageLemmas.{keeps_and_appends}
+use Rattle.daide_log_lines.specs.Output.{all_of}
 use Rattle.daide_log.proofs.page.put_some.Goals as goal
 
 appended : (known : Option (List ℕ)) (items more text : List ℕ) → more ≡ items ++ text →

@@ -1,7 +1,7 @@
 use Rattle.std.proofs.Common.{◌≡◌, ◌==◌, ◌%◌, ◌++◌, true, ℕ, List, [], ◌∷◌, length, take, arith, refl, sym, ap, ◌∙◌}
 use Rattle.std.proofs.lemmas.List.{take-append-drop}
 use Rattle.std.proofs.lemmas.Bool.Decides.{nat_tests}
-use Rattle.daide_lines.specs.Output.{all_of}
+use Rattle.daide_log_lines.specs.Output.{all_of}
 use Rattle.daide_token.proofs.TextParts.{past_by_parts, some_by_parts}
 use Rattle.daide_token.specs.TextSteps.{place_past, some_text}
 use Rattle.daide_token.specs.Token.{tokens_of}

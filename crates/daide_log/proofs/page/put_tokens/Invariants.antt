@@ -1,5 +1,5 @@
 use Rattle.std.proofs.Common.{◌≡◌, ◌%◌, length}
-use Rattle.daide_lines.specs.Output.{IsSameWriter, all_of}
+use Rattle.daide_log_lines.specs.Output.{IsSameWriter, all_of}
 use Rattle.daide_token.specs.TextSteps.{place_past, some_text}
 use Rattle.daide_token.specs.Token.{tokens_of}
 use Rattle.daide_token.specs.declared.text.PrinterState.TheVariants.{Start}

@@ -1,9 +1,9 @@
 use Rattle.std.proofs.Common.{sym, ◌∙◌, ◌∷◌, []}
 use Rattle.std.proofs.lemmas.Bool.{not-true, not-false}
-use Rattle.daide_lines.specs.Output.{all_of}
+use Rattle.daide_log_lines.specs.Output.{all_of}
 use Rattle.daide_words.specs.Words.{words_of}
-use Rattle.daide_machine.specs.Events.{Ends}
-use Rattle.daide_machine.specs.declared.note.Note.TheVariants.{Nothing}
+use Rattle.daide_protocol.specs.Events.{Ends}
+use Rattle.daide_protocol.specs.declared.note.Note.TheVariants.{Nothing}
 use Rattle.daide_log.proofs.PlayLemmas.{end_made, end_silent, ready_after, under_after, tells_none, tells_one, no_more}
 use Rattle.daide_log.proofs.EventLemmas.{on_ok}
 use Rattle.daide_log.proofs.play.end.Goals as goal
@@ -27,8 +27,8 @@ returns-then-ended-clause-ready g c =
     c.ended-ended.new.self c.take_answers.new.session (Ends c.args.side ∷ []) Nothing
     c.requires.ready c.ended-ended.ensures.goes c.take_answers.ensures.state c.take_answers.ensures.idle
 
-pub returns-then-ended-clause-told : goal.returns-then-ended-clause-told
-returns-then-ended-clause-told g c =
+pub returns-then-ended-clause-reported : goal.returns-then-ended-clause-reported
+returns-then-ended-clause-reported g c =
     on_ok c.tell-written.result _ _ c.tell-written.ensures.text
     (λ t.
     tells_one (g.S.Style.form (words_of c.args.account.now.head.words)) c.args.source c.args.session.now
@@ -48,8 +48,8 @@ returns-clause-ready g c =
 pub returns-clause-few : goal.returns-clause-few
 returns-clause-few g c = no_more 1 c.args.account.now.summary
 
-pub returns-clause-told : goal.returns-clause-told
-returns-clause-told g c =
+pub returns-clause-reported : goal.returns-clause-reported
+returns-clause-reported g c =
     let words = words_of c.args.account.now.head.words in
     tells_none (g.S.Style.form words) words (g.met.S.Style.lawful words) c.args.source c.args.side c.args.session.now.state
     c.take_answers-2.new.session.state (Ends c.args.side ∷ []) c.args.account.now.summary

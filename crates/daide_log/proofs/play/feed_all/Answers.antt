@@ -1,12 +1,12 @@
 use Rattle.std.proofs.Common.{refl, sym, ap, subst, ◌∙◌, inl, inr, length, arith}
 use Rattle.std.proofs.lemmas.Bool.{eqb-true}
 use Rattle.std.proofs.lemmas.List.{take-append-drop}
-use Rattle.daide_lines.specs.Output.{all_of}
+use Rattle.daide_log_lines.specs.Output.{all_of}
 use Rattle.daide_words.specs.Words.{words_of}
-use Rattle.daide_machine.specs.Events.{bytes_come}
+use Rattle.daide_protocol.specs.Events.{bytes_come}
 use Rattle.daide_log.specs.declared.heading.Preamble.{Preamble}
-use Rattle.daide_log.specs.Told.{IsReady, Tells}
-use Rattle.daide_log.proofs.PlayLemmas.{piece_fed, all_fed, fed_few, idle_free, less_room, nothing_fed, told_few}
+use Rattle.daide_log.specs.Reporting.{IsReady, ReportsEvents}
+use Rattle.daide_log.proofs.PlayLemmas.{piece_fed, all_fed, fed_few, idle_free, less_room, nothing_fed, reported_few}
 use Rattle.daide_frame.proofs.FeedingLemmas.{not_empty}
 use Rattle.daide_log.proofs.play.feed_all.Goals as goal
 
@@ -60,12 +60,12 @@ loop-session-preserved g c =
           c.loop-session.invariant.0
           (rw (c.split_at.ensures.front, c.split_at.ensures.back) (sym (take-append-drop _ c.loop-session.rest.now)))
           (omega (arith, not_empty _ (sym c.is_empty.ensures ∙ c.loop-session-test.true), room, c.split_at.ensures.front_len, c.min.ensures))
-          (subst (λ (h : Preamble). Tells (g.S.Style.form (words_of h.words)) c.args.source c.args.side
+          (subst (λ (h : Preamble). ReportsEvents (g.S.Style.form (words_of h.words)) c.args.source c.args.side
           c.loop-session.session.state (bytes_come c.args.side c.split_at.result.0.now) c.feed_piece.new.session.state
           c.loop-session.account.summary c.feed_piece.new.account.summary
           (all_of g.W.Write.contents c.loop-session.account.output)
           (all_of g.W.Write.contents c.feed_piece.new.account.output)) c.loop-session.invariant.2
-          c.in_ok-feed_piece.ensures.told)
+          c.in_ok-feed_piece.ensures.reported)
           (subst (λ (h : Preamble). IsReady h.limits.config (words_of h.words) c.feed_piece.new.session)
           c.loop-session.invariant.2 c.feed_piece.ensures.ready)
           c.feed_piece.ensures.few,
@@ -77,7 +77,7 @@ pub returns-in_err-feed_piece-clause-few : goal.returns-in_err-feed_piece-clause
 returns-in_err-feed_piece-clause-few g c =
     let head = c.args.account.now.head in
     let words = words_of head.words in
-    told_few (g.S.Style.form words) head.limits.config words c.args.source c.args.side c.args.bytes.now
+    reported_few (g.S.Style.form words) head.limits.config words c.args.source c.args.side c.args.bytes.now
     c.loop-session.rest.now c.args.session.now.state
     c.loop-session.session c.args.account.now.summary c.loop-session.account.summary c.feed_piece.new.account.summary
     (all_of g.W.Write.contents c.args.account.now.output)
@@ -89,8 +89,8 @@ returns-in_err-feed_piece-clause-ready g c =
     subst (λ (h : Preamble). IsReady h.limits.config (words_of h.words) c.feed_piece.new.session)
     c.loop-session.invariant.2 c.feed_piece.ensures.ready
 
-pub returns-else-not-is_over-clause-told : goal.returns-else-not-is_over-clause-told
-returns-else-not-is_over-clause-told g c =
+pub returns-else-not-is_over-clause-reported : goal.returns-else-not-is_over-clause-reported
+returns-else-not-is_over-clause-reported g c =
     let head = c.args.account.now.head in
     let words = words_of head.words in
     all_fed (g.S.Style.form words) head.limits.config words (g.met.S.Style.lawful words) c.args.source c.args.side
@@ -113,8 +113,8 @@ returns-else-not-is_over-clause-few g c =
 pub returns-else-not-is_over-clause-ready : goal.returns-else-not-is_over-clause-ready
 returns-else-not-is_over-clause-ready g c = c.loop-session.invariant.0.ready
 
-pub returns-after-loop-session-clause-told : goal.returns-after-loop-session-clause-told
-returns-after-loop-session-clause-told g c =
+pub returns-after-loop-session-clause-reported : goal.returns-after-loop-session-clause-reported
+returns-after-loop-session-clause-reported g c =
     let head = c.args.account.now.head in
     let words = words_of head.words in
     all_fed (g.S.Style.form words) head.limits.config words (g.met.S.Style.lawful words) c.args.source c.args.side

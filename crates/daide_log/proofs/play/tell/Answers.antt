@@ -1,5 +1,5 @@
 use Rattle.std.proofs.Common.{◌++◌, List, ℕ}
-use Rattle.daide_lines.specs.Output.{all_of}
+use Rattle.daide_log_lines.specs.Output.{all_of}
 use Rattle.daide_log.specs.Report.{move_line}
 use Rattle.daide_log.proofs.EventLemmas.{on_ok}
 use Rattle.daide_log.proofs.PlayLemmas.{appends_more}
@@ -12,6 +12,6 @@ returns-clause-text g c =
       t.0,
       t.1,
       appends_more (all_of g.W.Write.contents c.args.account.now.output) (all_of g.W.Write.contents c.put_move.new.output)
-          (all_of g.W.Write.contents c.explain.new.output) (move_line c.args.source c.args.side c.args.told) t.0
+          (all_of g.W.Write.contents c.explain.new.output) (move_line c.args.source c.args.side c.args.reported) t.0
           c.in_ok-put_move.ensures.text t.2,
     ))

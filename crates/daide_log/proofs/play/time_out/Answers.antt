@@ -1,8 +1,8 @@
 use Rattle.std.proofs.Common.{sym, ◌∙◌, ◌∷◌, []}
-use Rattle.daide_lines.specs.Output.{all_of}
+use Rattle.daide_log_lines.specs.Output.{all_of}
 use Rattle.daide_words.specs.Words.{words_of}
 use Rattle.daide_frame.specs.declared.side.Side.TheVariants.{Bot}
-use Rattle.daide_machine.specs.Events.{TimerExpires}
+use Rattle.daide_protocol.specs.Events.{ImTimerExpired}
 use Rattle.daide_log.proofs.PlayLemmas.{timer_made, timer_silent, idle_free, ready_after, under_after, tells_none, tells_one}
 use Rattle.daide_log.proofs.PlayLemmas.{no_more}
 use Rattle.daide_log.proofs.EventLemmas.{on_ok}
@@ -11,52 +11,52 @@ use Rattle.daide_log.proofs.play.time_out.Goals as goal
 pub tell-written-requires-clause-under : goal.tell-written-requires-clause-under
 tell-written-requires-clause-under g c =
     under_after c.args.account.now.head.limits.config (words_of c.args.account.now.head.words) c.args.session.now
-    c.im_timeout-told.new.self (TimerExpires ∷ []) c.im_timeout-told.result c.requires.ready.under
-    c.im_timeout-told.ensures.goes
+    c.im_timeout-reported.new.self (ImTimerExpired ∷ []) c.im_timeout-reported.result c.requires.ready.under
+    c.im_timeout-reported.ensures.goes
 
 pub tell-written-requires-clause-made : goal.tell-written-requires-clause-made
 tell-written-requires-clause-made g c = (
   c.args.session.now,
-  TimerExpires ∷ [],
-  timer_made c.args.session.now c.im_timeout-told.new.self c.im_timeout-told.result
+  ImTimerExpired ∷ [],
+  timer_made c.args.session.now c.im_timeout-reported.new.self c.im_timeout-reported.result
       (c.header-held.ensures.tied (idle_free c.args.session.now Bot c.requires.ready.idle))
-      c.im_timeout-told.ensures.goes c.im_timeout-told.ensures.holds c.in_default.not-Nothing,
+      c.im_timeout-reported.ensures.goes c.im_timeout-reported.ensures.holds c.in_default.not-Nothing,
 )
 
 pub returns-in-Nothing-clause-ready : goal.returns-in-Nothing-clause-ready
 returns-in-Nothing-clause-ready g c =
     ready_after c.args.account.now.head.limits.config (words_of c.args.account.now.head.words) c.args.session.now
-    c.im_timeout-told.new.self c.take_answers.new.session (TimerExpires ∷ []) c.im_timeout-told.result
-    c.requires.ready c.im_timeout-told.ensures.goes c.take_answers.ensures.state c.take_answers.ensures.idle
+    c.im_timeout-reported.new.self c.take_answers.new.session (ImTimerExpired ∷ []) c.im_timeout-reported.result
+    c.requires.ready c.im_timeout-reported.ensures.goes c.take_answers.ensures.state c.take_answers.ensures.idle
 
 pub returns-in-Nothing-clause-few : goal.returns-in-Nothing-clause-few
 returns-in-Nothing-clause-few g c = no_more 1 c.args.account.now.summary
 
-pub returns-in-Nothing-clause-told : goal.returns-in-Nothing-clause-told
-returns-in-Nothing-clause-told g c =
+pub returns-in-Nothing-clause-reported : goal.returns-in-Nothing-clause-reported
+returns-in-Nothing-clause-reported g c =
     let words = words_of c.args.account.now.head.words in
     tells_none (g.S.Style.form words) words (g.met.S.Style.lawful words) c.args.source Bot c.args.session.now.state
-    c.take_answers.new.session.state (TimerExpires ∷ []) c.args.account.now.summary
+    c.take_answers.new.session.state (ImTimerExpired ∷ []) c.args.account.now.summary
     (all_of g.W.Write.contents c.args.account.now.output)
     (rw c.take_answers.ensures.state
-    (timer_silent c.args.session.now c.im_timeout-told.new.self c.im_timeout-told.result c.im_timeout-told.ensures.goes
+    (timer_silent c.args.session.now c.im_timeout-reported.new.self c.im_timeout-reported.result c.im_timeout-reported.ensures.goes
     c.in-Nothing.is))
 
 pub returns-clause-ready : goal.returns-clause-ready
 returns-clause-ready g c =
     ready_after c.args.account.now.head.limits.config (words_of c.args.account.now.head.words) c.args.session.now
-    c.im_timeout-told.new.self c.take_answers-2.new.session (TimerExpires ∷ []) c.im_timeout-told.result
-    c.requires.ready c.im_timeout-told.ensures.goes c.take_answers-2.ensures.state c.take_answers-2.ensures.idle
+    c.im_timeout-reported.new.self c.take_answers-2.new.session (ImTimerExpired ∷ []) c.im_timeout-reported.result
+    c.requires.ready c.im_timeout-reported.ensures.goes c.take_answers-2.ensures.state c.take_answers-2.ensures.idle
 
-pub returns-clause-told : goal.returns-clause-told
-returns-clause-told g c =
+pub returns-clause-reported : goal.returns-clause-reported
+returns-clause-reported g c =
     on_ok c.tell-written.result _ _ c.tell-written.ensures.text
     (λ t.
     tells_one (g.S.Style.form (words_of c.args.account.now.head.words)) c.args.source c.args.session.now
-    (TimerExpires ∷ []) Bot c.im_timeout-told.result c.im_timeout-told.new.self
+    (ImTimerExpired ∷ []) Bot c.im_timeout-reported.result c.im_timeout-reported.new.self
     c.take_answers-2.new.session.state t.0 c.args.account.now.summary c.tell-written.new.account.summary
     (all_of g.W.Write.contents c.args.account.now.output) (all_of g.W.Write.contents c.tell-written.new.account.output)
-    (timer_made c.args.session.now c.im_timeout-told.new.self c.im_timeout-told.result
+    (timer_made c.args.session.now c.im_timeout-reported.new.self c.im_timeout-reported.result
     (c.header-held.ensures.tied (idle_free c.args.session.now Bot c.requires.ready.idle))
-    c.im_timeout-told.ensures.goes c.im_timeout-told.ensures.holds c.in_default.not-Nothing)
+    c.im_timeout-reported.ensures.goes c.im_timeout-reported.ensures.holds c.in_default.not-Nothing)
     c.take_answers-2.ensures.state t.1 c.tell-written.ensures.counted t.2)

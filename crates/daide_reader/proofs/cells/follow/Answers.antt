@@ -2,7 +2,7 @@ use Rattle.std.proofs.Common.{◌≡◌, ◌≤◌, ℕ, ◌+◌, ◌-◌, ◌�
 use Rattle.std.proofs.Common.{sym, ap, ◌∙◌, subst, rules, arith}
 use Rattle.daide_grammar.specs.declared.symbol.Sym.{Sym}
 use Rattle.daide_grammar.specs.Words.{Words}
-use Rattle.daide_grammar.specs.Table.Rules.{rest_of}
+use Rattle.daide_grammar.specs.Table.ParseActions.{rest_of}
 use Rattle.daide_grammar.specs.Table.Stacks.{stack_after}
 use Rattle.daide_reader.specs.Stack.{steps_at}
 use Rattle.daide_reader.proofs.Counts.{below_within}
@@ -85,7 +85,7 @@ returns-then-is_take g c =
     record {
       taken = sym inv.stack ∙ (after ∙ ap (λ (x : List Sym). Some x) (sym turned));
       inside = subst (λ (n : ℕ). c.loop-left.left - 1 + n ≤ g.row.N) (sym c.len-then-is_take.ensures.len) room;
-      refused = tt;
+      reject_at = tt;
       words = c.predict-answer.ensures.words_stay ∙ inv.words;
       steps = asked_one _ _ _ _ c.predict-answer.ensures.counts_each_answer due inv.steps;
     }
@@ -109,7 +109,7 @@ returns-then-is_stop g c =
     record {
       taken = tt;
       inside = tt;
-      refused = sym inv.stack
+      reject_at = sym inv.stack
           ∙ (ap (stack_after moves c.args.class) top ∙ after_stopped moves c.args.class s below a is stops);
       words = c.predict-answer.ensures.words_stay ∙ inv.words;
       steps = asked_one _ _ _ _ c.predict-answer.ensures.counts_each_answer due inv.steps;
@@ -124,7 +124,7 @@ returns g c =
     record {
       taken = tt;
       inside = tt;
-      refused = sym inv.stack
+      reject_at = sym inv.stack
           ∙ ap (λ (k : ℕ). stack_after moves c.args.class (reverse (take k c.loop-left.cells))) none;
       words = inv.words;
       steps = asked_all _ _ _ (ap (λ (k : ℕ). steps_at moves c.args.class (reverse (take k c.loop-left.cells))) none)

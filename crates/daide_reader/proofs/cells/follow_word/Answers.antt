@@ -4,7 +4,7 @@ use Rattle.std.proofs.Common.{refl, sym, ap, ◌∙◌, subst, rules, arith}
 use Rattle.daide_token.specs.declared.class.Class.{Class}
 use Rattle.daide_grammar.specs.declared.symbol.Sym.{Sym}
 use Rattle.daide_grammar.specs.Words.{Words}
-use Rattle.daide_grammar.specs.Table.Rules.{rest_of}
+use Rattle.daide_grammar.specs.Table.ParseActions.{rest_of}
 use Rattle.daide_grammar.specs.Table.Stacks.{stack_after}
 use Rattle.daide_reader.specs.Stack.{steps_at}
 use Rattle.daide_reader.proofs.Counts.{less_within, word_asked, word_stopped}
@@ -58,7 +58,7 @@ returns-then-is_take g c =
     record {
       taken = after ∙ ap (λ (x : List Sym). Some x) (sym turned);
       inside = subst (λ (n : ℕ). c.args.top + n ≤ g.row.N) (sym c.len-then-is_take.ensures.len) room;
-      refused = tt;
+      reject_at = tt;
       words = c.predict_word-answer.ensures.words_stay;
       steps = word_stopped _ _ _ c.predict_word-answer.ensures.counts_each_answer due;
     }
@@ -81,7 +81,7 @@ returns-then-is_stop g c =
     record {
       taken = tt;
       inside = tt;
-      refused = ap (stack_after moves class) top ∙ after_stopped moves class s below a is stops;
+      reject_at = ap (stack_after moves class) top ∙ after_stopped moves class s below a is stops;
       words = c.predict_word-answer.ensures.words_stay;
       steps = word_stopped _ _ _ c.predict_word-answer.ensures.counts_each_answer due;
     }
@@ -147,8 +147,8 @@ returns g c =
           c.follow.new.cells)))) (sym after)
           c.follow.ensures.taken;
       inside = c.follow.ensures.inside;
-      refused = subst (λ (o : Option (List Sym)). IfNone c.follow.result (o ≡ None)) (sym after)
-          c.follow.ensures.refused;
+      reject_at = subst (λ (o : Option (List Sym)). IfNone c.follow.result (o ≡ None)) (sym after)
+          c.follow.ensures.reject_at;
       words = c.follow.ensures.words ∙ same;
       steps = word_asked _ _ _ _ _ _ c.predict_word-answer.ensures.counts_each_answer steps due here;
     }

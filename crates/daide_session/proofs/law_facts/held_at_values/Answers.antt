@@ -4,10 +4,10 @@ use Rattle.daide_frame.specs.declared.head.Kind.TheVariants.{Dm}
 use Rattle.daide_frame.specs.declared.side.Side.TheVariants.{Bot, Server}
 use Rattle.daide_grammar.specs.declared.level.Level.{Level}
 use Rattle.daide_reader.specs.declared.verdict.Verdict.{Verdict}
-use Rattle.daide_machine.specs.Bounds.{longest_body}
-use Rattle.daide_machine.specs.Machine.{Sent, opening}
-use Rattle.daide_machine.specs.Fates.{IsJudged, came_in}
-use Rattle.daide_machine.specs.Passing.{IsFrame}
+use Rattle.daide_protocol.specs.Bounds.{longest_body}
+use Rattle.daide_protocol.specs.Machine.{Sent, initial_state}
+use Rattle.daide_protocol.specs.Fates.{IsJudged, came_in}
+use Rattle.daide_protocol.specs.Passing.{IsFrame}
 use Rattle.daide_session.specs.InARow.{IsVerdictOfNext}
 use Rattle.daide_session.proofs.law_facts.held_at_values.Goals as goal
 
@@ -16,7 +16,7 @@ short cap is = omega (arith, is)
 
 pub returns-clause-row : goal.returns-clause-row
 returns-clause-row c limits events effects new run words cap frame sent =
-    let came = came_in (opening limits) events effects new run in
+    let came = came_in (initial_state limits) events effects new run in
     subst (λ (all : List Sent). All (λ (sent : Sent). (body : List ℕ) (level : Level) (verdict : Verdict) →
     IsFrame Dm body sent.bytes → IsJudged limits Server level body verdict →
     IsVerdictOfNext limits came Bot level body verdict) all) sent

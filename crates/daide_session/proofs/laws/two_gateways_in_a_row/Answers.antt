@@ -1,14 +1,14 @@
 use Rattle.daide_words.specs.Word.{grammar_words}
 use Rattle.daide_words.proofs.AcceptedCodes.{accepted_free}
-use Rattle.daide_machine.specs.Machine.{opening}
-use Rattle.daide_machine.specs.Wires.{sent_to}
-use Rattle.daide_machine.specs.Fates.{came_in}
-use Rattle.daide_machine.proofs.PassingLemmas.{only_messages}
+use Rattle.daide_protocol.specs.Machine.{initial_state}
+use Rattle.daide_protocol.specs.Wires.{sent_to}
+use Rattle.daide_protocol.specs.Fates.{came_in}
+use Rattle.daide_protocol.proofs.PassingLemmas.{only_messages}
 use Rattle.daide_session.proofs.InARowLemmas.{all_next}
 use Rattle.daide_session.proofs.laws.two_gateways_in_a_row.Goals as goal
 
 pub returns : goal.returns
 returns c = λ words accepted limits events effects new run same small to.
     all_next (grammar_words words) (accepted_free words accepted) limits same
-    (came_in (opening limits) events effects new run) to (sent_to to effects)
+    (came_in (initial_state limits) events effects new run) to (sent_to to effects)
     (only_messages limits events effects new run small to)

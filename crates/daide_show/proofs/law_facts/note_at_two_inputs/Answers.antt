@@ -2,14 +2,14 @@ use Rattle.std.proofs.Common.{codes, sym, refl}
 use Rattle.hex.specs.Hex.{decode_pairs}
 use Rattle.daide_frame.specs.declared.side.Side.TheVariants.{Bot}
 use Rattle.daide_frame.specs.Frames.{first_items}
-use Rattle.daide_frame.specs.Head.{head_of}
+use Rattle.daide_frame.specs.Head.{parse_head}
 use Rattle.daide_grammar.specs.declared.level.Level.TheVariants.{L0}
-use Rattle.daide_show.specs.Shown.{found_in, plain_asked}
+use Rattle.daide_show.specs.Shown.{parse_frame, plain_request}
 use Rattle.daide_show.proofs.law_facts.note_at_two_inputs.Goals as goal
 
 pub returns : goal.returns
-unfolding decode_pairs found_in first_items head_of
+unfolding decode_pairs parse_frame first_items parse_head
 returns c = record {
-  odd = λ outcome h. sym (c.note_is_of_the_fault.ensures (plain_asked Bot L0) (codes "0") outcome h);
-  whole = λ outcome h. sym (c.note_is_of_the_fault.ensures (plain_asked Bot L0) (codes "03 00 00 00") outcome h);
+  odd = λ outcome h. sym (c.note_is_of_the_fault.ensures (plain_request Bot L0) (codes "0") outcome h);
+  whole = λ outcome h. sym (c.note_is_of_the_fault.ensures (plain_request Bot L0) (codes "03 00 00 00") outcome h);
 }

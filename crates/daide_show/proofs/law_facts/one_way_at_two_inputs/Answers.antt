@@ -2,14 +2,14 @@ use Rattle.std.proofs.Common.{Ok, Err, codes}
 use Rattle.daide_frame.specs.declared.side.Side.TheVariants.{Bot}
 use Rattle.daide_grammar.specs.declared.level.Level.TheVariants.{L0}
 use Rattle.daide_show.specs.declared.frame_view.ShowFault.TheVariants.{NotHex}
-use Rattle.daide_show.specs.Shown.{plain_asked}
+use Rattle.daide_show.specs.Shown.{plain_request}
 use Rattle.daide_show.proofs.FrameFacts.{fm, fm_shown, letter}
 use Rattle.daide_show.proofs.law_facts.one_way_at_two_inputs.Goals as goal
 
 pub returns : goal.returns
 returns c = record {
   shown = λ outcome h.
-      c.input_is_shown_in_one_way.ensures (plain_asked Bot L0) (codes "03 00 00 00") outcome (Ok fm_shown) h fm;
+      c.input_is_shown_in_one_way.ensures (plain_request Bot L0) (codes "03 00 00 00") outcome (Ok fm_shown) h fm;
   refused = λ outcome h.
-      c.input_is_shown_in_one_way.ensures (plain_asked Bot L0) (codes "0G") outcome (Err NotHex) h letter;
+      c.input_is_shown_in_one_way.ensures (plain_request Bot L0) (codes "0G") outcome (Err NotHex) h letter;
 }

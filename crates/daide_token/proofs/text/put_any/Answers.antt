@@ -1,5 +1,5 @@
 use Rattle.std.proofs.Common.{sym, ap, ◌∙◌, append_assoc, refl, ◌++◌, List, ℕ, take, ◌∷◌, [], ◌%◌}
-use Rattle.daide_token.specs.Text.{word_with}
+use Rattle.daide_token.specs.Text.{text_of_token}
 use Rattle.daide_token.specs.TextSteps.{before_item, before_character}
 use Rattle.daide_token.proofs.text.put_any.Goals as goal
 
@@ -17,9 +17,9 @@ pub returns-clause-text : goal.returns-clause-text
 returns-clause-text c =
     rw (sym c.quotable.ensures ∙ c.if-quotable.false)
     (c.put_by_itself.ensures.text
-    ∙ ap (λ (t : List ℕ). t ++ word_with c.args.added.now c.args.token) c.put_before_item-len.ensures.text
+    ∙ ap (λ (t : List ℕ). t ++ text_of_token c.args.added.now c.args.token) c.put_before_item-len.ensures.text
     ∙ append_assoc (take c.args.from.len c.args.line.now) (before_item c.args.from.place)
-    (word_with c.args.added.now c.args.token))
+    (text_of_token c.args.added.now c.args.token))
 
 pub returns-clause-place : goal.returns-clause-place
 returns-clause-place c = rw (sym c.quotable.ensures ∙ c.if-quotable.false) refl

@@ -1,6 +1,6 @@
 use Rattle.std.proofs.Common.{Some, None, sym, ap, ◌∙◌, option_map}
 use Rattle.daide_grammar.specs.Table.Answers.{Stop}
-use Rattle.daide_grammar.specs.Table.Rules.{deed}
+use Rattle.daide_grammar.specs.Table.ParseActions.{action}
 use Rattle.daide_grammar.specs.Table.Symbols.{slot_of}
 use Rattle.daide_words.specs.Word.{grammar_word, grammar_words}
 use Rattle.daide_words.specs.Words.{words_of, word_at}
@@ -10,14 +10,14 @@ use Rattle.daide_words.proofs.WhereStopped.{no_word, no_word_there, stopped_word
 use Rattle.daide_words.proofs.extended.where_stopped.Goals as goal
 
 pub returns-in_default : goal.returns-in_default
-unfolding deed
+unfolding action
 returns-in_default c =
     c.of.ensures
     ∙ sym (no_word (grammar_words (words_of c.args.words.now)) c.args.sym c.args.class
     (sym c.word_number.ensures ∙ c.in_default.is) ∙ c.requires)
 
 pub returns-in_default-get : goal.returns-in_default-get
-unfolding deed
+unfolding action
 returns-in_default-get c =
     let words = words_of c.args.words.now in
     c.of-in_default-get.ensures ∙ sym (no_word_there (slot_of c.args.sym) Stop)
@@ -38,7 +38,7 @@ returns-in-Some-slot_of c =
     (ap (λ k. word_at k words) (sym c.from.ensures) ∙ sym c.get.ensures ∙ c.in-Some-get.is))
 
 pub returns-in-None : goal.returns-in-None
-unfolding deed
+unfolding action
 returns-in-None c =
     let words = words_of c.args.words.now in
     let word = c.in-Some-get.word in

@@ -4,10 +4,10 @@ use Rattle.daide_grammar.specs.declared.level.Level.TheVariants.{L20, L60}
 use Rattle.daide_grammar.specs.declared.side.Side2.TheVariants.{Client as BotSide, ServerEnd}
 use Rattle.daide_words.proofs.law_facts.messages_at_values.Goals as goal
 
-pub returns-clause-opening : goal.returns-clause-opening
-returns-clause-opening c word m accepted said =
+pub returns-clause-start_symbol : goal.returns-clause-start_symbol
+returns-clause-start_symbol c word m accepted said =
     let no : true ≡ false =
-    ((c.opening_stands_for_messages.ensures (word ∷ []) BotSide L20 (prn ∷ m) accepted).0 said).1 in
+    ((c.start_symbol_stands_for_messages.ensures (word ∷ []) BotSide L20 (prn ∷ m) accepted).0 said).1 in
     cc
 
 pub returns-clause-spoken : goal.returns-clause-spoken

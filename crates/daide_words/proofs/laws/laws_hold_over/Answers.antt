@@ -7,7 +7,7 @@ returns c =
     let accepted = c.are_accepted.ensures in
     record {
       laws = c.added_words_keep_the_laws.ensures words accepted;
-      opening = λ side level m. c.opening_stands_for_messages.ensures words side level m accepted;
+      start_symbol = λ side level m. c.start_symbol_stands_for_messages.ensures words side level m accepted;
       spoken = c.accepted_words_are_spoken.ensures words accepted;
       paired = λ side level m. c.messages_are_paired.ensures words side level m accepted;
       huh = λ side level a. c.huh_answer_is_a_message.ensures words side level a accepted;

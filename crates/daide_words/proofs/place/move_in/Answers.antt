@@ -1,7 +1,7 @@
 use Rattle.std.proofs.Common.{◌≡◌, true, false, nat_le, sym, ◌∙◌, arith}
 use Rattle.std.proofs.lemmas.Bool.Decides.{nat_tests}
 use Rattle.daide_grammar.specs.Level.{level_number}
-use Rattle.daide_grammar.specs.Table.Rules.{deed}
+use Rattle.daide_grammar.specs.Table.ParseActions.{action}
 use Rattle.daide_words.specs.Word.{grammar_slot}
 use Rattle.daide_words.specs.Table.Place.{grammar_place}
 use Rattle.daide_words.specs.Table.OverWords.{makes}
@@ -9,7 +9,7 @@ use Rattle.daide_words.proofs.WhereStopped.{not_standing, standing, first_fails,
 use Rattle.daide_words.proofs.place.move_in.Goals as goal
 
 pub returns-then-not-may_make : goal.returns-then-not-may_make
-unfolding deed
+unfolding action
 returns-then-not-may_make c =
     let word = c.args.word.now in
     c.of.ensures ∙ not_standing _ _
@@ -18,7 +18,7 @@ returns-then-not-may_make c =
     (sym c.may_make.ensures ∙ c.if-not-may_make.true))
 
 pub returns-then-number : goal.returns-then-number
-unfolding deed
+unfolding action
 returns-then-number c =
     let word = c.args.word.now in
     let low : nat_le (level_number word.level) (level_number c.args.level) ≡ false =

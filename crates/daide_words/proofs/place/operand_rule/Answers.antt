@@ -1,7 +1,7 @@
 use Rattle.std.proofs.Common.{◌+◌, [], ◌∷◌, sym, ap, ◌∙◌}
 use Rattle.daide_grammar.specs.declared.numbers.TheConstants.{LEAVES_PRESS_GROUP}
 use Rattle.daide_grammar.specs.Table.Answers.{Take}
-use Rattle.daide_grammar.specs.Table.Rules.{deed}
+use Rattle.daide_grammar.specs.Table.ParseActions.{action}
 use Rattle.daide_words.specs.Word.{grammar_operand}
 use Rattle.daide_words.specs.Table.Place.{grammar_place}
 use Rattle.daide_words.specs.Table.OverWords.{operand_symbol}
@@ -38,6 +38,6 @@ returns-in-Arrangement c =
 
 pub returns-in-Press : goal.returns-in-Press
 returns-in-Press c =
-    ap (λ n. deed (LEAVES_PRESS_GROUP + n)) c.level_place.ensures.place ∙ press_rule c.args.level
+    ap (λ n. action (LEAVES_PRESS_GROUP + n)) c.level_place.ensures.place ∙ press_rule c.args.level
     ∙ ap (λ (o : Operand). Take (operand_symbol (grammar_operand o) (grammar_place c.args.place) c.args.level ∷ []))
     (sym c.in-Press.is)

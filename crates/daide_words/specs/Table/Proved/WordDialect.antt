@@ -128,8 +128,8 @@ word-no-ket : (k : ℕ) → Word k ≡ Ket → ⊥
 word-no-ket k e = cc
 
 -- a bracket is the only token of its class
-pub only_bra : (words : Words) → are_free words ≡ true → (t : ℕ) → ((dialect_of words).class_of t ≡ Bra) ↔ (t ≡ bra)
-only_bra words f t = (there, back)
+pub only_bra_with : (words : Words) → are_free words ≡ true → (t : ℕ) → ((dialect_of words).class_of t ≡ Bra) ↔ (t ≡ bra)
+only_bra_with words f t = (there, back)
   where
     there : (dialect_of words).class_of t ≡ Bra → t ≡ bra
     there e = elim (either-class 0 words t) [
@@ -140,8 +140,8 @@ only_bra words f t = (there, back)
     back : t ≡ bra → (dialect_of words).class_of t ≡ Bra
     back e = ap (dialect_of words).class_of e ∙ keeps 0 words bra (free-codes words Bra f (omega arith)) ∙ class_of-bra
 
-pub only_ket : (words : Words) → are_free words ≡ true → (t : ℕ) → ((dialect_of words).class_of t ≡ Ket) ↔ (t ≡ ket)
-only_ket words f t = (there, back)
+pub only_ket_with : (words : Words) → are_free words ≡ true → (t : ℕ) → ((dialect_of words).class_of t ≡ Ket) ↔ (t ≡ ket)
+only_ket_with words f t = (there, back)
   where
     there : (dialect_of words).class_of t ≡ Ket → t ≡ ket
     there e = elim (either-class 0 words t) [

@@ -11,16 +11,16 @@ use Rattle.daide_grammar.specs.declared.level.Level.{Level}
 use Rattle.daide_grammar.specs.declared.symbol.Sym.{Sym}
 use Rattle.daide_grammar.specs.Level.{level_number}
 use Rattle.daide_grammar.specs.Classes.{class_number, own_classes}
-use Rattle.daide_grammar.specs.Forms.{Kind, is, any_word, accepts, Slot, Press_slot, Arrangement_slot, Flat_slot, Added}
+use Rattle.daide_grammar.specs.Forms.{TokenTest, is, any_but_brackets, is_of_kind, Slot, Press_slot, Arrangement_slot, Flat_slot, Added}
 use Rattle.daide_grammar.specs.Forms.{Form}
 use Rattle.daide_grammar.specs.Forms.{one, never, ◌·◌, tok, group, named, Dialect}
 use Rattle.daide_grammar.specs.Matches.{Matches, token, both, first, second, by_name}
-use Rattle.daide_grammar.specs.Table.Symbols.{form_of, Entry, entries, slot_of}
+use Rattle.daide_grammar.specs.Table.Symbols.{form_of, Alternative, entries, slot_of}
 use Rattle.daide_grammar.specs.SideMessages.{dialect_from}
 use Rattle.daide_grammar.specs.Table.Languages.{SymbolMatchesIn}
 use Rattle.daide_grammar.specs.Words.{AddedWord, Words, WordSlot, press_word, arrangement_word, operand_in, stands_in}
 use Rattle.daide_grammar.specs.Words.{word_form}
-use Rattle.daide_grammar.specs.Table.Proved.Reading.{Reads, take, open', FirstItem, starts, ends, unopened, HeadReads, heads}
+use Rattle.daide_grammar.specs.Table.Proved.Reading.{LeftDerivation, take, open', FirstItem, starts, ends, unopened, HeadReads, heads}
 use Rattle.daide_grammar.specs.Table.Proved.Reading.{Some-of}
 use Rattle.daide_grammar.specs.Table.Proved.Reading.{MatchAll_from_Reads, Reads_from_MatchAll}
 use Rattle.daide_grammar.specs.Table.Proved.Alternatives.{same_level, same_level-means, same_kind, same_kind-sound, both-pass}
@@ -32,12 +32,12 @@ use Rattle.daide_words.specs.Table.OverWords.{makes, stands, this_word, word_fro
 -- ---- a word and its operand
 
 -- a token and then a form
-pub token-then : (d : Dialect) (k : Kind) (f : Form) (t : ℕ) (w : List ℕ) → Reads d ((one k · f) ∷ []) (t ∷ w) →
-    IsTrue (accepts k (d.class_of t)) × Matches d f w
+pub token-then : (d : Dialect) (k : TokenTest) (f : Form) (t : ℕ) (w : List ℕ) → LeftDerivation d ((one k · f) ∷ []) (t ∷ w) →
+    IsTrue (is_of_kind k (d.class_of t)) × Matches d f w
 token-then d k f t w (open' (take h r)) = (h, unalone d f w (MatchAll_from_Reads d r))
 
 -- and the empty list is none
-pub no-token : (d : Dialect) (k : Kind) (f : Form) → Reads d ((one k · f) ∷ []) [] → ⊥
+pub no-token : (d : Dialect) (k : TokenTest) (f : Form) → LeftDerivation d ((one k · f) ∷ []) [] → ⊥
 no-token d k f (open' r) = elim r [ ]
 
 -- a list that begins with a word, and is of the form of one, is of its form
@@ -46,14 +46,14 @@ pub word-then : (d : Dialect) (j k : ℕ) (f : Form) (t : ℕ) (w : List ℕ) �
 word-then d j k f t w e m =
     let form = tok (Word j) · f in
     let h = token-then d (is (Word j)) f t w (Reads_from_MatchAll d (form ∷ []) (t ∷ w) (alone d form (t ∷ w) m)) in
-    let q = eqb-true (own_classes + j) (own_classes + k) (subst (λ (c : Class). accepts (is (Word j)) c ≡ true) e h.0) in
+    let q = eqb-true (own_classes + j) (own_classes + k) (subst (λ (c : Class). is_of_kind (is (Word j)) c ≡ true) e h.0) in
     (omega (arith, q), h.1)
 
 word-matches : (d : Dialect) (j k : ℕ) (f : Form) (t : ℕ) (w : List ℕ) → d.class_of t ≡ Word k → j ≡ k →
     Matches d f w → Matches d (tok (Word j) · f) (t ∷ w)
 word-matches d j k f t w e q m =
     both {u = t ∷ []} {v = w}
-    (token (subst (λ (c : Class). accepts (is (Word j)) c ≡ true) (sym e)
+    (token (subst (λ (c : Class). is_of_kind (is (Word j)) c ≡ true) (sym e)
     (eq-eqb (own_classes + j) (own_classes + k) (ap (λ n. own_classes + n) q)))) m
 
 -- a form that stands from a level on
@@ -90,7 +90,7 @@ stands-true d arrangement_word Flat_slot b f w e m = from-true d b f w e m
 -- ---- the forms of the words
 
 -- the word that a list begins with
-pub record Begins (d : Dialect) (k j : ℕ) (words : Words) (s : Slot) (l : Level) (w : List ℕ) : Type 0 where
+pub record StartsWithWord (d : Dialect) (k j : ℕ) (words : Words) (s : Slot) (l : Level) (w : List ℕ) : Type 0 where
   pub word : AddedWord
   pub found : word_from k j words ≡ Some word
   pub stands_so : stands word s l ≡ true
@@ -115,7 +115,7 @@ different j k h = grind (arith, nat_tests)
 
 -- a list of an added form that begins with a word is that word's, and its operand follows
 pub words-to : (d : Dialect) (k j : ℕ) (words : Words) (s : Slot) (l : Level) (t : ℕ) (w : List ℕ) →
-    d.class_of t ≡ Word k → Matches d ((dialect_from j words).added s l) (t ∷ w) → Begins d k j words s l w
+    d.class_of t ≡ Word k → Matches d ((dialect_from j words).added s l) (t ∷ w) → StartsWithWord d k j words s l w
 words-to d k j [] s l t w e m = elim m [ ]
 words-to d k j (x ∷ words) s l t w e (first m) =
     let f = group (operand_in x.operand s l) in
@@ -156,13 +156,13 @@ words-from d k j (y ∷ words) s l t w x e f h m =
 -- ---- a symbol at whose place words may stand
 
 -- no plain kind takes a word
-pub plain-no-word : (k : Kind) (c : Class) (i : ℕ) → is_plain k ≡ true → c ≡ Word i → accepts k c ≡ true → ⊥
+pub plain-no-word : (k : TokenTest) (c : Class) (i : ℕ) → is_plain k ≡ true → c ≡ Word i → is_of_kind k c ≡ true → ⊥
 plain-no-word (is a) c i p e h =
     omega (arith, ltb-true (class_number a) own_classes p, eqb-true (class_number a) (class_number c) h, ap class_number e)
-plain-no-word any_word c i p e h = cc
+plain-no-word any_but_brackets c i p e h = cc
 
-plain-entries : (m : Kind) (c : Class) (i : ℕ) (es : List Entry) → list_all (λ e. is_plain e.kind) es ≡ true →
-    list_any (λ e. same_kind m e.kind) es ≡ true → c ≡ Word i → accepts m c ≡ true → ⊥
+plain-entries : (m : TokenTest) (c : Class) (i : ℕ) (es : List Alternative) → list_all (λ e. is_plain e.kind) es ≡ true →
+    list_any (λ e. same_kind m e.kind) es ≡ true → c ≡ Word i → is_of_kind m c ≡ true → ⊥
 plain-entries m c i [] p a e h = cc
 plain-entries m c i (x ∷ es) p a e h =
     let q = both-pass (is_plain x.kind) (list_all (λ y. is_plain y.kind) es) p in
@@ -171,7 +171,7 @@ plain-entries m c i (x ∷ es) p a e h =
       | inr r ↦ plain-entries m c i es q.1 r e h
     ]
 
-slot-to : (d : Dialect) (p : Slot × Level) (es : List Entry) (t i : ℕ) (w : List ℕ) → d.class_of t ≡ Word i →
+slot-to : (d : Dialect) (p : Slot × Level) (es : List Alternative) (t i : ℕ) (w : List ℕ) → d.class_of t ≡ Word i →
     list_all (λ e. is_plain e.kind) es ≡ true → (hs : List FirstItem) → list_all (known (Some p) es) hs ≡ true →
     Some-of (HeadReads d (t ∷ w)) hs → Matches d (d.added p.0 p.1) (t ∷ w)
 unfolding known
@@ -190,7 +190,7 @@ slot-to d p es t i w e a (unopened gs ∷ hs) k (inr r) =
     slot-to d p es t i w e a hs (both-pass (is_added (Some p) gs) (list_all (known (Some p) es) hs) k).1 r
 
 added-back : (d : Dialect) (p : Slot × Level) (fs : List Form) (w : List ℕ) → is_added (Some p) fs ≡ true →
-    Matches d (d.added p.0 p.1) w → Reads d fs w
+    Matches d (d.added p.0 p.1) w → LeftDerivation d fs w
 unfolding is_added
 added-back d p (named (Added s l) ∷ []) w e m =
     let q = both-pass (same_slot s p.0) (same_level l p.1) e in
@@ -199,7 +199,7 @@ added-back d p (named (Added s l) ∷ []) w e m =
     (subst (λ (x : Level). Matches d (d.added p.0 x) w) (sym (same_level-means l p.1 q.1)) m))))
 added-back d p _ w e m = cc
 
-slot-from : (d : Dialect) (p : Slot × Level) (es : List Entry) (t : ℕ) (w : List ℕ) →
+slot-from : (d : Dialect) (p : Slot × Level) (es : List Alternative) (t : ℕ) (w : List ℕ) →
     Matches d (d.added p.0 p.1) (t ∷ w) →
     (hs : List FirstItem) → list_all (known (Some p) es) hs ≡ true → list_any is_unopened hs ≡ true →
     Some-of (HeadReads d (t ∷ w)) hs

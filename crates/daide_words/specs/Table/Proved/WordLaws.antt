@@ -2,11 +2,11 @@
 use Rattle.std.proofs.Common.{◌≡◌, Bool, true, false, [], ◌∷◌, refl, ap, arith, if◌then◌else◌}
 use Rattle.daide_grammar.specs.declared.level.Level.{Level}
 use Rattle.daide_grammar.specs.declared.side.Side2.{Side2}
-use Rattle.daide_grammar.specs.Table.Symbols.{may_end_of, opening_of}
+use Rattle.daide_grammar.specs.Table.Symbols.{may_end_of, start_symbol_of}
 use Rattle.daide_grammar.specs.SideMessages.{dialect_of}
 use Rattle.daide_grammar.specs.Table.Languages.{SymbolMatchesIn}
-use Rattle.daide_grammar.specs.Table.LawfulStack.{IsLawful, opening, word, skip}
-use Rattle.daide_grammar.specs.Table.Laws.{PredictLaws}
+use Rattle.daide_grammar.specs.Table.LawfulStack.{IsLawful, start_symbol, word, skip}
+use Rattle.daide_grammar.specs.Table.Laws.{IsCorrectPrediction}
 use Rattle.daide_grammar.specs.Words.{Words}
 use Rattle.daide_grammar.specs.Table.Proved.MovesAgree.{may_end-law}
 use Rattle.daide_grammar.specs.Table.Proved.StacksStaySmall.{Lawful-short, Lawful-apart, Lawful-open, Lawful-close}
@@ -16,19 +16,19 @@ use Rattle.daide_grammar.specs.Table.Proved.TableLaws.{follows, followed}
 use Rattle.daide_words.specs.Table.OverWords.{answer_over, are_free, spoken, spoken_dialect}
 use Rattle.daide_words.specs.Table.Proved.WordMoves.{takes-over, skips-over, stops-over}
 use Rattle.daide_words.specs.Table.Proved.WordStacks.{word-moves}
-use Rattle.daide_words.specs.Table.Proved.WordDialect.{words-proper, only_bra, only_ket}
+use Rattle.daide_words.specs.Table.Proved.WordDialect.{words-proper, only_bra_with, only_ket_with}
 
 -- added words keep the laws of prediction, whatever their list
 pub laws_over : (words : Words) → are_free words ≡ true →
-    PredictLaws (dialect_of words).class_of (SymbolMatchesIn (dialect_of words)) (answer_over words) may_end_of
+    IsCorrectPrediction (dialect_of words).class_of (SymbolMatchesIn (dialect_of words)) (answer_over words) may_end_of
     (IsLawful (answer_over words))
 laws_over words f =
     let d = dialect_of words in
     let ok = words-proper words f in
     let moves = word-moves words in
     record {
-      only_bra = only_bra words f;
-      only_ket = only_ket words f;
+      only_bra = only_bra_with words f;
+      only_ket = only_ket_with words f;
       takes = λ s t rest a w. let k = takes-over words ok s t rest w a in
           (λ m. follows d rest w (k.0 m), λ m. k.1 (followed d rest w m));
       skips_empty = λ s t a. (skips-over words ok s t a).0;
@@ -63,11 +63,11 @@ all-spoken words f = ap (λ b. if b then words else []) f
 
 -- so a table's words keep the laws
 pub spoken_laws : (words : Words) →
-    PredictLaws (spoken_dialect words).class_of (SymbolMatchesIn (spoken_dialect words)) (answer_over (spoken words))
+    IsCorrectPrediction (spoken_dialect words).class_of (SymbolMatchesIn (spoken_dialect words)) (answer_over (spoken words))
     may_end_of (IsLawful (answer_over (spoken words)))
 spoken_laws words = laws_over (spoken words) (spoken-free words)
 
 -- a message's symbol alone is a stack that can arise
 pub spoken_begins : (words : Words) (side : Side2) (level : Level) →
-    IsLawful (answer_over (spoken words)) (opening_of side level ∷ []) 0
-spoken_begins words side level = opening side level
+    IsLawful (answer_over (spoken words)) (start_symbol_of side level ∷ []) 0
+spoken_begins words side level = start_symbol side level

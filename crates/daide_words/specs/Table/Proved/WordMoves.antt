@@ -9,7 +9,7 @@ use Rattle.daide_grammar.specs.declared.symbol.Sym.{Sym}
 use Rattle.daide_grammar.specs.declared.symbol.Sym.TheVariants.{Press, Arrangement, Fact, Operand}
 use Rattle.daide_grammar.specs.Forms.{Slot, Press_slot, Arrangement_slot, Flat_slot, Form, group, Dialect}
 use Rattle.daide_grammar.specs.Matches.{Matches}
-use Rattle.daide_grammar.specs.Table.Answers.{Answer, Take, Skip, Stop}
+use Rattle.daide_grammar.specs.Table.Answers.{TableEntry, Take, Skip, Stop}
 use Rattle.daide_grammar.specs.Table.Symbols.{form_of, slot_of, table_answer}
 use Rattle.daide_grammar.specs.SideMessages.{dialect_of}
 use Rattle.daide_grammar.specs.Table.Languages.{SymbolMatchesIn}
@@ -97,7 +97,7 @@ module _ (words : Words) (t i : ℕ) (e : (dialect_of words).class_of t ≡ Word
   -- which of the cases it is: no word stands there, or one does
   Case : Sym → Type 0
   Case s =
-      (NoWord d (slot_of s) t × ((a : Answer) → word_answer (slot_of s) (word_from i 0 words) a ≡ a))
+      (NoWord d (slot_of s) t × ((a : TableEntry) → word_answer (slot_of s) (word_from i 0 words) a ≡ a))
       ⊎ ((p : Slot × Level) × (x : AddedWord) × (slot_of s ≡ Some p) × (word_from i 0 words ≡ Some x)
       × (stands x p.0 p.1 ≡ true))
 

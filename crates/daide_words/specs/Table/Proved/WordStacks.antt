@@ -12,7 +12,7 @@ use Rattle.daide_grammar.specs.Classes.{class_number, same_class}
 use Rattle.daide_grammar.specs.Forms.{is, Slot, Press_slot, Arrangement_slot, Flat_slot}
 use Rattle.daide_grammar.specs.Table.Symbols.{may_end_of, slot_of, table_answer}
 use Rattle.daide_grammar.specs.Table.Answers.{Take, Skip, Stop}
-use Rattle.daide_grammar.specs.Table.Shapes.{is_last, shape, shapes}
+use Rattle.daide_grammar.specs.Table.Shapes.{is_bottom_symbol, shape, shapes}
 use Rattle.daide_grammar.specs.Words.{AddedWord, Words, WordOperand, one_power, some_powers, some_provinces, an_order}
 use Rattle.daide_grammar.specs.Words.{an_arrangement, a_press}
 use Rattle.daide_grammar.specs.Table.Proved.Sizes.{fits}
@@ -33,7 +33,7 @@ operand-size an_arrangement Flat_slot l = refl
 operand-size a_press s l = refl
 
 operand-free : (o : WordOperand) (s : Slot) (l : Level) (b : Bool) → tidy b (operand_symbol o s l ∷ []) ≡ true
-unfolding tidy is_last
+unfolding tidy is_bottom_symbol
 operand-free one_power s l b = refl
 operand-free some_powers s l b = refl
 operand-free some_provinces s l b = refl
@@ -69,7 +69,7 @@ operand-take : (s : Sym) (i : ℕ) (p : Slot × Level) (o : WordOperand) → slo
 operand-take s i p o e = record {
   kind = is (Word i);
   takes = eq-eqb (class_number (Word i)) (class_number (Word i)) refl;
-  tidied = operand-free o p.0 p.1 (is_last s);
+  tidied = operand-free o p.0 p.1 (is_bottom_symbol s);
   sized_so = word-sized i (shapes (operand_symbol o p.0 p.1 ∷ [])) (shape s)
       (subst (λ (x : List ℕ). fits x (shape s) ≡ true) (sym (operand-size o p.0 p.1)) (slot-size s p e));
 }

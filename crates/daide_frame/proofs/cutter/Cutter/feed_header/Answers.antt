@@ -3,11 +3,11 @@ use Rattle.std.proofs.Common.{arith, inl, inr}
 use Rattle.daide_frame.specs.declared.head.Head.{Head}
 use Rattle.daide_frame.specs.declared.code.Code.{Code}
 use Rattle.daide_frame.specs.declared.cutter.Step.TheVariants.{More, Fault, Headed, Bodied}
-use Rattle.daide_frame.specs.Frames.{Cut, missing, answer_to, last_items, IsEnd}
+use Rattle.daide_frame.specs.Frames.{Cut, missing, step_of_events, last_items, IsEnd}
 use Rattle.daide_frame.specs.Cutter.{IsFed}
 use Rattle.daide_frame.proofs.CutterLemmas.{in_header, refused_closed, empty_closed, empty_whole, consistent_short}
-use Rattle.daide_frame.proofs.CutterLemmas.{consistent_head, header_told, told_ok, header_step, answer_to-empty}
-use Rattle.daide_frame.proofs.CutterLemmas.{answer_to-begun, missing-header, length_of_header}
+use Rattle.daide_frame.proofs.CutterLemmas.{consistent_head, header_told, told_ok, header_step, step_of_events-empty}
+use Rattle.daide_frame.proofs.CutterLemmas.{step_of_events-begun, missing-header, length_of_header}
 use Rattle.daide_frame.proofs.HeaderFeeding.{bytes_put, short_fed, fourth_fed}
 use Rattle.daide_frame.proofs.FramesLemmas.{at_head}
 use Rattle.daide_frame.proofs.cutter.Cutter.feed_header.Goals as goal
@@ -101,7 +101,7 @@ returns-in-Err-clause-fed g c =
     (fourth_fed a.cap (take a.have a.header ++ a.body.items) p new (Fault c.in-Err.code) (omega (arith, old, h.less))
     (bytes_put a.have (length p) a.header c.put.new.header a.body.items p h.no_body c.put.ensures.bytes)
     (omega (arith, size, whole))
-    (step ∙ ap (λ (r : Result Head Code). answer_to (at_head r)) read)
+    (step ∙ ap (λ (r : Result Head Code). step_of_events (at_head r)) read)
     (header_told a.cap n c.put.new.header a.body.items (Err c.in-Err.code) (Fault c.in-Err.code) whole four h.no_body
     read refl)
     (λ k. absurd (cc))
@@ -123,16 +123,16 @@ returns-after-head-eq0-clause-fed g c =
     let size = length_of_header n c.put.new.header a.body.items (omega (arith, whole)) four h.no_body in
     let old = length_of_header a.have a.header a.body.items (omega (arith, h.less)) c.self.told h.no_body in
     let new = take (a.have + length p) c.put.new.header ++ a.body.items in
-    let step : answer_to (last_items a.cap new) ≡ answer_to (at_head (Ok c.in-Ok.head)) =
+    let step : step_of_events (last_items a.cap new) ≡ step_of_events (at_head (Ok c.in-Ok.head)) =
     header_step a.cap n c.put.new.header a.body.items whole four h.no_body
-    ∙ ap (λ (r : Result Head Code). answer_to (at_head r)) read in
+    ∙ ap (λ (r : Result Head Code). step_of_events (at_head r)) read in
     subst (λ (v : Cut). IsFed v.cap v.bytes p c.if-head-eq0.result new) c.self.view_is
     (fourth_fed a.cap (take a.have a.header ++ a.body.items) p new c.if-head-eq0.result (omega (arith, old, h.less))
     (bytes_put a.have (length p) a.header c.put.new.header a.body.items p h.no_body c.put.ensures.bytes)
     (omega (arith, size, whole))
     (elim c.if-head-eq0.branch [
-      | then-head-eq0 w ↦ step ∙ answer_to-empty c.in-Ok.head w.if-head-eq0.true ∙ sym w.result-is
-      | else-head-eq0 w ↦ step ∙ answer_to-begun c.in-Ok.head w.if-head-eq0.false ∙ sym w.result-is
+      | then-head-eq0 w ↦ step ∙ step_of_events-empty c.in-Ok.head w.if-head-eq0.true ∙ sym w.result-is
+      | else-head-eq0 w ↦ step ∙ step_of_events-begun c.in-Ok.head w.if-head-eq0.false ∙ sym w.result-is
     ])
     (header_told a.cap n c.put.new.header a.body.items (Ok c.in-Ok.head) c.if-head-eq0.result whole four h.no_body read
     (told_ok c.in-Ok.head c.if-head-eq0.result (elim c.if-head-eq0.branch [

@@ -2,7 +2,7 @@ use Rattle.std.proofs.Common.{◌≡◌, ◌≤◌, ◌<◌, ◌-◌, List, leng
 use Rattle.daide_grammar.specs.declared.symbol.Sym.{Sym}
 use Rattle.daide_grammar.specs.declared.symbol.Sym.TheVariants.{Closing}
 use Rattle.daide_grammar.specs.Table.Numbers.{symbol_number}
-use Rattle.daide_grammar.specs.Table.Rules.{deed, rest_of}
+use Rattle.daide_grammar.specs.Table.ParseActions.{action, rest_of}
 use Rattle.daide_grammar.proofs.Alike.{any_default}
 use Rattle.daide_grammar.proofs.PlainRules.{same_symbol, turned, one_more, all_same}
 use Rattle.daide_grammar.proofs.plain.rules.leaves.Goals as goal
@@ -12,7 +12,7 @@ loop-place-init c = record { same = refl }
 
 pub returns-then-number : goal.returns-then-number
 returns-then-number c =
-    let rest = rest_of (deed c.args.rule) in
+    let rest = rest_of (action c.args.rule) in
     let wanted = c.args.wanted.now in
     let place = c.loop-place.place in
     let past = c.index-cells-wanted.result in
@@ -36,7 +36,7 @@ returns-then-number c =
 
 pub loop-place-preserved : goal.loop-place-preserved
 loop-place-preserved c =
-    let rest = rest_of (deed c.args.rule) in
+    let rest = rest_of (action c.args.rule) in
     let wanted = c.args.wanted.now in
     let place = c.loop-place.place in
     let past = c.index-cells-wanted.result in
@@ -60,7 +60,7 @@ loop-place-preserved c =
 
 pub returns : goal.returns
 returns c =
-    let rest = rest_of (deed c.args.rule) in
+    let rest = rest_of (action c.args.rule) in
     let wanted = c.args.wanted.now in
     let place = c.loop-place.place in
     let leaves : rest_of c.of-answer.result ≡ rest = ap rest_of c.of-answer.ensures in

@@ -1,9 +1,9 @@
 use Rattle.std.proofs.Common.{◌≡◌, take}
-use Rattle.daide_grammar.specs.Table.Rules.{deed, rest_of}
+use Rattle.daide_grammar.specs.Table.ParseActions.{action, rest_of}
 use Rattle.daide_grammar.proofs.plain.rules.leaves.Given as goal
 
 -- the symbols so far are those of the rule
 abbrev pub invariant-loop-place : goal.invariant-loop-place
 invariant-loop-place l = record {
-  same : take l.place l.wanted ≡ take l.place (rest_of (deed l.fn.rule));
+  same : take l.place l.wanted ≡ take l.place (rest_of (action l.fn.rule));
 }

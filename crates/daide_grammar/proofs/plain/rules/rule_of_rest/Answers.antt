@@ -1,6 +1,6 @@
 use Rattle.std.proofs.Common.{◌≡◌, Bool, false, true, sym, ap, ◌∙◌, arith}
 use Rattle.daide_grammar.specs.Table.Answers.{Take, symbols_of}
-use Rattle.daide_grammar.specs.Table.Rules.{deed, rest_of}
+use Rattle.daide_grammar.specs.Table.ParseActions.{action, rest_of}
 use Rattle.daide_grammar.proofs.PlainRules.{takes_rest, from_two, none_yet}
 use Rattle.daide_grammar.proofs.plain.rules.rule_of_rest.Goals as goal
 
@@ -14,7 +14,7 @@ returns-then-leaves c =
 
 pub loop-rule-preserved : goal.loop-rule-preserved
 loop-rule-preserved c = record {
-  none = none_yet (λ n. rest_of (deed n) ≡ c.as_slice-wanted.result.now) c.loop-rule.rule c.loop-rule.invariant.none
+  none = none_yet (λ n. rest_of (action n) ≡ c.as_slice-wanted.result.now) c.loop-rule.rule c.loop-rule.invariant.none
       (λ e. absurd (not_both c.if-leaves.false (c.leaves.ensures.1 e)));
 }
   where

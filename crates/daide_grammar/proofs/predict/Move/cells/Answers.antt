@@ -1,6 +1,6 @@
 use Rattle.std.proofs.Common.{◌≡◌, [], ◌∷◌, take, reverse, length, refl, sym, ap, ◌∙◌, arith}
-use Rattle.daide_grammar.specs.Table.Answers.{Answer}
-use Rattle.daide_grammar.specs.Table.Rules.{rest_of}
+use Rattle.daide_grammar.specs.Table.Answers.{TableEntry}
+use Rattle.daide_grammar.specs.Table.ParseActions.{rest_of}
 use Rattle.daide_grammar.proofs.RulesFit.{eight, cells_hold}
 use Rattle.daide_grammar.proofs.predict.Move.cells.Goals as goal
 
@@ -20,6 +20,6 @@ returns c =
     _ _ _ _ _ _ _ _
     c.cell_of.ensures c.cell_of-2.ensures c.cell_of-3.ensures c.cell_of-4.ensures
     c.cell_of-5.ensures c.cell_of-6.ensures c.cell_of-7.ensures c.cell_of-8.ensures)
-    ∙ ap (λ (a : Answer). take (length (rest_of a)) (eight n)) (sym c.self.view_is)
+    ∙ ap (λ (a : TableEntry). take (length (rest_of a)) (eight n)) (sym c.self.view_is)
     ∙ cells_hold n (omega arith)
-    ∙ ap (λ (a : Answer). reverse (rest_of a)) c.self.view_is
+    ∙ ap (λ (a : TableEntry). reverse (rest_of a)) c.self.view_is

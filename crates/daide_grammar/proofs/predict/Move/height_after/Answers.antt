@@ -1,6 +1,6 @@
 use Rattle.std.proofs.Common.{◌<◌, ◌+◌, length, ap, ◌∙◌, arith}
-use Rattle.daide_grammar.specs.Table.Rules.{rest_of}
-use Rattle.daide_grammar.specs.Table.Answers.{Answer}
+use Rattle.daide_grammar.specs.Table.ParseActions.{rest_of}
+use Rattle.daide_grammar.specs.Table.Answers.{TableEntry}
 use Rattle.daide_grammar.proofs.RulesFit.{grown}
 use Rattle.daide_grammar.proofs.predict.Move.height_after.Goals as goal
 
@@ -10,4 +10,4 @@ returns c =
     let is = c.growth_at.ensures in
     let less : n < 256 = omega arith in
     omega (arith, is, grown n c.args.top less c.requires)
-    ∙ ap (λ (a : Answer). c.args.top + length (rest_of a)) c.self.view_is
+    ∙ ap (λ (a : TableEntry). c.args.top + length (rest_of a)) c.self.view_is

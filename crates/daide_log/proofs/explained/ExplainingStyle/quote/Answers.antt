@@ -1,5 +1,5 @@
 use Rattle.std.proofs.Common.{◌∷◌, [], ◌∙◌, sym, refl, append-nil}
-use Rattle.daide_log.specs.Explained.{Remark, line}
+use Rattle.daide_log.specs.Explained.{Remark, with_line_feed}
 use Rattle.daide_log.proofs.EventLemmas.{on_ok}
 use Rattle.daide_log.proofs.explained.ExplainingStyle.quote.Goals as goal
 
@@ -8,7 +8,7 @@ returns-then-is_remark-clause-text g c =
     let is = sym c.is_remark.ensures ∙ c.if-is_remark.true in
     on_ok c.put_remark.result _ _ c.put_remark.ensures.text
     (λ e. (
-      line c.args.line.now,
-      (Remark c.args.line.now ∷ [], rw is refl, append-nil (line c.args.line.now), λ before. refl),
+      with_line_feed c.args.line.now,
+      (Remark c.args.line.now ∷ [], rw is refl, append-nil (with_line_feed c.args.line.now), λ before. refl),
       e,
     ))

@@ -7,7 +7,7 @@ use Rattle.daide_token.specs.Token.{tokens_of}
 use Rattle.daide_grammar.specs.Paired.{begins_with_prn}
 use Rattle.daide_reader.specs.Bounds.{most_tokens}
 use Rattle.daide_reader.specs.Outline.{outline_of}
-use Rattle.daide_reader.specs.Reading.{Reading, StandsAfter, reading, tokens_read}
+use Rattle.daide_reader.specs.Reading.{Reading, HasReadPrefix, reading, tokens_read}
 use Rattle.daide_reader.specs.Slice.{place_behind}
 use Rattle.daide_reader.proofs.BodyLemmas.{tokens_of-length}
 use Rattle.daide_reader.proofs.ReadingLemmas.{raised_none, raised_within, none_from_test, stands_along, unsettled}
@@ -128,8 +128,8 @@ pub count_from-self-inside-requires-clause-few : goal.count_from-self-inside-req
 count_from-self-inside-requires-clause-few g c = counts_up _ _ _ c.self.invariant.tokens c.self.invariant.counts
 
 -- the reader is in locals
-pub run-reached-requires : goal.run-reached-requires
-run-reached-requires g c =
+pub read_tokens-reached-requires : goal.read_tokens-reached-requires
+read_tokens-reached-requires g c =
     let Predict = g.T.Predict in
     let plain = ap (λ (v : Reading g.row.T.Denot). v.outline.is_prn) c.self.view_is
     ∙ c.requires.plain c.if-outline.false in
@@ -139,7 +139,7 @@ run-reached-requires g c =
       (
         c.self.invariant.small,
         (
-          c.self.invariant.deepest,
+          c.self.invariant.at_depth_limit,
           (
             c.requires.bytes,
             (
@@ -156,9 +156,9 @@ pub place_behind-self-inside-requires : goal.place_behind-self-inside-requires
 place_behind-self-inside-requires g c =
     let same = ap (λ (v : Reading g.row.T.Denot). tokens_read v) c.self.view_is in
     let sum = c.requires.tokens in
-    behind_fits _ c.run-reached.result.tokens _ c.run-reached.ensures.reads.found
+    behind_fits _ c.read_tokens-reached.result.tokens _ c.read_tokens-reached.ensures.reads.found
     (place_fits _ c.self.inside.outline.tokens (length c.args.body.now) c.args.outline.tokens same sum
-    c.run-reached.result.tokens c.run-reached.ensures.tokens c.requires.room)
+    c.read_tokens-reached.result.tokens c.read_tokens-reached.ensures.tokens c.requires.room)
 
 pub count_from-self-inside-requires-2-clause-few : goal.count_from-self-inside-requires-2-clause-few
 count_from-self-inside-requires-2-clause-few g c =
@@ -169,10 +169,10 @@ count_from-self-inside-requires-2-clause-few g c =
     let count = count_is c.self.inside.unclosed here.0 c.unwrap_or-open.result here.1 c.unwrap_or-open.ensures in
     let few : here.0 ≤ c.self.inside.outline.tokens = (rw here.1 at c.self.invariant.counts) in
     let sum = c.requires.tokens in
-    counts_up _ (c.unwrap_or-open.result + (c.run-reached.result.tokens - 0)) _
+    counts_up _ (c.unwrap_or-open.result + (c.read_tokens-reached.result.tokens - 0)) _
     (open_fits _ c.self.inside.outline.tokens (length c.args.body.now) c.args.outline.tokens same sum
-    c.run-reached.result.tokens c.run-reached.ensures.tokens c.requires.room _ _ count few)
-    c.run-reached.ensures.reads.counts
+    c.read_tokens-reached.result.tokens c.read_tokens-reached.ensures.tokens c.requires.room _ _ count few)
+    c.read_tokens-reached.ensures.reads.counts
 
 pub invariant_of-self-2 : goal.invariant_of-self-2
 invariant_of-self-2 g c =
@@ -186,10 +186,10 @@ invariant_of-self-2 g c =
     let here = c.self.invariant.lawful_stack plain (none_from_test _ c.if-is_some.ensures) in
     let count = count_is c.self.inside.unclosed here.0 c.unwrap_or-open.result here.1 c.unwrap_or-open.ensures in
     let few : here.0 ≤ before = (rw here.1 at c.self.invariant.counts) in
-    let reads = c.run-reached.ensures.reads in
-    let n = c.run-reached.result.tokens in
-    let tokens = c.run-reached.ensures.tokens in
-    let counts = counts_past c.run-reached.result.unclosed before n c.args.outline.tokens m
+    let reads = c.read_tokens-reached.ensures.reads in
+    let n = c.read_tokens-reached.result.tokens in
+    let tokens = c.read_tokens-reached.ensures.tokens in
+    let counts = counts_past c.read_tokens-reached.result.unclosed before n c.args.outline.tokens m
     (inside_of n (length c.args.body.now / 2) (length m) tokens size)
     (total_is _ c.self.inside.outline.tokens (length c.args.body.now) c.args.outline.tokens same sum _ size)
     (counts_up _ (c.unwrap_or-open.result + (n - 0)) (before + n) (few_open _ here.0 before n count few)
@@ -201,12 +201,12 @@ invariant_of-self-2 g c =
     c.requires.room
     (subst (λ (u : Option ℕ). IfSome u (λ n. n ≤ c.args.outline.tokens)) (sym counted) counts)
     (λ _ none.
-    let no_place = behind_none before c.run-reached.result.place (sym place ∙ none) in
+    let no_place = behind_none before c.read_tokens-reached.result.place (sym place ∙ none) in
     let ok = reads.lawful no_place in
-    let all : n ≡ length m = c.run-reached.ensures.all no_place ∙ sym size in
-    (ok.0, counted ∙ (count_all-end c.run-reached.result.unclosed n m all ∙ ok.1), ok.2, ok.3))
+    let all : n ≡ length m = c.read_tokens-reached.ensures.all no_place ∙ sym size in
+    (ok.0, counted ∙ (count_all-end c.read_tokens-reached.result.unclosed n m all ∙ ok.1), ok.2, ok.3))
     (λ placed.
-    reads.none_left (behind_some before c.run-reached.result.place (subst (λ (o : Option ℕ). IsSome o) place placed)))
+    reads.none_left (behind_some before c.read_tokens-reached.result.place (subst (λ (o : Option ℕ). IsSome o) place placed)))
     (λ report. let f : true ≡ false = sym report ∙ c.if-outline.false in absurd cc)
 
 pub returns : goal.returns
@@ -215,7 +215,7 @@ returns g c = record {
       let Predict = g.T.Predict in
       let b = c.args.body.now in
       let m = tokens_of b in
-      let n = c.run-reached.result.tokens in
+      let n = c.read_tokens-reached.result.tokens in
       let plain = ap (λ (v : Reading g.row.T.Denot). v.outline.is_prn) c.self.view_is
       ∙ c.requires.plain c.if-outline.false in
       let none = none_from_test _ c.if-is_some.ensures in
@@ -227,15 +227,15 @@ returns g c = record {
       let not_prn : begins_with_prn (p ++ m) ≡ false = sym outline.begins ∙ c.if-outline.false in
       let now = as_reading Predict words first max_depth c.unwrap_or-open.result _ p none
       (here.1 ∙ ap (λ (i : ℕ). Some i) (sym count)) fin before in
-      let reads = c.run-reached.ensures.reads in
-      let opening = subst (λ (q : List ℕ). StandsAfter Predict words first max_depth
+      let reads = c.read_tokens-reached.ensures.reads in
+      let start_symbol = subst (λ (q : List ℕ). HasReadPrefix Predict words first max_depth
       (reading c.self.inside.table c.self.inside.max_depth (reverse c.self.inside.stack) (outline_of q)
       (Some c.unwrap_or-open.result) None c.self.inside.asked_before) q) (sym (append-nil p)) now in
-      let reached = reads.stands_after words first max_depth c.self.inside.asked_before p not_prn opening in
+      let reached = reads.stands_after words first max_depth c.self.inside.asked_before p not_prn start_symbol in
       stands_on Predict words first max_depth
-      (reading c.run-reached.new.table c.self.inside.max_depth (reverse c.run-reached.new.self)
-      (outline_of (p ++ take n m)) c.run-reached.result.unclosed
-      (place_behind c.self.inside.outline.tokens c.run-reached.result.place) c.self.inside.asked_before)
+      (reading c.read_tokens-reached.new.table c.self.inside.max_depth (reverse c.read_tokens-reached.new.self)
+      (outline_of (p ++ take n m)) c.read_tokens-reached.result.unclosed
+      (place_behind c.self.inside.outline.tokens c.read_tokens-reached.result.place) c.self.inside.asked_before)
       _ (p ++ take n m) (drop n m) (p ++ m)
       (record {
         whole = append_assoc p (take n m) (drop n m) ∙ ap (λ (q : List ℕ). p ++ q) (take-append-drop n m);
@@ -250,23 +250,23 @@ returns g c = record {
         unclosed_more = c.count_from-self-inside-2.ensures.count;
         all_read = λ no_place.
             ap (λ (i : ℕ). drop i m)
-            (c.run-reached.ensures.all (behind_none _ _ no_place) ∙ sym (tokens_of-length b))
+            (c.read_tokens-reached.ensures.all (behind_none _ _ no_place) ∙ sym (tokens_of-length b))
             ∙ drop-length m;
       })
-      (subst (λ (k : ℕ). StandsAfter Predict words first max_depth
-      (reading c.run-reached.new.table c.self.inside.max_depth (reverse c.run-reached.new.self)
-      (outline_of (p ++ take n m)) c.run-reached.result.unclosed
-      (place_behind k c.run-reached.result.place) c.self.inside.asked_before) (p ++ take n m))
+      (subst (λ (k : ℕ). HasReadPrefix Predict words first max_depth
+      (reading c.read_tokens-reached.new.table c.self.inside.max_depth (reverse c.read_tokens-reached.new.self)
+      (outline_of (p ++ take n m)) c.read_tokens-reached.result.unclosed
+      (place_behind k c.read_tokens-reached.result.place) c.self.inside.asked_before) (p ++ take n m))
       (sym before.outline.tokens) reached);
   tokens = refl;
-  words = c.run-reached.ensures.reads.words
+  words = c.read_tokens-reached.ensures.reads.words
       ∙ ap (λ (v : Reading g.row.T.Denot). g.T.Predict.words v.table) c.self.view_is;
   depth = ap (λ (v : Reading g.row.T.Denot). v.max_depth) c.self.view_is;
   base = ap (λ (v : Reading g.row.T.Denot). v.asked_before) c.self.view_is;
   raised =
-      raised_within _ _ _ _ _ (few_asked _ _ c.run-reached.ensures.tokens)
+      raised_within _ _ _ _ _ (few_asked _ _ c.read_tokens-reached.ensures.tokens)
       (ap (λ (v : Reading g.row.T.Denot). g.T.Predict.asked v.table) c.self.view_is)
-      c.run-reached.ensures.reads.raised;
+      c.read_tokens-reached.ensures.reads.raised;
   unasked =
       let plain = ap (λ (v : Reading g.row.T.Denot). v.outline.is_prn) c.self.view_is
       ∙ c.requires.plain c.if-outline.false in

@@ -5,7 +5,7 @@ use Rattle.daide_token.specs.Token.{tokens_of}
 use Rattle.daide_grammar.specs.Paired.{begins_with_prn}
 use Rattle.daide_reader.specs.declared.outline.Outline.{Outline}
 use Rattle.daide_reader.specs.Outline.{IsOutlineOf}
-use Rattle.daide_reader.specs.Reading.{Reading, StandsAfter, tokens_read}
+use Rattle.daide_reader.specs.Reading.{Reading, HasReadPrefix, tokens_read}
 use Rattle.daide_reader.proofs.BodyLemmas.{tokens_of-length}
 use Rattle.daide_reader.proofs.OutlineLemmas.{outline_on-is, plain_before}
 use Rattle.daide_reader.proofs.ReadingLemmas.{raised_none, raised_within}
@@ -108,10 +108,10 @@ returns g c = record {
       ∙ (ap (λ (q : List ℕ). take k m ++ q) (tokens_of-drop k b) ∙ take-append-drop k m) in
       let outline : IsOutlineOf c.on-outline.result m =
       subst (λ (o : Outline). IsOutlineOf o m) (sym c.on-outline.ensures) (outline_on-is _ m before.outline) in
-      subst (λ (q : List ℕ). StandsAfter g.T.Predict words first max_depth c.go_on.new.self q) whole
+      subst (λ (q : List ℕ). HasReadPrefix g.T.Predict words first max_depth c.go_on.new.self q) whole
       (c.go_on.ensures.stands_after words first max_depth (take k m)
       (subst (λ (q : List ℕ). IsOutlineOf c.on-outline.result q) (sym whole) outline)
-      (subst (λ (v : Reading g.row.T.Denot). StandsAfter g.T.Predict words first max_depth v (take k m)) c.self.view_is
+      (subst (λ (v : Reading g.row.T.Denot). HasReadPrefix g.T.Predict words first max_depth v (take k m)) c.self.view_is
       before));
   unchanged = λ none.
       absurd (c.if-read-body.false (ap (λ (v : Reading g.row.T.Denot). tokens_read v) c.self.view_is ∙ none));

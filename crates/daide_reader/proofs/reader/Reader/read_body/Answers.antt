@@ -1,6 +1,6 @@
 use Rattle.std.proofs.Common.{ℕ, ◌*◌, List, take, sym, ap, ◌∙◌, subst}
 use Rattle.daide_token.specs.Token.{tokens_of}
-use Rattle.daide_reader.specs.Reading.{StandsAfter}
+use Rattle.daide_reader.specs.Reading.{HasReadPrefix}
 use Rattle.daide_reader.proofs.reader.Reader.read_body.Goals as goal
 
 pub returns : goal.returns
@@ -10,10 +10,10 @@ returns g c =
     record {
       verdict = λ words first max_depth h. c.finish.ensures.verdict words first max_depth (tokens_of b)
           (c.read.ensures.stands_after words first max_depth
-          (subst (λ (p : List ℕ). StandsAfter g.T.Predict words first max_depth c.args.self.now p) none h));
+          (subst (λ (p : List ℕ). HasReadPrefix g.T.Predict words first max_depth c.args.self.now p) none h));
       stands_after = λ words first max_depth h. c.finish.ensures.stands_after words first max_depth (tokens_of b)
           (c.read.ensures.stands_after words first max_depth
-          (subst (λ (p : List ℕ). StandsAfter g.T.Predict words first max_depth c.args.self.now p) none h));
+          (subst (λ (p : List ℕ). HasReadPrefix g.T.Predict words first max_depth c.args.self.now p) none h));
       words = c.finish.ensures.words ∙ c.read.ensures.words;
       depth = c.finish.ensures.depth ∙ c.read.ensures.depth;
       base = c.finish.ensures.base ∙ c.read.ensures.base;

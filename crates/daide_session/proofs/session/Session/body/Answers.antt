@@ -1,19 +1,19 @@
 use Rattle.std.proofs.Common.{sym, ap, ◌∙◌, drop, ◌≤◌, length, subst}
 use Rattle.daide_frame.specs.Frames.{announced}
-use Rattle.daide_machine.specs.Wires.{SessionView, Holding, holding}
-use Rattle.daide_session.proofs.ReactionLemmas.{holding_at}
+use Rattle.daide_protocol.specs.Wires.{SessionView, Holding, holding}
+use Rattle.daide_session.proofs.FrameEventsLemmas.{holding_at}
 use Rattle.daide_session.proofs.session.Session.body.Goals as goal
 
 pub returns-clause-value : goal.returns-clause-value
 returns-clause-value g c =
     c.body.ensures.value
     ∙ (ap (λ (h : Holding). drop 4 h.held)
-    (sym (holding_at c.self.inside.traffic c.self.inside.stage c.args.side))
+    (sym (holding_at c.self.inside.channels c.self.inside.protocol c.args.side))
     ∙ ap (λ (v : SessionView). drop 4 (holding v c.args.side).held) c.self.view_is)
 
 pub returns-clause-within : goal.returns-clause-within
 returns-clause-within g c =
     subst (λ (v : SessionView). length c.body.result.now ≤ announced v.state.limits.cap (holding v c.args.side).held)
     c.self.view_is
-    (subst (λ (h : Holding). length c.body.result.now ≤ announced c.self.inside.traffic.cap h.held)
-    (sym (holding_at c.self.inside.traffic c.self.inside.stage c.args.side)) c.body.ensures.within)
+    (subst (λ (h : Holding). length c.body.result.now ≤ announced c.self.inside.channels.cap h.held)
+    (sym (holding_at c.self.inside.channels c.self.inside.protocol c.args.side)) c.body.ensures.within)

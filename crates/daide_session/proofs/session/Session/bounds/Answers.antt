@@ -1,8 +1,8 @@
 use Rattle.std.proofs.Common.{ℕ, ◌≤◌, subst, arith}
 use Rattle.daide_frame.specs.declared.side.Side.TheVariants.{Bot, Server}
 use Rattle.daide_frame.specs.declared.side.Side.{Side}
-use Rattle.daide_machine.specs.Wires.{holding, steps_of}
-use Rattle.daide_machine.specs.Weight.{weight_bound, steps_bound}
+use Rattle.daide_protocol.specs.Wires.{holding, steps_of}
+use Rattle.daide_protocol.specs.Weight.{weight_bound, steps_bound}
 use Rattle.daide_session.proofs.WeightLemmas.{on_both}
 use Rattle.daide_session.proofs.session.Session.bounds.Goals as goal
 

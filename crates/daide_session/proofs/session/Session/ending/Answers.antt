@@ -1,6 +1,6 @@
 use Rattle.std.proofs.Common.{ap, ◌∙◌}
-use Rattle.daide_machine.specs.Machine.{is_over}
-use Rattle.daide_machine.specs.Wires.{SessionView}
+use Rattle.daide_protocol.specs.Machine.{is_over}
+use Rattle.daide_protocol.specs.Wires.{SessionView}
 use Rattle.daide_session.proofs.session.Session.ending.Goals as goal
 
 pub returns-clause-value : goal.returns-clause-value

@@ -1,12 +1,12 @@
 use Rattle.std.proofs.Common.{sym, ap, ◌∙◌}
 use Rattle.daide_frame.specs.Frames.{head_in}
-use Rattle.daide_machine.specs.Wires.{SessionView, Holding, holding}
-use Rattle.daide_session.proofs.ReactionLemmas.{holding_at}
+use Rattle.daide_protocol.specs.Wires.{SessionView, Holding, holding}
+use Rattle.daide_session.proofs.FrameEventsLemmas.{holding_at}
 use Rattle.daide_session.proofs.session.Session.head.Goals as goal
 
 pub returns : goal.returns
 returns g c =
     c.head.ensures
-    ∙ (ap (λ (h : Holding). head_in c.self.inside.traffic.cap h.held)
-    (sym (holding_at c.self.inside.traffic c.self.inside.stage c.args.side))
+    ∙ (ap (λ (h : Holding). head_in c.self.inside.channels.cap h.held)
+    (sym (holding_at c.self.inside.channels c.self.inside.protocol c.args.side))
     ∙ ap (λ (v : SessionView). head_in v.state.limits.cap (holding v c.args.side).held) c.self.view_is)

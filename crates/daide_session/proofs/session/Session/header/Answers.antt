@@ -1,24 +1,24 @@
 use Rattle.std.proofs.Common.{sym, ap, ◌∙◌, take}
-use Rattle.daide_machine.specs.Machine.{Coming, coming}
-use Rattle.daide_machine.specs.Wires.{SessionView, Holding, holding, is_awaited, waiting}
-use Rattle.daide_session.proofs.ReactionLemmas.{holding_at}
-use Rattle.daide_session.proofs.MovesLemmas.{coming_at}
+use Rattle.daide_protocol.specs.Machine.{Coming, coming}
+use Rattle.daide_protocol.specs.Wires.{SessionView, Holding, holding, is_awaited, queued}
+use Rattle.daide_session.proofs.FrameEventsLemmas.{holding_at}
+use Rattle.daide_session.proofs.EmitsLemmas.{coming_at}
 use Rattle.daide_session.proofs.session.Session.header.Goals as goal
 
 pub returns-clause-value : goal.returns-clause-value
 returns-clause-value g c =
     c.header.ensures
     ∙ (ap (λ (h : Holding). take 4 h.held)
-    (sym (holding_at c.self.inside.traffic c.self.inside.stage c.args.side))
+    (sym (holding_at c.self.inside.channels c.self.inside.protocol c.args.side))
     ∙ ap (λ (v : SessionView). take 4 (holding v c.args.side).held) c.self.view_is)
 
 pub returns-clause-tied : goal.returns-clause-tied
 returns-clause-tied g c = λ free.
-    let t = c.self.inside.traffic in
-    let s = c.self.inside.stage in
+    let t = c.self.inside.channels in
+    let s = c.self.inside.protocol in
     ap (λ (v : SessionView). (holding v c.args.side).held) (sym c.self.view_is)
     ∙ (ap (λ (h : Holding). h.held) (holding_at t s c.args.side)
     ∙ (c.is_awaited-awaited.ensures.tied
-    (ap (λ (v : SessionView). is_awaited (waiting v) c.args.side) c.self.view_is ∙ free)
+    (ap (λ (v : SessionView). is_awaited (queued v) c.args.side) c.self.view_is ∙ free)
     ∙ (ap (λ (x : Coming). x.pending) (sym (coming_at t s c.args.side))
     ∙ ap (λ (v : SessionView). (coming v.state c.args.side).pending) c.self.view_is)))

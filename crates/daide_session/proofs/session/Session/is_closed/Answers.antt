@@ -1,7 +1,7 @@
 use Rattle.std.proofs.Common.{◌≡◌, true, false, sym, ◌∙◌}
-use Rattle.daide_machine.specs.Machine.{is_over}
-use Rattle.daide_machine.specs.Wires.{no_frame}
-use Rattle.daide_session.proofs.GatewayFronts.{none_waits}
+use Rattle.daide_protocol.specs.Machine.{is_over}
+use Rattle.daide_protocol.specs.Wires.{no_frame}
+use Rattle.daide_session.proofs.SessionFronts.{none_waits}
 use Rattle.daide_session.proofs.session.Session.is_closed.Goals.{then-is_over, else-is_over}
 use Rattle.daide_session.proofs.session.Session.is_closed.Goals as goal
 

@@ -1,6 +1,6 @@
 use Rattle.std.proofs.Common.{ap, ◌∙◌}
-use Rattle.daide_machine.specs.Machine.{is_over}
-use Rattle.daide_machine.specs.Wires.{SessionView}
+use Rattle.daide_protocol.specs.Machine.{is_over}
+use Rattle.daide_protocol.specs.Wires.{SessionView}
 use Rattle.daide_session.proofs.session.Session.is_over.Goals as goal
 
 pub returns : goal.returns

@@ -1,6 +1,6 @@
 use Rattle.std.proofs.Common.{ap, ◌∙◌}
-use Rattle.daide_machine.specs.declared.phase.Phase.{Phase}
-use Rattle.daide_machine.specs.Wires.{SessionView}
+use Rattle.daide_protocol.specs.declared.phase.Phase.{Phase}
+use Rattle.daide_protocol.specs.Wires.{SessionView}
 use Rattle.daide_session.specs.Session.{level_in}
 use Rattle.daide_session.proofs.session.Session.level.Goals as goal
 

@@ -1,17 +1,17 @@
 use Rattle.std.proofs.Common.{◌≤◌, sym, ap, ◌∙◌, subst}
-use Rattle.daide_machine.specs.Wires.{SessionView, holding, steps_of}
-use Rattle.daide_machine.specs.Weight.{steps_bound}
-use Rattle.daide_session.proofs.ReactionLemmas.{holding_at}
+use Rattle.daide_protocol.specs.Wires.{SessionView, holding, steps_of}
+use Rattle.daide_protocol.specs.Weight.{steps_bound}
+use Rattle.daide_session.proofs.FrameEventsLemmas.{holding_at}
 use Rattle.daide_session.proofs.WeightLemmas.{steps_few}
 use Rattle.daide_session.proofs.session.Session.steps.Goals as goal
 
 pub returns-clause-value : goal.returns-clause-value
 returns-clause-value g c =
     c.steps.ensures.value
-    ∙ (ap steps_of (sym (holding_at c.self.inside.traffic c.self.inside.stage c.args.side))
+    ∙ (ap steps_of (sym (holding_at c.self.inside.channels c.self.inside.protocol c.args.side))
     ∙ ap (λ (v : SessionView). steps_of (holding v c.args.side)) c.self.view_is)
 
 pub returns-clause-steps : goal.returns-clause-steps
 returns-clause-steps g c =
     subst (λ (v : SessionView). c.steps.result ≤ steps_bound v c.args.side) c.self.view_is
-    (steps_few c.self.inside.traffic c.self.inside.stage c.args.side c.steps.result c.steps.ensures.few)
+    (steps_few c.self.inside.channels c.self.inside.protocol c.args.side c.steps.result c.steps.ensures.few)

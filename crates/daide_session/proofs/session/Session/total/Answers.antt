@@ -1,10 +1,10 @@
 use Rattle.std.proofs.Common.{sym, ap, ◌∙◌}
-use Rattle.daide_machine.specs.Wires.{SessionView, Holding, holding}
-use Rattle.daide_session.proofs.ReactionLemmas.{holding_at}
+use Rattle.daide_protocol.specs.Wires.{SessionView, Holding, holding}
+use Rattle.daide_session.proofs.FrameEventsLemmas.{holding_at}
 use Rattle.daide_session.proofs.session.Session.total.Goals as goal
 
 pub returns : goal.returns
 returns g c =
     c.total.ensures
-    ∙ (ap (λ (h : Holding). h.total) (sym (holding_at c.self.inside.traffic c.self.inside.stage c.args.side))
+    ∙ (ap (λ (h : Holding). h.total) (sym (holding_at c.self.inside.channels c.self.inside.protocol c.args.side))
     ∙ ap (λ (v : SessionView). (holding v c.args.side).total) c.self.view_is)

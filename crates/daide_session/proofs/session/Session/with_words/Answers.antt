@@ -7,9 +7,9 @@ use Rattle.daide_session.proofs.SessionLemmas.{new_of, standing_new}
 use Rattle.daide_session.proofs.session.Session.with_words.Goals as goal
 
 pub invariant_of-result : goal.invariant_of-result
-invariant_of-result g c = standing_new _ _ c.in-Ok.traffic c.unwrap_or.result c.new-2.result c.in-Ok.ensures.quiet
+invariant_of-result g c = standing_new _ _ c.in-Ok.channels c.unwrap_or.result c.new-2.result c.in-Ok.ensures.quiet
 
 pub returns-clause-opening : goal.returns-clause-opening
-returns-clause-opening g c = new_of c.args.config (words_of c.args.words) c.in-Ok.traffic c.unwrap_or.result
+returns-clause-opening g c = new_of c.args.config (words_of c.args.words) c.in-Ok.channels c.unwrap_or.result
     c.new-2.result c.in-Ok.ensures.quiet
     (c.unwrap_or.ensures ∙ ap (λ (o : Option Level). unwrap_or o L0) c.of.ensures) c.new-2.ensures

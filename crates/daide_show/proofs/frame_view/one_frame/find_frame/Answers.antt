@@ -1,6 +1,6 @@
 use Rattle.std.proofs.Common.{◌≡◌, drop, ℕ, length, List, ◌++◌, Option, arith, ap, ◌∙◌, sym, append_assoc}
 use Rattle.daide_frame.specs.declared.head.Head.{Head}
-use Rattle.daide_frame.specs.Frames.{told, fed, fed_items, missing}
+use Rattle.daide_frame.specs.Frames.{items_of_step, fed, fed_items, missing}
 use Rattle.daide_show.proofs.OneFrame.{found_short, room_of_header, header_found, header_begun, body_found}
 use Rattle.daide_show.proofs.OneFrame.{nothing_left}
 use Rattle.daide_show.proofs.frame_view.one_frame.find_frame.Goals as goal
@@ -21,7 +21,7 @@ returns-in_default g c =
     c.split_at.ensures.front_len
     (rw c.requires at c.feed.ensures.bytes)
     ((rw c.requires at c.feed.ensures.items)
-    ∙ ap (λ (o : Option Head). told c.feed.result o (drop 4 c.feed.new.self.bytes)) (sym c.head.ensures))
+    ∙ ap (λ (o : Option Head). items_of_step c.feed.result o (drop 4 c.feed.new.self.bytes)) (sym c.head.ensures))
     (rw c.requires at c.feed.ensures.whole)
     c.in_default.not-Headed
     c.is_empty.ensures
@@ -53,7 +53,7 @@ returns g c =
     split four begun.1.1 (omega arith) (λ some. nothing_left after (omega arith))
     (c.feed-step.ensures.bytes ∙ ap (λ (k : ℕ). fed k fed_header body) c.feed.ensures.cap)
     (ap (λ (k : ℕ). fed_items k fed_header body) (sym c.feed.ensures.cap) ∙ c.feed-step.ensures.items
-    ∙ ap (λ (o : Option Head). told c.feed-step.result o (drop 4 c.feed-step.new.self.bytes))
+    ∙ ap (λ (o : Option Head). items_of_step c.feed-step.result o (drop 4 c.feed-step.new.self.bytes))
     (sym c.head-2.ensures))
     c.feed-step.ensures.whole
     c.is_empty-2.ensures

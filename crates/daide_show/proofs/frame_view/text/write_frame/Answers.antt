@@ -1,12 +1,12 @@
 use Rattle.std.proofs.Common.{◌≡◌, ◌⊎◌, inl, inr, List, ℕ, refl}
 use Rattle.daide_frame.specs.declared.head.Kind.{Kind}
 use Rattle.daide_frame.specs.declared.head.Kind.TheVariants.{Im, Rm, Dm, Fm, Em}
-use Rattle.daide_show.specs.Shown.{Asked, asked_of, IsFrameShownAs, relayed_shown}
+use Rattle.daide_show.specs.Shown.{ShowRequest, request_of, IsFrameShownAs, relayed_shown}
 use Rattle.daide_show.proofs.Outcomes.{if_ok-more}
 use Rattle.daide_show.proofs.frame_view.text.write_frame.Goals as goal
 
 -- a frame of a kind that is not checked is relayed
-unchecked : (asked : Asked) (kind : Kind) (len : ℕ) (body : List ℕ) → (kind ≡ Rm) ⊎ ((kind ≡ Fm) ⊎ (kind ≡ Em))
+unchecked : (asked : ShowRequest) (kind : Kind) (len : ℕ) (body : List ℕ) → (kind ≡ Rm) ⊎ ((kind ≡ Fm) ⊎ (kind ≡ Em))
     → IsFrameShownAs asked kind len body (relayed_shown kind len)
 unchecked asked Rm len body is = refl
 unchecked asked Fm len body is = refl
@@ -23,6 +23,6 @@ returns-in-Rm g c =
     if_ok-more c.write_relayed.result _ _ c.write_relayed.ensures
     (λ relayed wrote. (
       relayed_shown c.args.head.kind c.args.head.len,
-      unchecked (asked_of c.args.request.now) c.args.head.kind c.args.head.len c.args.body.now c.in-Rm.is,
+      unchecked (request_of c.args.request.now) c.args.head.kind c.args.head.len c.args.body.now c.in-Rm.is,
       wrote,
     ))

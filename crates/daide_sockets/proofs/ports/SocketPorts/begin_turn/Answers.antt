@@ -1,4 +1,4 @@
-use Rattle.daide_streams.proofs.StreamLemmas.{begun_moves}
+use Rattle.daide_buffered_io.proofs.StreamLemmas.{begun_moves}
 use Rattle.daide_sockets.proofs.ports.SocketPorts.begin_turn.Goals as goal
 
 pub returns-clause-begins : goal.returns-clause-begins

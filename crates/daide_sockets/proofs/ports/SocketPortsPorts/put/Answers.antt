@@ -1,15 +1,15 @@
 use Rattle.daide_frame.specs.declared.side.Side.TheVariants.{Bot, Server}
-use Rattle.daide_streams.proofs.StreamLemmas.{offered_moves}
+use Rattle.daide_buffered_io.proofs.StreamLemmas.{offered_moves}
 use Rattle.daide_sockets.proofs.ports.SocketPortsPorts.put.Goals as goal
 
-pub returns-in-Bot-clause-becomes : goal.returns-in-Bot-clause-becomes
-returns-in-Bot-clause-becomes g c =
+pub returns-in-Bot-clause-transition : goal.returns-in-Bot-clause-transition
+returns-in-Bot-clause-transition g c =
     rw c.in-Bot.is
-    (offered_moves g.S.Duplex.to_give g.S.Duplex.taken _ _ Bot c.args.bytes.now c.put_past.result c.put_past.ensures.own
-    c.put_past.ensures.other c.put_past.ensures.unread)
+    (offered_moves g.S.Duplex.to_give g.S.Duplex.taken _ _ Bot c.args.bytes.now c.put_or_flush_peer.result c.put_or_flush_peer.ensures.own
+    c.put_or_flush_peer.ensures.other c.put_or_flush_peer.ensures.unread)
 
-pub returns-in-Server-clause-becomes : goal.returns-in-Server-clause-becomes
-returns-in-Server-clause-becomes g c =
+pub returns-in-Server-clause-transition : goal.returns-in-Server-clause-transition
+returns-in-Server-clause-transition g c =
     rw c.in-Server.is
-    (offered_moves g.S.Duplex.to_give g.S.Duplex.taken _ _ Server c.args.bytes.now c.put_past-in-Server.result
-    c.put_past-in-Server.ensures.own c.put_past-in-Server.ensures.other c.put_past-in-Server.ensures.unread)
+    (offered_moves g.S.Duplex.to_give g.S.Duplex.taken _ _ Server c.args.bytes.now c.put_or_flush_peer-in-Server.result
+    c.put_or_flush_peer-in-Server.ensures.own c.put_or_flush_peer-in-Server.ensures.other c.put_or_flush_peer-in-Server.ensures.unread)

@@ -1,11 +1,11 @@
 use Rattle.std.proofs.Common.{◌≡◌}
-use Rattle.daide_sockets.specs.Pairing.{LooksAt}
+use Rattle.daide_sockets.specs.Pairing.{ChecksArrivals}
 use Rattle.daide_sockets.proofs.system.SocketsSystemSocketPortsRef.connected.Given as goal
 
 -- so many were looked at
 abbrev pub invariant-loop-look : goal.invariant-loop-look
 invariant-loop-look g l = record {
-  looks : LooksAt l._look l.initial.self.arrivals.items l.self.arrivals.items;
+  looks : ChecksArrivals l._look l.initial.self.arrivals.items l.self.arrivals.items;
   came : l.self.acceptor.came ≡ l.initial.self.acceptor.came;
   closing : l.self.closings ≡ l.initial.self.closings;
 }

@@ -1,6 +1,6 @@
 use Rattle.std.proofs.Common.{◌≡◌, true, false, refl, sym, ap, ◌∙◌}
-use Rattle.daide_grammar.specs.Table.Answers.{Answer, Take, Skip, Stop}
-use Rattle.daide_grammar.specs.Table.Rules.{is_stop, is_take}
+use Rattle.daide_grammar.specs.Table.Answers.{TableEntry, Take, Skip, Stop}
+use Rattle.daide_grammar.specs.Table.ParseActions.{is_stop, is_take}
 use Rattle.daide_words.specs.Words.{words_of}
 use Rattle.daide_words.specs.Table.Extended.{spoken_words}
 use Rattle.daide_words.specs.Table.OverWords.{answer_over}
@@ -10,7 +10,7 @@ use Rattle.daide_words.proofs.WhereStopped.{not_stopped, the_stop}
 use Rattle.daide_words.proofs.extended.ExtendedPredict.predict.Goals as goal
 
 -- a Take is no Stop
-takes_on : (a : Answer) → is_take a ≡ true → is_stop a ≡ false
+takes_on : (a : TableEntry) → is_take a ≡ true → is_stop a ≡ false
 takes_on (Take rest) h = refl
 takes_on Skip h = refl
 takes_on Stop h = cc

@@ -1,5 +1,5 @@
 use Rattle.std.proofs.Common.{refl, sym, ap, ◌∙◌}
-use Rattle.daide_grammar.specs.Table.Rules.{is_stop}
+use Rattle.daide_grammar.specs.Table.ParseActions.{is_stop}
 use Rattle.daide_grammar.specs.SideMessages.{dialect_of}
 use Rattle.daide_words.specs.Table.Extended.{spoken_words}
 use Rattle.daide_words.specs.Table.OverWords.{answer_over}

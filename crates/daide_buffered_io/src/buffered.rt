@@ -1,0 +1,385 @@
+//! A stream with a read buffer and a write buffer.
+//!
+//! A system call costs more than the processing of a short frame. So one read takes what is available, up to
+//! `MOST_HELD` bytes, and pulls return it piece by piece. Small puts are collected until a flush, or until the buffer
+//! is full. A buffer is taken from the pool only while it has bytes. If the pool can't allocate one, the stream is read
+//! and written without buffers.
+
+ghost use Rattle.std.specs.Prelude.{◌≡◌, ◌<◌, ◌≤◌, ◌++◌, [], ◌∷◌, true, false, min, length, take, IfSome};
+ghost use Rattle.daide_protocol.specs.Ports.{AppendsTo, IsPullWithin, IsPutWithin, pulled_len};
+ghost use Rattle.daide_buffered_io.specs.Buffers.{Passes, ReadsNothing, WritesNothing, IsBufferedPull, IsFlushed, buffered_bytes};
+ghost use Rattle.daide_buffered_io.specs.Calls.{IsStopped, WritingEnded};
+ghost use Rattle.daide_buffered_io.specs.Taking.{bytes_taken};
+
+use crate::calls::{pull_from, put_to};
+use crate::duplex::Duplex;
+use crate::io_buffer::{IoBuffer, MOST_HELD};
+use crate::pool::Pool;
+use crate::readiness::Readiness;
+use daide_protocol::ports::{Pull, Put};
+use std::marker::Model;
+
+/// A stream with its read buffer (`read_buffer`) and its write buffer (`write_buffer`), each `None` while it is empty.
+#[derive(Drop)]
+pub struct Buffered<S: Drop> {
+    stream: S,
+    read_buffer: Option<IoBuffer>,
+    write_buffer: Option<IoBuffer>,
+    /// Whether a write failed. If so, nothing more is written.
+    has_failed: bool,
+}
+
+impl<S: Drop> Model for Buffered<S> {
+    ghost use Rattle.std.specs.Prelude.{◌<◌, IfSome, length};
+    ghost use Rattle.daide_buffered_io.specs.Buffers.{Buffer, buffered_bytes};
+
+    ghost Value = { Buffer S };
+
+    ghost view = { λ b. record {
+      stream = b.stream;
+      read_buffer = buffered_bytes b.read_buffer;
+      write_buffer = buffered_bytes b.write_buffer;
+      has_failed = b.has_failed;
+    } };
+
+    ghost invariant = { λ b. IfSome b.read_buffer (λ held. 0 < length held.bytes)
+        × IfSome b.write_buffer (λ held. 0 < length held.bytes) };
+}
+
+/// Returns the buffer if it has bytes, or else gives it back to the pool.
+fn kept(held: IoBuffer, pool: &Pool) -> Option<IoBuffer>
+    ensures held { buffered_bytes result ≡ held.bytes }
+    ensures some { IfSome result (λ kept. 0 < length kept.bytes) }
+{
+    if held.as_slice().is_empty() {
+        pool.give_back(held);
+        return None;
+    }
+    Some(held)
+}
+
+impl<S: Drop> Buffered<S> {
+    /// Wraps a stream, with empty buffers.
+    pub fn new(stream: S) -> Buffered<S>
+        ensures { result ≡ record { stream = stream; read_buffer = []; write_buffer = []; has_failed = false } }
+    {
+        Buffered {
+            stream,
+            read_buffer: None,
+            write_buffer: None,
+            has_failed: false,
+        }
+    }
+
+    /// Returns the stream.
+    pub fn stream(&self) -> &S
+        ensures { result.now ≡ self.now.stream }
+    {
+        &self.stream
+    }
+
+    /// Returns whether the read buffer has bytes.
+    pub fn is_ahead(&self) -> bool
+        ensures some { result ≡ true → 0 < length self.now.read_buffer }
+        ensures none { result ≡ false → self.now.read_buffer ≡ [] }
+    {
+        self.read_buffer.is_some()
+    }
+
+    /// Returns whether the write buffer has bytes that may still be written: false after a failed write.
+    pub fn is_behind(&self) -> bool
+        ensures may { result ≡ true → self.now.has_failed ≡ false }
+        ensures some { result ≡ true → 0 < length self.now.write_buffer }
+        ensures none { result ≡ false → self.now.has_failed ≡ false → self.now.write_buffer ≡ [] }
+    {
+        self.write_buffer.is_some() && !self.has_failed
+    }
+
+    /// Marks the stream as failed, as after a failed write: the bytes of the write buffer are never written.
+    pub fn give_up(&mut self)
+        ensures { self.new ≡ record self.old { has_failed = true } }
+    {
+        self.has_failed = true;
+    }
+
+    /// Returns the number of bytes in the write buffer.
+    pub fn behind_len(&self) -> usize
+        ensures { result ≡ length self.now.write_buffer }
+    {
+        match &self.write_buffer {
+            Some(held) => held.as_slice().len(),
+            None => 0,
+        }
+    }
+
+    /// Returns whether the write buffer is empty, so that every byte of every put was written.
+    pub fn is_written(&self) -> bool
+        ensures all { result ≡ true → self.now.write_buffer ≡ [] }
+        ensures some { result ≡ false → 0 < length self.now.write_buffer }
+    {
+        self.write_buffer.is_none()
+    }
+}
+
+impl<S: Duplex + Drop> Buffered<S> {
+    /// Moves the first bytes of a buffer to the caller's, keeps the rest as the read buffer, and returns their number.
+    fn hand_out(&mut self, held: IoBuffer, pool: &Pool, buffer: &mut [u8]) -> usize
+        ensures within { result ≤ length buffer.old }
+        ensures len { length buffer.new ≡ length buffer.old }
+        ensures count { result ≡ min (length held.bytes) (length buffer.old) }
+        ensures bytes { held.bytes ≡ take result buffer.new ++ self.new.read_buffer }
+        ensures few { length self.new.read_buffer ≤ MOST_HELD }
+        ensures rest { (self.new.stream ≡ self.old.stream) × (self.new.write_buffer ≡ self.old.write_buffer) }
+        ensures failed { self.new.has_failed ≡ self.old.has_failed }
+    {
+        let mut held = held;
+        let count = held.give(buffer);
+        self.read_buffer = kept(held, pool);
+        count
+    }
+
+    /// Takes the read buffer out, if it has bytes.
+    fn take_ahead(&mut self, pool: &Pool) -> Option<IoBuffer>
+        ensures held { buffered_bytes result ≡ self.old.read_buffer }
+        ensures some { IfSome result (λ held. 0 < length held.bytes) }
+        ensures rest { self.new ≡ record self.old { read_buffer = [] } }
+    {
+        let Some(held) = self.read_buffer.take() else {
+            return None;
+        };
+        if held.as_slice().is_empty() {
+            pool.give_back(held);
+            return None;
+        }
+        Some(held)
+    }
+
+    /// Reads into a buffer of the pool and returns its first bytes. Reads into the caller's buffer directly if that has
+    /// at least `MOST_HELD` bytes or the pool returns none.
+    fn read_ahead(&mut self, pool: &Pool, readiness: &mut Readiness, buffer: &mut [u8]) -> Pull
+        requires { self.old.read_buffer ≡ [] }
+        ensures asked { IsBufferedPull S.calls (length buffer.old) readiness.old self.old result readiness.new self.new }
+        ensures within { IsPullWithin result (length buffer.old) }
+        ensures len { length buffer.new ≡ length buffer.old }
+        ensures passes { Passes S.to_give S.taken self.old (take (pulled_len result) buffer.new) [] self.new }
+        ensures unwritten { WritesNothing S.taken self.old self.new }
+        ensures few { length self.new.read_buffer ≤ MOST_HELD }
+        ensures failed { self.new.has_failed ≡ self.old.has_failed }
+    {
+        // A read into a long buffer needs no copy.
+        let free_space = if buffer.len() < MOST_HELD {
+            pool.take()
+        } else {
+            None
+        };
+        let Some(held) = free_space else {
+            return pull_from(&mut self.stream, readiness, buffer);
+        };
+        let mut held = held;
+        match held.refill(&mut self.stream, readiness) {
+            Pull::Got(_count) => Pull::Got(self.hand_out(held, pool, buffer)),
+            Pull::Idle => {
+                pool.give_back(held);
+                Pull::Idle
+            }
+            Pull::Ended => {
+                pool.give_back(held);
+                Pull::Ended
+            }
+        }
+    }
+
+    /// Returns bytes from the read buffer, or reads from the stream if the read buffer is empty and the stream may be
+    /// readable.
+    ///
+    /// Returns `Got(n)` if the next `n` bytes are at the front of `buffer`. Pulls return the bytes of the stream in
+    /// order and without gaps. Returns `Ended`, at the end of the stream or after a failed read, only once all bytes
+    /// were returned.
+    pub fn pull(&mut self, pool: &Pool, readiness: &mut Readiness, buffer: &mut [u8]) -> Pull
+        ensures asked { IsBufferedPull S.calls (length buffer.old) readiness.old self.old result readiness.new self.new }
+        ensures within { IsPullWithin result (length buffer.old) }
+        ensures len { length buffer.new ≡ length buffer.old }
+        ensures passes { Passes S.to_give S.taken self.old (take (pulled_len result) buffer.new) [] self.new }
+        ensures unwritten { WritesNothing S.taken self.old self.new }
+        ensures few { length self.new.read_buffer ≤ MOST_HELD }
+        ensures failed { self.new.has_failed ≡ self.old.has_failed }
+        ensures handed { 0 < length self.old.read_buffer →
+            result ≡ Pull.Got (min (length self.old.read_buffer) (length buffer.old)) }
+        ensures all_out { result ≡ Pull.Ended → self.old.read_buffer ≡ [] }
+    {
+        if let Some(held) = self.take_ahead(pool) {
+            return Pull::Got(self.hand_out(held, pool, buffer));
+        }
+        if buffer.is_empty() || !readiness.may_read {
+            return Pull::Idle;
+        }
+        self.read_ahead(pool, readiness, buffer)
+    }
+
+    /// Writes the write buffer once, and keeps what the stream did not accept. If the write fails, the next put returns
+    /// `Failed`.
+    pub fn flush(&mut self, pool: &Pool, readiness: &mut Readiness)
+        ensures passes { Passes S.to_give S.taken self.old [] [] self.new }
+        ensures unread { ReadsNothing S.to_give self.old self.new }
+        ensures few { length self.old.write_buffer ≤ MOST_HELD → length self.new.write_buffer ≤ MOST_HELD }
+        ensures written { self.old.has_failed ≡ false → 0 < length self.old.write_buffer →
+            IsFlushed S.calls readiness.old self.old readiness.new self.new }
+        ensures failed { self.old.has_failed ≡ true → (self.new ≡ self.old) × (readiness.new ≡ readiness.old) }
+    {
+        if self.has_failed {
+            return;
+        }
+        let Some(held) = self.write_buffer.take() else {
+            return;
+        };
+        let mut held = held;
+        self.has_failed = held.drain(&mut self.stream, readiness) == Put::Failed;
+        self.write_buffer = kept(held, pool);
+    }
+
+    /// Appends a prefix of the bytes to a buffer, as long as its free space allows, and makes it the write buffer.
+    fn hold(&mut self, held: IoBuffer, pool: &Pool, bytes: &[u8]) -> Put
+        ensures within { IsPutWithin result (length bytes.now) }
+        ensures all { result ≡ Put.Took (min held.free_space (length bytes.now)) }
+        ensures write_buffer { self.new.write_buffer ≡ held.bytes ++ bytes_taken result bytes.now }
+        ensures rest { (self.new.stream ≡ self.old.stream) × (self.new.read_buffer ≡ self.old.read_buffer) }
+        ensures failed { self.new.has_failed ≡ self.old.has_failed }
+        ensures few { length self.new.write_buffer ≤ MOST_HELD }
+    {
+        let mut held = held;
+        let count = held.coalesce(bytes);
+        self.write_buffer = kept(held, pool);
+        Put::Took(count)
+    }
+
+    /// Puts bytes while the write buffer is empty: into a buffer of the pool, or directly to the stream if there are at
+    /// least `MOST_HELD` bytes or the pool returns no buffer.
+    fn take_first(&mut self, pool: &Pool, readiness: &mut Readiness, bytes: &[u8]) -> Put
+        requires { self.old.write_buffer ≡ [] }
+        ensures within { IsPutWithin result (length bytes.now) }
+        ensures passes { Passes S.to_give S.taken self.old [] (bytes_taken result bytes.now) self.new }
+        ensures unread { ReadsNothing S.to_give self.old self.new }
+        ensures few { length self.new.write_buffer ≤ MOST_HELD }
+        ensures waits { result ≡ Put.Took 0 → 0 < length bytes.now → IsStopped S.calls readiness.new self.new.stream }
+        ensures fails { result ≡ Put.Failed → self.new.has_failed ≡ true }
+    {
+        if bytes.len() < MOST_HELD {
+            if let Some(held) = pool.take() {
+                return self.hold(held, pool, bytes);
+            }
+        }
+        let put = put_to(&mut self.stream, readiness, bytes);
+        self.has_failed = put == Put::Failed;
+        put
+    }
+
+    /// Writes a buffer once, then appends a prefix of the bytes to what is left of it, as long as the free space
+    /// allows. Returns `Failed` if the write failed.
+    fn take_written(
+        &mut self,
+        held: IoBuffer,
+        pool: &Pool,
+        readiness: &mut Readiness,
+        bytes: &[u8],
+    ) -> Put
+        requires { self.old.write_buffer ≡ [] }
+        ensures within { IsPutWithin result (length bytes.now) }
+        ensures passes { Passes S.to_give S.taken (record self.old { write_buffer = held.bytes }) []
+            (bytes_taken result bytes.now) self.new }
+        ensures unread { ReadsNothing S.to_give self.old self.new }
+        ensures few { length self.new.write_buffer ≤ MOST_HELD }
+        ensures waits { result ≡ Put.Took 0 → 0 < length bytes.now → IsStopped S.calls readiness.new self.new.stream }
+        ensures fails { result ≡ Put.Failed → self.new.has_failed ≡ true }
+    {
+        let mut held = held;
+        if held.drain(&mut self.stream, readiness) == Put::Failed {
+            self.has_failed = true;
+            self.write_buffer = kept(held, pool);
+            return Put::Failed;
+        }
+        match kept(held, pool) {
+            Some(left) => self.hold(left, pool, bytes),
+            None => self.take_first(pool, readiness, bytes),
+        }
+    }
+
+    /// Appends a prefix of the bytes to the write buffer, as long as the free space allows. Writes the buffer first if
+    /// its free space is less than `count` bytes.
+    fn take_behind(
+        &mut self,
+        pool: &Pool,
+        readiness: &mut Readiness,
+        bytes: &[u8],
+        count: usize,
+    ) -> Put
+        ensures within { IsPutWithin result (length bytes.now) }
+        ensures passes { Passes S.to_give S.taken self.old [] (bytes_taken result bytes.now) self.new }
+        ensures unread { ReadsNothing S.to_give self.old self.new }
+        ensures few { length self.new.write_buffer ≤ MOST_HELD }
+        ensures waits { result ≡ Put.Took 0 → 0 < length bytes.now → 0 < count →
+            IsStopped S.calls readiness.new self.new.stream }
+        ensures fails { result ≡ Put.Failed → self.new.has_failed ≡ true }
+    {
+        let Some(held) = self.write_buffer.take() else {
+            return self.take_first(pool, readiness, bytes);
+        };
+        if held.free_space() < count {
+            return self.take_written(held, pool, readiness, bytes);
+        }
+        self.hold(held, pool, bytes)
+    }
+
+    /// Puts at least `MOST_HELD` bytes. Fills the write buffer with the first of them and writes it, or writes the
+    /// bytes directly if it is empty. If it is full, it is written first, so `Took(0)` means that the stream accepts
+    /// nothing now.
+    fn put_many(&mut self, pool: &Pool, readiness: &mut Readiness, bytes: &[u8]) -> Put
+        ensures within { IsPutWithin result (length bytes.now) }
+        ensures passes { Passes S.to_give S.taken self.old [] (bytes_taken result bytes.now) self.new }
+        ensures unread { ReadsNothing S.to_give self.old self.new }
+        ensures few { length self.new.write_buffer ≤ MOST_HELD }
+        ensures waits { result ≡ Put.Took 0 → 0 < length bytes.now → IsStopped S.calls readiness.new self.new.stream }
+        ensures fails { result ≡ Put.Failed → self.new.has_failed ≡ true }
+    {
+        let put = self.take_behind(pool, readiness, bytes, 1);
+        if put == Put::Took(0) {
+            return put;
+        }
+        self.flush(pool, readiness);
+        put
+    }
+
+    /// Puts bytes. Fewer than `MOST_HELD` are kept together: if the free space is too small for all of them, the write
+    /// buffer is written first.
+    ///
+    /// Returns `Took(n)` if the first `n` bytes are accepted, in order: the stream or the write buffer has them.
+    /// Returns `Took(0)` for some bytes only if no more can be written now, and `Failed` after any write that failed.
+    pub fn put(&mut self, pool: &Pool, readiness: &mut Readiness, bytes: &[u8]) -> Put
+        ensures within { IsPutWithin result (length bytes.now) }
+        ensures passes { Passes S.to_give S.taken self.old [] (bytes_taken result bytes.now) self.new }
+        ensures unread { ReadsNothing S.to_give self.old self.new }
+        ensures few { length self.old.write_buffer ≤ MOST_HELD → length self.new.write_buffer ≤ MOST_HELD }
+        ensures waits { result ≡ Put.Took 0 → 0 < length bytes.now → IsStopped S.calls readiness.new self.new.stream }
+        ensures fails { result ≡ Put.Failed → self.new.has_failed ≡ true }
+        ensures failed { self.old.has_failed ≡ true → (result ≡ Put.Failed) × (self.new ≡ self.old) }
+    {
+        if self.has_failed {
+            return Put::Failed;
+        }
+        if bytes.len() >= MOST_HELD {
+            return self.put_many(pool, readiness, bytes);
+        }
+        self.take_behind(pool, readiness, bytes, bytes.len())
+    }
+
+    /// Shuts down the writing direction. Requires an empty write buffer.
+    pub fn end_writing(&mut self)
+        requires { self.old.write_buffer ≡ [] }
+        ensures passes { Passes S.to_give S.taken self.old [] [] self.new }
+        ensures unread { ReadsNothing S.to_give self.old self.new }
+        ensures unwritten { WritesNothing S.taken self.old self.new }
+        ensures failed { self.new.has_failed ≡ self.old.has_failed }
+        ensures told { AppendsTo (S.calls self.old.stream) (WritingEnded ∷ []) (S.calls self.new.stream) }
+    {
+        self.stream.end_writing();
+    }
+}

@@ -1,0 +1,64 @@
+//! Draining: bytes that are read from a closing stream and discarded.
+
+ghost use Rattle.std.specs.Prelude.{◌≡◌, ◌+◌, ◌≤◌, ℕ, List, [], length, true};
+ghost use Rattle.daide_protocol.specs.declared.ports.Pull.{Pull};
+ghost use Rattle.daide_buffered_io.specs.Buffers.{Passes, WritesNothing, IsBufferedPull};
+ghost use Rattle.daide_buffered_io.specs.Calls.{is_last_piece};
+
+use crate::buffered::Buffered;
+use crate::duplex::Duplex;
+use crate::pool::Pool;
+use crate::readiness::Readiness;
+use daide_protocol::ports::Pull;
+use std::marker::Model;
+
+/// The most bytes that one call discards.
+const PIECE: usize = 4096;
+
+/// A budget of bytes that may still be discarded. Its abstract value is their number.
+#[derive(Drop)]
+pub struct Dropping {
+    left: usize,
+}
+
+impl Model for Dropping {
+    ghost Value = { ℕ };
+
+    ghost view = { λ dropping. dropping.left };
+}
+
+impl Dropping {
+    /// Creates a budget of `most` bytes.
+    pub fn new(most: usize) -> Dropping
+        ensures { result ≡ most }
+    {
+        Dropping { left: most }
+    }
+
+    /// Pulls once, discards up to `PIECE` bytes, and subtracts their number from the budget. Returns true if draining
+    /// is finished: the stream ended, a read failed, or the budget is used up.
+    pub fn drop_piece<S: Duplex + Drop>(
+        &mut self,
+        stream: &mut Buffered<S>,
+        pool: &Pool,
+        readiness: &mut Readiness,
+    ) -> bool
+        ensures pulled { (free_space : ℕ) × (pull : Pull) × IsBufferedPull S.calls free_space readiness.old stream.old pull
+            readiness.new stream.new × (result ≡ is_last_piece pull self.new) }
+        ensures fewer { self.new ≤ self.old }
+        ensures piece { self.old ≤ self.new + PIECE }
+        ensures dropped { (bytes : List ℕ) × (self.old ≡ self.new + length bytes)
+            × Passes S.to_give S.taken stream.old bytes [] stream.new }
+        ensures unwritten { WritesNothing S.taken stream.old stream.new }
+        ensures failed { stream.new.has_failed ≡ stream.old.has_failed }
+    {
+        let mut piece = [0; PIECE];
+        let free_space = self.left.min(PIECE);
+        match stream.pull(pool, readiness, &mut piece[..free_space]) {
+            Pull::Got(count) => self.left -= count,
+            Pull::Idle => {}
+            Pull::Ended => return true,
+        }
+        self.left == 0
+    }
+}

@@ -1,0 +1,11 @@
+use Rattle.std.proofs.Common.{◌≡◌}
+use Rattle.daide_protocol.specs.Events.{other}
+use Rattle.daide_channels.specs.PerSide.{at}
+use Rattle.daide_channels.proofs.GoneLemmas.{IsLosing}
+use Rattle.daide_channels.proofs.channels.Channels.lose.Given as goal
+
+-- as many first frames are gone as rounds were made, and the other wire is handed what it was
+abbrev pub invariant-loop : goal.invariant-loop
+invariant-loop g l =
+    IsLosing l.fn.self l.self l.fn.to l.counter
+    × (at l.self.parts (other l.fn.to) ≡ at l.fn.self.parts (other l.fn.to))

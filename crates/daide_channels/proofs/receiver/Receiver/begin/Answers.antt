@@ -1,0 +1,30 @@
+use Rattle.std.proofs.Common.{[], refl, ap, ◌∙◌, drop, subst}
+use Rattle.daide_grammar.specs.declared.side.Side2.{Side2}
+use Rattle.daide_grammar.specs.Table.Symbols.{start_symbol_of}
+use Rattle.daide_reader.specs.Reading.{HasReadPrefix}
+use Rattle.daide_words.specs.contracts.extended.ExtendedPredict.TheImpl.{ghosts}
+use Rattle.daide_words.specs.Table.Extended.{extended_look_ups, spoken_words}
+use Rattle.daide_channels.specs.Receiver.{Receiver, words_in}
+use Rattle.daide_channels.proofs.ReceiverLemmas.{begins_of, fresh_on}
+use Rattle.daide_channels.proofs.receiver.Receiver.begin.Goals as goal
+
+pub invariant_of-self : goal.invariant_of-self
+invariant_of-self g c =
+    let i = c.self.inside in
+    let e = c.start.ensures in
+    fresh_on ghosts extended_look_ups i.side c.args.level i.cutter i.reader c.start.new.self c.start-2.new.self i.header
+    i.verdict c.self.invariant.four c.self.invariant.capped
+    (ap (λ (v : Receiver). drop 4 v.held) c.self.view_is ∙ c.requires.bodiless) c.self.invariant.place e.table e.base
+    e.unfinished
+    (subst (λ (s : Side2). HasReadPrefix ghosts (spoken_words i.reader.table) (start_symbol_of s c.args.level)
+    i.reader.max_depth c.start.new.self []) c.side2_of.ensures e.stands_after) c.start-2.ensures.found
+
+pub returns : goal.returns
+returns g c =
+    let i = c.self.inside in
+    let e = c.start.ensures in
+    begins_of words_in extended_look_ups i.side i.level c.args.level c.args.level i.cutter i.cutter i.reader c.start.new.self
+    i.hlo c.start-2.new.self i.header i.verdict i.verdict c.args.self.now.held c.args.self.now c.self.view_is refl refl
+    (ap (λ (v : Receiver). v.held) c.self.view_is)
+    (ap (λ (v : Receiver). v.verdict) c.self.view_is ∙ c.requires.free) e.stands_after.depth_kept e.table e.base
+    c.start-2.ensures.looked_at

@@ -1,0 +1,24 @@
+use Rattle.std.proofs.Common.{[], refl, ap, drop, rules}
+use Rattle.daide_words.specs.contracts.extended.ExtendedPredict.TheImpl.{ghosts}
+use Rattle.daide_words.specs.Table.Extended.{extended_look_ups}
+use Rattle.daide_channels.specs.Receiver.{Receiver, words_in}
+use Rattle.daide_channels.proofs.ReceiverLemmas.{begins_of, fresh_on}
+use Rattle.daide_channels.proofs.receiver.Receiver.clear.Goals as goal
+
+-- What the reader is then is searched for, so that a body which leaves it as it was is refused by what it says, and
+-- not by a name.
+pub invariant_of-self : goal.invariant_of-self
+invariant_of-self g c =
+    let i = c.self.inside in
+    fresh_on ghosts extended_look_ups i.side i.level _ i.reader _ _ i.header _ c.self.invariant.four
+    (rw c.reset.ensures.cap c.self.invariant.capped) (ap (drop 4) c.reset.ensures.empty) tt (search rules)
+    (search rules) (search rules) (search rules) (search rules)
+
+pub returns : goal.returns
+returns g c =
+    let i = c.self.inside in
+    let e = c.start.ensures in
+    begins_of words_in extended_look_ups i.side i.level i.level c.args.self.now.level i.cutter c.reset.new.self i.reader
+    c.start.new.self i.hlo c.start-2.new.self i.header i.verdict _ [] c.args.self.now c.self.view_is
+    (ap (λ (v : Receiver). v.level) c.self.view_is) c.reset.ensures.cap c.reset.ensures.empty refl
+    e.stands_after.depth_kept e.table e.base c.start-2.ensures.looked_at

@@ -1,0 +1,15 @@
+use Rattle.std.proofs.Common.{◌+◌, ◌*◌, ◌≤◌, subst}
+use Rattle.daide_grammar.specs.Depth.{open_brackets}
+use Rattle.daide_grammar.specs.Table.Symbols.{start_symbol_of}
+use Rattle.daide_protocol.specs.Machine.{side2_of}
+use Rattle.daide_protocol.specs.Weight.{tokens_held}
+use Rattle.daide_words.specs.Table.Extended.{spoken_words}
+use Rattle.daide_channels.specs.Receiver.{Receiver}
+use Rattle.daide_channels.proofs.receiver.Receiver.entries.Goals as goal
+
+pub returns-clause-few : goal.returns-clause-few
+returns-clause-few g c =
+    let i = c.self.inside in
+    subst (λ (v : Receiver). c.entries.result ≤ 8 * open_brackets (tokens_held v.cap v.held) + 16) c.self.view_is
+    (c.entries.ensures.entries (spoken_words i.reader.table) (start_symbol_of (side2_of i.side) i.level) i.reader.max_depth
+    (tokens_held i.cutter.cap i.cutter.bytes) c.self.invariant.stands)

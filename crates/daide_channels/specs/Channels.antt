@@ -1,0 +1,268 @@
+-- Both sides' frames, and the frames that wait for the two wires.
+use Rattle.std.specs.Prelude.{◌≡◌, ℕ, ◌+◌, ◌<◌, ◌≤◌, Bool, true, false, ◌||◌, List, [], ◌∷◌, ◌++◌, length, drop}
+use Rattle.std.specs.Prelude.{map, Option, Some, None, if◌then◌else◌}
+use Rattle.daide_frame.specs.declared.side.Side.{Side}
+use Rattle.daide_frame.specs.declared.side.Side.TheVariants.{Bot, Server}
+use Rattle.daide_frame.specs.declared.code.Code.{Code}
+use Rattle.daide_frame.specs.Frames.{head_in}
+use Rattle.daide_grammar.specs.declared.level.Level.{Level}
+use Rattle.daide_grammar.specs.declared.level.Level.TheVariants.{L0}
+use Rattle.daide_reader.specs.declared.verdict.Verdict.{Verdict}
+use Rattle.daide_protocol.specs.Events.{other}
+use Rattle.daide_protocol.specs.Machine.{Coming, Sent, destination, fm_bytes, em_bytes}
+use Rattle.daide_protocol.specs.Wires.{Holding, same_side, is_answer, is_awaited, is_dm_head, parts_after}
+use Rattle.daide_channels.specs.declared.send_queue.QueuedFrame.{QueuedFrame}
+use Rattle.daide_channels.specs.declared.send_queue.QueuedFrame.TheVariants.{Answer, Fm, Em}
+use Rattle.daide_channels.specs.PerSide.{PerSide, at, put}
+use Rattle.daide_channels.specs.Receiver.{Receiver, ReaderLimits, StartsFrame, whole_answer, answer_parts}
+use Rattle.daide_channels.specs.SendQueue.{Queue}
+
+-- what came of a side: the bytes since its last whole frame with the level noted at its last header, and what is
+-- held, also while the answer to its last frame waits
+pub record ReceiveState : Type 0 where
+  pub coming : Coming
+  pub holding : Holding
+
+pub record Channels : Type 0 where
+  pub cap : ℕ
+  pub rules : ReaderLimits
+  pub sides : PerSide ReceiveState
+  -- the frames that wait for each wire, the first perhaps in part
+  pub queued : PerSide (List Sent)
+  -- what is left of the first frame for each wire, in the parts in which it is handed over
+  pub parts : PerSide (List (List ℕ))
+
+abbrev pub pending : Channels → Side → List ℕ
+pending t side = (at t.sides side).coming.pending
+
+abbrev pub noted : Channels → Side → Level
+noted t side = (at t.sides side).coming.noted
+
+abbrev pub side_holding : Channels → Side → Holding
+side_holding t side = (at t.sides side).holding
+
+-- ---- what the calls do
+
+-- nothing came, and nothing waits
+pub record IsQuiet (cap : ℕ) (rules : ReaderLimits) (t : Channels) : Type 0 where
+  pub cap_set : t.cap ≡ cap
+  pub rules_set : t.rules ≡ rules
+  pub coming : (side : Side) → (at t.sides side).coming ≡ record { pending = []; noted = L0 }
+  pub held : (side : Side) → (side_holding t side).held ≡ []
+  pub unasked : (side : Side) → (side_holding t side).total ≡ 0
+  pub unlooked : (side : Side) → (side_holding t side).looked_at ≡ 0
+  pub queued : (to : Side) → at t.queued to ≡ []
+
+-- the limits stay, and what came of the other side
+pub record Keeps (side : Side) (old new : Channels) : Type 0 where
+  pub cap : new.cap ≡ old.cap
+  pub rules : new.rules ≡ old.rules
+  pub other_side : at new.sides (other side) ≡ at old.sides (other side)
+
+-- a side's frame has these bytes now, and its message was read on. A table is asked for the tokens of a message alone.
+pub record IsGrown (cap : ℕ) (old : ReceiveState) (bytes : List ℕ) (new : ReceiveState) : Type 0 where
+  pub coming : new.coming ≡ record { pending = bytes; noted = old.coming.noted }
+  pub held : new.holding.held ≡ bytes
+  pub held_before : old.holding.held ≡ old.coming.pending
+  pub base : new.holding.total_before ≡ old.holding.total_before
+  pub no_message : is_dm_head (head_in cap bytes) ≡ false → new.holding.total ≡ old.holding.total
+  pub bodiless : drop 4 bytes ≡ [] → new.holding.total ≡ old.holding.total
+  pub uncounted : is_dm_head (head_in cap old.coming.pending) ≡ false → old.holding.total_before ≡ old.holding.total
+
+-- a side's message begins at a level
+pub record IsStarted (old : ReceiveState) (level : Level) (new : ReceiveState) : Type 0 where
+  pub coming : new.coming ≡ record { pending = old.coming.pending; noted = level }
+  pub held : new.holding.held ≡ old.holding.held
+  pub total : new.holding.total ≡ old.holding.total
+  pub base : new.holding.total_before ≡ old.holding.total
+  pub looked_at : new.holding.looked_at ≡ old.holding.looked_at
+
+-- a side's frame was answered
+pub record IsAnswered (old new : ReceiveState) : Type 0 where
+  pub coming : new.coming ≡ record { pending = []; noted = old.coming.noted }
+  pub held : new.holding.held ≡ old.holding.held
+  pub base : new.holding.total_before ≡ old.holding.total_before
+  pub looked_at : new.holding.looked_at ≡ old.holding.looked_at
+
+-- a side's frame was dropped
+pub record IsCleared (old new : ReceiveState) : Type 0 where
+  pub coming : new.coming ≡ record { pending = []; noted = old.coming.noted }
+  pub held : new.holding.held ≡ []
+  pub total : new.holding.total ≡ old.holding.total
+  pub base : new.holding.total_before ≡ old.holding.total
+  pub looked_at : new.holding.looked_at ≡ old.holding.looked_at
+
+-- Frames that waited are gone: nothing is held of a side whose answer was among them, and of any other what was held.
+-- No table was asked, and no token looked at.
+pub record ReleasesFrames (old new : Channels) : Type 0 where
+  pub cap : new.cap ≡ old.cap
+  pub rules : new.rules ≡ old.rules
+  pub coming : (side : Side) → (at new.sides side).coming ≡ (at old.sides side).coming
+  pub total : (side : Side) → (side_holding new side).total ≡ (side_holding old side).total
+  pub looked_at : (side : Side) → (side_holding new side).looked_at ≡ (side_holding old side).looked_at
+  pub fewer : (side : Side) → is_awaited (at old.queued) side ≡ false → is_awaited (at new.queued) side ≡ false
+  pub gone : (side : Side) → is_awaited (at old.queued) side ≡ true → is_awaited (at new.queued) side ≡ false →
+      (side_holding new side).held ≡ []
+  pub kept : (side : Side) → is_awaited (at new.queued) side ≡ is_awaited (at old.queued) side →
+      side_holding new side ≡ side_holding old side
+
+-- a frame waits behind the others for its wire
+abbrev pub posted : PerSide (List Sent) → Sent → PerSide (List Sent)
+posted queued frame = put queued frame.to (at queued frame.to ++ frame ∷ [])
+
+abbrev pub is_final_frame : Option Side → Bool
+is_final_frame None = true
+is_final_frame (Some one) = false
+
+-- whether one of them ends the session
+abbrev pub has_final_frame : List Sent → Bool
+has_final_frame [] = false
+has_final_frame (frame ∷ frames) = is_final_frame frame.answers || has_final_frame frames
+
+abbrev pub ending_bytes : Option Code → List ℕ
+ending_bytes None = fm_bytes
+ending_bytes (Some code) = em_bytes code
+
+-- an FM, or an EM with a code
+abbrev pub final_frame_to : Side → Option Code → Sent
+final_frame_to to code = record { to = to; answers = None; bytes = ending_bytes code }
+
+-- ---- what the fields stand for
+
+pub record Fields : Type 0 where
+  pub sides : PerSide Receiver
+  pub wires : PerSide Queue
+
+abbrev pub fields : PerSide Receiver → PerSide Queue → Fields
+fields sides wires = record { sides = sides; wires = wires }
+
+-- the bytes of a side's answer
+abbrev pub answer_at : PerSide Receiver → Side → List ℕ
+answer_at sides side = whole_answer (at sides side)
+
+abbrev pub answers_of : QueuedFrame → Option Side
+answers_of (Answer side) = Some side
+answers_of Fm = None
+answers_of (Em code) = None
+
+abbrev pub queued_bytes : (Side → List ℕ) → QueuedFrame → List ℕ
+queued_bytes answers (Answer side) = answers side
+queued_bytes answers Fm = fm_bytes
+queued_bytes answers (Em code) = em_bytes code
+
+abbrev pub frame_of_queued : Side → (Side → List ℕ) → QueuedFrame → Sent
+frame_of_queued to answers item = record { to = to; answers = answers_of item; bytes = queued_bytes answers item }
+
+-- the first frame without its first n bytes
+abbrev pub drop_sent : ℕ → List Sent → List Sent
+drop_sent n [] = []
+drop_sent n (frame ∷ frames) = record { to = frame.to; answers = frame.answers; bytes = drop n frame.bytes } ∷ frames
+
+abbrev pub frames_of : Side → (Side → List ℕ) → Queue → List Sent
+frames_of to answers queue = drop_sent queue.written (map (frame_of_queued to answers) queue.items)
+
+abbrev pub queued_frames_to : Fields → Side → List Sent
+queued_frames_to f to = frames_of to (answer_at f.sides) (at f.wires to)
+
+-- a frame in the parts in which it is handed over: an answer in its own, an FM or an EM whole
+abbrev pub parts_in : PerSide Receiver → QueuedFrame → List (List ℕ)
+parts_in sides (Answer side) = answer_parts (at sides side)
+parts_in sides Fm = fm_bytes ∷ []
+parts_in sides (Em code) = em_bytes code ∷ []
+
+-- what is left of the first frame
+abbrev pub parts_left : PerSide Receiver → ℕ → List QueuedFrame → List (List ℕ)
+parts_left sides gone [] = []
+parts_left sides gone (item ∷ items) = parts_after gone (parts_in sides item)
+
+abbrev pub parts_to : Fields → Side → List (List ℕ)
+parts_to f to = parts_left f.sides (at f.wires to).written (at f.wires to).items
+
+-- while an answer waits, no byte of the next frame came
+abbrev pub pending_by : Option Verdict → List ℕ → List ℕ
+pending_by None bytes = bytes
+pending_by (Some verdict) bytes = []
+
+abbrev pub arrival_of : Receiver → ReceiveState
+arrival_of i = record {
+  coming = record { pending = pending_by i.verdict i.held; noted = i.level };
+  holding = record {
+    held = i.held;
+    entries = i.entries;
+    total = i.total;
+    total_before = i.total_before;
+    looked_at = i.looked_at;
+  };
+}
+
+abbrev pub channels_of : Fields → Channels
+channels_of f = record {
+  cap = f.sides.bot.cap;
+  rules = f.sides.bot.rules;
+  sides = record { bot = arrival_of f.sides.bot; server = arrival_of f.sides.server };
+  queued = record { bot = queued_frames_to f Bot; server = queued_frames_to f Server };
+  parts = record { bot = parts_to f Bot; server = parts_to f Server };
+}
+
+-- how often a side's answer waits, and how many frames that are no answers
+abbrev pub answer_mark : Side → QueuedFrame → ℕ
+answer_mark side (Answer one) = if same_side one side then 1 else 0
+answer_mark side Fm = 0
+answer_mark side (Em code) = 0
+
+abbrev pub final_frame_mark : QueuedFrame → ℕ
+final_frame_mark (Answer side) = 0
+final_frame_mark Fm = 1
+final_frame_mark (Em code) = 1
+
+abbrev pub count_of : (QueuedFrame → ℕ) → List QueuedFrame → ℕ
+count_of mark [] = 0
+count_of mark (item ∷ items) = mark item + count_of mark items
+
+abbrev pub presence : Option Verdict → ℕ
+presence None = 0
+presence (Some verdict) = 1
+
+-- less than the whole first frame is gone
+abbrev pub IsPartlySent : (Side → List ℕ) → ℕ → List QueuedFrame → Type 0
+IsPartlySent answers n [] = n ≡ 0
+IsPartlySent answers n (item ∷ items) = n < length (queued_bytes answers item)
+
+-- A side's answer waits once, where the side has one, and nowhere else: for the wire toward which its verdict sends it.
+-- At most one frame ends the session on each wire; so at most three wait for a wire.
+pub record IsSound (f : Fields) : Type 0 where
+  pub its_side : (side : Side) → (at f.sides side).side ≡ side
+  pub same_cap : f.sides.server.cap ≡ f.sides.bot.cap
+  pub same_rules : f.sides.server.rules ≡ f.sides.bot.rules
+  pub once : (side : Side) → count_of (answer_mark side) (at f.wires Bot).items
+      + count_of (answer_mark side) (at f.wires Server).items ≡ presence (at f.sides side).verdict
+  pub aimed : (side to : Side) (verdict : Verdict) → (at f.sides side).verdict ≡ Some verdict →
+      0 < count_of (answer_mark side) (at f.wires to).items → to ≡ destination side verdict
+  pub ends : (to : Side) → count_of final_frame_mark (at f.wires to).items ≤ 1
+  pub filled : (side : Side) → presence (at f.sides side).verdict ≡ 1 → 0 < length (answer_at f.sides side)
+  pub headed : (side : Side) → presence (at f.sides side).verdict ≡ 1 → length (at f.sides side).header ≡ 4
+  pub begun : (to : Side) → IsPartlySent (answer_at f.sides) (at f.wires to).written (at f.wires to).items
+
+-- how many bytes the first frame has in all
+abbrev pub size_of_first : (Side → List ℕ) → List QueuedFrame → ℕ
+size_of_first answers [] = 0
+size_of_first answers (item ∷ items) = length (queued_bytes answers item)
+
+abbrev pub others : List Sent → List Sent
+others [] = []
+others (frame ∷ frames) = frames
+
+-- whose frame is held no longer, where this one is gone
+abbrev pub answered_by : Option QueuedFrame → Option Side
+answered_by None = None
+answered_by (Some item) = answers_of item
+
+-- the side whose answer is gone begins its next frame, and the other is the same
+pub record IsReleased (gone : Option Side) (one : Side) (old new : Receiver) : Type 0 where
+  pub its : is_answer one gone ≡ true → StartsFrame old old.level [] new
+  pub kept : is_answer one gone ≡ false → new ≡ old
+
+-- how an FM waits, or an EM with a code
+abbrev pub ending_of : Option Code → QueuedFrame
+ending_of None = Fm
+ending_of (Some code) = Em code

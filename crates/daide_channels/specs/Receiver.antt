@@ -1,0 +1,170 @@
+-- One side: the frame that comes, how far its message is read, and the answer that it becomes.
+use Rattle.std.specs.Prelude.{◌≡◌, ℕ, ◌+◌, ◌-◌, ◌*◌, ◌%◌, ◌^◌, ◌≤◌, false, nat_lt, List, [], ◌∷◌, ◌++◌, length, take}
+use Rattle.std.specs.Prelude.{drop}
+use Rattle.std.specs.Prelude.{Option, Some, None, if◌then◌else◌}
+use Rattle.daide_frame.specs.declared.side.Side.{Side}
+use Rattle.daide_frame.specs.declared.head.Head.{Head}
+use Rattle.daide_frame.specs.Frames.{Cut, fed, head_in}
+use Rattle.daide_frame.specs.Head.{head_bytes}
+use Rattle.daide_grammar.specs.declared.level.Level.{Level}
+use Rattle.daide_grammar.specs.declared.predict.Predict.{Ghosts}
+use Rattle.daide_grammar.specs.Table.Symbols.{start_symbol_of}
+use Rattle.daide_grammar.specs.Words.{Words}
+use Rattle.daide_words.specs.declared.extended.Extended.{Extended}
+use Rattle.daide_words.specs.Table.Extended.{spoken_words}
+use Rattle.daide_words.specs.Table.OverWords.{spoken}
+use Rattle.daide_reader.specs.Reading.{Reading, HasReadPrefix}
+use Rattle.daide_reader.specs.declared.verdict.Verdict.{Verdict}
+use Rattle.daide_reader.specs.declared.verdict.Verdict.TheVariants.{Relay, Prn, Huh}
+use Rattle.daide_reader.specs.Verdict.{IsPlaceIn}
+use Rattle.daide_protocol.specs.declared.hlo.HloScan.{HloScan}
+use Rattle.daide_protocol.specs.Answers.{answer_body, answer_head, prn_open, huh_open, err_bytes, close_bytes}
+use Rattle.daide_protocol.specs.HloLevel.{lvl_scan_of}
+use Rattle.daide_protocol.specs.Machine.{side2_of}
+use Rattle.daide_protocol.specs.Weight.{tokens_held}
+use Rattle.daide_protocol.specs.Wires.{is_dm_head}
+
+-- by what a message is judged: how many of its brackets may be open at once, and the operator's words
+pub record ReaderLimits : Type 0 where
+  pub max_depth : ℕ
+  pub words : Words
+
+pub record Receiver : Type 0 where
+  pub side : Side
+  pub cap : ℕ
+  pub rules : ReaderLimits
+  -- the level at which the message is read
+  pub level : Level
+  -- the frame's bytes so far, also while the answer to it waits
+  pub held : List ℕ
+  -- the header of the answer, and the verdict by which the frame is answered, once it is
+  pub header : List ℕ
+  pub verdict : Option Verdict
+  pub entries : ℕ
+  -- the table's answers in all, and those before the message, both modulo 2^64
+  pub total : ℕ
+  pub total_before : ℕ
+  -- the tokens that were looked at for the level of an HLO, modulo 2^64
+  pub looked_at : ℕ
+
+-- how many tokens of a message a piece ends, where these bytes of its frame came before
+abbrev pub tokens_ended : ℕ → List ℕ → List ℕ → ℕ
+tokens_ended cap held piece = length (tokens_held cap (fed cap held piece)) - length (tokens_held cap held)
+
+-- ---- the answer in place
+
+-- the whole answer to a body; nothing where there is none
+abbrev pub bytes_by : List ℕ → List ℕ → Option Verdict → List ℕ
+bytes_by header body None = []
+bytes_by header body (Some verdict) = header ++ answer_body body verdict
+
+-- the same in its parts: its header, the frame's body, and the words round that body
+abbrev pub parts_by : List ℕ → List ℕ → Option Verdict → List (List ℕ)
+parts_by header body None = []
+parts_by header body (Some Relay) = header ∷ body ∷ [] ∷ [] ∷ [] ∷ [] ∷ []
+parts_by header body (Some Prn) = header ∷ prn_open ∷ body ∷ close_bytes ∷ [] ∷ [] ∷ []
+parts_by header body (Some (Huh place)) =
+    header ∷ huh_open ∷ take (2 * place) body ∷ err_bytes ∷ drop (2 * place) body ∷ close_bytes ∷ []
+
+-- what is left of the part in which a place falls
+abbrev pub front_in : List (List ℕ) → ℕ → List ℕ
+front_in [] place = []
+front_in (part ∷ parts) place =
+    if nat_lt place (length part) then drop place part else front_in parts (place - length part)
+
+abbrev pub whole_answer : Receiver → List ℕ
+whole_answer i = bytes_by i.header (drop 4 i.held) i.verdict
+
+abbrev pub answer_parts : Receiver → List (List ℕ)
+answer_parts i = parts_by i.header (drop 4 i.held) i.verdict
+
+-- what is sent next of the answer, where so many of its bytes are gone
+abbrev pub front_after : Receiver → ℕ → List ℕ
+front_after i gone = front_in (answer_parts i) gone
+
+-- ---- what the fields stand for
+
+-- the words by which a table answers
+abbrev pub words_in : Extended → Words
+words_in table = spoken (spoken_words table)
+
+-- by what a reader judges, over a table with these words
+abbrev pub rules_of : {T : Type 0} → (T → Words) → Reading T → ReaderLimits
+rules_of words v = record { max_depth = v.max_depth; words = words v.table }
+
+abbrev pub receiver_of : {T : Type 0} → (T → Words) → (T → ℕ) → Side → Level → Cut → Reading T → HloScan → List ℕ →
+    Option Verdict → Receiver
+receiver_of words asked side level cut v hlo header verdict = record {
+  side = side;
+  cap = cut.cap;
+  rules = rules_of words v;
+  level = level;
+  held = cut.bytes;
+  header = header;
+  verdict = verdict;
+  entries = length v.stack;
+  total = asked v.table;
+  total_before = v.asked_before;
+  looked_at = hlo.looked_at;
+}
+
+abbrev pub HasHuhIndex : List ℕ → Option Verdict → Type 0
+HasHuhIndex held None = Unit {0}
+HasHuhIndex held (Some verdict) = IsPlaceIn (drop 4 held) verdict
+
+-- The reader stands after the whole tokens of the message that is held, and so does what is found of an HLO: at a
+-- header, in the midst of a body, at its end, and while the answer waits.
+pub record IsReadOn {T : Type 0} (table : Ghosts T) (asked : T → ℕ) (side : Side) (level : Level) (cut : Cut)
+    (v : Reading T) (hlo : HloScan) (header : List ℕ) (verdict : Option Verdict) : Type 0 where
+  pub four : length header ≡ 4
+  pub place : HasHuhIndex cut.bytes verdict
+  pub capped : cut.cap ≤ 65526
+  pub stands : HasReadPrefix table (table.words v.table) (start_symbol_of (side2_of side) level) v.max_depth v
+      (tokens_held cut.cap cut.bytes)
+  pub found : hlo.found ≡ lvl_scan_of (tokens_held cut.cap cut.bytes)
+  pub unfinished : verdict ≡ None → v.finished ≡ false
+  -- the table was asked for a message alone
+  pub uncounted : is_dm_head (head_in cut.cap cut.bytes) ≡ false → v.asked_before ≡ asked v.table
+
+-- ---- what the calls do
+
+-- a frame begins anew at a level, with these bytes: no message of it was read
+pub record StartsFrame (old : Receiver) (level : Level) (bytes : List ℕ) (new : Receiver) : Type 0 where
+  pub side : new.side ≡ old.side
+  pub cap : new.cap ≡ old.cap
+  pub rules : new.rules ≡ old.rules
+  pub level_set : new.level ≡ level
+  pub held : new.held ≡ bytes
+  pub unanswered : new.verdict ≡ None
+  pub total : new.total ≡ old.total
+  pub base : new.total_before ≡ old.total
+  pub looked_at : new.looked_at ≡ old.looked_at
+
+-- the frame has these bytes now, and its message was read on: the table is asked for tokens of a message alone
+pub record ReadsMessageBytes (old : Receiver) (bytes : List ℕ) (new : Receiver) : Type 0 where
+  pub side : new.side ≡ old.side
+  pub cap : new.cap ≡ old.cap
+  pub rules : new.rules ≡ old.rules
+  pub level : new.level ≡ old.level
+  pub held : new.held ≡ bytes
+  pub unanswered : new.verdict ≡ None
+  pub base : new.total_before ≡ old.total_before
+  pub no_message : is_dm_head (head_in old.cap bytes) ≡ false → new.total ≡ old.total
+  pub bodiless : drop 4 bytes ≡ [] → new.total ≡ old.total
+  pub uncounted : is_dm_head (head_in old.cap old.held) ≡ false → old.total_before ≡ old.total
+
+-- the frame is answered by a verdict
+pub record Answers (old : Receiver) (head : Head) (verdict : Verdict) (new : Receiver) : Type 0 where
+  pub side : new.side ≡ old.side
+  pub cap : new.cap ≡ old.cap
+  pub rules : new.rules ≡ old.rules
+  pub level : new.level ≡ old.level
+  pub held : new.held ≡ old.held
+  pub header : new.header ≡ head_bytes (answer_head head verdict)
+  pub verdict_set : new.verdict ≡ Some verdict
+  pub base : new.total_before ≡ old.total_before
+  pub looked_at : new.looked_at ≡ old.looked_at
+
+-- the table's answers for the present message, modulo 2^64
+abbrev pub steps_in : Receiver → ℕ
+steps_in i = (i.total + (2 ^ 64 - i.total_before)) % 2 ^ 64

@@ -1,0 +1,19 @@
+-- What waits for a wire, as a wire stores it.
+use Rattle.std.specs.Prelude.{ℕ, List, [], ◌∷◌, ◌++◌, Option, Some, None}
+use Rattle.daide_channels.specs.declared.send_queue.QueuedFrame.{QueuedFrame}
+
+-- the frames that wait, and how much of the first is gone
+pub record Queue : Type 0 where
+  pub written : ℕ
+  pub items : List QueuedFrame
+
+abbrev pub pushed : Queue → QueuedFrame → Queue
+pushed queue item = record { written = queue.written; items = queue.items ++ item ∷ [] }
+
+abbrev pub first_of : List QueuedFrame → Option QueuedFrame
+first_of [] = None
+first_of (item ∷ items) = Some item
+
+abbrev pub tail_of : List QueuedFrame → List QueuedFrame
+tail_of [] = []
+tail_of (item ∷ items) = items

@@ -1,0 +1,389 @@
+//! Both sides' frames, and the frames that wait for the two wires.
+//!
+//! An answer waits as the side whose frame it answers, and is sent from that frame. So that frame is held
+//! until the last byte of its answer is gone, and its side is not read meanwhile: at most one answer of
+//! each side waits, and with the frame that ends the session at most three a wire.
+
+ghost use Rattle.std.specs.Prelude.{◌≡◌, ℕ, ◌*◌, ◌/◌, ◌+◌, ◌<◌, ◌≤◌, ◌⊎◌, [], ◌∷◌, ◌++◌, length, take, drop, Some, None};
+ghost use Rattle.std.specs.Prelude.{false, is_some, IfOk, OnErr, if◌then◌else◌};
+ghost use Rattle.daide_frame.specs.Frames.{fed, fed_items, items_of_step, IsFault, IsWholeBody, head_in, missing};
+ghost use Rattle.daide_frame.specs.Frames.{announced};
+ghost use Rattle.daide_frame.specs.declared.cutter.Step.TheVariants.{Bodied};
+ghost use Rattle.daide_frame.specs.declared.side.Side.{Side};
+ghost use Rattle.daide_grammar.specs.Depth.{open_brackets};
+ghost use Rattle.daide_protocol.specs.Events.{other};
+ghost use Rattle.daide_protocol.specs.HloLevel.{lvl_scan_of};
+ghost use Rattle.daide_protocol.specs.Machine.{IsCorrectVerdict, question_of, is_dm, reply_to};
+ghost use Rattle.daide_protocol.specs.Weight.{tokens_held};
+ghost use Rattle.daide_protocol.specs.Wires.{IsFrontOf, first_len, without, sent_bytes, is_awaited, steps_of};
+ghost use Rattle.daide_protocol.specs.Wires.{next_part, parts_after};
+ghost use Rattle.daide_protocol.specs.Bounds.{greatest_depth, longest_body};
+ghost use Rattle.daide_reader.specs.Reading.{IsRaised};
+ghost use Rattle.daide_words.specs.Word.{grammar_words};
+ghost use Rattle.daide_words.specs.Words.{words_of};
+ghost use Rattle.daide_channels.specs.PerSide.{at, put};
+ghost use Rattle.daide_channels.specs.Receiver.{tokens_ended};
+ghost use Rattle.daide_channels.specs.Channels.{pending, noted, side_holding, IsQuiet, Keeps, IsGrown, IsStarted};
+ghost use Rattle.daide_channels.specs.Channels.{IsAnswered, IsCleared, ReleasesFrames, posted, has_final_frame, final_frame_to};
+ghost use Rattle.daide_channels.specs.Channels.{answer_at, answered_by, drop_sent, ending_of, others, size_of_first};
+ghost use Rattle.daide_channels.specs.Channels.{IsReleased};
+ghost use Rattle.daide_channels.specs.Fronts.{KeepsFronts, AreFresh};
+
+use crate::per_side::PerSide;
+use crate::receiver::Receiver;
+use crate::send_queue::{QueuedFrame, SendQueue};
+use daide_frame::code::Code;
+use daide_frame::cutter::Step;
+use daide_frame::head::Head;
+use daide_frame::memory::Memory;
+use daide_frame::side::Side;
+use daide_grammar::level::Level;
+use daide_protocol::answers::{FM, em_frame};
+use daide_protocol::hlo::LvlScan;
+use daide_protocol::transitions::destination;
+use daide_reader::verdict::Verdict;
+use daide_words::words::Words;
+use std::alloc::{AllocError, Allocator, Global};
+use std::marker::Model;
+
+/// Both sides' frames, and what waits for the two wires.
+#[derive(Drop)]
+pub struct Channels<A: Allocator = Global> {
+    receivers: PerSide<Receiver<A>>,
+    wires: PerSide<SendQueue>,
+}
+
+impl<A: Allocator> Model for Channels<A> {
+    ghost use Rattle.daide_channels.specs.Channels.{Channels, fields, channels_of, IsSound};
+
+    ghost Value = { Channels };
+
+    ghost view = { λ t. channels_of (fields t.receivers t.wires) };
+
+    ghost invariant = { λ t. IsSound (fields t.receivers t.wires) };
+}
+
+/// A final message, or the error message with a code.
+fn ending(code: Option<Code>) -> QueuedFrame
+    ensures { result ≡ ending_of code }
+{
+    match code {
+        None => QueuedFrame::Fm,
+        Some(code) => QueuedFrame::Em(code),
+    }
+}
+
+/// What is left of some bytes after the first `gone`.
+fn rest_of(bytes: &[u8], gone: usize) -> &[u8]
+    ensures { result.now ≡ drop gone bytes.now }
+{
+    if gone < bytes.len() {
+        return &bytes[gone..];
+    }
+    &[]
+}
+
+/// How many bytes the first frame for a wire has in all; 0 where none waits.
+fn first_frame_len<A: Allocator>(wire: &SendQueue, receivers: &PerSide<Receiver<A>>) -> usize
+    ensures { result ≡ size_of_first (answer_at receivers.now) wire.now.items }
+{
+    match wire.first() {
+        None => 0,
+        Some(QueuedFrame::Answer(side)) => receivers.at(side).answer_len(),
+        Some(QueuedFrame::Fm) => FM.len(),
+        Some(QueuedFrame::Em(code)) => em_frame(code).len(),
+    }
+}
+
+/// Lets go of the frame that a frame which is gone answered.
+fn release<A: Allocator>(gone: Option<QueuedFrame>, receivers: &mut PerSide<Receiver<A>>)
+    ensures { (side : Side) → IsReleased (answered_by gone) side (at receivers.old side) (at receivers.new side) }
+{
+    if let Some(QueuedFrame::Answer(side)) = gone {
+        receivers.at_mut(side).clear();
+    }
+}
+
+impl<A: Memory + Copy> Channels<A> {
+    /// Nothing came, and nothing waits. The bodies of both sides are reserved here, of `cap` bytes each; these
+    /// are the only two growths, and nothing but a refusal of one is an error.
+    pub fn new(alloc: A, cap: u16, max_depth: u16, words: Words) -> Result<Channels<A>, AllocError>
+        requires cap { cap ≤ longest_body }
+        requires low { 4 ≤ max_depth }
+        requires high { max_depth ≤ greatest_depth }
+        ensures quiet { IfOk result (λ channels.
+            IsQuiet cap (record { max_depth = max_depth; words = grammar_words (words_of words) }) channels) }
+        ensures refused { OnErr result (A.Refuses cap) }
+    {
+        Ok(Channels {
+            receivers: PerSide::new(
+                Receiver::new(alloc, Side::Bot, cap, max_depth, words)?,
+                Receiver::new(alloc, Side::Server, cap, max_depth, words)?,
+            ),
+            wires: PerSide::new(SendQueue::new(), SendQueue::new()),
+        })
+    }
+}
+
+impl<A: Allocator> Channels<A> {
+    /// Whether an answer to a side's last frame waits. Where none does, the bytes that are held are those since
+    /// the last whole frame.
+    pub fn is_awaited(&self, side: Side) -> bool
+        ensures value { result ≡ is_awaited (at self.now.queued) side }
+        ensures tied { is_awaited (at self.now.queued) side ≡ false
+            → (side_holding self.now side).held ≡ pending self.now side }
+    {
+        self.receivers.at(side).is_awaited()
+    }
+
+    /// How many bytes are missing of a side's header or, once that is whole, of its body.
+    pub fn room(&self, side: Side) -> usize
+        ensures { result ≡ missing self.now.cap (side_holding self.now side).held }
+    {
+        self.receivers.at(side).room()
+    }
+
+    /// A side's header, once it is whole and good.
+    pub fn head(&self, side: Side) -> Option<Head>
+        ensures { result ≡ head_in self.now.cap (side_holding self.now side).held }
+    {
+        self.receivers.at(side).head()
+    }
+
+    /// The bytes that are held of a side's body, also while the answer to it waits. Where none does, the bytes
+    /// that are held are those since the last whole frame.
+    pub fn body(&self, side: Side) -> &[u8]
+        ensures value { result.now ≡ drop 4 (side_holding self.now side).held }
+        ensures within { length result.now ≤ announced self.now.cap (side_holding self.now side).held }
+        ensures capped { announced self.now.cap (side_holding self.now side).held ≤ self.now.cap }
+        ensures short { length result.now ≤ longest_body }
+        ensures tied { is_awaited (at self.now.queued) side ≡ false
+            → (side_holding self.now side).held ≡ pending self.now side }
+    {
+        self.receivers.at(side).body()
+    }
+
+    /// Returns the bytes that are held of a side's header, good or not, also while the answer to it waits.
+    pub fn header(&self, side: Side) -> &[u8]
+        ensures { result.now ≡ take 4 (side_holding self.now side).held }
+    {
+        self.receivers.at(side).header()
+    }
+
+    /// Returns the level at which a side's message is read.
+    pub fn noted(&self, side: Side) -> Level
+        ensures { result ≡ noted self.now side }
+    {
+        self.receivers.at(side).level()
+    }
+
+    /// What is found of an HLO in a side's message that is held, also while the answer to it waits.
+    pub fn found(&self, side: Side) -> LvlScan
+        ensures { result ≡ lvl_scan_of (tokens_held self.now.cap (side_holding self.now side).held) }
+    {
+        self.receivers.at(side).found()
+    }
+
+    /// How many tokens of a side were looked at for the level of an HLO, modulo 2^64.
+    pub fn looked_at(&self, side: Side) -> u64
+        ensures { result ≡ (side_holding self.now side).looked_at }
+    {
+        self.receivers.at(side).looked_at()
+    }
+
+    /// How many frames wait for a wire.
+    pub fn count(&self, to: Side) -> usize
+        ensures value { result ≡ length (at self.now.queued to) }
+        ensures at_most_three { result ≤ 3 }
+    {
+        self.wires.at(to).len()
+    }
+
+    /// How many entries the stack of a side's reader has.
+    pub fn entries(&self, side: Side) -> usize
+        ensures value { result ≡ (side_holding self.now side).entries }
+        ensures few { result ≤ 8 * open_brackets (tokens_held self.now.cap (side_holding self.now side).held) + 16 }
+        ensures at_most { result ≤ 8 * self.now.rules.max_depth + 16 }
+    {
+        self.receivers.at(side).entries()
+    }
+
+    /// The answers of a side's table so far, modulo 2^64.
+    pub fn total(&self, side: Side) -> u64
+        ensures { result ≡ (side_holding self.now side).total }
+    {
+        self.receivers.at(side).total()
+    }
+
+    /// The answers of a side's table for the present message, modulo 2^64.
+    pub fn steps(&self, side: Side) -> u64
+        ensures value { result ≡ steps_of (side_holding self.now side) }
+        ensures few { result ≤ 4 * length (tokens_held self.now.cap (side_holding self.now side).held)
+            + (if is_awaited (at self.now.queued) side then 4 else 0) }
+    {
+        self.receivers.at(side).steps()
+    }
+
+    /// Takes a side's next bytes, at most as many as there is room for, and reads the tokens that they end.
+    pub fn feed(&mut self, side: Side, piece: &[u8]) -> Step
+        requires free { is_awaited (at self.old.queued) side ≡ false }
+        requires room { length piece.now ≤ missing self.old.cap (pending self.old side) }
+        ensures keeps { Keeps side self.old self.new }
+        ensures queued { self.new.queued ≡ self.old.queued }
+        ensures fronts { self.new.parts ≡ self.old.parts }
+        ensures grown { IsGrown self.old.cap (at self.old.sides side)
+            (fed self.old.cap (pending self.old side) piece.now) (at self.new.sides side) }
+        ensures raised { IsRaised (4 * tokens_ended self.old.cap (pending self.old side) piece.now)
+            (side_holding self.old side).total (side_holding self.new side).total }
+        ensures looked_at { IsRaised (length piece.now / 2 + 1) (side_holding self.old side).looked_at
+            (side_holding self.new side).looked_at }
+        ensures items { fed_items self.old.cap (pending self.old side) piece.now
+            ≡ items_of_step result (head_in self.new.cap (pending self.new side)) (drop 4 (pending self.new side)) }
+
+        // Without a fault the whole piece is taken.
+        ensures whole { IsFault result ⊎ (pending self.new side ≡ pending self.old side ++ piece.now) }
+
+        // A body is told when it has just the length that the header announces.
+        ensures full { result ≡ Bodied →
+            IsWholeBody (head_in self.new.cap (pending self.new side)) (drop 4 (pending self.new side)) }
+    {
+        self.receivers.at_mut(side).feed(piece)
+    }
+
+    /// At a side's header, of whose body nothing came: its message is read at this level.
+    pub fn begin(&mut self, side: Side, level: Level)
+        requires free { is_awaited (at self.old.queued) side ≡ false }
+        requires bodiless { drop 4 (pending self.old side) ≡ [] }
+        ensures keeps { Keeps side self.old self.new }
+        ensures queued { self.new.queued ≡ self.old.queued }
+        ensures fronts { self.new.parts ≡ self.old.parts }
+        ensures started { IsStarted (at self.old.sides side) level (at self.new.sides side) }
+    {
+        self.receivers.at_mut(side).begin(level);
+    }
+
+    /// Judges a side's frame, which is whole, and lets the answer wait for the wire toward which it goes. `head`
+    /// is the frame's header.
+    #[inline(always)]
+    pub fn reply(&mut self, side: Side, head: Head) -> Verdict
+        requires free { is_awaited (at self.old.queued) side ≡ false }
+        requires head { head_in self.old.cap (pending self.old side) ≡ Some head }
+        ensures right { IsCorrectVerdict self.old.rules.words self.old.rules.max_depth
+            (question_of side (noted self.old side) head (drop 4 (pending self.old side))) result }
+        ensures keeps { Keeps side self.old self.new }
+        ensures queued { self.new.queued
+            ≡ posted self.old.queued (reply_to side head (drop 4 (pending self.old side)) result) }
+        ensures fronts { KeepsFronts self.old self.new }
+        ensures answered { IsAnswered (at self.old.sides side) (at self.new.sides side) }
+        ensures raised { IsRaised 4 (side_holding self.old side).total (side_holding self.new side).total }
+        ensures no_message { is_dm head.kind ≡ false → (side_holding self.new side).total ≡ (side_holding self.old side).total }
+    {
+        let verdict = self.receivers.at_mut(side).answer(head);
+        let to = destination(side, verdict);
+        self.wires.at_mut(to).push(QueuedFrame::Answer(side));
+        verdict
+    }
+
+    /// Drops a side's frame, whole or not.
+    pub fn clear(&mut self, side: Side)
+        requires free { is_awaited (at self.old.queued) side ≡ false }
+        ensures keeps { Keeps side self.old self.new }
+        ensures queued { self.new.queued ≡ self.old.queued }
+        ensures fronts { self.new.parts ≡ self.old.parts }
+        ensures cleared { IsCleared (at self.old.sides side) (at self.new.sides side) }
+    {
+        self.receivers.at_mut(side).clear();
+    }
+
+    /// Lets a final message wait for a wire, or the error message with a code.
+    pub fn queue_final(&mut self, to: Side, code: Option<Code>)
+        requires { has_final_frame (at self.old.queued to) ≡ false }
+        ensures limits { (self.new.cap ≡ self.old.cap) × (self.new.rules ≡ self.old.rules) }
+        ensures sides { self.new.sides ≡ self.old.sides }
+        ensures queued { self.new.queued ≡ posted self.old.queued (final_frame_to to code) }
+        ensures fronts { KeepsFronts self.old self.new }
+    {
+        self.wires.at_mut(to).push(ending(code));
+    }
+
+    /// A front of what waits for a wire, within its first frame; empty exactly where nothing waits.
+    /// It is a slice of the header, of the body that came, or of a fixed word: nothing is copied.
+    pub fn front(&self, to: Side) -> &[u8]
+        ensures value { result.now ≡ next_part (at self.now.parts to) }
+        ensures front { IsFrontOf result.now (at self.now.queued to) }
+    {
+        let wire = self.wires.at(to);
+        match wire.first() {
+            None => &[],
+            Some(QueuedFrame::Answer(side)) => self.receivers.at(side).part(wire.written()),
+            Some(QueuedFrame::Fm) => rest_of(&FM, wire.written()),
+            Some(QueuedFrame::Em(code)) => rest_of(em_frame(code), wire.written()),
+        }
+    }
+
+    /// How many bytes are left of the first frame that waits for a wire; none exactly where nothing waits.
+    pub fn first_len(&self, to: Side) -> usize
+        ensures value { result ≡ first_len (at self.now.queued to) }
+        ensures none { result ≡ 0 → at self.now.queued to ≡ [] }
+    {
+        let wire = self.wires.at(to);
+        first_frame_len(wire, &self.receivers) - wire.written()
+    }
+
+    /// Notes that the next `n` bytes of the first frame for a wire are gone, which is not all of it.
+    fn advance(&mut self, to: Side, n: usize)
+        requires { n < first_len (at self.old.queued to) }
+        ensures limits { (self.new.cap ≡ self.old.cap) × (self.new.rules ≡ self.old.rules) }
+        ensures sides { self.new.sides ≡ self.old.sides }
+        ensures queued { self.new.queued ≡ put self.old.queued to (drop_sent n (at self.old.queued to)) }
+        ensures own_front { at self.new.parts to ≡ parts_after n (at self.old.parts to) }
+        ensures other_front { at self.new.parts (other to) ≡ at self.old.parts (other to) }
+    {
+        let len = first_frame_len(self.wires.at(to), &self.receivers);
+        self.wires.at_mut(to).advance(n, len);
+    }
+
+    /// Takes the first frame off what waits for a wire, if one does, and lets go of the frame that it
+    /// answered.
+    fn drop_first(&mut self, to: Side)
+        ensures lets_go { ReleasesFrames self.old self.new }
+        ensures queued { self.new.queued ≡ put self.old.queued to (others (at self.old.queued to)) }
+        ensures own_front { AreFresh (at self.new.parts to) (at self.new.queued to) }
+        ensures other_front { at self.new.parts (other to) ≡ at self.old.parts (other to) }
+    {
+        let gone = self.wires.at_mut(to).drop_first();
+        release(gone, &mut self.receivers);
+    }
+
+    /// Takes `n` bytes off what waits for a wire, which the wire took of its `front`. Where the
+    /// last byte of an answer is gone, the frame that it answered is held no longer.
+    pub fn wrote(&mut self, to: Side, n: usize)
+        requires { n ≤ first_len (at self.old.queued to) }
+        ensures lets_go { ReleasesFrames self.old self.new }
+        ensures queued { self.new.queued ≡ put self.old.queued to (without n (at self.old.queued to)) }
+        ensures bytes { sent_bytes (at self.new.queued to) ≡ drop n (sent_bytes (at self.old.queued to)) }
+        ensures own_front { n < first_len (at self.old.queued to)
+            → at self.new.parts to ≡ parts_after n (at self.old.parts to) }
+        ensures next { first_len (at self.old.queued to) ≤ n
+            → AreFresh (at self.new.parts to) (at self.new.queued to) }
+        ensures other_front { at self.new.parts (other to) ≡ at self.old.parts (other to) }
+    {
+        if n < self.first_len(to) {
+            self.advance(to, n);
+        } else {
+            self.drop_first(to);
+        }
+    }
+
+    /// Drops what waits for a wire, and lets go of the frames that it answered.
+    #[inline(always)]
+    pub fn lose(&mut self, to: Side)
+        ensures lets_go { ReleasesFrames self.old self.new }
+        ensures queued { self.new.queued ≡ put self.old.queued to [] }
+        ensures other_front { at self.new.parts (other to) ≡ at self.old.parts (other to) }
+    {
+        for _ in 0..self.count(to) {
+            self.drop_first(to);
+        }
+    }
+}

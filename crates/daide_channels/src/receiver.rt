@@ -1,0 +1,354 @@
+//! One side of a session: the frame that is coming, the reader of its message, and the answer to the last
+//! frame, in place.
+//!
+//! A message is read as its bytes come: each piece is cut, and then the reader takes the tokens that the
+//! piece ends, and they are looked at for the level that an HLO sets. An answer is sent from the frame that
+//! it answers: only its header is written anew, `PRN (`, `HUH (`, `ERR` and `)` are fixed words, and the body
+//! stays where it came. So a side holds one body, and a frame takes no more memory when it is answered.
+
+ghost use Rattle.std.specs.Prelude.{◌≡◌, ℕ, ◌+◌, ◌-◌, ◌*◌, ◌/◌, ◌<◌, ◌≤◌, List, [], ◌∷◌, ◌++◌, length, take, drop, ◌⊎◌};
+ghost use Rattle.std.specs.Prelude.{true, false, is_some, Some, None, IfOk, OnErr, if◌then◌else◌};
+ghost use Rattle.daide_frame.specs.Frames.{fed, fed_items, items_of_step, IsFault, IsWholeBody, head_in, missing};
+ghost use Rattle.daide_frame.specs.Frames.{announced};
+ghost use Rattle.daide_frame.specs.declared.cutter.Step.TheVariants.{Bodied};
+ghost use Rattle.daide_grammar.specs.Depth.{open_brackets};
+ghost use Rattle.daide_grammar.specs.declared.level.Level.{Level};
+ghost use Rattle.daide_protocol.specs.HloLevel.{lvl_scan_of};
+ghost use Rattle.daide_protocol.specs.Machine.{IsCorrectVerdict, question_of, is_dm};
+ghost use Rattle.daide_protocol.specs.Weight.{tokens_held};
+ghost use Rattle.daide_protocol.specs.Wires.{is_dm_head};
+ghost use Rattle.daide_protocol.specs.Bounds.{greatest_depth, longest_body};
+ghost use Rattle.daide_reader.specs.Reading.{IsRaised};
+ghost use Rattle.daide_words.specs.Word.{grammar_words};
+ghost use Rattle.daide_words.specs.Words.{words_of};
+ghost use Rattle.daide_channels.specs.Receiver.{StartsFrame, ReadsMessageBytes, Answers, whole_answer, front_after, front_in, steps_in};
+ghost use Rattle.daide_channels.specs.Receiver.{tokens_ended};
+
+use daide_frame::cutter::{Cutter, Step};
+use daide_frame::head::{Head, Kind, write_head};
+use daide_frame::memory::Memory;
+use daide_frame::side::Side;
+use daide_grammar::level::Level;
+use daide_grammar::predict::Predict;
+use daide_protocol::answers::{CLOSE_WORD, ERR_WORD, HUH_OPEN, PRN_OPEN, answer_head};
+use daide_protocol::bounds::STACK_ENTRIES;
+use daide_protocol::hlo::{HloScan, LvlScan};
+use daide_protocol::transitions::side2_of;
+use daide_reader::reader::Reader;
+use daide_reader::verdict::Verdict;
+use daide_words::extended::Extended;
+use daide_words::words::Words;
+use std::alloc::{AllocError, Allocator, Global};
+use std::marker::Model;
+
+/// One side's frame, how far its message is read, and the answer that the frame becomes.
+#[derive(Drop)]
+pub struct Receiver<A: Allocator = Global> {
+    cutter: Cutter<A>,
+    reader: Reader<Extended, STACK_ENTRIES>,
+    hlo: HloScan,
+    side: Side,
+    level: Level,
+    header: [u8; 4],
+    verdict: Option<Verdict>,
+}
+
+impl<A: Allocator> Model for Receiver<A> {
+    ghost use Rattle.daide_channels.specs.Receiver.{Receiver, receiver_of, words_in, IsReadOn};
+
+    ghost Value = { Receiver };
+
+    ghost view = { λ i. receiver_of words_in ⟦<Extended as Predict>⟧.asked i.side i.level i.cutter i.reader i.hlo
+        i.header i.verdict };
+
+    ghost invariant = { λ i. IsReadOn ⟦<Extended as Predict>⟧ ⟦<Extended as Predict>⟧.asked i.side i.level i.cutter
+        i.reader i.hlo i.header i.verdict };
+}
+
+/// Whether a header is whole, good and a message's.
+fn is_message(head: Option<Head>) -> bool
+    ensures { result ≡ is_dm_head head }
+{
+    match head {
+        Some(head) => head.kind == Kind::Dm,
+        None => false,
+    }
+}
+
+/// What is left of that one of six parts in a row in which a place falls.
+fn front_of_parts<'a>(
+    a: &'a [u8],
+    b: &'a [u8],
+    c: &'a [u8],
+    d: &'a [u8],
+    e: &'a [u8],
+    f: &'a [u8],
+    place: usize,
+) -> &'a [u8]
+    ensures { result.now ≡ front_in (a.now ∷ b.now ∷ c.now ∷ d.now ∷ e.now ∷ f.now ∷ []) place }
+{
+    if place < a.len() {
+        return &a[place..];
+    }
+    let place = place - a.len();
+    if place < b.len() {
+        return &b[place..];
+    }
+    let place = place - b.len();
+    if place < c.len() {
+        return &c[place..];
+    }
+    let place = place - c.len();
+    if place < d.len() {
+        return &d[place..];
+    }
+    let place = place - d.len();
+    if place < e.len() {
+        return &e[place..];
+    }
+    let place = place - e.len();
+    if place < f.len() {
+        return &f[place..];
+    }
+    &[]
+}
+
+impl<A: Memory> Receiver<A> {
+    /// A side that nothing came of, at level 0. The room of the longest body is taken here, once, and nothing but its
+    /// refusal is an error.
+    pub fn new(
+        alloc: A,
+        side: Side,
+        cap: u16,
+        max_depth: u16,
+        words: Words,
+    ) -> Result<Receiver<A>, AllocError>
+        requires cap { cap ≤ longest_body }
+        requires low { 4 ≤ max_depth }
+        requires high { max_depth ≤ greatest_depth }
+        ensures side { IfOk result (λ i. i.side ≡ side) }
+        ensures limits { IfOk result (λ i. (i.cap ≡ cap) × (i.level ≡ Level.L0)) }
+        ensures rules { IfOk result (λ i. i.rules
+            ≡ record { max_depth = max_depth; words = grammar_words (words_of words) }) }
+        ensures empty { IfOk result (λ i. (i.held ≡ []) × (i.verdict ≡ None)) }
+        ensures unasked { IfOk result (λ i. i.total ≡ 0) }
+        ensures unlooked { IfOk result (λ i. i.looked_at ≡ 0) }
+        ensures refused { OnErr result (A.Refuses cap) }
+    {
+        // Where a reader is made over words, the prover wants their codes' type among the function's own.
+        let _names = words.names();
+        let cutter = Cutter::new(alloc, cap)?;
+        let mut reader = Reader::new(Extended::new(words), max_depth);
+        reader.start(side2_of(side), Level::L0);
+        Ok(Receiver {
+            cutter,
+            reader,
+            hlo: HloScan::new(),
+            side,
+            level: Level::L0,
+            header: [0; 4],
+            verdict: None,
+        })
+    }
+}
+
+impl<A: Allocator> Receiver<A> {
+    /// Whether an answer to the last frame waits.
+    pub fn is_awaited(&self) -> bool
+        ensures { result ≡ is_some self.now.verdict }
+    {
+        self.verdict.is_some()
+    }
+
+    /// How many bytes are missing of the header or, once that is whole, of the body.
+    pub fn room(&self) -> usize
+        ensures { result ≡ missing self.now.cap self.now.held }
+    {
+        self.cutter.room()
+    }
+
+    /// The header, once it is whole and good.
+    pub fn head(&self) -> Option<Head>
+        ensures { result ≡ head_in self.now.cap self.now.held }
+    {
+        self.cutter.head()
+    }
+
+    /// The bytes that are held of the body, also while its answer waits.
+    pub fn body(&self) -> &[u8]
+        ensures value { result.now ≡ drop 4 self.now.held }
+        ensures within { length result.now ≤ announced self.now.cap self.now.held }
+        ensures capped { announced self.now.cap self.now.held ≤ self.now.cap }
+        ensures short { length result.now ≤ longest_body }
+    {
+        self.cutter.body()
+    }
+
+    /// Returns the header's bytes that are held, good or not, also while its answer waits.
+    pub fn header(&self) -> &[u8]
+        ensures { result.now ≡ take 4 self.now.held }
+    {
+        self.cutter.header()
+    }
+
+    /// Returns the level at which the message is read.
+    pub fn level(&self) -> Level
+        ensures { result ≡ self.now.level }
+    {
+        self.level
+    }
+
+    /// At a header, of whose body nothing came: its message is read at this level.
+    pub fn begin(&mut self, level: Level)
+        requires free { self.old.verdict ≡ None }
+        requires bodiless { drop 4 self.old.held ≡ [] }
+        ensures { StartsFrame self.old level self.old.held self.new }
+    {
+        self.level = level;
+        self.reader.start(side2_of(self.side), level);
+        self.hlo.start();
+    }
+
+    /// Takes the next bytes, at most as many as there is room for, and reads the tokens that they end, each of
+    /// which is looked at for the level of an HLO at most once.
+    pub fn feed(&mut self, piece: &[u8]) -> Step
+        requires free { self.old.verdict ≡ None }
+        requires room { length piece.now ≤ missing self.old.cap self.old.held }
+        ensures reads { ReadsMessageBytes self.old (fed self.old.cap self.old.held piece.now) self.new }
+        ensures raised { IsRaised (4 * tokens_ended self.old.cap self.old.held piece.now) self.old.total
+            self.new.total }
+        ensures looked_at { IsRaised (length piece.now / 2 + 1) self.old.looked_at self.new.looked_at }
+        ensures items { fed_items self.old.cap self.old.held piece.now
+            ≡ items_of_step result (head_in self.new.cap self.new.held) (drop 4 self.new.held) }
+        ensures whole { IsFault result ⊎ (self.new.held ≡ self.old.held ++ piece.now) }
+        ensures full { result ≡ Bodied → IsWholeBody (head_in self.new.cap self.new.held) (drop 4 self.new.held) }
+    {
+        let step = self.cutter.feed(piece);
+        if self.cutter.body().is_empty() {
+            return step;
+        }
+        if is_message(self.cutter.head()) {
+            let read = self.reader.tokens();
+            self.reader.read(self.cutter.body());
+            self.hlo.read(self.cutter.body(), read);
+        }
+        step
+    }
+
+    /// Judges the frame that is held, a message by the grammar and any other frame as one to be relayed, and
+    /// makes it into its answer: the frame itself, `PRN ( message )`, or `HUH ( message )` with ERR before
+    /// the token of that place. `head` is the frame's header.
+    pub fn answer(&mut self, head: Head) -> Verdict
+        requires free { self.old.verdict ≡ None }
+        requires head { head_in self.old.cap self.old.held ≡ Some head }
+        ensures right { IsCorrectVerdict self.old.rules.words self.old.rules.max_depth
+            (question_of self.old.side self.old.level head (drop 4 self.old.held)) result }
+        ensures answers { Answers self.old head result self.new }
+        ensures raised { IsRaised 4 self.old.total self.new.total }
+        ensures no_message { is_dm head.kind ≡ false → self.new.total ≡ self.old.total }
+    {
+        let verdict = if is_message(Some(head)) {
+            self.reader.finish()
+        } else {
+            Verdict::Relay
+        };
+        self.header = write_head(answer_head(head, verdict));
+        self.verdict = Some(verdict);
+        verdict
+    }
+
+    /// How many bytes the answer has; 0 where there is none.
+    pub fn answer_len(&self) -> usize
+        ensures { result ≡ length (whole_answer self.now) }
+    {
+        let body = self.cutter.body();
+        match self.verdict {
+            None => 0,
+            Some(Verdict::Relay) => 4 + body.len(),
+            Some(Verdict::Prn) => 10 + body.len(),
+            Some(Verdict::Huh(_)) => 12 + body.len(),
+        }
+    }
+
+    /// What is sent next of the answer after its first `gone` bytes: the rest of its header, of the body
+    /// that came, or of a fixed word.
+    pub fn part(&self, gone: usize) -> &[u8]
+        ensures { result.now ≡ front_after self.now gone }
+    {
+        let body = self.cutter.body();
+        match self.verdict {
+            None => &[],
+            Some(Verdict::Relay) => { front_of_parts(&self.header, body, &[], &[], &[], &[], gone) }
+            Some(Verdict::Prn) => front_of_parts(
+                &self.header,
+                &PRN_OPEN,
+                body,
+                &CLOSE_WORD,
+                &[],
+                &[],
+                gone,
+            ),
+            Some(Verdict::Huh(place)) => {
+                let (before, after) = body.split_at(2 * place as usize);
+                front_of_parts(
+                    &self.header,
+                    &HUH_OPEN,
+                    before,
+                    &ERR_WORD,
+                    after,
+                    &CLOSE_WORD,
+                    gone,
+                )
+            }
+        }
+    }
+
+    /// Forgets the frame, its answer and what was read of it, so that the next frame can come.
+    pub fn clear(&mut self)
+        ensures { StartsFrame self.old self.old.level [] self.new }
+    {
+        self.cutter.reset();
+        self.verdict = None;
+        self.reader.start(side2_of(self.side), self.level);
+        self.hlo.start();
+    }
+
+    /// What is found of an HLO in the message that is held, also while its answer waits.
+    pub fn found(&self) -> LvlScan
+        ensures { result ≡ lvl_scan_of (tokens_held self.now.cap self.now.held) }
+    {
+        self.hlo.found()
+    }
+
+    /// How many tokens were looked at for the level of an HLO, modulo 2^64.
+    pub fn looked_at(&self) -> u64
+        ensures { result ≡ self.now.looked_at }
+    {
+        self.hlo.looked_at()
+    }
+
+    /// How many entries the reader's stack has.
+    pub fn entries(&self) -> usize
+        ensures value { result ≡ self.now.entries }
+        ensures few { result ≤ 8 * open_brackets (tokens_held self.now.cap self.now.held) + 16 }
+        ensures at_most { result ≤ 8 * self.now.rules.max_depth + 16 }
+    {
+        self.reader.entries()
+    }
+
+    /// The table's answers so far, modulo 2^64.
+    pub fn total(&self) -> u64
+        ensures { result ≡ self.now.total }
+    {
+        self.reader.total()
+    }
+
+    /// The table's answers for the present message, modulo 2^64: four for each token, and four at its end.
+    pub fn steps(&self) -> u64
+        ensures value { result ≡ steps_in self.now }
+        ensures few { result ≤ 4 * length (tokens_held self.now.cap self.now.held)
+            + (if is_some self.now.verdict then 4 else 0) }
+    {
+        self.reader.steps()
+    }
+}

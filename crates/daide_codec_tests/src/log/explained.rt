@@ -1,0 +1,89 @@
+//! Reports with their explanations, worked out by hand from the protocol.
+
+use daide_log::{LogFault, explain_log};
+use daide_test_support::rows::same;
+use std::alloc::Global;
+use std::test::Fail;
+
+/// Logs, their reports with explanations, and how many frames are not whole.
+const ROWS: &[(&str, &str, u32)] = &[
+    // a frame over two lines, comments between, PRN and HUH
+    (
+        "daide-log 1\nconfig 60 1024 16\n# began\nbot 00000004\nbot 0001DA10\nserver 01000000\n# a bracket\r\n\nbot 02000004\nbot 48034000\nbot 02000004480F4803\nend bot\n",
+        "# began\n5 bot IM 4 relay\n6 server RM 0 relay\n# a bracket\n10 bot DM 4 prn\n    GOF (\n    judged at level 0\n    PRN ( GOF ( )\n    unpaired: ( at 1\n11 bot DM 4 huh 1\n    OBS GOF\n    judged at level 0\n    HUH ( OBS ERR GOF )\n    expected: <end>\n12 bot end\nrelayed 2 prn 1 huh 1 faults 0\n",
+        0,
+    ),
+    // two frames in one line, the second an empty message
+    (
+        "daide-log 1\nconfig 60 1024 16\nbot 000000040001DA10\nserver 01000000\nbot 02000002480F02000000\n",
+        "3 bot IM 4 relay\n4 server RM 0 relay\n5 bot DM 2 relay\n    OBS\n5 bot DM 0 huh 0\n    \n    judged at level 0\n    HUH ( ERR )\n    expected: DRW GOF HLO HST HUH IAM MAP MDF MIS NME NOT NOW OBS ORD PRN REJ SCO SUB TME YES ADM\nrelayed 3 prn 0 huh 1 faults 0\n",
+        0,
+    ),
+    // faults: a header, an initial message, an invalid token in the middle of a piece, the timer
+    (
+        "daide-log 1\nconfig 60 1024 16\nbot 000000040001DA10\nserver 01000000\nbot 020000\nbot 03\n",
+        "3 bot IM 4 relay\n4 server RM 0 relay\n6 bot fault 09\n    wrong length\n    bytes: 02 00 00 03\nrelayed 2 prn 0 huh 0 faults 1\n",
+        0,
+    ),
+    (
+        "daide-log 1\nconfig 60 1024 16\nbot 0000000400010000\n",
+        "3 bot fault 04\n    wrong magic number\n    bytes: 00 00 00 04 00 01 00 00\nrelayed 0 prn 0 huh 0 faults 1\n",
+        0,
+    ),
+    (
+        "daide-log 1\nconfig 60 1024 16\nbot 000000040001DA10\nserver 01000000\nserver 0200\nbot 02000008480358004803480F\n",
+        "3 bot IM 4 relay\n4 server RM 0 relay\n6 bot fault 0E\n    invalid token\n    bytes: 58 00 at token 1\n    server: 2 of 4 bytes of a header\nrelayed 2 prn 0 huh 0 faults 1\n",
+        1,
+    ),
+    (
+        "daide-log 1\nconfig 60 1024 16\ntimer\n",
+        "3 bot fault 01\n    no IM in time\nrelayed 0 prn 0 huh 0 faults 1\n",
+        0,
+    ),
+    // frames that are not whole, and a log without its last line feed
+    (
+        "daide-log 1\nconfig 60 1024 16\nbot 0000000400",
+        "    bot: 5 of 8 bytes of a frame\nrelayed 0 prn 0 huh 0 faults 0\n",
+        1,
+    ),
+    (
+        "daide-log 2\nconfig 60 1024 16 3 0\n1 bot 0000000400\n2 bot 000000040001DA10\n2 server 010000\n# the end",
+        "4 2 bot IM 4 relay\n# the end\n    1 bot: 5 of 8 bytes of a frame\n    2 server: 3 of 4 bytes of a header\nrelayed 1 prn 0 huh 0 faults 0\n",
+        2,
+    ),
+    // words of the operator by their names
+    (
+        "daide-log 2\nconfig 60 1024 16 1 1\nword XYZ 4A40 press 20 power\n1 bot 000000040001DA10\n1 server 01000000\n1 bot 020000024A40\n",
+        "4 1 bot IM 4 relay\n5 1 server RM 0 relay\n6 1 bot DM 2 huh 0\n    XYZ\n    judged at level 0\n    HUH ( ERR XYZ )\n    expected: DRW GOF HLO HST HUH IAM MAP MDF MIS NME NOT NOW OBS ORD PRN REJ SCO SUB TME YES ADM\nrelayed 2 prn 0 huh 1 faults 0\n",
+        0,
+    ),
+];
+
+/// What an explained check answers, and what it writes.
+fn explained(alloc: Global, log: &str) -> Result<(Option<u32>, Option<LogFault>, String), Fail> {
+    let mut bytes = log.as_bytes();
+    let mut report = Vec::new(alloc);
+    let written = match explain_log(alloc, &mut bytes, &mut report) {
+        Ok(answer) => (Some(answer.unfinished), None),
+        Err(fault) => (None, Some(fault)),
+    };
+    Ok((written.0, written.1, String::from_utf8(report)?))
+}
+
+#[test]
+fn reports_are_explained(rt: HostRuntime) -> Result<(), Fail> {
+    for (log, report, unfinished) in ROWS {
+        let (answer, _fault, written) = explained(rt.alloc(), log)?;
+        same(&written.as_str(), report, log)?;
+        same(&answer, &Some(*unfinished), log)?;
+    }
+    Ok(())
+}
+
+#[test]
+fn faults_come_after_what_is_explained(rt: HostRuntime) -> Result<(), Fail> {
+    let log = "daide-log 1\nconfig 60 1024 16\n# x\nbot 0000\nbot 0\n";
+    let (_answer, fault, written) = explained(rt.alloc(), log)?;
+    same(&written.as_str(), &"# x\n", &log)?;
+    same(&fault, &Some(LogFault::BadLine(5)), &log)
+}

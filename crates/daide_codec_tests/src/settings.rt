@@ -1,0 +1,296 @@
+//! The settings of a run: each fault by its text, each range at both ends, each wrong type.
+//!
+//! The expected lines were worked out by hand from docs/FORMATS.md, "Settings".
+
+use daide_gate::settings::{Settings, read_settings};
+use daide_grammar::level::Level;
+use daide_protocol::config::Config;
+use daide_test_support::rows::same;
+use daide_token::token::Token;
+use daide_words::{Operand, Slot, Word};
+use std::alloc::Global;
+use std::test::Fail;
+
+/// The two lines that must stand.
+const ADDRESSES: &str = "listen = \"127.0.0.1:16713\"\nserver = \"127.0.0.1:16714\"\n";
+
+/// A text, and the fault that it is, empty where it is none.
+type Row = (&'static str, &'static str);
+
+/// Whole documents, and the fault of each.
+#[rattlefmt::skip]
+const DOCUMENTS: &[Row] = &[
+    ("listen =", "settings are not TOML"),
+    ("listen = \"a\"\nlisten = \"b\"", "settings are not TOML"),
+    ("", "missing listen"),
+    ("server = \"b\"", "missing listen"),
+    ("listen = \"a\"", "missing server"),
+    ("listen = \"a\"\nmax_depth = 255", "missing server"),
+    ("listen = \"a\"\nserver = 1", "wrong type for server"),
+    ("listen = 1\nserver = 1", "wrong type for listen"),
+    ("listen = 1979-05-27\nserver = \"b\"", "wrong type for listen"),
+    ("listen = \"\"\nserver = 1", "listen out of range"),
+    ("listen = \"a\"\nserver = \"\"", "server out of range"),
+    ("depth = 5", "unknown key"),
+    ("listen = 1\ndepth = 5", "unknown key"),
+    ("[listen]\nport = 1", "wrong type for listen"),
+    ("listen = \"a\"\nserver = \"b\"\n[word]", "unknown key"),
+    ("listen = \"a\"\nserver = \"b\"\nmax_body = 511\nmax_depth = true", "max_body out of range"),
+];
+
+/// A line behind the two addresses, and the fault that it is, if it is one.
+#[rattlefmt::skip]
+const LINES: &[Row] = &[
+    ("top_level = 0", ""),
+    ("top_level = 60", ""),
+    ("top_level = 25", "top_level out of range"),
+    ("top_level = 70", "top_level out of range"),
+    ("top_level = -10", "top_level out of range"),
+    ("top_level = 65536", "top_level out of range"),
+    ("top_level = \"60\"", "wrong type for top_level"),
+    ("max_body = 512", ""),
+    ("max_body = 65526", ""),
+    ("max_body = 510", "max_body out of range"),
+    ("max_body = 513", "max_body out of range"),
+    ("max_body = 65528", "max_body out of range"),
+    ("max_body = 512.0", "wrong type for max_body"),
+    ("max_depth = 4", ""),
+    ("max_depth = 254", ""),
+    ("max_depth = 3", "max_depth out of range"),
+    ("max_depth = 255", "max_depth out of range"),
+    ("max_depth = true", "wrong type for max_depth"),
+    ("im_seconds = 1", ""),
+    ("im_seconds = 3600", ""),
+    ("im_seconds = 0", "im_seconds out of range"),
+    ("im_seconds = 3601", "im_seconds out of range"),
+    ("im_seconds = [30]", "wrong type for im_seconds"),
+    ("max_sessions = 1", ""),
+    ("max_sessions = 256", ""),
+    ("max_sessions = 0", "max_sessions out of range"),
+    ("max_sessions = 257", "max_sessions out of range"),
+    ("max_sessions = 1979-05-27", "wrong type for max_sessions"),
+    ("sessions = 1", ""),
+    ("sessions = 1000000", ""),
+    ("sessions = 0", "sessions out of range"),
+    ("sessions = 1000001", "sessions out of range"),
+    ("sessions = \"\"", "wrong type for sessions"),
+    ("turns = 1", ""),
+    ("turns = 1000000000000", ""),
+    ("turns = 0", "turns out of range"),
+    ("turns = 1000000000001", "turns out of range"),
+    ("turns = 9223372036854775807", "turns out of range"),
+    ("turns = {}", "wrong type for turns"),
+    ("idle_seconds = 0", ""),
+    ("idle_seconds = 86400", ""),
+    ("idle_seconds = 86401", "idle_seconds out of range"),
+    ("idle_seconds = -1", "idle_seconds out of range"),
+    ("idle_seconds = 0.5", "wrong type for idle_seconds"),
+    ("stall_seconds = 0", ""),
+    ("stall_seconds = 86400", ""),
+    ("stall_seconds = 86401", "stall_seconds out of range"),
+    ("stall_seconds = -1", "stall_seconds out of range"),
+    ("stall_seconds = \"60\"", "wrong type for stall_seconds"),
+    ("top_level = 0x3C", ""),
+    ("max_depth = 6_2", ""),
+    ("turns = -1", "turns out of range"),
+    ("turns = 1\nsessions = 0", "sessions out of range"),
+    ("turns = 1.5\nsessions = 0", "sessions out of range"),
+    ("sessions = 1.5\nturns = 0", "wrong type for sessions"),
+    ("listening = 1", "unknown key"),
+    ("Turns = 1", "unknown key"),
+    ("# nothing else", ""),
+];
+
+/// What stands at `words`, and the fault that it is, if it is one.
+#[rattlefmt::skip]
+const WORDS: &[Row] = &[
+    ("[]", ""),
+    ("[ { name = \"XYZ\", code = 0x4A40, slot = \"press\", level = 20, operand = \"power\" } ]", ""),
+    ("[ { operand = \"power\", level = 20, slot = \"press\", code = 19008, name = \"XYZ\" } ]", ""),
+    ("1", "wrong type for words"),
+    ("{}", "wrong type for words"),
+    ("[ 1 ]", "wrong type for words"),
+    ("[ {} ]", "wrong type for words"),
+    ("[ { name = \"XYZ\", code = 0x4A40, slot = \"press\", level = 20 } ]", "wrong type for words"),
+    ("[ { name = \"XYZ\", code = 0x4A40, slot = \"press\", level = 20, operand = \"power\", side = 1 } ]", "wrong type for words"),
+    ("[ { name = 1, code = 0x4A40, slot = \"press\", level = 20, operand = \"power\" } ]", "wrong type for words"),
+    ("[ { name = \"XYZ\", code = \"4A40\", slot = \"press\", level = 20, operand = \"power\" } ]", "wrong type for words"),
+    ("[ { name = \"XYZ\", code = 0x4A40, slot = 0, level = 20, operand = \"power\" } ]", "wrong type for words"),
+    ("[ { name = \"XYZ\", code = 0x4A40, slot = \"press\", level = \"20\", operand = \"power\" } ]", "wrong type for words"),
+    ("[ { name = \"XYZ\", code = 0x4A40, slot = \"press\", level = 20, operand = [] } ]", "wrong type for words"),
+    ("[ { name = \"XYZ\", code = 0x4A40, slot = \"pres\", level = 20, operand = \"power\" } ]", "words out of range"),
+    ("[ { name = \"XYZ\", code = 0x4A40, slot = \"press\", level = 20, operand = \"province\" } ]", "words out of range"),
+    ("[ { name = \"XYZ\", code = 0x4A40, slot = \"press\", level = 25, operand = \"power\" } ]", "words out of range"),
+    ("[ { name = \"XYZ\", code = 0x4A40, slot = \"press\", level = 65556, operand = \"power\" } ]", "words out of range"),
+    ("[ { name = \"XYZ\", code = 0x4A40, slot = \"press\", level = 0, operand = \"power\" } ]", "words out of range"),
+    ("[ { name = \"XYZW\", code = 0x4A40, slot = \"press\", level = 20, operand = \"power\" } ]", "words out of range"),
+    ("[ { name = \"GOF\", code = 0x4A40, slot = \"press\", level = 20, operand = \"power\" } ]", "words out of range"),
+    ("[ { name = \"XYZ\", code = 0x4A10, slot = \"press\", level = 20, operand = \"power\" } ]", "words out of range"),
+    ("[ { name = \"XYZ\", code = 84544, slot = \"press\", level = 20, operand = \"power\" } ]", "words out of range"),
+    ("[ { name = \"XYZ\", code = -1, slot = \"press\", level = 20, operand = \"power\" } ]", "words out of range"),
+    ("[ { name = \"XYZ\", code = 0x4A40, slot = \"arrangement\", level = 20, operand = \"press\" } ]", "words out of range"),
+    // the shape of all before the range of any
+    ("[ { name = \"XYZ\", code = 0x4A40, slot = \"pres\", level = 20, operand = \"power\" }, { name = \"QQQ\" } ]", "wrong type for words"),
+    // a name twice
+    ("[ { name = \"XYZ\", code = 0x4A40, slot = \"press\", level = 20, operand = \"power\" }, { name = \"XYZ\", code = 0x4A41, slot = \"press\", level = 20, operand = \"power\" } ]", "words out of range"),
+];
+
+/// Whole lines with words, and their fault: words come after all other keys but `stall_seconds`.
+const BESIDE_WORDS: &[Row] = &[
+    ("turns = 0\nwords = 1", "turns out of range"),
+    (
+        "words = 1\nidle_seconds = 86401",
+        "idle_seconds out of range",
+    ),
+    (
+        "words = [ { name = \"XYZ\" } ]\nturns = 0",
+        "turns out of range",
+    ),
+    ("stall_seconds = 86401\nwords = 1", "wrong type for words"),
+];
+
+/// Seventeen words, each of which would be accepted after the ones before it.
+const SEVENTEEN: &str = "words = [
+    { name = 'QQA', code = 0x4A50, slot = 'press', level = 20, operand = 'power' },
+    { name = 'QQB', code = 0x4A51, slot = 'press', level = 20, operand = 'power' },
+    { name = 'QQC', code = 0x4A52, slot = 'press', level = 20, operand = 'power' },
+    { name = 'QQD', code = 0x4A53, slot = 'press', level = 20, operand = 'power' },
+    { name = 'QQE', code = 0x4A54, slot = 'press', level = 20, operand = 'power' },
+    { name = 'QQF', code = 0x4A55, slot = 'press', level = 20, operand = 'power' },
+    { name = 'QQG', code = 0x4A56, slot = 'press', level = 20, operand = 'power' },
+    { name = 'QQH', code = 0x4A57, slot = 'press', level = 20, operand = 'power' },
+    { name = 'QQI', code = 0x4A58, slot = 'press', level = 20, operand = 'power' },
+    { name = 'QQJ', code = 0x4A59, slot = 'press', level = 20, operand = 'power' },
+    { name = 'QQK', code = 0x4A5A, slot = 'press', level = 20, operand = 'power' },
+    { name = 'QQL', code = 0x4A5B, slot = 'press', level = 20, operand = 'power' },
+    { name = 'QQM', code = 0x4A5C, slot = 'press', level = 20, operand = 'power' },
+    { name = 'QQN', code = 0x4A5D, slot = 'press', level = 20, operand = 'power' },
+    { name = 'QQO', code = 0x4A5E, slot = 'press', level = 20, operand = 'power' },
+    { name = 'QQP', code = 0x4A5F, slot = 'press', level = 20, operand = 'power' },
+    { name = 'QQQ', code = 0x4A60, slot = 'press', level = 20, operand = 'power' },
+    ]";
+
+/// The fault of a text as its line, empty where there is none.
+fn fault_of(alloc: Global, text: &str) -> Result<String, Fail> {
+    match read_settings(alloc, text) {
+        Ok(_) => Ok(String::new(alloc)),
+        Err(fault) => Ok(fault.to_string(alloc)?),
+    }
+}
+
+/// A text behind this front has this fault.
+fn assert_fault(alloc: Global, front: &str, text: &str, want: &str) -> Result<(), Fail> {
+    let mut whole = String::from_str(alloc, front)?;
+    whole.push_str(text)?;
+    whole.push_str("\n")?;
+    let fault = fault_of(alloc, whole.as_str())?;
+    same(&fault.as_str(), &want, &text)
+}
+
+/// Each row is a text behind this front, and its fault.
+fn assert_faults(alloc: Global, front: &str, rows: &[Row]) -> Result<(), Fail> {
+    for (text, fault) in rows {
+        assert_fault(alloc, front, text, fault)?;
+    }
+    Ok(())
+}
+
+#[test]
+fn settings_faults_in_order(rt: HostRuntime) -> Result<(), Fail> {
+    assert_faults(rt.alloc(), "", DOCUMENTS)?;
+    assert_faults(rt.alloc(), ADDRESSES, LINES)
+}
+
+/// The two lines that must stand, and words.
+const ADDRESSES_AND_WORDS: &str =
+    "listen = \"127.0.0.1:16713\"\nserver = \"127.0.0.1:16714\"\nwords = ";
+
+#[test]
+fn shape_of_all_words_before_their_range(rt: HostRuntime) -> Result<(), Fail> {
+    assert_faults(rt.alloc(), ADDRESSES_AND_WORDS, WORDS)?;
+    assert_faults(rt.alloc(), ADDRESSES, BESIDE_WORDS)?;
+    assert_fault(rt.alloc(), ADDRESSES, SEVENTEEN, "words out of range")
+}
+
+/// The rest of an address of so many bytes, and the end of its line.
+fn address_of(alloc: Global, count: usize) -> Result<String, Fail> {
+    let mut address = String::new(alloc);
+    for _ in 0..count {
+        address.push('a')?;
+    }
+    address.push('"')?;
+    Ok(address)
+}
+
+#[test]
+fn addresses_of_255_bytes_and_one_more(rt: HostRuntime) -> Result<(), Fail> {
+    let front = "listen = \"a\"\nserver = \"";
+    let longest = address_of(rt.alloc(), 255)?;
+    assert_fault(rt.alloc(), front, longest.as_str(), "")?;
+    let longer = address_of(rt.alloc(), 256)?;
+    assert_fault(rt.alloc(), front, longer.as_str(), "server out of range")
+}
+
+/// The addresses, the limits of a session and its time, and the limits of a run are these; and there are so many words.
+fn assert_settings(
+    settings: &Settings,
+    addresses: (&str, &str),
+    limits: (Config, u32),
+    run: (usize, u32, u64, u32, u32),
+    words: usize,
+) -> Result<(), Fail> {
+    let are_there = (settings.listen.as_str(), settings.server.as_str());
+    let of_run = (
+        settings.max_sessions,
+        settings.sessions,
+        settings.turns,
+        settings.idle_seconds,
+        settings.stall_seconds,
+    );
+    let of_session = (settings.config, settings.im_seconds);
+    let told = (are_there, of_session, of_run);
+    same(&told, &(addresses, limits, run), &"addresses and limits")?;
+    same(&settings.words.names().len(), &words, &"words")
+}
+
+/// The limits that stand where none are given.
+const DEFAULTS: Config = Config {
+    top_level: 60,
+    max_body: 65_526,
+    max_depth: 62,
+};
+
+#[test]
+fn two_addresses_give_the_defaults(rt: HostRuntime) -> Result<(), Fail> {
+    let settings = read_settings(rt.alloc(), ADDRESSES)?;
+    let addresses = ("127.0.0.1:16713", "127.0.0.1:16714");
+    let run = (16, 1, 1_000_000_000, 0, 60);
+    assert_settings(&settings, addresses, (DEFAULTS, 30), run, 0)
+}
+
+/// Each key with a value of its own, the last one first.
+const EACH_KEY: &str =
+    "stall_seconds = 9\nwords = [ { name = \"XYZ\", code = 0x4A40, slot = \"press\", level = 20, operand = \"power\" } ]\n\
+    idle_seconds = 8\nturns = 7\nsessions = 6\nmax_sessions = 5\nim_seconds = 4\nmax_depth = 13\nmax_body = 1024\n\
+    top_level = 20\nserver = \"s\"\nlisten = \"l\"\n";
+
+/// The limits of a session there.
+const OWN_LIMITS: Config = Config {
+    top_level: 20,
+    max_body: 1024,
+    max_depth: 13,
+};
+
+#[test]
+fn each_key_sets_its_own_field(rt: HostRuntime) -> Result<(), Fail> {
+    let settings = read_settings(rt.alloc(), EACH_KEY)?;
+    assert_settings(&settings, ("l", "s"), (OWN_LIMITS, 4), (5, 6, 7, 8, 9), 1)?;
+    let word = Word {
+        name: *b"XYZ",
+        code: Token::from_code(0x4A40),
+        slot: Slot::Press,
+        level: Level::L20,
+        operand: Operand::Power,
+    };
+    same(&settings.words.get(0), &Some(word), &"the word")
+}

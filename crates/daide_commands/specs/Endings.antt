@@ -1,0 +1,132 @@
+-- How `show`, `check` and `frame` end: the exit status by what their libraries answered, and what was written. (own)
+use Rattle.std.specs.Prelude.{◌≡◌, ◌≢◌, ℕ, ◌≤◌, ◌==◌, ◌&&◌, Bool, true, false, if◌then◌else◌, codes}
+use Rattle.std.specs.Prelude.{List, [], ◌∷◌, ◌++◌, map, Option, Some, None, IfSome, option_map, Result, Ok, Err}
+use Rattle.std.specs.List.{join_with_byte}
+use Rattle.std.specs.Io.KnownBytes.{Keeps}
+use Rattle.daide_words.specs.declared.word.Word.{Word}
+use Rattle.daide_words.specs.Word.{names_of}
+use Rattle.daide_token.specs.Names.{Named}
+use Rattle.daide_protocol.specs.declared.summary.Summary.{Summary}
+use Rattle.daide_log_lines.specs.declared.fault.LogFault.{LogFault}
+use Rattle.daide_log_lines.specs.Reader.{silent}
+use Rattle.daide_log.specs.declared.explained.Explained.{Explained}
+use Rattle.daide_log.specs.Explained.{explained}
+use Rattle.daide_log.specs.Log.{plain}
+use Rattle.daide_log.specs.Progress.{IsAnswered}
+use Rattle.daide_show.specs.Shown.{ShowRequest, Shows}
+use Rattle.daide_show.specs.Shown as shown
+use Rattle.daide_show.specs.declared.frame_view.ShowFault.{ShowFault}
+use Rattle.daide_show.specs.declared.frame_view.ShowFault.TheVariants as show_faults
+use Rattle.daide_text.specs.Frames.{Writes, WritesUpTo}
+use Rattle.daide_text.specs.declared.frames.TextFault.{TextFault}
+use Rattle.daide_commands.specs.declared.arguments.Order.{Order}
+use Rattle.daide_commands.specs.declared.arguments.Order.TheVariants.{Show, Check, Frame, Run, BadSide, BadLevel}
+use Rattle.daide_commands.specs.declared.arguments.ShowOrder.{ShowOrder}
+use Rattle.daide_commands.specs.declared.arguments.CheckOrder.{CheckOrder}
+use Rattle.daide_commands.specs.declared.arguments.FrameOrder.{FrameOrder}
+
+-- the words of a command line as one text, if there are any, with a space between each two; else what standard input has
+abbrev pub given_by : Option (List (List ℕ)) → Option (List ℕ) → Option (List ℕ)
+given_by None known = known
+given_by (Some words) known = Some (join_with_byte 32 words)
+
+-- the same, with the words as a line
+abbrev pub lines_by : Option (List (List ℕ)) → Option (List ℕ) → Option (List ℕ)
+lines_by None known = known
+lines_by (Some words) known = Some (join_with_byte 32 words ++ 10 ∷ [])
+
+-- ---- `show`
+
+-- the status by what `show_input` answered: whether the frame would be relayed, or a fault
+abbrev pub show_status : Result Bool ShowFault → ℕ
+show_status (Ok true) = 0
+show_status (Ok false) = 3
+show_status (Err fault) = 1
+
+-- what an answer says of an input, and of the output before and after
+abbrev pub IsShowAnswer : ShowRequest → Option (List ℕ) → Option (List ℕ) → Option (List ℕ) → Result Bool ShowFault → Type 0
+IsShowAnswer asked input old new (Ok relayed) = IfSome input (λ bytes. Shows asked bytes relayed old new)
+IsShowAnswer asked input old new (Err fault) =
+    IfSome input (λ bytes. shown.IsFaultAt asked bytes fault) × (fault ≢ show_faults.Write → Keeps old new)
+
+-- the status is that of an answer to this input
+abbrev pub ShowEnds : ShowRequest → Option (List ℕ) → Option (List ℕ) → Option (List ℕ) → ℕ → Type 0
+ShowEnds asked input old new status =
+    (answer : Result Bool ShowFault) × IsShowAnswer asked input old new answer × (status ≡ show_status answer)
+
+-- ---- `check`
+
+-- no message was answered, and there was no fault
+abbrev pub is_clean : Summary → Bool
+is_clean counts = counts.prn == 0 && counts.huh == 0 && counts.faults == 0
+
+abbrev pub check_status : Result Summary LogFault → ℕ
+check_status (Ok counts) = if is_clean counts then 0 else 3
+check_status (Err fault) = 1
+
+-- with explanations a frame that is not whole is a fault too
+abbrev pub explained_status : Result Explained LogFault → ℕ
+explained_status (Ok report) = if is_clean report.counts && report.unfinished == 0 then 0 else 3
+explained_status (Err fault) = 1
+
+-- the status is that of the plain report of this log, of which the rest was left
+abbrev pub CheckEnds : Option (List ℕ) → Option (List ℕ) → Option (List ℕ) → Option (List ℕ) → ℕ → Type 0
+CheckEnds log rest old new status =
+    (answer : Result Summary LogFault) × IsAnswered plain (silent log) (silent rest) old new answer
+    × (status ≡ check_status answer)
+
+-- the same of the report with explanations
+abbrev pub ExplainedEnds : Option (List ℕ) → Option (List ℕ) → Option (List ℕ) → Option (List ℕ) → ℕ → Type 0
+ExplainedEnds log rest old new status =
+    (words : List Word) × (answer : Result Explained LogFault)
+    × IsAnswered (explained words) (silent log) (silent rest) old new answer × (status ≡ explained_status answer)
+
+abbrev pub ReportEnds : Bool → Option (List ℕ) → Option (List ℕ) → Option (List ℕ) → Option (List ℕ) → ℕ → Type 0
+ReportEnds false log rest old new status = CheckEnds log rest old new status
+ReportEnds true log rest old new status = ExplainedEnds log rest old new status
+
+-- ---- `frame`
+
+abbrev pub frame_status : Result (Unit {0}) TextFault → ℕ
+frame_status (Ok done) = 0
+frame_status (Err fault) = 1
+
+-- what an answer says of lines of text, and of the output before and after
+abbrev pub IsFrameAnswer : List Named → Option (List ℕ) → Option (List ℕ) → Option (List ℕ) → Result (Unit {0}) TextFault →
+    Type 0
+IsFrameAnswer added input old new (Ok done) = Writes added input old new
+IsFrameAnswer added input old new (Err fault) = WritesUpTo added input old new fault
+
+abbrev pub FrameEnds : List Named → Option (List ℕ) → Option (List ℕ) → Option (List ℕ) → ℕ → Type 0
+FrameEnds added input old new status =
+    (answer : Result (Unit {0}) TextFault) × IsFrameAnswer added input old new answer × (status ≡ frame_status answer)
+
+-- ---- an order
+
+-- The same of an order, by the bytes of standard input and by those that are left of it. What a file has and what the
+-- operating system returns no clause knows: the words of settings are some words, and of a file's log nothing is said.
+
+abbrev pub ShowRuns : ShowOrder → Option (List ℕ) → Option (List ℕ) → Option (List ℕ) → ℕ → Type 0
+ShowRuns order known old new status =
+    (words : List Word) × (order.words ≡ None → words ≡ [])
+    × ShowEnds
+    (record { words = words; side = order.side; level = order.level; explained = order.is_explained })
+    (given_by (option_map (λ typed. map (λ word. word.now) typed.now) order.typed) known) old new status
+
+abbrev pub CheckRuns : CheckOrder → Option (List ℕ) → Option (List ℕ) → Option (List ℕ) → Option (List ℕ) → ℕ → Type 0
+CheckRuns order known rest old new status =
+    order.path.now ≡ codes "-" → ReportEnds order.is_explained known rest old new status
+
+abbrev pub FrameRuns : FrameOrder → Option (List ℕ) → Option (List ℕ) → Option (List ℕ) → ℕ → Type 0
+FrameRuns order known old new status =
+    (words : List Word) × (order.words ≡ None → words ≡ [])
+    × FrameEnds (names_of words)
+    (lines_by (option_map (λ typed. map (λ word. word.now) typed.now) order.typed) known) old new status
+
+abbrev pub OrderEnds : Order → Option (List ℕ) → Option (List ℕ) → Option (List ℕ) → Option (List ℕ) → ℕ → Type 0
+OrderEnds (Show order) known rest old new status = ShowRuns order known old new status
+OrderEnds (Check order) known rest old new status = CheckRuns order known rest old new status
+OrderEnds (Frame order) known rest old new status = FrameRuns order known old new status
+OrderEnds (Run order) known rest old new status = status ≤ 1
+OrderEnds BadSide known rest old new status = status ≡ 2
+OrderEnds BadLevel known rest old new status = status ≡ 2

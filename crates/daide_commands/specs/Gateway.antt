@@ -1,0 +1,16 @@
+-- What a gateway's faults say.
+use Rattle.daide_sockets.specs.declared.bound_sockets.BindError.{BindError}
+use Rattle.daide_sockets.specs.declared.bound_sockets.BindError.TheVariants as BindErrors
+use Rattle.daide_commands.specs.declared.gateway.GatewayFault.{GatewayFault}
+use Rattle.daide_commands.specs.declared.gateway.GatewayFault.TheVariants.{Listen, Memory, Serve}
+
+-- the fault of a gateway that has no ground to run on
+abbrev pub fault_by : BindError → GatewayFault
+fault_by BindErrors.Listen = Listen
+fault_by BindErrors.Memory = Memory
+
+-- a fault that comes before the gateway serves
+abbrev pub IsBeforeServing : GatewayFault → Type 0
+IsBeforeServing Listen = Unit {0}
+IsBeforeServing Memory = Unit {0}
+IsBeforeServing (Serve fault) = ⊥

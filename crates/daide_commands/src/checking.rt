@@ -1,0 +1,83 @@
+//! `check`: the report of a log, from a file or from standard input.
+
+ghost use Rattle.std.specs.Prelude.{◌≡◌, ◌≤◌, IfOk};
+ghost use Rattle.daide_commands.specs.Endings.{check_status, explained_status, is_clean, CheckRuns, ReportEnds};
+
+use crate::arguments::CheckOrder;
+use crate::faults::{CLEAN, FAULT, NOT_RELAYED, tell};
+use daide_log::{Explained, LogFault, check_log, explain_log};
+use daide_protocol::Summary;
+use std::alloc::Allocator;
+use std::io::{Read, Write};
+use std::rt::Files;
+use std::{fs, io};
+
+/// Returns whether a report counts no message that was answered and no fault.
+fn is_clean(counts: Summary) -> bool
+    ensures { result ≡ is_clean counts }
+{
+    counts.prn == 0 && counts.huh == 0 && counts.faults == 0
+}
+
+/// Reports a fault of a log on standard error. Returns the status.
+fn end_check<E: Write>(answer: Result<Summary, LogFault>, errors: &mut E) -> io::Result<u8>
+    ensures { IfOk result (λ status. status ≡ check_status answer) }
+{
+    match answer {
+        Ok(counts) if is_clean(counts) => Ok(CLEAN),
+        Ok(_counts) => Ok(NOT_RELAYED),
+        Err(fault) => tell(errors, fault, FAULT),
+    }
+}
+
+/// Does the same for a report with explanations, in which a frame that is not whole is a fault too.
+fn end_explained<E: Write>(answer: Result<Explained, LogFault>, errors: &mut E) -> io::Result<u8>
+    ensures { IfOk result (λ status. status ≡ explained_status answer) }
+{
+    match answer {
+        Ok(report) if is_clean(report.counts) && report.unfinished == 0 => Ok(CLEAN),
+        Ok(_report) => Ok(NOT_RELAYED),
+        Err(fault) => tell(errors, fault, FAULT),
+    }
+}
+
+/// Reports the log that a reader has.
+fn check_read<A: Allocator + Copy, I: Read, O: Write, E: Write>(
+    alloc: A,
+    is_explained: bool,
+    input: &mut I,
+    output: &mut O,
+    errors: &mut E,
+) -> io::Result<u8>
+    ensures { IfOk result (ReportEnds is_explained (I.remaining input.old) (I.remaining input.new)
+        (O.contents output.old) (O.contents output.new)) }
+{
+    if is_explained {
+        let answer = explain_log(alloc, input, output);
+        return end_explained(answer, errors);
+    }
+    let answer = check_log(alloc, input, output);
+    end_check(answer, errors)
+}
+
+/// Reports the log at a path, or that of standard input. What a file has no contract says.
+pub(crate) fn run_check<R: AllocGlobal + Files, I: Read, O: Write, E: Write>(
+    rt: &R,
+    order: CheckOrder<'_>,
+    input: &mut I,
+    output: &mut O,
+    errors: &mut E,
+) -> io::Result<u8>
+    ensures bounded { IfOk result (λ status. status ≤ NOT_RELAYED) }
+    ensures reported { IfOk result (CheckRuns order.entry (I.remaining input.old) (I.remaining input.new)
+        (O.contents output.old) (O.contents output.new)) }
+{
+    let CheckOrder { path, is_explained } = order;
+    if path == "-" {
+        return check_read(rt.alloc(), is_explained, input, output, errors);
+    }
+    match fs::open(rt, path) {
+        Ok(mut file) => check_read(rt.alloc(), is_explained, &mut file, output, errors),
+        Err(_) => tell(errors, LogFault::Read, FAULT),
+    }
+}

@@ -1,0 +1,74 @@
+//! The gateway at the addresses of its settings.
+
+ghost use Rattle.std.specs.Prelude.{◌≡◌, List, IfErr, OnOk};
+ghost use Rattle.daide_protocol.specs.System.{SystemCall, TransitsBy};
+ghost use Rattle.daide_event_loop.specs.Served.{IsWholeRun};
+ghost use Rattle.daide_event_loop.specs.Serving.{IsServeCause, IsOfSettings, GivesUp};
+ghost use Rattle.daide_commands.specs.Gateway.{IsBeforeServing, fault_by};
+
+use daide_event_loop::{ServeFault, serve};
+use daide_frame::Memory;
+use daide_protocol::{Ports, System};
+use daide_settings::Settings;
+use daide_sockets::bound_sockets::{BindError, BoundSockets, bind_sockets};
+use std::io::Write;
+use std::net::Net;
+use std::rt::Clock;
+use thiserror::Error;
+
+/// Why a gateway doesn't begin, or ends early.
+#[derive(Clone, Copy, Debug, PartialEq, Eq, Error)]
+pub enum GatewayFault {
+    /// The address can't be listened on, or the system has no descriptor for the table of sockets.
+    #[error("cannot listen")]
+    Listen,
+    /// The memory of the server's addresses, the table or the sockets was refused, or the listener can't be followed.
+    #[error("out of memory")]
+    Memory,
+    /// The run ended before all its bots were served.
+    #[error("{0}")]
+    Serve(ServeFault),
+}
+
+/// The fault of a gateway that has no ground to run on.
+fn fault_of(fault: BindError) -> GatewayFault
+    ensures before { IsBeforeServing result }
+    ensures cause { result ≡ fault_by fault }
+{
+    match fault {
+        BindError::Listen => GatewayFault::Listen,
+        BindError::Memory => GatewayFault::Memory,
+    }
+}
+
+/// Listens at the address of settings, and looks up the server's: what a run stands on. Nobody is served yet.
+pub fn bind<'r, R: AllocGlobal + Clock + Net>(
+    rt: &'r R,
+    settings: &Settings,
+) -> Result<BoundSockets<'r, R>, GatewayFault>
+    ensures { IfErr result IsBeforeServing }
+{
+    bind_sockets(rt, settings).map_err(fault_of)
+}
+
+/// Says that it listens, and serves until all bots were served. By its answers the system went from what it was to what it
+/// is, and they are those of a whole run of the settings, or of one that is given up for its fault.
+pub fn serve_on<A: Memory + Copy, P: Ports, S: System<P>, O: Write>(
+    alloc: A,
+    settings: &Settings,
+    system: &mut S,
+    output: &mut O,
+) -> Result<(), ServeFault>
+    ensures refused { IfErr result (IsServeCause A.Refuses settings.now) }
+    ensures served { OnOk result ((answers : List (SystemCall P))
+        × TransitsBy S.transition system.old answers system.new × IsWholeRun P.transition settings.now answers) }
+    ensures given_up { IfErr result (λ fault. (answers : List (SystemCall P))
+        × TransitsBy S.transition system.old answers system.new
+        × GivesUp A.Refuses P.transition settings.now fault answers) }
+    ensures unasked { IfErr result (λ fault. IsOfSettings fault → system.new ≡ system.old) }
+{
+    // Where nobody reads it the run goes on.
+    let _ = writeln!(output, "listening");
+    let _ = output.flush();
+    serve(alloc, settings, system)
+}

@@ -1,0 +1,96 @@
+//! A run of which each session is recorded in a folder: the system of its sockets, with a record round each session's
+//! ports. A run without one has the sockets' own system and nothing of this.
+
+ghost use Rattle.std.specs.Prelude.{◌≡◌, ◌⊎◌, ℕ, []};
+ghost use Rattle.daide_sockets.specs.Lingering.{GoOnFor};
+ghost use Rattle.daide_sockets.specs.Pairing.{Transits};
+
+use crate::folder::{Folder, SessionFile, end};
+use daide_buffered_io::duplex::Duplex;
+use daide_log::Recording;
+use daide_protocol::{Connect, Notice, SessionEnd, System};
+use daide_sockets::connection::Connection;
+use daide_sockets::ports::SocketPorts;
+use daide_sockets::system::Sockets;
+use std::io::Write;
+use std::net::Net;
+use std::rt::{Clock, Files};
+
+/// The sockets of a run, and the folder of its records.
+#[derive(Drop)]
+pub(crate) struct RecordedSockets<'w, 'f, R: AllocGlobal + Clock + Net + Files, E: Write + Drop> {
+    pub sockets: Sockets<'w, R, E>,
+    pub folder: Folder<'f, R>,
+}
+
+impl<R: AllocGlobal + Clock + Net + Files, E: Write + Drop> RecordedSockets<'_, '_, R, E> {
+    /// Waits until the last sockets are closed: what closes goes on by rounds.
+    pub(crate) fn finish(&mut self)
+        ensures { (rounds : ℕ) × GoOnFor ⟦<Connection as Duplex>⟧.to_give ⟦<Connection as Duplex>⟧.taken
+            ⟦<Connection as Duplex>⟧.calls rounds self.old.sockets.closings self.new.sockets.closings
+            × ((self.new.sockets.closings ≡ []) ⊎ (rounds ≡ u64.MAX)) }
+    {
+        self.sockets.finish();
+    }
+}
+
+impl<'w, R: AllocGlobal + Clock + Net + Files, E: Write + Drop> System<
+    Recording<SocketPorts<'w, &'w R>, SessionFile<R::File>>,
+> for RecordedSockets<'w, '_, R, E> {
+    ghost transition = { λ old answer new. Transits ⟦<Connection as Duplex>⟧.to_give ⟦<Connection as Duplex>⟧.taken
+        ⟦<Connection as Duplex>⟧.calls (λ ports. record {
+          number = ports.ports.number;
+          bot = ports.ports.bot.stream;
+          server = ports.ports.server.stream;
+        })
+        (record {
+          came = old.sockets.acceptor.came;
+          arrivals = old.sockets.arrivals.items;
+          closing = old.sockets.closings;
+        }) answer
+        (record {
+          came = new.sockets.acceptor.came;
+          arrivals = new.sockets.arrivals.items;
+          closing = new.sockets.closings;
+        }) };
+
+    fn begin_round(&mut self) {
+        self.sockets.begin_round();
+    }
+
+    fn begin_turn(&mut self, ports: &mut Recording<SocketPorts<'w, &'w R>, SessionFile<R::File>>) {
+        ports.begin_turn(&mut self.sockets);
+    }
+
+    fn accept(&mut self) -> bool {
+        self.sockets.accept()
+    }
+
+    fn connected(&mut self) -> Connect<Recording<SocketPorts<'w, &'w R>, SessionFile<R::File>>> {
+        match self.sockets.connected() {
+            Connect::Ready(ports) => {
+                let number = ports.number();
+                Connect::Ready(self.folder.begin(number, ports, &mut self.sockets.errors))
+            }
+            Connect::Failed => Connect::Failed,
+            Connect::Pending => Connect::Pending,
+        }
+    }
+
+    fn retire(
+        &mut self,
+        ports: Recording<SocketPorts<'w, &'w R>, SessionFile<R::File>>,
+        end_of: SessionEnd,
+    ) {
+        let ports = end(ports, &mut self.sockets.errors);
+        self.sockets.retire(ports, end_of);
+    }
+
+    fn tell(&mut self, notice: Notice) {
+        self.sockets.tell(notice);
+    }
+
+    fn wait(&mut self, accepts: bool) {
+        self.sockets.wait(accepts);
+    }
+}

@@ -1,0 +1,43 @@
+//! A text that has a bound.
+
+ghost use Rattle.std.specs.Prelude.{◌≡◌, ◌≤◌, length, string_bytes, IfOk, IfSome};
+
+use std::alloc::Allocator;
+use std::io::{ErrorKind, Read};
+
+/// The most bytes that a text of settings may have.
+const MOST_BYTES: usize = 65_536;
+
+/// Why there is no text.
+#[derive(Clone, Copy, Debug, PartialEq, Eq)]
+pub enum SettingsTextFault {
+    /// The stream can't be read, has too many bytes, or is not UTF-8.
+    Unreadable,
+    /// A growth was refused.
+    Memory,
+}
+
+/// Reads a text of settings, which has a bound.
+pub fn read_text<A: Allocator, I: Read>(
+    alloc: A,
+    input: &mut I,
+) -> Result<String<A>, SettingsTextFault>
+    ensures fits { IfOk result (λ text. length (string_bytes text) ≤ 65_536) }
+    ensures whole { IfOk result (λ text. IfSome (I.remaining input.old) (λ all. string_bytes text ≡ all)) }
+{
+    let mut bytes = Vec::new(alloc);
+    match input.take(MOST_BYTES as u64 + 1).read_to_end(&mut bytes) {
+        Ok(_) => {}
+        Err(error) if error.kind() == ErrorKind::OutOfMemory => return Err(
+            SettingsTextFault::Memory,
+        ),
+        Err(_) => return Err(SettingsTextFault::Unreadable),
+    }
+    if bytes.len() > MOST_BYTES {
+        return Err(SettingsTextFault::Unreadable);
+    }
+    match String::from_utf8(bytes) {
+        Ok(text) => Ok(text),
+        Err(_) => Err(SettingsTextFault::Unreadable),
+    }
+}

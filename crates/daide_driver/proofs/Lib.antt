@@ -1,0 +1,12 @@
+pub mod AnswerWork
+pub mod Stretches
+pub mod PortCalls
+pub mod TurnLemmas
+pub mod Standing
+pub mod RelayLemmas
+pub mod HubLemmas
+mod BoundFacts
+mod LawFacts
+pub mod ApartLemmas
+pub mod DueLemmas
+pub mod FramesGone

@@ -1,0 +1,22 @@
+use Rattle.daide_frame.specs.declared.side.Side.TheVariants.{Bot, Server}
+use Rattle.daide_driver.specs.Record.{Working}
+use Rattle.daide_driver.specs.Turn.{Then, AsksClock, Puts, Pulls}
+use Rattle.daide_driver.specs.Headline.{WholeTurn}
+use Rattle.daide_driver.proofs.Stretches.{carries_then, carries_weaker}
+use Rattle.daide_driver.proofs.TurnLemmas.{WorkingTurn}
+use Rattle.daide_driver.proofs.Standing.{one_turn}
+use Rattle.daide_driver.proofs.turn_io.turn_through.Goals as goal
+
+pub returns-clause-exchange : goal.returns-clause-exchange
+returns-clause-exchange g c =
+    let transition = g.P.Ports.transition in
+    let old = c.args.session.now in
+    let new = c.pull-2.new.session in
+    carries_weaker transition WorkingTurn WholeTurn _ _ (λ xs. one_turn old xs new c.bounds.ensures)
+    (carries_then transition (Working AsksClock) (Then (Working (Puts Bot)) (Then (Working (Puts Server))
+    (Then (Working (Pulls Bot)) (Working (Pulls Server))))) _ _ _ c.ask_clock.ensures.clock
+    (carries_then transition (Working (Puts Bot)) (Then (Working (Puts Server))
+    (Then (Working (Pulls Bot)) (Working (Pulls Server)))) _ _ _ c.put_front.ensures.puts
+    (carries_then transition (Working (Puts Server)) (Then (Working (Pulls Bot)) (Working (Pulls Server))) _ _ _
+    c.put_front-2.ensures.puts
+    (carries_then transition (Working (Pulls Bot)) (Working (Pulls Server)) _ _ _ c.pull.ensures.pulls c.pull-2.ensures.pulls))))

@@ -1,0 +1,53 @@
+-- What the answers of ports make of a session: its moves, what waits for each wire, and how often the tables may be asked.
+use Rattle.std.specs.Prelude.{◌≡◌, ℕ, Bool, true, false, List, [], ◌++◌, length}
+use Rattle.daide_frame.specs.declared.side.Side.{Side}
+use Rattle.daide_protocol.specs.Heard.{bytes_from}
+use Rattle.daide_protocol.specs.Machine.{Effect, Runs, is_over}
+use Rattle.daide_protocol.specs.Ports.{PortCall, EvolvesBy, events_of, taken, has_failed}
+use Rattle.daide_protocol.specs.Summary.{tallied}
+use Rattle.daide_protocol.specs.Wires.{SessionView, queued, sent_to, sent_bytes}
+use Rattle.daide_session.specs.Work.{IsPaidBy}
+
+-- ---- the work
+
+-- how many bytes came of a side
+abbrev pub came : Side → List PortCall → ℕ
+came side answers = length (bytes_from side (events_of answers))
+
+-- each side's table was asked at most twice for each byte that came of that side
+abbrev pub Works : SessionView → List PortCall → SessionView → Type 0
+Works old answers new = (side : Side) → IsPaidBy (came side answers) side old new
+
+-- a stretch of this kind, in which the tables were asked no more than that
+abbrev pub Working : (SessionView → List PortCall → SessionView → Type 0) → SessionView → List PortCall → SessionView → Type 0
+Working Kind old answers new = Kind old answers new × Works old answers new
+
+-- ---- sent and waiting are the answers
+
+-- One wire: what waited, and the machine's answers, are what it took, and what waits. Where it failed, what it
+-- took is a front of that, nothing waits, and the session is over.
+abbrev pub Moved : Bool → Bool → List ℕ → List ℕ → List ℕ → List ℕ → Type 0
+Moved false over waited answers took waits = waited ++ answers ≡ took ++ waits
+Moved true over waited answers took waits =
+    (over ≡ true) × (waits ≡ []) × ((rest : List ℕ) × (waited ++ answers ≡ took ++ rest))
+
+-- By these answers of the ports the session goes from old to new: its state is the machine's, by the events
+-- that they tell, each wire took the machine's answers, the moves are counted, and no table was asked more than twice
+-- for a byte that came.
+pub record RefinesRun (old : SessionView) (answers : List PortCall) (new : SessionView) : Type 0 where
+  pub effects : List Effect
+  pub run : Runs old.state (events_of answers) effects new.state
+  pub wires : (side : Side) → Moved (has_failed side answers) (is_over new.state.phase) (sent_bytes (queued old side))
+      (sent_bytes (sent_to side effects)) (taken side answers) (sent_bytes (queued new side))
+  pub counts : new.summary ≡ tallied effects old.summary
+  pub work : Works old answers new
+
+-- ---- a call
+
+-- A call of this kind: by the answers of the ports in it, told or not, the session and the ports went from one pair to
+-- the other.
+pub record EvolveTogether {P : Type 0} (transition : P → PortCall → P → Type 0)
+    (Kind : SessionView → List PortCall → SessionView → Type 0) (old new : SessionView × P) : Type 0 where
+  pub call : List PortCall
+  pub session : Kind old.0 call new.0
+  pub ports : EvolvesBy transition old.1 call new.1

@@ -1,0 +1,32 @@
+-- What `relay` does: so many turns of a session, while it isn't closed.
+use Rattle.std.specs.Prelude.{◌≡◌, ℕ, zero, suc, ◌≤◌, Bool, true, false, List, [], ◌++◌}
+use Rattle.daide_protocol.specs.Wires.{SessionView, is_closed}
+use Rattle.daide_protocol.specs.Ports.{PortCall}
+use Rattle.daide_driver.specs.Record.{RefinesRun}
+use Rattle.daide_driver.specs.Headline.{Headline, WholeTurn}
+use Rattle.daide_driver.specs.declared.relaying.RelayEnd.{RelayEnd}
+use Rattle.daide_driver.specs.declared.relaying.RelayEnd.TheVariants.{Closed, TurnsSpent}
+
+-- n turns, each of a session that isn't closed: after each one the session is within its bounds, and what each wire is
+-- handed next is as that turn left it
+abbrev pub Turns : ℕ → SessionView → List PortCall → SessionView → Type 0
+Turns zero old answers new = (answers ≡ []) × (new ≡ old)
+Turns (suc n) old answers new =
+    (mid : SessionView) × (first : List PortCall) × (second : List PortCall)
+    × (answers ≡ first ++ second) × Turns n old first mid × (is_closed mid ≡ false) × WholeTurn mid second new
+
+-- all turns were made where they are told as spent, and else at most all
+abbrev pub MakesTurns : RelayEnd → ℕ → SessionView → List PortCall → SessionView → Type 0
+MakesTurns Closed turns old answers new = (n : ℕ) × (n ≤ turns) × Turns n old answers new
+MakesTurns TurnsSpent turns old answers new = Turns turns old answers new
+
+abbrev pub is_spent : RelayEnd → Bool
+is_spent Closed = false
+is_spent TurnsSpent = true
+
+-- what a relay does that ended so, all of it by the same answers
+pub record WholeRelay (end : RelayEnd) (turns : ℕ) (old : SessionView) (call : List PortCall)
+    (new : SessionView) : Type 0 where
+  pub in_order : MakesTurns end turns old call new
+  pub delivered : RefinesRun old call new
+  pub headline : Headline old call new

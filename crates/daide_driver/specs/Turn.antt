@@ -1,0 +1,116 @@
+-- What a turn asks of the ports and does to the session: the clock, one put to each wire where something waits,
+-- one pull from each side where there is room, in this order, each by the state at its own step.
+use Rattle.std.specs.Prelude.{◌≡◌, ℕ, ◌+◌, ◌*◌, ◌<◌, ◌≤◌, ◌⊎◌, min, Bool, true, false, List, [], ◌∷◌, ◌++◌, length}
+use Rattle.daide_frame.specs.declared.side.Side.{Side}
+use Rattle.daide_frame.specs.declared.side.Side.TheVariants.{Bot, Server}
+use Rattle.daide_reader.specs.Reading.{IsRaised}
+use Rattle.daide_protocol.specs.declared.note.Note.{Note}
+use Rattle.daide_protocol.specs.Events.{Event, Ends, ImTimerExpired, bytes_come, other}
+use Rattle.daide_protocol.specs.Wires.{SessionView, queued, first_len, front_of, holding, room_of, IsFrontOf}
+use Rattle.daide_protocol.specs.Wires.{Refines, Lost, Wrote, parts_of, parts_after}
+use Rattle.daide_protocol.specs.declared.ports.Pull.{Pull}
+use Rattle.daide_protocol.specs.declared.ports.Pull.TheVariants.{Got, Idle, Ended}
+use Rattle.daide_protocol.specs.declared.ports.Put.{Put}
+use Rattle.daide_protocol.specs.declared.ports.Put.TheVariants.{Took, Failed}
+use Rattle.daide_channels.specs.Fronts.{KeepsFront, AreFresh}
+use Rattle.daide_protocol.specs.Ports.{PortCall, Clock, Pulled, Offered, pulled_len, IsPutWithin}
+
+-- how many bytes a turn reads of a side at most (own)
+abbrev pub most_pulled : ℕ
+most_pulled = 512
+
+-- one stretch of answers, and then another
+abbrev pub Then : (SessionView → List PortCall → SessionView → Type 0) → (SessionView → List PortCall → SessionView → Type 0) →
+    SessionView → List PortCall → SessionView → Type 0
+Then First Second old answers new =
+    (mid : SessionView) × (first : List PortCall) × (second : List PortCall)
+    × (answers ≡ first ++ second) × First old first mid × Second mid second new
+
+-- the session goes on by these events, whatever it tells of them
+abbrev pub AdvancesByEvents : SessionView → List Event → SessionView → Type 0
+AdvancesByEvents old events new = (note : Note) × Refines old events note new
+
+-- what each wire is handed next stays, and a wire of which nothing waited is handed a whole end or an answer's header
+abbrev pub KeepsBoth : SessionView → SessionView → Type 0
+KeepsBoth old new = (to : Side) → KeepsFront old to new
+
+-- ---- the clock
+
+-- the timer of the initial message, where it popped
+abbrev pub Hears : Bool → SessionView → SessionView → Type 0
+Hears true old new = AdvancesByEvents old (ImTimerExpired ∷ []) new × KeepsBoth old new
+Hears false old new = new ≡ old
+
+-- the clock is asked once
+abbrev pub AsksClock : SessionView → List PortCall → SessionView → Type 0
+AsksClock old answers new = (im_timer_expired : Bool) × (answers ≡ Clock im_timer_expired ∷ []) × Hears im_timer_expired old new
+
+-- ---- the puts
+
+-- What the wire took is off the parts of its frame: where something is left of what it was handed, that is handed over
+-- next, else the frame's next part. Where the frame is gone, the next frame is handed over as one that waits only now.
+pub record TakesFront (side : Side) (n : ℕ) (old new : SessionView) : Type 0 where
+  pub rest : n < first_len (queued old side) → parts_of new side ≡ parts_after n (parts_of old side)
+  pub next : first_len (queued old side) ≤ n → AreFresh (parts_of new side) (queued new side)
+
+-- what the wire took is taken off what waits; a wire that failed is lost; what the other wire is handed next stays
+abbrev pub Hands : Side → Put → SessionView → SessionView → Type 0
+Hands side (Took n) old new =
+    Wrote old side n new × TakesFront side n old new × KeepsFront old (other side) new
+Hands side Failed old new = Lost old side new × KeepsFront old (other side) new
+
+-- nothing waits, and no put is made
+abbrev pub HasNone : Side → SessionView → List PortCall → SessionView → Type 0
+HasNone side old answers new = (queued old side ≡ []) × (answers ≡ []) × (new ≡ old)
+
+-- something waits, and one put is made, of the whole front
+pub record HandsFront (side : Side) (old : SessionView) (answers : List PortCall) (new : SessionView) : Type 0 where
+  pub put : Put
+  pub filled : 0 < length (front_of old side)
+  pub front : IsFrontOf (front_of old side) (queued old side)
+  pub asked : answers ≡ Offered side (front_of old side) put ∷ []
+  pub within : IsPutWithin put (length (front_of old side))
+  pub hands : Hands side put old new
+
+abbrev pub Puts : Side → SessionView → List PortCall → SessionView → Type 0
+Puts side old answers new = HasNone side old answers new ⊎ HandsFront side old answers new
+
+-- ---- the pulls
+
+-- bytes that came go in; an end is an end
+abbrev pub Gets : Side → Pull → List ℕ → SessionView → SessionView → Type 0
+Gets side (Got n) bytes old new = AdvancesByEvents old (bytes_come side bytes) new × KeepsBoth old new
+Gets side Idle bytes old new = new ≡ old
+Gets side Ended bytes old new = AdvancesByEvents old (Ends side ∷ []) new × KeepsBoth old new
+
+-- there is no room, and no pull is made
+abbrev pub HasNoRoom : Side → SessionView → List PortCall → SessionView → Type 0
+HasNoRoom side old answers new = (room_of old side ≡ 0) × (answers ≡ []) × (new ≡ old)
+
+-- there is room, and one pull is made, into a buffer as long as the room, and of `most_pulled` bytes at most
+pub record FillsRoom (side : Side) (old : SessionView) (answers : List PortCall) (new : SessionView) : Type 0 where
+  pub pull : Pull
+  pub bytes : List ℕ
+  pub room : 0 < room_of old side
+  pub asked : answers ≡ Pulled side (min (room_of old side) most_pulled) pull bytes ∷ []
+  pub counted : length bytes ≡ pulled_len pull
+  pub gets : Gets side pull bytes old new
+
+abbrev pub Pulls : Side → SessionView → List PortCall → SessionView → Type 0
+Pulls side old answers new = HasNoRoom side old answers new ⊎ FillsRoom side old answers new
+
+-- ---- the turn
+
+abbrev pub Turn : SessionView → List PortCall → SessionView → Type 0
+Turn = Then AsksClock (Then (Puts Bot) (Then (Puts Server) (Then (Pulls Bot) (Pulls Server))))
+
+-- ---- its work
+
+-- what a turn asks a side's table at most: four answers for each token of its one pull, for a token that the
+-- pull's first byte ends, and at a message's end
+abbrev pub turn_steps : ℕ
+turn_steps = 4 * 257 + 4
+
+-- each side's table was asked at most so many times
+abbrev pub AsksAtMost : ℕ → SessionView → SessionView → Type 0
+AsksAtMost most old new = (side : Side) → IsRaised most (holding old side).total (holding new side).total

@@ -1,0 +1,239 @@
+//! Many sessions with their ports, each of which answers as if it were alone.
+//!
+//! A hub makes room for all its sessions at once, so that `add` takes the two bodies of a new session and nothing
+//! else, and no other call takes memory.
+
+ghost use Rattle.std.specs.Prelude.{◌≡◌, ℕ, ◌+◌, ◌*◌, ◌<◌, ◌≤◌, [], length, Ok, Some, None, false};
+ghost use Rattle.std.specs.Prelude.{IfOk, IfErr, IfSome, IfNone, OnOk, OnErr, slice_get, sum_by};
+ghost use Rattle.daide_protocol.specs.Wires.{is_closed};
+ghost use Rattle.daide_protocol.specs.Config.{config_fault};
+ghost use Rattle.daide_protocol.specs.Config.{limits_of, limits_with};
+ghost use Rattle.daide_words.specs.Words.{words_of};
+ghost use Rattle.daide_driver.specs.Hub.{HubView, IsHubSize, IsHubCause, IsAddCause, AddsSession, Removes, Changes, IsTurned};
+ghost use Rattle.std.specs.Borrow.{Lends, sem};
+ghost use Rattle.daide_driver.specs.Hub.{IsReportedOf, with_ports, weight_at, session_bound};
+
+use crate::turn_io::{BUFFER, turn_through};
+use daide_frame::memory::Memory;
+use daide_protocol::bounds::MAX_SESSIONS;
+use daide_protocol::config::{Config, ConfigError};
+use daide_protocol::ending::Ending;
+use daide_protocol::ports::Ports;
+use daide_protocol::summary::Summary;
+use daide_session::session::Session;
+use daide_words::words::Words;
+use std::alloc::{Allocator, Global};
+use std::marker::Model;
+
+/// Why there is no hub, in the order in which it is looked at.
+#[derive(Clone, Copy, Debug, PartialEq, Eq)]
+pub enum HubError {
+    /// A limit of the sessions is wrong.
+    Config(ConfigError),
+    /// The number of sessions is not from 1 to 256.
+    Sessions,
+    /// The memory of the places was refused.
+    Memory,
+}
+
+/// Why a session was not added.
+#[derive(Clone, Copy, Debug, PartialEq, Eq)]
+pub enum AddFault {
+    /// The hub has as many sessions as it has room for.
+    Full,
+    /// The memory of a body was refused.
+    Memory,
+}
+
+/// What is left of a session that is taken out.
+#[derive(Drop)]
+pub struct Removed<P: Ports> {
+    /// Its ports.
+    pub ports: P,
+    /// Its moves counted, modulo 2^64.
+    pub summary: Summary,
+    /// Which event ended it.
+    pub ending: Ending,
+}
+
+/// A session and its ports.
+#[derive(Drop)]
+struct SessionSlot<P: Ports, A: Allocator> {
+    session: Session<A>,
+    ports: P,
+}
+
+/// Sessions in one loop. Contracts see the limits of its sessions, how many there may be, and at each place a
+/// session's value and its ports. All turns read through one buffer, which would else be made anew for each.
+#[derive(Drop)]
+pub struct Hub<P: Ports, A: Allocator = Global> {
+    alloc: A,
+    config: Config,
+    words: Words,
+    max: usize,
+    places: Vec<SessionSlot<P, A>, A>,
+    buffer: [u8; BUFFER],
+}
+
+impl<P: Ports, A: Allocator> Model for Hub<P, A> {
+    ghost use Rattle.std.specs.Prelude.{map, vec_capacity};
+    ghost use Rattle.daide_words.specs.Words.{words_of};
+    ghost use Rattle.daide_protocol.specs.Config.{limits_with};
+    ghost use Rattle.daide_driver.specs.Hub.{HubView, IsHubSession};
+
+    ghost Value = { HubView P };
+
+    ghost view = { λ h. record {
+      limits = limits_with h.config (words_of h.words);
+      max = h.max;
+      places = map (λ p. (p.session, p.ports)) h.places.items;
+    } };
+
+    ghost invariant = { λ h. IsHubSession (λ p. p.session) h.config (words_of h.words) h.max (vec_capacity h.places)
+        h.places.items };
+}
+
+impl<P: Ports, A: Memory + Copy> Hub<P, A> {
+    /// A hub with no sessions, and room for so many. `Memory` comes only after that room was refused.
+    pub fn new(alloc: A, config: Config, max: usize) -> Result<Hub<P, A>, HubError>
+        ensures opening { IfOk result (λ hub. hub ≡ record { limits = limits_of config; max = max; places = [] }) }
+        ensures accepted { IfOk result (λ hub. (config_fault config ≡ Ok tt) × IsHubSize max) }
+        ensures refused { IfErr result (λ error. IsHubCause A.Refuses config max error) }
+    {
+        Hub::with_words(alloc, config, max, Words::new())
+    }
+
+    /// A hub with no sessions, and room for so many, whose messages may hold these words of the operator's. It
+    /// takes the same memory as one without, and is refused as one without.
+    pub fn with_words(
+        alloc: A,
+        config: Config,
+        max: usize,
+        words: Words,
+    ) -> Result<Hub<P, A>, HubError>
+        ensures opening { IfOk result (λ hub. hub
+            ≡ record { limits = limits_with config (words_of words); max = max; places = [] }) }
+        ensures accepted { IfOk result (λ hub. (config_fault config ≡ Ok tt) × IsHubSize max) }
+        ensures refused { IfErr result (λ error. IsHubCause A.Refuses config max error) }
+    {
+        if let Err(fault) = config.check() {
+            return Err(HubError::Config(fault));
+        }
+        if max == 0 || max > MAX_SESSIONS {
+            return Err(HubError::Sessions);
+        }
+        let Ok(places) = alloc.with_capacity(max) else {
+            return Err(HubError::Memory);
+        };
+        Ok(Hub {
+            alloc,
+            config,
+            words,
+            max,
+            places,
+            buffer: [0; BUFFER],
+        })
+    }
+
+    /// Adds a session that nothing came to yet, and answers its place, which is the last. A refusal changes
+    /// nothing and hands the ports back. `Memory` comes only after room for a body was refused.
+    pub fn add(&mut self, ports: P) -> Result<usize, (AddFault, P)>
+        ensures place { IfOk result (λ i. i ≡ length self.old.places) }
+        ensures room { OnOk result (length self.old.places < self.old.max) }
+        ensures added { OnOk result (AddsSession self.old ports self.new) }
+        ensures refused { IfErr result (λ refusal. IsAddCause A.Refuses self.old refusal.0) }
+        ensures unchanged { OnErr result (self.new ≡ self.old) }
+        ensures ports_back { IfErr result (λ refusal. refusal.1 ≡ ports) }
+    {
+        let place = self.places.len();
+        if place == self.max {
+            return Err((AddFault::Full, ports));
+        }
+        let Ok(session) = Session::with_words(self.alloc, self.config, self.words) else {
+            return Err((AddFault::Memory, ports));
+        };
+        self.places.push_reserved(SessionSlot { session, ports });
+        Ok(place)
+    }
+}
+
+impl<P: Ports, A: Allocator + Copy> Hub<P, A> {
+    ghost use Rattle.daide_driver.specs.contracts.hub.Hub.{the_row};
+
+    /// One turn of the session at a place, with its ports.
+    pub fn turn(&mut self, i: usize)
+        requires { i < length self.old.places }
+        ensures { Changes (IsTurned P.transition) self.old i self.new }
+    {
+        let place = &mut self.places[i];
+        turn_through(&mut place.session, &mut place.ports, &mut self.buffer);
+    }
+
+    /// The session at a place.
+    pub fn session(&self, i: usize) -> &Session<A>
+        requires { i < length self.now.places }
+        ensures { IfSome (slice_get self.now.places i) (λ place. result.now ≡ place.0) }
+    {
+        &self.places[i].session
+    }
+
+    /// The ports of the session at a place.
+    pub fn ports(&self, i: usize) -> &P
+        requires { i < length self.now.places }
+        ensures { IfSome (slice_get self.now.places i) (λ place. result.now ≡ place.1) }
+    {
+        &self.places[i].ports
+    }
+
+    /// Lends the ports of the session at a place, as to what begins a turn with them. When the loan is over that place has
+    /// the ports as they were left, and nothing else changed: neither its session, nor another place, nor the limits.
+    pub fn ports_mut(&mut self, i: usize) -> &mut P
+        requires { i < length self.old.places }
+        ensures* writes_back { sem 𝓛 (Lends (the_row P.row A.row P.Ports A.Allocator) P.row self.entry result
+            (with_ports self.old i)) }
+        ensures value { IfSome (slice_get self.old.places i) (λ place. result.now ≡ place.1) }
+    {
+        let lent = &mut self.places[i];
+        &mut lent.ports
+    }
+
+    /// How many sessions there are.
+    pub fn count(&self) -> usize
+        ensures { result ≡ length self.now.places }
+    {
+        self.places.len()
+    }
+
+    /// What all sessions hold together.
+    pub fn weight(&self) -> usize
+        ensures sum { result ≡ sum_by weight_at self.now.places }
+        ensures bound { result ≤ length self.now.places * session_bound self.now.limits }
+    {
+        let mut total = 0;
+        for place in &self.places {
+            total += place.session.weight();
+        }
+        total
+    }
+
+    /// Takes out the session at a place where it is over and nothing waits, and hands its ports back, with what it
+    /// counted and what ended it; the later ones move down one place. Else nothing changes.
+    pub fn remove_over(&mut self, i: usize) -> Option<Removed<P>>
+        requires { i < length self.old.places }
+        ensures moved_down { IfSome result (λ removed. Removes self.old i removed.ports self.new) }
+        ensures reported { IfSome result (λ removed. IfSome (slice_get self.old.places i)
+            (λ place. IsReportedOf place.0 removed.summary removed.ending)) }
+        ensures unchanged { IfNone result (self.new ≡ self.old) }
+        ensures open { IfNone result (IfSome (slice_get self.old.places i) (λ place. is_closed place.0 ≡ false)) }
+    {
+        if !self.places[i].session.is_closed() {
+            return None;
+        }
+        let SessionSlot { session, ports } = self.places.remove(i);
+        Some(Removed {
+            ports,
+            summary: session.summary(),
+            ending: session.ending().unwrap(),
+        })
+    }
+}

@@ -1,0 +1,608 @@
+-- Why a session ended, by what its ports answered while turns were left.
+use Rattle.std.proofs.Common.{◌≡◌, ℕ, zero, suc, Bool, true, false, List, [], ◌∷◌, ◌++◌, Option, Some, None}
+use Rattle.std.proofs.Common.{refl, sym, ap, ◌∙◌, subst, arith, append-nil, inl, inr}
+use Rattle.std.specs.Prelude.{is_some, is_none, nat_lt}
+use Rattle.std.specs.Option.{option_or}
+use Rattle.daide_frame.specs.declared.side.Side.{Side}
+use Rattle.daide_frame.specs.declared.side.Side.TheVariants.{Bot, Server}
+use Rattle.daide_protocol.specs.declared.ending.Ending.{Ending}
+use Rattle.daide_protocol.specs.declared.ending.Ending.TheVariants as Endings
+use Rattle.daide_protocol.specs.declared.system.Cause.TheVariants as Causes
+use Rattle.daide_protocol.specs.declared.ports.Pull.TheVariants.{Got, Idle, Ended}
+use Rattle.daide_protocol.specs.declared.ports.Put.TheVariants.{Took, Failed}
+use Rattle.daide_protocol.specs.Events.{Event, Ends, Loses}
+use Rattle.daide_protocol.specs.Machine.{SessionState, Effect, Limits, Successor, Runs, Transition, is_over}
+use Rattle.daide_protocol.specs.Ports.{PortCall, TurnBegins, Clock, Pulled, Offered, EvolvesBy, events_of}
+use Rattle.daide_protocol.specs.Wires.{SessionView, same_side, front_of, room_of}
+use Rattle.daide_protocol.proofs.EndingLemmas.{runs_reported}
+use Rattle.daide_protocol.proofs.OneRun.{one_run}
+use Rattle.daide_protocol.proofs.PieceRuns.{over_stays}
+use Rattle.daide_driver.specs.Headline.{IsReachable, untouched}
+use Rattle.daide_driver.specs.Hub.{IsBegun, IsTurned}
+use Rattle.daide_driver.specs.Turn.{Then, Hears, Puts, Pulls, Turn}
+use Rattle.daide_driver.proofs.Stretches.{transition_then}
+use Rattle.daide_event_loop.specs.QuotaPorts.{QuotaPortsView, Meters, EvolvesWhile, IsSpentAnswer, one_less, reported_where}
+use Rattle.daide_event_loop.specs.Served.{while_left, cause_of, turns_in}
+use Rattle.daide_event_loop.specs.Serving.{fresh, is_reported, cause_by}
+use Rattle.daide_event_loop.proofs.TurnCounts.{turn_begins_none, counted_from, none_below_zero}
+use Rattle.daide_event_loop.proofs.LostWires.{is_lost, lost_waits}
+
+-- ---- the first end or failure that is told
+
+abbrev pub first_of : List PortCall → Option Ending
+first_of [] = None
+first_of (TurnBegins ∷ answers) = first_of answers
+first_of (Clock im_timer_expired ∷ answers) = first_of answers
+first_of (Pulled side buffer pull bytes ∷ answers) = Some (Endings.Ended side)
+first_of (Offered side bytes put ∷ answers) = Some (Endings.Lost side)
+
+abbrev pub AreSpent : List PortCall → Type 0
+AreSpent [] = Unit {0}
+AreSpent (answer ∷ answers) = IsSpentAnswer answer × AreSpent answers
+
+or_assoc : (a b : Option Ending) (c : Option Ending) → option_or (option_or a b) c ≡ option_or a (option_or b c)
+or_assoc None b c = refl
+or_assoc (Some x) b c = refl
+
+or_none : (a : Option Ending) → option_or a None ≡ a
+or_none None = refl
+or_none (Some x) = refl
+
+module _ {P : Type 0} (port_transition : P → PortCall → P → Type 0) where
+  -- ports that are spent stay so, and tell the first of these
+  record Tells (answers : List PortCall) (old new : QuotaPortsView P) : Type 0 where
+    spent : AreSpent answers
+    first_synthetic_end : new.first_synthetic_end ≡ option_or old.first_synthetic_end (first_of answers)
+    turns_left : new.turns_left ≡ None
+
+  asked_not : (left : Option ℕ) (old : P) (answer : PortCall) (new : P) → left ≡ None →
+      EvolvesWhile port_transition left old answer new → IsSpentAnswer answer
+  asked_not None old answer new e h = h.0
+  asked_not (Some turns) old answer new e h = absurd (cc)
+
+  where_spent : (left : Option ℕ) (ending : Ending) (told : Option Ending) → left ≡ None →
+      reported_where left ending told ≡ option_or told (Some ending)
+  where_spent None ending told e = refl
+  where_spent (Some turns) ending told e = absurd (cc)
+
+  tells : (answers : List PortCall) (old new : QuotaPortsView P) → old.turns_left ≡ None → EvolvesBy (Meters port_transition) old answers new →
+      Tells answers old new
+  tells [] old new e h = record {
+    spent = tt;
+    first_synthetic_end = ap (λ (m : QuotaPortsView P). m.first_synthetic_end) h ∙ sym (or_none old.first_synthetic_end);
+    turns_left = ap (λ (m : QuotaPortsView P). m.turns_left) h ∙ e;
+  }
+  tells (TurnBegins ∷ answers) old new e h =
+      let rest = tells answers h.0 new (h.1.turns_left ∙ ap one_less e) h.2 in
+      record {
+        spent = (tt, rest.spent);
+        first_synthetic_end = rest.first_synthetic_end ∙ ap (λ (o : Option Ending). option_or o (first_of answers)) h.1.first_synthetic_end;
+        turns_left = rest.turns_left;
+      }
+  tells (Clock im_timer_expired ∷ answers) old new e h =
+      let left : h.0.turns_left ≡ None = h.1.turns_left ∙ e in
+      let rest = tells answers h.0 new left h.2 in
+      record {
+        spent = (asked_not h.0.turns_left old.ports (Clock im_timer_expired) h.0.ports left h.1.ports, rest.spent);
+        first_synthetic_end = rest.first_synthetic_end ∙ ap (λ (o : Option Ending). option_or o (first_of answers)) h.1.first_synthetic_end;
+        turns_left = rest.turns_left;
+      }
+  tells (Pulled side buffer pull bytes ∷ answers) old new e h =
+      let left : h.0.turns_left ≡ None = h.1.turns_left ∙ e in
+      let rest = tells answers h.0 new left h.2 in
+      record {
+        spent = (asked_not h.0.turns_left old.ports (Pulled side buffer pull bytes) h.0.ports left h.1.ports, rest.spent);
+        first_synthetic_end = rest.first_synthetic_end
+            ∙ ap (λ (o : Option Ending). option_or o (first_of answers))
+            (h.1.first_synthetic_end ∙ where_spent h.0.turns_left (Endings.Ended side) old.first_synthetic_end left)
+            ∙ or_assoc old.first_synthetic_end (Some (Endings.Ended side)) (first_of answers);
+        turns_left = rest.turns_left;
+      }
+  tells (Offered side bytes put ∷ answers) old new e h =
+      let left : h.0.turns_left ≡ None = h.1.turns_left ∙ e in
+      let rest = tells answers h.0 new left h.2 in
+      record {
+        spent = (asked_not h.0.turns_left old.ports (Offered side bytes put) h.0.ports left h.1.ports, rest.spent);
+        first_synthetic_end = rest.first_synthetic_end
+            ∙ ap (λ (o : Option Ending). option_or o (first_of answers))
+            (h.1.first_synthetic_end ∙ where_spent h.0.turns_left (Endings.Lost side) old.first_synthetic_end left)
+            ∙ or_assoc old.first_synthetic_end (Some (Endings.Lost side)) (first_of answers);
+        turns_left = rest.turns_left;
+      }
+
+  -- while turns are left nothing is told
+  where_left : (left : Option ℕ) (turns : ℕ) (ending : Ending) (told : Option Ending) → left ≡ Some turns →
+      reported_where left ending told ≡ told
+  where_left None turns ending told e = absurd (cc)
+  where_left (Some more) turns ending told e = refl
+
+  some_left : (o : Option ℕ) (turns : ℕ) → one_less o ≡ Some turns → o ≡ Some (suc turns)
+  some_left None turns e = absurd (cc)
+  some_left (Some zero) turns e = absurd (cc)
+  some_left (Some (suc more)) turns e = ap (λ (o : Option ℕ). more_of o) e
+    where
+      more_of : Option ℕ → Option ℕ
+      more_of None = Some (suc more)
+      more_of (Some n) = Some (suc n)
+
+  untold : (answers : List PortCall) (turns : ℕ) (old new : QuotaPortsView P) → EvolvesBy (Meters port_transition) old answers new →
+      new.turns_left ≡ Some turns → (new.first_synthetic_end ≡ old.first_synthetic_end) × ((more : ℕ) × (old.turns_left ≡ Some more))
+  untold [] turns old new h e =
+      (ap (λ (m : QuotaPortsView P). m.first_synthetic_end) h, (turns, sym (ap (λ (m : QuotaPortsView P). m.turns_left) h) ∙ e))
+  untold (TurnBegins ∷ answers) turns old new h e =
+      let rest = untold answers turns h.0 new h.2 e in
+      (rest.0 ∙ h.1.first_synthetic_end, (suc rest.1.0, some_left old.turns_left rest.1.0 (sym h.1.turns_left ∙ rest.1.1)))
+  untold (Clock im_timer_expired ∷ answers) turns old new h e =
+      let rest = untold answers turns h.0 new h.2 e in
+      (rest.0 ∙ h.1.first_synthetic_end, (rest.1.0, sym h.1.turns_left ∙ rest.1.1))
+  untold (Pulled side buffer pull bytes ∷ answers) turns old new h e =
+      let rest = untold answers turns h.0 new h.2 e in (
+        rest.0 ∙ (h.1.first_synthetic_end ∙ where_left h.0.turns_left rest.1.0 (Endings.Ended side) old.first_synthetic_end rest.1.1),
+        (rest.1.0, sym h.1.turns_left ∙ rest.1.1),
+      )
+  untold (Offered side bytes put ∷ answers) turns old new h e =
+      let rest = untold answers turns h.0 new h.2 e in (
+        rest.0 ∙ (h.1.first_synthetic_end ∙ where_left h.0.turns_left rest.1.0 (Endings.Lost side) old.first_synthetic_end rest.1.1),
+        (rest.1.0, sym h.1.turns_left ∙ rest.1.1),
+      )
+
+  -- ---- the answers while turns are left
+
+  all_left : (answers : List PortCall) (turns more : ℕ) (old new : QuotaPortsView P) → old.turns_left ≡ Some turns →
+      EvolvesBy (Meters port_transition) old answers new → new.turns_left ≡ Some more → while_left turns answers ≡ answers
+  all_left [] turns more old new e h k = refl
+  all_left (TurnBegins ∷ answers) zero more old new e h k =
+      let spent = tells answers h.0 new (h.1.turns_left ∙ ap one_less e) h.2 in
+      let none = spent.turns_left in absurd (cc)
+  all_left (TurnBegins ∷ answers) (suc turns) more old new e h k =
+      ap (λ (l : List PortCall). TurnBegins ∷ l) (all_left answers turns more h.0 new (h.1.turns_left ∙ ap one_less e) h.2 k)
+  all_left (Clock im_timer_expired ∷ answers) turns more old new e h k =
+      ap (λ (l : List PortCall). Clock im_timer_expired ∷ l) (all_left answers turns more h.0 new (h.1.turns_left ∙ e) h.2 k)
+  all_left (Pulled side buffer pull bytes ∷ answers) turns more old new e h k =
+      ap (λ (l : List PortCall). Pulled side buffer pull bytes ∷ l)
+      (all_left answers turns more h.0 new (h.1.turns_left ∙ e) h.2 k)
+  all_left (Offered side bytes put ∷ answers) turns more old new e h k =
+      ap (λ (l : List PortCall). Offered side bytes put ∷ l)
+      (all_left answers turns more h.0 new (h.1.turns_left ∙ e) h.2 k)
+
+  -- what is answered once they are spent counts no more
+  spent_adds : (answers more : List PortCall) (turns : ℕ) (old new : QuotaPortsView P) → old.turns_left ≡ Some turns →
+      EvolvesBy (Meters port_transition) old answers new → new.turns_left ≡ None →
+      while_left turns (answers ++ more) ≡ while_left turns answers
+  spent_adds [] more turns old new e h k =
+      let same = ap (λ (m : QuotaPortsView P). m.turns_left) h in absurd (cc)
+  spent_adds (TurnBegins ∷ answers) more zero old new e h k = refl
+  spent_adds (TurnBegins ∷ answers) more (suc turns) old new e h k =
+      ap (λ (l : List PortCall). TurnBegins ∷ l)
+      (spent_adds answers more turns h.0 new (h.1.turns_left ∙ ap one_less e) h.2 k)
+  spent_adds (Clock im_timer_expired ∷ answers) more turns old new e h k =
+      ap (λ (l : List PortCall). Clock im_timer_expired ∷ l) (spent_adds answers more turns h.0 new (h.1.turns_left ∙ e) h.2 k)
+  spent_adds (Pulled side buffer pull bytes ∷ answers) more turns old new e h k =
+      ap (λ (l : List PortCall). Pulled side buffer pull bytes ∷ l)
+      (spent_adds answers more turns h.0 new (h.1.turns_left ∙ e) h.2 k)
+  spent_adds (Offered side bytes put ∷ answers) more turns old new e h k =
+      ap (λ (l : List PortCall). Offered side bytes put ∷ l)
+      (spent_adds answers more turns h.0 new (h.1.turns_left ∙ e) h.2 k)
+
+  -- a turn that begins with none left is the first of them
+  last_adds : (answers more : List PortCall) (turns : ℕ) (old new : QuotaPortsView P) →
+      old.turns_left ≡ Some turns → EvolvesBy (Meters port_transition) old answers new → new.turns_left ≡ Some 0 →
+      while_left turns (answers ++ TurnBegins ∷ more) ≡ answers
+  last_adds [] more zero old new e h k = refl
+  last_adds [] more (suc turns) old new e h k =
+      let same = ap (λ (m : QuotaPortsView P). m.turns_left) h in absurd (cc)
+  last_adds (TurnBegins ∷ answers) more zero old new e h k =
+      let spent = tells answers h.0 new (h.1.turns_left ∙ ap one_less e) h.2 in
+      let none = spent.turns_left in absurd (cc)
+  last_adds (TurnBegins ∷ answers) more (suc turns) old new e h k =
+      ap (λ (l : List PortCall). TurnBegins ∷ l)
+      (last_adds answers more turns h.0 new (h.1.turns_left ∙ ap one_less e) h.2 k)
+  last_adds (Clock im_timer_expired ∷ answers) more turns old new e h k =
+      ap (λ (l : List PortCall). Clock im_timer_expired ∷ l) (last_adds answers more turns h.0 new (h.1.turns_left ∙ e) h.2 k)
+  last_adds (Pulled side buffer pull bytes ∷ answers) more turns old new e h k =
+      ap (λ (l : List PortCall). Pulled side buffer pull bytes ∷ l)
+      (last_adds answers more turns h.0 new (h.1.turns_left ∙ e) h.2 k)
+  last_adds (Offered side bytes put ∷ answers) more turns old new e h k =
+      ap (λ (l : List PortCall). Offered side bytes put ∷ l)
+      (last_adds answers more turns h.0 new (h.1.turns_left ∙ e) h.2 k)
+
+-- ---- a session by what it is told first
+
+-- the session was in this state when its turns were spent, and is in another since, by what was told first
+pub record Cut (state now : SessionState) (told : Option Ending) : Type 0 where
+  pub still : told ≡ None → now ≡ state
+  pub before : (e : Ending) → state.ending ≡ Some e → (now.ending ≡ Some e) × (is_reported told e ≡ false)
+  pub since : (e : Ending) → state.ending ≡ None → told ≡ Some e → now.ending ≡ Some e
+  pub itself : (e : Ending) → told ≡ Some e → is_reported (Some e) e ≡ true
+
+pub cut_open : (state : SessionState) (told : Option Ending) → told ≡ None → Cut state state told
+cut_open state told none = record {
+  still = λ e. refl;
+  before = λ e same. (same, ap (λ (o : Option Ending). is_reported o e) none);
+  since = λ e same is. let f = sym none ∙ is in absurd (cc);
+  itself = λ e is. let f = sym none ∙ is in absurd (cc);
+}
+
+abbrev is_reported_by : Ending → Option Ending → Bool
+is_reported_by one None = false
+is_reported_by one (Some two) = is_reported (Some one) two
+
+pub cut_cause : (state now : SessionState) (told : Option Ending) (ending : Ending) → Cut state now told →
+    now.ending ≡ Some ending → cause_by told (Some ending) ≡ cause_of state.ending
+cut_cause state now told ending c ended = by state.ending refl
+  where
+    spent : (o : Option Ending) → told ≡ o → state.ending ≡ None → cause_by told (Some ending) ≡ Causes.TurnsSpent
+    spent None none same =
+        let f = sym ended ∙ (ap (λ (s : SessionState). s.ending) (c.still none) ∙ same) in absurd (cc)
+    spent (Some e) is same =
+        let own : is_reported told ending ≡ true =
+        ap (λ (o : Option Ending). is_reported o ending) is
+        ∙ subst (λ (o : Option Ending). is_reported_by e o ≡ true) (sym (c.since e same is) ∙ ended) (c.itself e is) in
+        rw own refl
+
+    by : (o : Option Ending) → state.ending ≡ o → cause_by told (Some ending) ≡ cause_of o
+    by (Some e) same =
+        let b = c.before e same in
+        let own = sym ended ∙ b.0 in
+        ap (cause_by told) own ∙ (rw b.1 refl)
+    by None same = spent told refl same
+
+side_itself : (side : Side) → same_side side side ≡ true
+side_itself Bot = refl
+side_itself Server = refl
+
+abbrev self : Option Ending → Bool
+self None = false
+self (Some one) = is_reported (Some one) one
+
+first_itself : (answers : List PortCall) (e : Ending) → first_of answers ≡ Some e → is_reported (Some e) e ≡ true
+first_itself [] e f = absurd (cc)
+first_itself (TurnBegins ∷ answers) e f = first_itself answers e f
+first_itself (Clock im_timer_expired ∷ answers) e f = first_itself answers e f
+first_itself (Pulled side buffer pull bytes ∷ answers) e f =
+    subst (λ (o : Option Ending). self o ≡ true) f (side_itself side)
+first_itself (Offered side bytes put ∷ answers) e f =
+    subst (λ (o : Option Ending). self o ≡ true) f (side_itself side)
+
+-- ---- one that is open
+
+over_for_good : (old : SessionState) (events : List Event) (effects : List Effect) (new : SessionState) →
+    is_over old.phase ≡ true → Runs old events effects new → new ≡ old
+over_for_good old events effects new over run = (one_run events old effects [] new old run (over_stays old events over)).1
+
+ends_by : (old : SessionState) (side : Side) (effects : List Effect) (new : SessionState) → is_over old.phase ≡ false →
+    Transition old (Ends side) effects new → (new.ending ≡ Some (Endings.Ended side)) × (is_over new.phase ≡ true)
+ends_by old side effects new live step = (
+  ap (λ (o : Successor). o.state.ending) (sym step.outcome) ∙ (rw live refl),
+  ap (λ (o : Successor). is_over o.state.phase) (sym step.outcome) ∙ (rw live refl),
+)
+
+loses_by : (old : SessionState) (side : Side) (effects : List Effect) (new : SessionState) → is_over old.phase ≡ false →
+    Transition old (Loses side) effects new → (new.ending ≡ Some (Endings.Lost side)) × (is_over new.phase ≡ true)
+loses_by old side effects new live step = (
+  ap (λ (o : Successor). o.state.ending) (sym step.outcome) ∙ (rw live refl),
+  ap (λ (o : Successor). is_over o.state.phase) (sym step.outcome) ∙ (rw live refl),
+)
+
+-- by what it is told first it ends, and by nothing else
+abbrev RefinesBy : Option Ending → SessionState → SessionState → Type 0
+RefinesBy None old new = new ≡ old
+RefinesBy (Some e) old new = new.ending ≡ Some e
+
+goes_by : (answers : List PortCall) (old : SessionState) (effects : List Effect) (new : SessionState) →
+    AreSpent answers → is_over old.phase ≡ false → Runs old (events_of answers) effects new →
+    RefinesBy (first_of answers) old new
+goes_by [] old effects new spent live run = run.1
+goes_by (TurnBegins ∷ answers) old effects new spent live run = goes_by answers old effects new spent.1 live run
+goes_by (Clock true ∷ answers) old effects new spent live run = let f = spent.0 in absurd (cc)
+goes_by (Clock false ∷ answers) old effects new spent live run = goes_by answers old effects new spent.1 live run
+goes_by (Pulled side buffer (Got n) bytes ∷ answers) old effects new spent live run =
+    let f = spent.0 in absurd (cc)
+goes_by (Pulled side buffer Idle bytes ∷ answers) old effects new spent live run =
+    let f = spent.0 in absurd (cc)
+goes_by (Pulled side buffer Ended bytes ∷ answers) old effects new spent live run =
+    let one = ends_by old side run.1 run.0 live run.3 in
+    ap (λ (s : SessionState). s.ending) (over_for_good run.0 (events_of answers) run.2 new one.1 run.4) ∙ one.0
+goes_by (Offered side bytes (Took n) ∷ answers) old effects new spent live run =
+    let f = spent.0 in absurd (cc)
+goes_by (Offered side bytes Failed ∷ answers) old effects new spent live run =
+    let one = loses_by old side run.1 run.0 live run.3 in
+    ap (λ (s : SessionState). s.ending) (over_for_good run.0 (events_of answers) run.2 new one.1 run.4) ∙ one.0
+
+-- ---- one that is over
+
+lost_is_reported : (side : Side) (e : Ending) → is_reported (Some (Endings.Lost side)) e ≡ is_lost side (Some e)
+lost_is_reported side (Endings.Ended one) = refl
+lost_is_reported Bot (Endings.Lost Bot) = refl
+lost_is_reported Bot (Endings.Lost Server) = refl
+lost_is_reported Server (Endings.Lost Bot) = refl
+lost_is_reported Server (Endings.Lost Server) = refl
+lost_is_reported side (Endings.Final one) = refl
+lost_is_reported side (Endings.Error one) = refl
+lost_is_reported side (Endings.Fault one code) = refl
+
+no_room : (g : SessionView) (side : Side) → is_over g.state.phase ≡ true → room_of g side ≡ 0
+unfolding room_of
+no_room g side over = rw over refl
+
+module _ (limits : Limits) (history : List PortCall) (g : SessionView) (ending : Ending)
+    (stands : IsReachable limits history g) (over : is_over g.state.phase ≡ true) (ended : g.state.ending ≡ Some ending) where
+  -- what ended it is not told first
+  abbrev Other : List PortCall → Type 0
+  Other answers = is_reported (first_of answers) ending ≡ false
+
+  puts_other : (side : Side) (first second : List PortCall) (new : SessionView) → Puts side g first new →
+      (new ≡ g → Other second) → Other (first ++ second)
+  puts_other side first second new (inl h) k =
+      subst (λ (l : List PortCall). Other (l ++ second)) (sym h.1) (k h.2)
+  puts_other side first second new (inr h) k =
+      subst (λ (l : List PortCall). Other (l ++ second)) (sym h.asked)
+      (lost_is_reported side ending ∙ by (is_lost side (Some ending)) refl)
+    where
+      by : (b : Bool) → is_lost side (Some ending) ≡ b → is_lost side (Some ending) ≡ false
+      by false e = e
+      by true e =
+          absurd (lost_waits side limits history g (front_of g side) stands (ap (is_lost side) ended ∙ e) h.front h.filled)
+
+  pulls_other : (side : Side) (first second : List PortCall) (new : SessionView) → Pulls side g first new →
+      (new ≡ g → Other second) → Other (first ++ second)
+  pulls_other side first second new (inl h) k =
+      subst (λ (l : List PortCall). Other (l ++ second)) (sym h.1) (k h.2)
+  pulls_other side first second new (inr h) k =
+      let some = h.room in
+      let none = no_room g side over in
+      absurd (omega (arith, some, none))
+
+  last_pull : (answers : List PortCall) (new : SessionView) → Pulls Server g answers new → Other answers
+  last_pull answers new h =
+      subst Other (append-nil answers) (pulls_other Server answers [] new h (λ same. refl))
+
+  turn_other : (call : List PortCall) (new : SessionView) → Turn g call new → AreSpent call → Other call
+  turn_other call new t spent = begun t.4.0 t.4.1 t.4.2
+    where
+      after_puts : (mid : SessionView) (answers : List PortCall) → mid ≡ g →
+          Then (Pulls Bot) (Pulls Server) mid answers new → Other answers
+      after_puts mid answers same h =
+          let k = subst (λ (a : SessionView). Then (Pulls Bot) (Pulls Server) a answers new) same h in
+          subst Other (sym k.3) (pulls_other Bot k.1 k.2 k.0 k.4
+          (λ still. last_pull k.2 new (subst (λ (a : SessionView). Pulls Server a k.2 new) still k.5)))
+
+      after_put : (mid : SessionView) (answers : List PortCall) → mid ≡ g →
+          Then (Puts Server) (Then (Pulls Bot) (Pulls Server)) mid answers new → Other answers
+      after_put mid answers same h =
+          let k = subst (λ (a : SessionView). Then (Puts Server) (Then (Pulls Bot) (Pulls Server)) a answers new) same h in
+          subst Other (sym k.3) (puts_other Server k.1 k.2 k.0 k.4 (λ still. after_puts k.0 k.2 still k.5))
+
+      after_clock : (mid : SessionView) (answers : List PortCall) → mid ≡ g →
+          Then (Puts Bot) (Then (Puts Server) (Then (Pulls Bot) (Pulls Server))) mid answers new → Other answers
+      after_clock mid answers same h =
+          let k = subst (λ (a : SessionView). Then (Puts Bot) (Then (Puts Server) (Then (Pulls Bot) (Pulls Server))) a answers
+          new) same h in
+          subst Other (sym k.3) (puts_other Bot k.1 k.2 k.0 k.4 (λ still. after_put k.0 k.2 still k.5))
+
+      begun : (im_timer_expired : Bool) → t.1 ≡ Clock im_timer_expired ∷ [] → Hears im_timer_expired g t.0 → Other call
+      begun true e h =
+          let all : AreSpent (Clock true ∷ t.2) =
+          subst AreSpent (t.3 ∙ ap (λ (l : List PortCall). l ++ t.2) e) spent in
+          let f = all.0 in absurd (cc)
+      begun false e h =
+          subst Other (sym (t.3 ∙ ap (λ (l : List PortCall). l ++ t.2) e)) (after_clock t.0 t.2 h t.5)
+
+-- ---- a turn
+
+some_ending : (o : Option Ending) (over : Bool) → is_some o ≡ over → over ≡ true → (e : Ending) × (o ≡ Some e)
+some_ending None over e f = absurd (cc)
+some_ending (Some x) over e f = (x, refl)
+
+-- a turn of spent ports
+module _ (limits : Limits) (history call : List PortCall) (a b : SessionView) (effects : List Effect)
+    (state : SessionState) (told later : Option Ending) (stands : IsReachable limits history a) (turn : Turn a call b)
+    (spent : AreSpent call) (run : Runs a.state (events_of call) effects b.state)
+    (is : later ≡ option_or told (first_of call)) (c : Cut state a.state told) where
+  known : is_some a.state.ending ≡ is_over a.state.phase
+  known = runs_reported (untouched limits).state (events_of history) stands.effects a.state stands.run refl
+
+  ended_over : (e : Ending) → a.state.ending ≡ Some e → is_over a.state.phase ≡ true
+  ended_over e same = sym known ∙ ap is_some same
+
+  was_ended : (m : Ending) → told ≡ Some m → (o : Option Ending) → state.ending ≡ o →
+      (e : Ending) × (a.state.ending ≡ Some e)
+  was_ended m same (Some e) f = (e, (c.before e f).0)
+  was_ended m same None f = (m, c.since m f same)
+
+  -- something was told before
+  reported_before : (m : Ending) → told ≡ Some m → Cut state b.state later
+  reported_before m same =
+      let e = was_ended m same state.ending refl in
+      let still = over_for_good a.state (events_of call) effects b.state (ended_over e.0 e.1) run in
+      let kept : later ≡ told =
+      is ∙ (ap (λ (o : Option Ending). option_or o (first_of call)) same ∙ sym same) in
+      subst (λ (o : Option Ending). Cut state b.state o) (sym kept)
+      (subst (λ (s : SessionState). Cut state s told) (sym still) c)
+
+  first_is : told ≡ None → later ≡ first_of call
+  first_is none = is ∙ ap (λ (o : Option Ending). option_or o (first_of call)) none
+
+  abbrev is_later : Option Ending → Bool
+  is_later None = false
+  is_later (Some x) = is_reported later x
+
+  -- it was over, and nothing was told since
+  over_before : told ≡ None → is_over a.state.phase ≡ true → Cut state b.state later
+  over_before none over =
+      let e = some_ending a.state.ending (is_over a.state.phase) known over in
+      let first = first_is none in
+      let kept : b.state ≡ state = over_for_good a.state (events_of call) effects b.state over run ∙ c.still none in
+      let start : a.state.ending ≡ state.ending = ap (λ (s : SessionState). s.ending) (c.still none) in
+      let other : is_reported later e.0 ≡ false =
+      ap (λ (o : Option Ending). is_reported o e.0) first
+      ∙ turn_other limits history a e.0 stands over e.1 call b turn spent in
+      record {
+        still = λ f. kept;
+        before = λ x same. (
+          ap (λ (s : SessionState). s.ending) kept ∙ same,
+          subst (λ (o : Option Ending). is_later o ≡ false) (sym e.1 ∙ (start ∙ same)) other,
+        );
+        since = λ x same f. let g = sym e.1 ∙ (start ∙ same) in absurd (cc);
+        itself = λ x f. first_itself call x (sym first ∙ f);
+      }
+
+  -- it was open: what is told first ends it
+  open_before : told ≡ None → is_over a.state.phase ≡ false → Cut state b.state later
+  open_before none live =
+      let first = first_is none in
+      let goes : RefinesBy later a.state b.state =
+      subst (λ (o : Option Ending). RefinesBy o a.state b.state) (sym first)
+      (goes_by call a.state effects b.state spent live run) in
+      let start : a.state.ending ≡ state.ending = ap (λ (s : SessionState). s.ending) (c.still none) in
+      record {
+        still = λ f. subst (λ (o : Option Ending). RefinesBy o a.state b.state) f goes ∙ c.still none;
+        before = λ x same. let over = ended_over x (start ∙ same) in absurd (cc);
+        since = λ x same f. subst (λ (o : Option Ending). RefinesBy o a.state b.state) f goes;
+        itself = λ x f. first_itself call x (sym first ∙ f);
+      }
+
+  nothing_before : (over : Bool) → is_over a.state.phase ≡ over → told ≡ None → Cut state b.state later
+  nothing_before true over none = over_before none over
+  nothing_before false live none = open_before none live
+
+  by_reported : (o : Option Ending) → told ≡ o → Cut state b.state later
+  by_reported (Some m) same = reported_before m same
+  by_reported None none = nothing_before (is_over a.state.phase) refl none
+
+  spent_turn : Cut state b.state later
+  spent_turn = by_reported told refl
+
+-- ---- along a session's turns
+
+module _ {P : Type 0} (port_transition : P → PortCall → P → Type 0) (limits : Limits) (turns : ℕ) where
+  -- how a session stands to the state in which its turns were spent, or to its own while some are left
+  pub record IsCut (history : List PortCall) (now : SessionView × QuotaPortsView P) : Type 0 where
+    pub effects : List Effect
+    pub state : SessionState
+    pub run : Runs (untouched limits).state (events_of (while_left turns history)) effects state
+    pub cut : Cut state now.0.state now.1.first_synthetic_end
+    pub quiet : (n : ℕ) → now.1.turns_left ≡ Some n → now.1.first_synthetic_end ≡ None
+
+  pub cut_begins : (g : SessionView) (ports : P) → IsReachable limits [] g → IsCut [] (g, fresh ports turns)
+  cut_begins g ports stands = record {
+    effects = stands.effects;
+    state = g.state;
+    run = stands.run;
+    cut = cut_open g.state None refl;
+    quiet = λ n e. refl;
+  }
+
+  -- ---- a turn begins
+
+  module _ (history : List PortCall) (ports : P) (a b : SessionView × QuotaPortsView P) (t : IsBegun (Meters port_transition) a b)
+      (answered : EvolvesBy (Meters port_transition) (fresh ports turns) history a.1) (stands : IsReachable limits history a.0)
+      (later : IsReachable limits (history ++ TurnBegins ∷ []) b.0) (c : IsCut history a) where
+    abbrev longer : List PortCall
+    longer = history ++ TurnBegins ∷ []
+
+    still_cut : (state : SessionState) → Cut state a.0.state a.1.first_synthetic_end → Cut state b.0.state b.1.first_synthetic_end
+    still_cut state h =
+        subst (λ (o : Option Ending). Cut state b.0.state o) (sym t.1.first_synthetic_end)
+        (subst (λ (g : SessionView). Cut state g.state a.1.first_synthetic_end) (sym t.0) h)
+
+    -- they were spent before
+    begun_spent : a.1.turns_left ≡ None → IsCut longer b
+    begun_spent e = record {
+      effects = c.effects;
+      state = c.state;
+      run = subst (λ (l : List PortCall). Runs (untouched limits).state (events_of l) c.effects c.state)
+          (sym (spent_adds port_transition history (TurnBegins ∷ []) turns (fresh ports turns) a.1 refl answered e)) c.run;
+      cut = still_cut c.state c.cut;
+      quiet = λ n k. let none = t.1.turns_left ∙ ap one_less e in absurd (cc);
+    }
+
+    -- they are spent now
+    begun_last : a.1.turns_left ≡ Some 0 → IsCut longer b
+    begun_last e = record {
+      effects = stands.effects;
+      state = a.0.state;
+      run = subst (λ (l : List PortCall). Runs (untouched limits).state (events_of l) stands.effects a.0.state)
+          (sym (last_adds port_transition history [] turns (fresh ports turns) a.1 refl answered e)) stands.run;
+      cut = still_cut a.0.state (cut_open a.0.state a.1.first_synthetic_end (c.quiet 0 e));
+      quiet = λ n k. let none = t.1.turns_left ∙ ap one_less e in absurd (cc);
+    }
+
+    -- some are left
+    begun_more : (n : ℕ) → a.1.turns_left ≡ Some (suc n) → IsCut longer b
+    begun_more n e =
+        let left : b.1.turns_left ≡ Some n = t.1.turns_left ∙ ap one_less e in
+        let none : b.1.first_synthetic_end ≡ None = t.1.first_synthetic_end ∙ c.quiet (suc n) e in
+        let along = transition_then (Meters port_transition) history (TurnBegins ∷ []) (fresh ports turns) a.1 b.1 answered
+        (b.1, t.1, refl) in
+        record {
+          effects = later.effects;
+          state = b.0.state;
+          run = subst (λ (l : List PortCall). Runs (untouched limits).state (events_of l) later.effects b.0.state)
+              (sym (all_left port_transition longer turns n (fresh ports turns) b.1 refl along left)) later.run;
+          cut = cut_open b.0.state b.1.first_synthetic_end none;
+          quiet = λ j f. none;
+        }
+
+    begun_by : (o : Option ℕ) → a.1.turns_left ≡ o → IsCut longer b
+    begun_by None e = begun_spent e
+    begun_by (Some zero) e = begun_last e
+    begun_by (Some (suc n)) e = begun_more n e
+
+    pub cut_begun : IsCut (history ++ TurnBegins ∷ []) b
+    cut_begun = begun_by a.1.turns_left refl
+
+  -- ---- a turn is made
+
+  module _ (history : List PortCall) (ports : P) (a b : SessionView × QuotaPortsView P) (t : IsTurned (Meters port_transition) a b)
+      (answered : EvolvesBy (Meters port_transition) (fresh ports turns) history a.1) (stands : IsReachable limits history a.0)
+      (later : IsReachable limits (history ++ t.exchange.call) b.0) (c : IsCut history a) where
+    abbrev call : List PortCall
+    call = t.exchange.call
+
+    along : EvolvesBy (Meters port_transition) (fresh ports turns) (history ++ call) b.1
+    along = transition_then (Meters port_transition) history call (fresh ports turns) a.1 b.1 answered t.exchange.ports
+
+    -- they were spent before
+    spent_before : a.1.turns_left ≡ None → IsCut (history ++ call) b
+    spent_before e =
+        let s = tells port_transition call a.1 b.1 e t.exchange.ports in
+        record {
+          effects = c.effects;
+          state = c.state;
+          run = subst (λ (l : List PortCall). Runs (untouched limits).state (events_of l) c.effects c.state)
+              (sym (spent_adds port_transition history call turns (fresh ports turns) a.1 refl answered e)) c.run;
+          cut = spent_turn limits history call a.0 b.0 t.exchange.session.delivered.effects c.state a.1.first_synthetic_end b.1.first_synthetic_end
+              stands t.exchange.session.in_order s.spent t.exchange.session.delivered.run s.first_synthetic_end c.cut;
+          quiet = λ n k. let none = s.turns_left in absurd (cc);
+        }
+
+    -- some are left behind it, and so nothing was told
+    left_still : (n m : ℕ) → a.1.turns_left ≡ Some n → b.1.turns_left ≡ Some m → IsCut (history ++ call) b
+    left_still n m e k =
+        let none : b.1.first_synthetic_end ≡ None = (untold port_transition call m a.1 b.1 t.exchange.ports k).0 ∙ c.quiet n e in
+        record {
+          effects = later.effects;
+          state = b.0.state;
+          run = subst (λ (l : List PortCall). Runs (untouched limits).state (events_of l) later.effects b.0.state)
+              (sym (all_left port_transition (history ++ call) turns m (fresh ports turns) b.1 refl along k)) later.run;
+          cut = cut_open b.0.state b.1.first_synthetic_end none;
+          quiet = λ j f. none;
+        }
+
+    -- a turn takes none of them
+    one_left : (n : ℕ) (o : Option ℕ) → a.1.turns_left ≡ Some n → b.1.turns_left ≡ o → IsCut (history ++ call) b
+    one_left n (Some m) e k = left_still n m e k
+    one_left n None e k =
+        let none = turn_begins_none a.0 call b.0 t.exchange.session.in_order in
+        let counted = counted_from port_transition call n a.1 b.1 e t.exchange.ports in
+        let few : nat_lt n (turns_in call) ≡ false = ap (nat_lt n) none ∙ none_below_zero n in
+        let f : true ≡ false = sym (ap is_none k) ∙ (counted ∙ few) in
+        absurd (cc)
+
+    by_left : (o : Option ℕ) → a.1.turns_left ≡ o → IsCut (history ++ call) b
+    by_left None e = spent_before e
+    by_left (Some n) e = one_left n b.1.turns_left e refl
+
+    pub cut_turn : IsCut (history ++ t.exchange.call) b
+    cut_turn = by_left a.1.turns_left refl

@@ -1,0 +1,163 @@
+-- How many bots came, how many of them are on their way, and what became of the others.
+use Rattle.std.proofs.Common.{◌≡◌, ℕ, zero, suc, ◌+◌, Bool, true, false, List, [], ◌∷◌, ◌++◌, refl, sym, ◌∙◌}
+use Rattle.std.proofs.Common.{subst, arith}
+use Rattle.std.specs.Prelude.{◌==◌, is_none}
+use Rattle.daide_protocol.specs.Wires.{SessionView, is_closed}
+use Rattle.daide_driver.specs.Hub.{HubView}
+use Rattle.daide_protocol.specs.declared.system.Connect.{Connect}
+use Rattle.daide_protocol.specs.declared.system.Connect.TheVariants.{Ready, Failed, Pending}
+use Rattle.daide_protocol.specs.declared.system.Notice.TheVariants.{CannotReach}
+use Rattle.daide_event_loop.specs.declared.admission_counters.AdmissionCounters.{AdmissionCounters}
+use Rattle.daide_event_loop.specs.QuotaPorts.{QuotaPortsView}
+use Rattle.daide_protocol.specs.System.{SystemCall, Begins, Accepts, Connects, Retires, Notifies, Waits}
+use Rattle.daide_event_loop.specs.Serving.{arrived, come, AdmitsWhere, MeetsWhere, MeetsBy, last_words, retirement_where}
+use Rattle.daide_event_loop.specs.Serving.{end_of, retirement, retirements, wait_where}
+use Rattle.daide_event_loop.specs.Served.{comes, connects, unreached, sum_over_calls}
+use Rattle.daide_event_loop.proofs.BeginningLemmas.{OnlyBegin, none_counted}
+
+-- one that is not none is one more than another
+one_fewer : (n : ℕ) → (n == 0) ≡ false → (m : ℕ) × (n ≡ suc m)
+one_fewer zero e = absurd (cc)
+one_fewer (suc m) e = (m, refl)
+
+module _ {P : Type 0} where
+  pub counted_append : (count : SystemCall P → ℕ) (xs ys : List (SystemCall P)) →
+      sum_over_calls count (xs ++ ys) ≡ sum_over_calls count xs + sum_over_calls count ys
+  counted_append count [] ys = omega arith
+  counted_append count (x ∷ xs) ys =
+      let rest = counted_append count xs ys in
+      omega (arith, rest)
+
+  -- By these answers so many more came; and of those that were on their way and these, the ones that are not any more
+  -- were joined to the server, or it couldn't be reached.
+  pub record Counts (answers : List (SystemCall P)) (old new : AdmissionCounters) : Type 0 where
+    pub came : old.accepted + sum_over_calls comes answers ≡ new.accepted
+    pub connected : old.connecting + sum_over_calls comes answers
+        ≡ new.connecting + sum_over_calls connects answers + sum_over_calls unreached answers
+    pub sessions : new.sessions ≡ old.sessions
+
+  pub counts_then : (xs ys : List (SystemCall P)) (a b c : AdmissionCounters) → Counts xs a b → Counts ys b c →
+      Counts (xs ++ ys) a c
+  counts_then xs ys a b c h k =
+      let one = h.came in
+      let two = k.came in
+      let first = h.connected in
+      let second = k.connected in
+      record {
+        came = rw (counted_append comes xs ys) (omega (arith, one, two));
+        connected = rw (counted_append comes xs ys, counted_append connects xs ys, counted_append unreached xs ys)
+            (omega (arith, first, second));
+        sessions = k.sessions ∙ h.sessions;
+      }
+
+  -- answers of which none is about a bot's coming or its connect
+  record Silent (answers : List (SystemCall P)) : Type 0 where
+    came : sum_over_calls comes answers ≡ 0
+    joined : sum_over_calls connects answers ≡ 0
+    failed : sum_over_calls unreached answers ≡ 0
+
+  nothing_said : Silent []
+  nothing_said = record { came = refl; joined = refl; failed = refl }
+
+  silent_then : (xs ys : List (SystemCall P)) → Silent xs → Silent ys → Silent (xs ++ ys)
+  silent_then xs ys h k = record {
+    came = rw (counted_append comes xs ys, h.came, k.came) refl;
+    joined = rw (counted_append connects xs ys, h.joined, k.joined) refl;
+    failed = rw (counted_append unreached xs ys, h.failed, k.failed) refl;
+  }
+
+  silent_counts : (answers : List (SystemCall P)) (counters : AdmissionCounters) → Silent answers → Counts answers counters counters
+  silent_counts answers counters h = record {
+    came = rw h.came (omega arith);
+    connected = rw (h.came, h.joined, h.failed) (omega arith);
+    sessions = refl;
+  }
+
+  -- ---- the steps of a round
+
+  pub beginning_counts : (counters : AdmissionCounters) → Counts (Begins ∷ []) counters counters
+  beginning_counts counters =
+      silent_counts (Begins ∷ []) counters (record { came = refl; joined = refl; failed = refl })
+
+  -- turns begin with no bot that came
+  pub turns_count : (answers : List (SystemCall P)) (counters : AdmissionCounters) → OnlyBegin answers → Counts answers counters counters
+  turns_count answers counters h =
+      silent_counts answers counters (record {
+        came = none_counted comes answers (λ before after. refl) h;
+        joined = none_counted connects answers (λ before after. refl) h;
+        failed = none_counted unreached answers (λ before after. refl) h;
+      })
+
+  pub admission_counts : (b : Bool) (old : AdmissionCounters) (answers : List (SystemCall P)) (new : AdmissionCounters) →
+      AdmitsWhere b old answers new → Counts answers old new
+  admission_counts true old answers new h =
+      subst (λ (l : List (SystemCall P)). Counts l old new) (sym h.1)
+      (subst (λ (t : AdmissionCounters). Counts (Accepts h.0 ∷ []) old t) (sym h.2) (of h.0))
+    where
+      of : (came : Bool) → Counts (Accepts came ∷ []) old (come came old)
+      of true = record { came = refl; connected = omega arith; sessions = refl }
+      of false = record { came = omega arith; connected = omega arith; sessions = refl }
+  admission_counts false old answers new h =
+      subst (λ (l : List (SystemCall P)). Counts l old new) (sym h.0)
+      (subst (λ (t : AdmissionCounters). Counts [] old t) (sym h.1) (silent_counts [] old nothing_said))
+
+  -- one that was on its way is joined, or its server couldn't be reached
+  one_met : (answers : List (SystemCall P)) (old : AdmissionCounters) → (old.connecting == 0) ≡ false →
+      sum_over_calls comes answers ≡ 0 → sum_over_calls connects answers + sum_over_calls unreached answers ≡ 1 →
+      Counts answers old (arrived old)
+  one_met answers old e none one =
+      let fewer = one_fewer old.connecting e in
+      let is = fewer.1 in
+      record {
+        came = rw none (omega arith);
+        connected = rw none (omega (arith, is, one));
+        sessions = refl;
+      }
+
+  pub meeting_counts : (b : Bool) (old : HubView (QuotaPortsView P)) (counters : AdmissionCounters) (answers : List (SystemCall P))
+      (new : HubView (QuotaPortsView P)) (new_counters : AdmissionCounters) → (counters.connecting == 0) ≡ b →
+      MeetsWhere b old counters answers new new_counters → Counts answers counters new_counters
+  meeting_counts true old counters answers new new_counters e m =
+      subst (λ (l : List (SystemCall P)). Counts l counters new_counters) (sym m.0)
+      (subst (λ (t : AdmissionCounters). Counts [] counters t) (sym m.2) (silent_counts [] counters nothing_said))
+  meeting_counts false old counters answers new new_counters e m =
+      subst (λ (l : List (SystemCall P)). Counts l counters new_counters) (sym m.2) (by m.0 m.1 m.3)
+    where
+      by : (connect : Connect P) (told : List (SystemCall P)) → MeetsBy connect old counters told new new_counters →
+          Counts (Connects connect ∷ told) counters new_counters
+      by (Ready ports) told m =
+          subst (λ (l : List (SystemCall P)). Counts (Connects (Ready ports) ∷ l) counters new_counters) (sym m.0)
+          (subst (λ (t : AdmissionCounters). Counts (Connects (Ready ports) ∷ []) counters t) (sym m.2)
+          (one_met (Connects (Ready ports) ∷ []) counters e refl refl))
+      by Failed told m =
+          subst (λ (l : List (SystemCall P)). Counts (Connects Failed ∷ l) counters new_counters) (sym m.0)
+          (subst (λ (t : AdmissionCounters). Counts (Connects Failed ∷ Notifies CannotReach ∷ []) counters t) (sym m.2)
+          (one_met (Connects Failed ∷ Notifies CannotReach ∷ []) counters e refl refl))
+      by Pending told m =
+          subst (λ (l : List (SystemCall P)). Counts (Connects Pending ∷ l) counters new_counters) (sym m.0)
+          (subst (λ (t : AdmissionCounters). Counts (Connects Pending ∷ []) counters t) (sym m.2)
+          (silent_counts (Connects Pending ∷ []) counters (record { came = refl; joined = refl; failed = refl })))
+
+  silent_words : (b : Bool) → Silent (last_words b)
+  silent_words true = record { came = refl; joined = refl; failed = refl }
+  silent_words false = nothing_said
+
+  silent_farewell : (b : Bool) (place : SessionView × QuotaPortsView P) → Silent (retirement_where b place)
+  silent_farewell true place =
+      silent_then (last_words (is_none place.1.turns_left)) (Retires place.1.ports (end_of place) ∷ [])
+      (silent_words (is_none place.1.turns_left)) (record { came = refl; joined = refl; failed = refl })
+  silent_farewell false place = nothing_said
+
+  silent_farewells : (places : List (SessionView × QuotaPortsView P)) → Silent (retirements places)
+  silent_farewells [] = nothing_said
+  silent_farewells (place ∷ places) =
+      silent_then (retirements places) (retirement place) (silent_farewells places)
+      (silent_farewell (is_closed place.0) place)
+
+  pub removal_counts : (places : List (SessionView × QuotaPortsView P)) (counters : AdmissionCounters) → Counts (retirements places) counters counters
+  removal_counts places counters = silent_counts (retirements places) counters (silent_farewells places)
+
+  pub wait_counts : (made_progress more : Bool) (counters : AdmissionCounters) → Counts (wait_where made_progress more) counters counters
+  wait_counts true more counters = silent_counts [] counters nothing_said
+  wait_counts false more counters =
+      silent_counts (Waits more ∷ []) counters (record { came = refl; joined = refl; failed = refl })

@@ -1,0 +1,615 @@
+-- The sessions of a run, step after step.
+use Rattle.std.proofs.Common.{◌≡◌, ℕ, zero, suc, ◌<◌, ◌≤◌, Bool, true, false, List, [], ◌∷◌, ◌++◌, length, take, set}
+use Rattle.std.proofs.Common.{◌+◌, refl, sym, ap, ◌∙◌, subst, arith, append-nil, length-append}
+use Rattle.std.specs.Prelude.{◌==◌, ◌&&◌, ◌||◌, Option, Some, None, Ok, Contains, All, is_none, is_some, not}
+use Rattle.std.proofs.lemmas.Bool.{eqb-true}
+use Rattle.std.proofs.lemmas.List.{take_all, length-set}
+use Rattle.std.proofs.lemmas.List.Elements.{All-nil, All-cons, All-head, All-tail, All-same, All-append, All-set}
+use Rattle.std.proofs.lemmas.List.Elements.{All-push, All-weaker, All-filter}
+use Rattle.std.proofs.lemmas.List.Elements.{Contains-append_left, Contains-append_right}
+use Rattle.std.proofs.lemmas.Option.{slice_get_within, get_or_from_slice_get}
+use Rattle.std.proofs.Math.Dec.{eqb-suc-zero}
+use Rattle.std.proofs.Math.Seq.{take-suc-set}
+use Rattle.daide_protocol.specs.declared.ending.Ending.{Ending}
+use Rattle.daide_protocol.proofs.EndingLemmas.{runs_reported}
+use Rattle.daide_protocol.specs.Machine.{Limits, is_over}
+use Rattle.daide_protocol.specs.Wires.{SessionView, IsNew, is_closed}
+use Rattle.daide_protocol.specs.Ports.{PortCall, TurnBegins, EvolvesBy, events_of}
+use Rattle.daide_driver.specs.Headline.{untouched, IsReachable, IsBoundedAndExact}
+use Rattle.daide_driver.specs.Hub.{HubView, IsHubSize, IsBegun, IsTurned, Changes}
+use Rattle.daide_protocol.specs.Config.{config_fault}
+use Rattle.daide_driver.proofs.PortCalls.{turn_begins}
+use Rattle.daide_driver.proofs.Stretches.{transition_then, relays_append}
+use Rattle.daide_driver.proofs.Standing.{new_stands}
+use Rattle.daide_driver.proofs.HubLemmas.{closed_over}
+use Rattle.daide_settings.specs.declared.settings.Settings.{Settings}
+use Rattle.daide_protocol.specs.declared.system.Connect.{Connect}
+use Rattle.daide_protocol.specs.declared.system.Connect.TheVariants.{Ready, Failed, Pending}
+use Rattle.daide_protocol.specs.declared.system.Notice.TheVariants.{CannotReach, TurnsSpent}
+use Rattle.daide_event_loop.specs.declared.admission_counters.AdmissionCounters.{AdmissionCounters}
+use Rattle.daide_event_loop.specs.QuotaPorts.{QuotaPortsView, Meters, progress_by}
+use Rattle.daide_protocol.specs.System.{SystemCall, Begins, BeginsTurn, Accepts, Connects, Retires, Notifies, Waits}
+use Rattle.daide_event_loop.specs.Serving.{ServiceView, fresh, initial_service, may_accept, come, AdmitsWhere, MeetsWhere, OpensTurn}
+use Rattle.daide_event_loop.specs.Serving.{TurnsBelow, TurnsAll, last_words, retirement, retirement_where, retirements, remaining, parting}
+use Rattle.daide_event_loop.specs.Serving.{cause_by, end_of}
+use Rattle.daide_event_loop.specs.Serving.{MeetsBy, wait_where, any_progress, any_moved, Round, Rounds, is_done}
+use Rattle.daide_event_loop.specs.Served.{run_limits, IsSessionOfRun, IsServed, IsEndOf, RetiresClosed, connects, retires, sum_over_calls}
+use Rattle.daide_event_loop.specs.Served.{IsWholeRun}
+use Rattle.daide_event_loop.proofs.BeginningLemmas.{OnlyBegin, none_counted, all_begin, turns_only}
+use Rattle.daide_event_loop.proofs.CauseLemmas.{IsCut, cut_begins, cut_begun, cut_turn, cut_cause}
+use Rattle.daide_event_loop.proofs.CountLemmas.{counted_append, Counts, counts_then, admission_counts, meeting_counts}
+use Rattle.daide_event_loop.proofs.CountLemmas.{beginning_counts, turns_count, removal_counts, wait_counts}
+
+-- ---- what moved
+
+module _ {P : Type 0} (port_transition : P → PortCall → P → Type 0) where
+  answers_moved : (xs : List PortCall) (a b : QuotaPortsView P) → EvolvesBy (Meters port_transition) a xs b → b.made_progress ≡ progress_by xs a.made_progress
+  answers_moved [] a b h = ap (λ (m : QuotaPortsView P). m.made_progress) h
+  answers_moved (x ∷ xs) a b h = answers_moved xs h.0 b h.2 ∙ ap (progress_by xs) h.1.made_progress
+
+  -- what moved before a turn began is forgotten
+  pub turn_moved : (a m b : SessionView × QuotaPortsView P) → IsBegun (Meters port_transition) a m → (t : IsTurned (Meters port_transition) m b) →
+      b.1.made_progress ≡ progress_by t.exchange.call false
+  turn_moved a m b begun t =
+      answers_moved t.exchange.call m.1 b.1 t.exchange.ports ∙ ap (progress_by t.exchange.call) begun.1.made_progress
+
+-- ---- how many ports came and went
+
+as_many : {a b : ℕ} → a ≡ b → a ≡ b + 0
+as_many {a} {b} e = omega (arith, e)
+
+module _ {P : Type 0} where
+  -- so many came, and so many went
+  record Passes (answers : List (SystemCall P)) (many few : ℕ) : Type 0 where
+    came : sum_over_calls connects answers ≡ many
+    went : sum_over_calls retires answers ≡ few
+
+  passes_then : (xs ys : List (SystemCall P)) (a b c d : ℕ) → Passes xs a b → Passes ys c d →
+      Passes (xs ++ ys) (a + c) (b + d)
+  passes_then xs ys a b c d h k = record {
+    came = rw (counted_append connects xs ys, h.came, k.came) refl;
+    went = rw (counted_append retires xs ys, h.went, k.went) refl;
+  }
+
+  passes_as : (xs ys : List (SystemCall P)) (a b : ℕ) → xs ≡ ys → Passes ys a b → Passes xs a b
+  passes_as xs ys a b e h = subst (λ (l : List (SystemCall P)). Passes l a b) (sym e) h
+
+  beginning_passes : Passes (Begins ∷ []) 0 0
+  beginning_passes = record { came = refl; went = refl }
+
+  turns_pass : (answers : List (SystemCall P)) → OnlyBegin answers → Passes answers 0 0
+  turns_pass answers h = record {
+    came = none_counted connects answers (λ before after. refl) h;
+    went = none_counted retires answers (λ before after. refl) h;
+  }
+
+  admission_passes : (b : Bool) (old : AdmissionCounters) (answers : List (SystemCall P)) (new : AdmissionCounters) →
+      AdmitsWhere b old answers new → Passes answers 0 0
+  admission_passes true old answers new h =
+      passes_as answers (Accepts h.0 ∷ []) 0 0 h.1 (record { came = refl; went = refl })
+  admission_passes false old answers new h = passes_as answers [] 0 0 h.0 (record { came = refl; went = refl })
+
+  -- those that came are held
+  meeting_passes : (b : Bool) (old : HubView (QuotaPortsView P)) (counters : AdmissionCounters) (answers : List (SystemCall P))
+      (new : HubView (QuotaPortsView P)) (new_counters : AdmissionCounters) → MeetsWhere b old counters answers new new_counters →
+      (n : ℕ) × Passes answers n 0 × (length new.places ≡ length old.places + n)
+  meeting_passes true old counters answers new new_counters m = (
+    0,
+    passes_as answers [] 0 0 m.0 (record { came = refl; went = refl }),
+    as_many (ap (λ (k : HubView (QuotaPortsView P)). length k.places) m.1),
+  )
+  meeting_passes false old counters answers new new_counters m = by m.0 m.1 m.2 m.3
+    where
+      by : (connect : Connect P) (told : List (SystemCall P)) → answers ≡ Connects connect ∷ told →
+          MeetsBy connect old counters told new new_counters →
+          (n : ℕ) × Passes answers n 0 × (length new.places ≡ length old.places + n)
+      by (Ready ports) told e m = (
+        1,
+        passes_as answers (Connects (Ready ports) ∷ []) 1 0
+            (e ∙ ap (λ (l : List (SystemCall P)). Connects (Ready ports) ∷ l) m.0)
+            (record { came = refl; went = refl }),
+        ap (λ (k : HubView (QuotaPortsView P)). length k.places) m.1.2
+            ∙ length-append old.places ((m.1.0, fresh ports counters.turns) ∷ []),
+      )
+      by Failed told e m = (
+        0,
+        passes_as answers (Connects Failed ∷ Notifies CannotReach ∷ []) 0 0
+            (e ∙ ap (λ (l : List (SystemCall P)). Connects Failed ∷ l) m.0) (record { came = refl; went = refl }),
+        as_many (ap (λ (k : HubView (QuotaPortsView P)). length k.places) m.1),
+      )
+      by Pending told e m = (
+        0,
+        passes_as answers (Connects Pending ∷ []) 0 0
+            (e ∙ ap (λ (l : List (SystemCall P)). Connects Pending ∷ l) m.0) (record { came = refl; went = refl }),
+        as_many (ap (λ (k : HubView (QuotaPortsView P)). length k.places) m.1),
+      )
+
+  -- those that are no longer held went
+  removal_passes : (places : List (SessionView × QuotaPortsView P)) →
+      (n : ℕ) × Passes (retirements places) 0 n × (length places ≡ length (remaining places) + n)
+  removal_passes [] = (0, record { came = refl; went = refl }, refl)
+  removal_passes (place ∷ places) = one (is_closed place.0) refl (removal_passes places)
+    where
+      kept : is_closed place.0 ≡ false → remaining (place ∷ places) ≡ place ∷ remaining places
+      kept e = rw e refl
+
+      gone : is_closed place.0 ≡ true → remaining (place ∷ places) ≡ remaining places
+      gone e = rw e refl
+
+      spoke : (b : Bool) → Passes (last_words b ++ Retires place.1.ports (end_of place) ∷ []) 0 1
+      spoke true = record { came = refl; went = refl }
+      spoke false = record { came = refl; went = refl }
+
+      one : (b : Bool) → is_closed place.0 ≡ b →
+          ((n : ℕ) × Passes (retirements places) 0 n × (length places ≡ length (remaining places) + n)) →
+          (n : ℕ) × Passes (retirements (place ∷ places)) 0 n
+          × (length (place ∷ places) ≡ length (remaining (place ∷ places)) + n)
+      one true e h = (
+        h.0 + 1,
+        passes_as (retirements (place ∷ places)) (retirements places ++ parting place.1 (end_of place)) 0 (h.0 + 1)
+            (ap (λ (c : Bool). retirements places ++ retirement_where c place) e)
+            (passes_then (retirements places) (parting place.1 (end_of place)) 0 h.0 0 1 h.1 (spoke (is_none place.1.turns_left))),
+        (let rest = h.2 in
+            let same = ap length (gone e) in
+            omega (arith, rest, same)),
+      )
+      one false e h = (
+        h.0,
+        passes_as (retirements (place ∷ places)) (retirements places) 0 h.0
+            (ap (λ (c : Bool). retirements places ++ retirement_where c place) e ∙ append-nil (retirements places)) h.1,
+        (let rest = h.2 in
+            let same = ap length (kept e) in
+            omega (arith, rest, same)),
+      )
+
+  wait_passes : (made_progress more : Bool) → Passes (wait_where made_progress more) 0 0
+  wait_passes true more = record { came = refl; went = refl }
+  wait_passes false more = record { came = refl; went = refl }
+
+module _ {P : Type 0} (port_transition : P → PortCall → P → Type 0) (settings : Settings) where
+  -- ---- more answers
+
+  abbrev later : (Kind : Limits → List PortCall → SessionView → Type 0) (xs ys : List (SystemCall P)) (now : SessionView × QuotaPortsView P) →
+      IsSessionOfRun port_transition Kind settings xs now → IsSessionOfRun port_transition Kind settings (xs ++ ys) now
+  later Kind xs ys now h = record {
+    ports = h.ports;
+    came = Contains-append_left xs ys (Connects (Ready h.ports)) h.came;
+    history = h.history;
+    answered = h.answered;
+    stands = h.stands;
+  }
+
+  gone_later : (xs ys : List (SystemCall P)) (answer : SystemCall P) → RetiresClosed port_transition settings xs answer →
+      RetiresClosed port_transition settings (xs ++ ys) answer
+  gone_later xs ys (Retires ports end) h = (h.0, h.1, h.2, (later IsBoundedAndExact xs ys h.0 h.3.0, h.3.1))
+  gone_later xs ys Begins h = tt
+  gone_later xs ys (BeginsTurn before after) h = tt
+  gone_later xs ys (Accepts came) h = tt
+  gone_later xs ys (Connects connect) h = tt
+  gone_later xs ys (Notifies notice) h = tt
+  gone_later xs ys (Waits more) h = tt
+
+  -- ---- turns
+
+  module _ (all : List (SystemCall P)) where
+    abbrev Held : SessionView × QuotaPortsView P → Type 0
+    Held now = (h : IsSessionOfRun port_transition IsReachable settings all now)
+        × IsCut port_transition (run_limits settings) settings.turns h.history now
+
+    abbrev pub Served : SessionView × QuotaPortsView P → Type 0
+    Served now = (h : IsServed port_transition settings all now)
+        × IsCut port_transition (run_limits settings) settings.turns h.history now
+
+    abbrev Gone : SystemCall P → Type 0
+    Gone = RetiresClosed port_transition settings all
+
+    still : (now : SessionView × QuotaPortsView P) → Served now → Held now
+    still now h = (
+      record {
+        ports = h.0.ports;
+        came = h.0.came;
+        history = h.0.history;
+        answered = h.0.answered;
+        stands = h.0.stands.sends;
+      },
+      h.1,
+    )
+
+    begun : (a b : SessionView × QuotaPortsView P) → IsBegun (Meters port_transition) a b → Held a → Held b
+    begun a b t h =
+        let own = h.0 in
+        let longer = own.history ++ TurnBegins ∷ [] in
+        let stands : IsReachable (run_limits settings) longer b.0 =
+        subst (λ (g : SessionView). IsReachable (run_limits settings) longer g) (sym t.0)
+        (relays_append (untouched (run_limits settings)) own.history a.0 (TurnBegins ∷ []) a.0 own.stands
+        (turn_begins a.0)) in (
+          record {
+            ports = own.ports;
+            came = own.came;
+            history = longer;
+            answered = transition_then (Meters port_transition) own.history (TurnBegins ∷ []) (fresh own.ports settings.turns) a.1 b.1
+                own.answered (b.1, t.1, refl);
+            stands = stands;
+          },
+          cut_begun port_transition (run_limits settings) settings.turns own.history own.ports a b t own.answered own.stands stands
+              h.1,
+        )
+
+    turned : (a b : SessionView × QuotaPortsView P) → IsTurned (Meters port_transition) a b → Held a → Served b
+    turned a b t h =
+        let own = h.0 in
+        let stands = t.exchange.session.headline (run_limits settings) own.history own.stands in (
+          record {
+            ports = own.ports;
+            came = own.came;
+            history = own.history ++ t.exchange.call;
+            answered = transition_then (Meters port_transition) own.history t.exchange.call (fresh own.ports settings.turns) a.1 b.1
+                own.answered t.exchange.ports;
+            stands = stands;
+          },
+          cut_turn port_transition (run_limits settings) settings.turns own.history own.ports a b t own.answered own.stands
+              stands.sends h.1,
+        )
+
+    -- the places below this one had their turns
+    record Below (n : ℕ) (old new : HubView (QuotaPortsView P)) : Type 0 where
+      held : All Held new.places
+      served : All Served (take n new.places)
+      count : length new.places ≡ length old.places
+      limits : new.limits ≡ old.limits
+
+    none_below : (old new : HubView (QuotaPortsView P)) → new ≡ old → All Held old.places → Below 0 old new
+    none_below old new e h = record {
+      held = subst (λ (k : HubView (QuotaPortsView P)). All Held k.places) (sym e) h;
+      served = All-nil Served;
+      count = ap (λ (k : HubView (QuotaPortsView P)). length k.places) e;
+      limits = ap (λ (k : HubView (QuotaPortsView P)). k.limits) e;
+    }
+
+    take_set : (n : ℕ) (xs : List (SessionView × QuotaPortsView P)) (x : SessionView × QuotaPortsView P) →
+        take n (set xs n x) ≡ take n xs
+    take_set zero xs x = refl
+    take_set (suc n) [] x = refl
+    take_set (suc n) (y ∷ xs) x = ap (λ (l : List (SessionView × QuotaPortsView P)). y ∷ l) (take_set n xs x)
+
+    -- the turn of the next one begins
+    begun_below : (n : ℕ) (old mid new : HubView (QuotaPortsView P)) (answers : List (SystemCall P)) → Below n old mid →
+        Changes (OpensTurn port_transition answers) mid n new → Below n old new
+    begun_below n old mid new answers h c =
+        let places : new.places ≡ set mid.places n c.1 = ap (λ (k : HubView (QuotaPortsView P)). k.places) c.3 in
+        let inside : n < length mid.places = slice_get_within mid.places n c.0 c.2 in
+        let was : Held c.0 =
+        subst Held (get_or_from_slice_get mid.places n c.0 c.0 c.2) (h.held n c.0 inside) in
+        record {
+          held = All-same Held new.places (set mid.places n c.1) places
+              (All-set Held mid.places n c.1 (begun c.0 c.1 c.4.0 was) h.held);
+          served = All-same Served (take n new.places) (take n mid.places)
+              (ap (take n) places ∙ take_set n mid.places c.1) h.served;
+          count = ap length places ∙ length-set mid.places n c.1 ∙ h.count;
+          limits = ap (λ (k : HubView (QuotaPortsView P)). k.limits) c.3 ∙ h.limits;
+        }
+
+    -- it is made
+    one_below : (n : ℕ) (old mid new : HubView (QuotaPortsView P)) → Below n old mid →
+        Changes (IsTurned (Meters port_transition)) mid n new → Below (suc n) old new
+    one_below n old mid new h c =
+        let places : new.places ≡ set mid.places n c.1 = ap (λ (k : HubView (QuotaPortsView P)). k.places) c.3 in
+        let inside : n < length mid.places = slice_get_within mid.places n c.0 c.2 in
+        let was : Held c.0 =
+        subst Held (get_or_from_slice_get mid.places n c.0 c.0 c.2) (h.held n c.0 inside) in
+        let now : Served c.1 = turned c.0 c.1 c.4 was in
+        record {
+          held = All-same Held new.places (set mid.places n c.1) places
+              (All-set Held mid.places n c.1 (still c.1 now) h.held);
+          served = All-same Served (take (suc n) new.places) (take n mid.places ++ c.1 ∷ [])
+              (ap (take (suc n)) places ∙ take-suc-set mid.places n c.1 inside)
+              (All-push Served (take n mid.places) c.1 h.served now);
+          count = ap length places ∙ length-set mid.places n c.1 ∙ h.count;
+          limits = ap (λ (k : HubView (QuotaPortsView P)). k.limits) c.3 ∙ h.limits;
+        }
+
+    below : (n : ℕ) (old : HubView (QuotaPortsView P)) (answers : List (SystemCall P)) (new : HubView (QuotaPortsView P)) →
+        TurnsBelow port_transition n old answers new → All Held old.places → Below n old new
+    below zero old answers new run h = none_below old new run.1 h
+    below (suc n) old answers new run h =
+        one_below n old run.5.0 new
+        (begun_below n old run.0 run.5.0 run.2 (below n old run.1 run.0 run.4 h) run.5.1) run.5.2
+
+    all_turned : (old : HubView (QuotaPortsView P)) (answers : List (SystemCall P)) (new : HubView (QuotaPortsView P)) →
+        TurnsAll port_transition old answers new → All Held old.places →
+        All Served new.places × (new.limits ≡ old.limits) × (length new.places ≡ length old.places)
+    all_turned old answers new run h =
+        let b = below (length old.places) old answers new run h in
+        let short : length new.places ≤ length old.places = let same = b.count in omega (arith, same) in (
+          All-same Served new.places (take (length old.places) new.places)
+              (sym (take_all (length old.places) new.places short)) b.served,
+          b.limits,
+          b.count,
+        )
+
+    -- ---- bots come
+
+    admitted : (b : Bool) (old : AdmissionCounters) (answers : List (SystemCall P)) (new : AdmissionCounters) → AdmitsWhere b old answers new →
+        All Gone answers × (new.turns ≡ old.turns)
+    admitted true old answers new h =
+        (All-same Gone answers (Accepts h.0 ∷ []) h.1 (All-cons Gone (Accepts h.0) [] tt (All-nil Gone)), of h.0 h.2)
+      where
+        of : (came : Bool) → new ≡ come came old → new.turns ≡ old.turns
+        of true e = ap (λ (t : AdmissionCounters). t.turns) e
+        of false e = ap (λ (t : AdmissionCounters). t.turns) e
+    admitted false old answers new h =
+        (All-same Gone answers [] h.0 (All-nil Gone), ap (λ (t : AdmissionCounters). t.turns) h.1)
+
+    -- ---- one reaches the server, or doesn't
+
+    record Met (old : HubView (QuotaPortsView P)) (old_counters : AdmissionCounters) (answers : List (SystemCall P)) (new : HubView (QuotaPortsView P))
+        (new_counters : AdmissionCounters) : Type 0 where
+      gone : All Gone answers
+      held : All Held new.places
+      limits : new.limits ≡ old.limits
+      turns : new_counters.turns ≡ old_counters.turns
+
+    connected : (b : Bool) (old : HubView (QuotaPortsView P)) (counters : AdmissionCounters) (answers : List (SystemCall P))
+        (new : HubView (QuotaPortsView P)) (new_counters : AdmissionCounters) →
+        ((ports : P) → Contains answers (Connects (Ready ports)) → Contains all (Connects (Ready ports))) →
+        old.limits ≡ run_limits settings → counters.turns ≡ settings.turns → All Held old.places →
+        MeetsWhere b old counters answers new new_counters → Met old counters answers new new_counters
+    connected true old counters answers new new_counters within limits turns h m = record {
+      gone = All-same Gone answers [] m.0 (All-nil Gone);
+      held = subst (λ (k : HubView (QuotaPortsView P)). All Held k.places) (sym m.1) h;
+      limits = ap (λ (k : HubView (QuotaPortsView P)). k.limits) m.1;
+      turns = ap (λ (t : AdmissionCounters). t.turns) m.2;
+    }
+    connected false old counters answers new new_counters within limits turns h m = by m.0 m.1 m.2 m.3
+      where
+        by : (connect : Connect P) (told : List (SystemCall P)) → answers ≡ Connects connect ∷ told →
+            MeetsBy connect old counters told new new_counters → Met old counters answers new new_counters
+        by (Ready ports) told e m =
+            let one : answers ≡ Connects (Ready ports) ∷ [] =
+            e ∙ ap (λ (l : List (SystemCall P)). Connects (Ready ports) ∷ l) m.0 in
+            let stands = new_stands (run_limits settings) m.1.0 (subst (λ (l : Limits). IsNew l m.1.0) limits m.1.1) in
+            let own : IsSessionOfRun port_transition IsReachable settings all (m.1.0, fresh ports counters.turns) = record {
+              ports = ports;
+              came = within ports (subst (λ (l : List (SystemCall P)). Contains l (Connects (Ready ports))) (sym one)
+                  (0, omega arith, refl));
+              history = [];
+              answered = ap (fresh ports) turns;
+              stands = stands;
+            } in
+            let place : Held (m.1.0, fresh ports counters.turns) = (
+              own,
+              subst (λ (n : ℕ). IsCut port_transition (run_limits settings) settings.turns [] (m.1.0, fresh ports n)) (sym turns)
+                  (cut_begins port_transition (run_limits settings) settings.turns m.1.0 ports stands),
+            ) in
+            record {
+              gone = All-same Gone answers (Connects (Ready ports) ∷ []) one
+                  (All-cons Gone (Connects (Ready ports)) [] tt (All-nil Gone));
+              held = subst (λ (k : HubView (QuotaPortsView P)). All Held k.places) (sym m.1.2)
+                  (All-push Held old.places (m.1.0, fresh ports counters.turns) h place);
+              limits = ap (λ (k : HubView (QuotaPortsView P)). k.limits) m.1.2;
+              turns = ap (λ (t : AdmissionCounters). t.turns) m.2;
+            }
+        by Failed told e m =
+            let two : answers ≡ Connects Failed ∷ Notifies CannotReach ∷ [] =
+            e ∙ ap (λ (l : List (SystemCall P)). Connects Failed ∷ l) m.0 in
+            record {
+              gone = All-same Gone answers (Connects Failed ∷ Notifies CannotReach ∷ []) two
+                  (All-cons Gone (Connects Failed) (Notifies CannotReach ∷ []) tt
+                  (All-cons Gone (Notifies CannotReach) [] tt (All-nil Gone)));
+              held = subst (λ (k : HubView (QuotaPortsView P)). All Held k.places) (sym m.1) h;
+              limits = ap (λ (k : HubView (QuotaPortsView P)). k.limits) m.1;
+              turns = ap (λ (t : AdmissionCounters). t.turns) m.2;
+            }
+        by Pending told e m =
+            let one : answers ≡ Connects Pending ∷ [] =
+            e ∙ ap (λ (l : List (SystemCall P)). Connects Pending ∷ l) m.0 in
+            record {
+              gone = All-same Gone answers (Connects Pending ∷ []) one
+                  (All-cons Gone (Connects Pending) [] tt (All-nil Gone));
+              held = subst (λ (k : HubView (QuotaPortsView P)). All Held k.places) (sym m.1) h;
+              limits = ap (λ (k : HubView (QuotaPortsView P)). k.limits) m.1;
+              turns = ap (λ (t : AdmissionCounters). t.turns) m.2;
+            }
+
+    -- ---- those that are over are taken out
+
+    spoken : (b : Bool) → All Gone (last_words b)
+    spoken true = All-cons Gone (Notifies TurnsSpent) [] tt (All-nil Gone)
+    spoken false = All-nil Gone
+
+    some_ending : (o : Option Ending) → is_some o ≡ true → (ending : Ending) × (o ≡ Some ending)
+    some_ending None e = absurd (cc)
+    some_ending (Some ending) e = (ending, refl)
+
+    -- what is told of a session's end is its own
+    ended : (place : SessionView × QuotaPortsView P) → is_closed place.0 ≡ true → (h : Served place) →
+        IsEndOf (run_limits settings) settings.turns h.0.history place.0 (end_of place)
+    ended place closed h =
+        let stands = h.0.stands.sends in
+        let told = runs_reported (untouched (run_limits settings)).state (events_of h.0.history) stands.effects
+        place.0.state stands.run refl in
+        let over = closed_over (is_over place.0.state.phase) _ closed in
+        let own = some_ending place.0.state.ending (told ∙ over) in (
+          h.1.effects,
+          h.1.state,
+          h.1.run,
+          ap (cause_by place.1.first_synthetic_end) own.1 ∙ cut_cause h.1.state place.0.state place.1.first_synthetic_end own.0 h.1.cut own.1,
+          refl,
+        )
+
+    parted : (b : Bool) (place : SessionView × QuotaPortsView P) → is_closed place.0 ≡ b → Served place →
+        All Gone (retirement_where b place)
+    parted true place e h =
+        All-push Gone (last_words (is_none place.1.turns_left)) (Retires place.1.ports (end_of place))
+        (spoken (is_none place.1.turns_left)) (place, refl, e, (h.0, ended place e h))
+    parted false place e h = All-nil Gone
+
+    all_parted : (places : List (SessionView × QuotaPortsView P)) → All Served places → All Gone (retirements places)
+    all_parted [] h = All-nil Gone
+    all_parted (place ∷ places) h =
+        All-append Gone (retirements places) (retirement place) (all_parted places (All-tail Served place places h))
+        (parted (is_closed place.0) place refl (All-head Served place places h))
+
+    waited : (made_progress more : Bool) → All Gone (wait_where made_progress more)
+    waited true more = All-nil Gone
+    waited false more = All-cons Gone (Waits more) [] tt (All-nil Gone)
+
+  -- ---- rounds
+
+  -- what holds between the rounds of a run
+  pub record Keeps (answers : List (SystemCall P)) (run : ServiceView P) : Type 0 where
+    pub limits : run.hub.limits ≡ run_limits settings
+    pub turns : run.counters.turns ≡ settings.turns
+    pub held : All (Served answers) run.hub.places
+    pub gone : All (RetiresClosed port_transition settings answers) answers
+    pub balance : sum_over_calls connects answers ≡ length run.hub.places + sum_over_calls retires answers
+    pub counts : Counts answers (initial_service {P = P} settings).counters run.counters
+
+  round_counts : (ys : List (SystemCall P)) (old new : ServiceView P) → Round port_transition old ys new →
+      Counts ys old.counters new.counters
+  round_counts ys old new r =
+      let made_progress = any_progress r.admission || any_progress r.meeting || any_moved r.turned.places || any_progress r.removal in
+      let more = may_accept new.counters (length new.hub.places) in
+      let last = wait_where {P = P} made_progress more in
+      let removes : Counts r.removal new.counters new.counters =
+      subst (λ (l : List (SystemCall P)). Counts l new.counters new.counters) (sym r.removes.0)
+      (removal_counts r.turned.places new.counters) in
+      subst (λ (l : List (SystemCall P)). Counts l old.counters new.counters) (sym r.asked)
+      (counts_then (Begins ∷ r.admission ++ r.meeting ++ r.beginnings ++ r.removal) last old.counters new.counters new.counters
+      (counts_then (Begins ∷ r.admission ++ r.meeting ++ r.beginnings) r.removal old.counters new.counters new.counters
+      (counts_then (Begins ∷ r.admission ++ r.meeting) r.beginnings old.counters new.counters new.counters
+      (counts_then (Begins ∷ r.admission) r.meeting old.counters r.came new.counters
+      (counts_then (Begins ∷ []) r.admission old.counters old.counters r.came (beginning_counts old.counters)
+      (admission_counts (may_accept old.counters (length old.hub.places)) old.counters r.admission r.came r.admits))
+      (meeting_counts (r.came.connecting == 0) old.hub r.came r.meeting r.connected new.counters refl r.finishes))
+      (turns_count r.beginnings new.counters (turns_only port_transition (length r.connected.places) r.connected r.beginnings r.turned r.turns)))
+      removes)
+      (wait_counts made_progress more new.counters))
+
+  round_serves : (xs ys : List (SystemCall P)) (old new : ServiceView P) → Keeps xs old → Round port_transition old ys new →
+      Keeps (xs ++ ys) new
+  round_serves xs ys old new h r =
+      let all = xs ++ ys in
+      let made_progress = any_progress r.admission || any_progress r.meeting || any_moved r.turned.places || any_progress r.removal in
+      let more = may_accept new.counters (length new.hub.places) in
+      let last = wait_where {P = P} made_progress more in
+      let come = admitted all (may_accept old.counters (length old.hub.places)) old.counters r.admission r.came r.admits in
+      let still_held : All (Held all) old.hub.places =
+      All-weaker (Served xs) (Held all) (λ now s. still all now (later IsBoundedAndExact xs ys now s.0, s.1))
+      old.hub.places h.held in
+      let within : (ports : P) → Contains r.meeting (Connects (Ready ports)) → Contains all (Connects (Ready ports)) =
+      λ ports c. Contains-append_right xs ys (Connects (Ready ports))
+      (subst (λ (l : List (SystemCall P)). Contains l (Connects (Ready ports))) (sym r.asked)
+      (Contains-append_left (Begins ∷ r.admission ++ r.meeting ++ r.beginnings ++ r.removal) last (Connects (Ready ports))
+      (Contains-append_left (Begins ∷ r.admission ++ r.meeting ++ r.beginnings) r.removal (Connects (Ready ports))
+      (Contains-append_left (Begins ∷ r.admission ++ r.meeting) r.beginnings (Connects (Ready ports))
+      (Contains-append_right (Begins ∷ r.admission) r.meeting (Connects (Ready ports)) c))))) in
+      let connected = connected all (r.came.connecting == 0) old.hub r.came r.meeting r.connected new.counters within h.limits
+      (come.1 ∙ h.turns) still_held r.finishes in
+      let turned = all_turned all r.connected r.beginnings r.turned r.turns connected.held in
+      let only = turns_only port_transition (length r.connected.places) r.connected r.beginnings r.turned r.turns in
+      let hub = r.removes.1 in
+      record {
+        counts = counts_then xs ys (initial_service {P = P} settings).counters old.counters new.counters h.counts
+            (round_counts ys old new r);
+        limits = ap (λ (k : HubView (QuotaPortsView P)). k.limits) hub ∙ turned.1 ∙ connected.limits ∙ h.limits;
+        turns = connected.turns ∙ come.1 ∙ h.turns;
+        held = subst (λ (k : HubView (QuotaPortsView P)). All (Served all) k.places) (sym hub)
+            (All-filter (λ place. not (is_closed place.0)) (Served all) r.turned.places turned.0);
+        gone = All-append (Gone all) xs ys
+            (All-weaker (RetiresClosed port_transition settings xs) (Gone all) (gone_later xs ys) xs h.gone)
+            (All-same (Gone all) ys (Begins ∷ r.admission ++ r.meeting ++ r.beginnings ++ r.removal ++ last) r.asked
+            (All-append (Gone all) (Begins ∷ r.admission ++ r.meeting ++ r.beginnings ++ r.removal) last
+            (All-append (Gone all) (Begins ∷ r.admission ++ r.meeting ++ r.beginnings) r.removal
+            (All-append (Gone all) (Begins ∷ r.admission ++ r.meeting) r.beginnings
+            (All-append (Gone all) (Begins ∷ r.admission) r.meeting (All-cons (Gone all) Begins r.admission tt come.0)
+            connected.gone) (all_begin (Gone all) r.beginnings (λ before after. tt) only))
+            (All-same (Gone all) r.removal (retirements r.turned.places) r.removes.0
+            (all_parted all r.turned.places turned.0)))
+            (waited all made_progress more)));
+        balance =
+            let finishes = meeting_passes (r.came.connecting == 0) old.hub r.came r.meeting r.connected new.counters r.finishes in
+            let leaves = removal_passes r.turned.places in
+            let passes = passes_as ys (Begins ∷ r.admission ++ r.meeting ++ r.beginnings ++ r.removal ++ last)
+            (0 + finishes.0 + 0 + 0 + 0) (0 + 0 + 0 + leaves.0 + 0) r.asked
+            (passes_then (Begins ∷ r.admission ++ r.meeting ++ r.beginnings ++ r.removal) last (0 + finishes.0 + 0 + 0)
+            (0 + 0 + 0 + leaves.0) 0 0
+            (passes_then (Begins ∷ r.admission ++ r.meeting ++ r.beginnings) r.removal (0 + finishes.0 + 0) (0 + 0 + 0) 0
+            leaves.0
+            (passes_then (Begins ∷ r.admission ++ r.meeting) r.beginnings (0 + finishes.0) (0 + 0) 0 0
+            (passes_then (Begins ∷ r.admission) r.meeting 0 0 finishes.0 0
+            (passes_then (Begins ∷ []) r.admission 0 0 0 0 beginning_passes
+            (admission_passes (may_accept old.counters (length old.hub.places)) old.counters r.admission r.came r.admits)) finishes.1)
+            (turns_pass r.beginnings only))
+            (passes_as r.removal (retirements r.turned.places) 0 leaves.0 r.removes.0 leaves.1))
+            (wait_passes made_progress more)) in
+            let came = passes.came in
+            let went = passes.went in
+            let held = finishes.2 in
+            let same = turned.2 in
+            let left = leaves.2 in
+            let before = h.balance in
+            let now : length new.hub.places ≡ length (remaining r.turned.places) =
+            ap (λ (k : HubView (QuotaPortsView P)). length k.places) hub in
+            rw (counted_append connects xs ys, counted_append retires xs ys)
+            (omega (arith, came, went, held, same, left, before, now));
+      }
+
+  pub rounds_serve : (n : ℕ) (answers : List (SystemCall P)) (run : ServiceView P) →
+      Rounds port_transition n (initial_service settings) answers run → Keeps answers run
+  rounds_serve zero answers run h =
+      subst (λ (l : List (SystemCall P)). Keeps l run) (sym h.0)
+      (subst (λ (r : ServiceView P). Keeps [] r) (sym h.1) (record {
+        limits = refl;
+        turns = refl;
+        held = All-nil (Served []);
+        gone = All-nil (RetiresClosed port_transition settings []);
+        balance = refl;
+        counts = record { came = refl; connected = refl; sessions = refl };
+      }))
+  rounds_serve (suc n) answers run h =
+      subst (λ (l : List (SystemCall P)). Keeps l run) (sym h.3)
+      (round_serves h.1 h.2 h.0 run (rounds_serve n h.1 h.0 h.4) h.6)
+
+  -- the body that a session wanted after these rounds is the longest of the settings
+  pub body_refused : (Refuses : ℕ → Type 0) (n : ℕ) (answers : List (SystemCall P)) (run : ServiceView P) →
+      Rounds port_transition n (initial_service settings) answers run → Refuses run.hub.limits.cap → Refuses settings.config.max_body
+  body_refused Refuses n answers run rounds refused =
+      subst (λ (l : Limits). Refuses l.cap) (rounds_serve n answers run rounds).limits refused
+
+  nobody_left : (all none : Bool) (count : ℕ) → (all && (none && (count == 0))) ≡ true → count ≡ 0
+  nobody_left true true zero e = refl
+  nobody_left true true (suc count) e = let some = eqb-suc-zero count in absurd (cc)
+  nobody_left true false count e = absurd (cc)
+  nobody_left false none count e = absurd (cc)
+
+  all_there : (all none : Bool) (count : ℕ) (accepted sessions connecting : ℕ) → (accepted == sessions) ≡ all →
+      (connecting == 0) ≡ none → (all && (none && (count == 0))) ≡ true → (accepted ≡ sessions) × (connecting ≡ 0)
+  all_there true true count accepted sessions connecting a b e = (eqb-true accepted sessions a, eqb-true connecting 0 b)
+  all_there true false count accepted sessions connecting a b e = absurd (cc)
+  all_there false none count accepted sessions connecting a b e = absurd (cc)
+
+  -- rounds until all were served are a whole run
+  pub whole_run : (config_fault settings.config ≡ Ok tt) × IsHubSize settings.max_sessions →
+      (n : ℕ) (answers : List (SystemCall P)) (end : ServiceView P) →
+      Rounds port_transition n (initial_service settings) answers end → is_done end ≡ true → IsWholeRun port_transition settings answers
+  whole_run accepted n answers end rounds done =
+      let kept = rounds_serve n answers end rounds in
+      let empty = nobody_left (end.counters.accepted == end.counters.sessions) (end.counters.connecting == 0)
+      (length end.hub.places) done in
+      let there = all_there (end.counters.accepted == end.counters.sessions) (end.counters.connecting == 0)
+      (length end.hub.places) end.counters.accepted end.counters.sessions end.counters.connecting refl refl done in
+      let balance = kept.balance in
+      let came = kept.counts.came in
+      let connected = kept.counts.connected in
+      let sessions = kept.counts.sessions in
+      let all = there.0 in
+      let none = there.1 in
+      record {
+        accepted = accepted;
+        serves = (n, end, rounds, done);
+        each = kept.gone;
+        none_lost = omega (arith, balance, empty);
+        all_came = omega (arith, came, sessions, all);
+        all_served = omega (arith, balance, empty, connected, none);
+      }

@@ -1,0 +1,116 @@
+-- What moved in a round, and a run's rounds.
+use Rattle.std.proofs.Common.{◌≡◌, ℕ, zero, suc, ◌+◌, Bool, true, false, List, [], ◌∷◌, ◌++◌}
+use Rattle.std.proofs.Common.{refl, ap, ◌∙◌, subst, add-one, take, arith, ◌<◌, inl, inr, sym, Result, Ok, Err}
+use Rattle.std.specs.Prelude.{◌||◌, ◌==◌, length, slice_get, IfSome, IfErr}
+use Rattle.std.specs.Result.{IsErrAnd}
+use Rattle.std.proofs.Math.Dec.{eqb-suc-zero}
+use Rattle.daide_protocol.specs.Wires.{SessionView}
+use Rattle.daide_protocol.specs.Ports.{PortCall}
+use Rattle.daide_driver.proofs.Stretches.{or_assoc}
+use Rattle.daide_event_loop.specs.QuotaPorts.{QuotaPortsView}
+use Rattle.daide_protocol.specs.System.{SystemCall, TransitsBy}
+use Rattle.daide_settings.specs.declared.settings.Settings.{Settings}
+use Rattle.daide_event_loop.specs.declared.serving.ServeFault.{ServeFault}
+use Rattle.daide_event_loop.specs.declared.serving.ServeFault.TheVariants as Faults
+use Rattle.daide_event_loop.specs.Serving.{ServiceView, any_moved, wait_where, Round, Rounds, is_done, initial_service}
+use Rattle.daide_event_loop.specs.Serving.{BreaksOff, GivesUp}
+use Rattle.daide_event_loop.proofs.TransitLemmas.{transits_then}
+use Rattle.daide_event_loop.specs.Serving.{IsOpeningCause, IsServeCause}
+
+pub not_none : (n : ℕ) → (n ≡ 0 → ⊥) → (n == 0) ≡ false
+not_none zero h = absurd (h refl)
+not_none (suc n) h = eqb-suc-zero n
+
+-- ---- what moved
+
+or_false : (b : Bool) → (b || false) ≡ b
+or_false true = refl
+or_false false = refl
+
+-- one more place was looked at
+pub any_more : {P : Type 0} (xs : List (SessionView × QuotaPortsView P)) (i : ℕ) (m : QuotaPortsView P) → i < length xs →
+    IfSome (slice_get xs i) (λ place. m ≡ place.1) → any_moved (take (suc i) xs) ≡ (any_moved (take i xs) || m.made_progress)
+any_more [] i m lt h = absurd (omega (arith, lt))
+any_more (x ∷ xs) zero m lt h = rw h (or_false x.1.made_progress)
+any_more (x ∷ xs) (suc i) m lt h =
+    let inside : i < length xs = omega (arith, lt) in
+    ap (λ (b : Bool). x.1.made_progress || b) (any_more xs i m inside h) ∙ or_assoc x.1.made_progress (any_moved (take i xs)) m.made_progress
+
+-- ---- rounds
+
+pub waits_alike : {P : Type 0} (a b c d e p q r s t : Bool) → a ≡ p → b ≡ q → c ≡ r → d ≡ s → e ≡ t →
+    wait_where {P = P} (a || b || c || d) e ≡ wait_where (p || q || r || s) t
+waits_alike a b c d e p q r s t h i j k l = rw (h, i, j, k, l) refl
+
+module _ {P S : Type 0} (port_transition : P → PortCall → P → Type 0) (transition : S → SystemCall P → S → Type 0) where
+  -- so many rounds, and what the system answered in them
+  abbrev pub Ran : ℕ → ServiceView P → S → ServiceView P → S → Type 0
+  Ran n old s new t =
+      (answers : List (SystemCall P)) × TransitsBy transition s answers t × Rounds port_transition n old answers new
+
+  pub no_rounds : (a : ServiceView P) (s : S) → Ran 0 a s a s
+  no_rounds a s = ([], refl, (refl, refl))
+
+  pub another_round : (n : ℕ) (a b c : ServiceView P) (s t u : S) → Ran n a s b t → is_done b ≡ false →
+      (answers : List (SystemCall P)) → TransitsBy transition t answers u → Round port_transition b answers c →
+      Ran (n + 1) a s c u
+  another_round n a b c s t u h e answers k r = (
+    h.0 ++ answers,
+    transits_then transition h.0 answers s t u h.1 k,
+    rw add-one (b, h.0, answers, refl, h.2, e, r),
+  )
+
+-- ---- a run that gives up
+
+module _ {P S : Type 0} (Refuses : ℕ → Type 0) (port_transition : P → PortCall → P → Type 0)
+    (transition : S → SystemCall P → S → Type 0) (settings : Settings) where
+  -- a round of it was broken off
+  pub runs_out : (n : ℕ) (mid end : ServiceView P) (s t u : S) →
+      Ran port_transition transition n (initial_service settings) s mid t → is_done mid ≡ false → (last : List (SystemCall P)) →
+      TransitsBy transition t last u → BreaksOff Refuses mid last end →
+      (answers : List (SystemCall P)) × TransitsBy transition s answers u
+      × GivesUp Refuses port_transition settings Faults.Memory answers
+  runs_out n mid end s t u ran going_on last goes breaks = (
+    ran.0 ++ last,
+    transits_then transition ran.0 last s t u ran.1 goes,
+    inr (record {
+      n = n;
+      before = ran.0;
+      last = last;
+      mid = mid;
+      end = end;
+      rounds = ran.2;
+      going_on = going_on;
+      breaks = breaks;
+      asked = refl;
+    }),
+  )
+
+module _ {P : Type 0} (Refuses : ℕ → Type 0) (port_transition : P → PortCall → P → Type 0) (settings : Settings) where
+  -- a run that was not begun asked the system nothing
+  pub not_begun : (fault : ServeFault) → IsOpeningCause Refuses settings fault →
+      GivesUp Refuses port_transition settings fault []
+  not_begun (Faults.Config wrong) cause = refl
+  not_begun Faults.Sessions cause = refl
+  not_begun Faults.Memory cause = inl (refl, cause.2)
+  not_begun Faults.RoundsSpent cause = absurd cause
+
+-- why a run was not begun is why it gave up
+pub opening_cause : (Refuses : ℕ → Type 0) (settings : Settings) (fault : ServeFault) →
+    IsOpeningCause Refuses settings fault → IsServeCause Refuses settings fault
+opening_cause Refuses settings (Faults.Config wrong) cause = cause
+opening_cause Refuses settings Faults.Sessions cause = cause
+opening_cause Refuses settings Faults.Memory cause = ((cause.0, cause.1), inl cause.2)
+opening_cause Refuses settings Faults.RoundsSpent cause = absurd cause
+
+-- what holds of a fault holds at an error that is this fault
+pub at_fault : {A : Type 0} (r : Result A ServeFault) (fault : ServeFault) (Holds : ServeFault → Type 0) →
+    IsErrAnd r (λ told. told ≡ fault) → Holds fault → IfErr r Holds
+at_fault (Ok x) fault Holds told h = tt
+at_fault (Err other) fault Holds told h = subst Holds (sym told) h
+
+-- what holds at want of memory holds where that is the only fault
+pub at_memory : {A : Type 0} (r : Result A ServeFault) (fault : ServeFault) (Holds : ServeFault → Type 0) →
+    IsErrAnd r (λ told. told ≡ fault) → fault ≡ Faults.Memory → Holds Faults.Memory → IfErr r Holds
+at_memory (Ok x) fault Holds told e h = tt
+at_memory (Err other) fault Holds told e h = subst Holds (sym (told ∙ e)) h

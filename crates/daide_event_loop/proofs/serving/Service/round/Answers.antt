@@ -1,0 +1,89 @@
+use Rattle.std.proofs.Common.{ℕ, List, [], ◌∷◌, ◌++◌, Result, Ok, Err, refl, ap, ◌∙◌, subst, arith}
+use Rattle.std.specs.Prelude.{◌||◌, OnErr}
+use Rattle.daide_protocol.specs.declared.system.Connect.TheVariants.{Ready}
+use Rattle.daide_protocol.specs.System.{SystemCall, Begins, Connects, TransitsBy}
+use Rattle.daide_event_loop.specs.Serving.{ServiceView, Admits, BreaksOff, Round, wait_where, may_accept}
+use Rattle.daide_event_loop.proofs.ServingLemmas.{waits_alike}
+use Rattle.daide_event_loop.proofs.TransitLemmas.{transits_then}
+use Rattle.daide_event_loop.proofs.serving.Service.round.Goals as goal
+
+pub returns-clause-round : goal.returns-clause-round
+returns-clause-round g c =
+    let go = g.S.System.transition in
+    let old = c.self.inside in
+    let admits = c.admit-came.ensures.admits in
+    let finishes = c.in_ok-connected.ensures.finishes in
+    let turns = c.turn_all.ensures.turns in
+    let removes = c.remove_closed-removed.ensures.removes in
+    let progressed = c.admit-came.result || c.in_ok-connected.connected || c.has_moved-made_progress.result || c.remove_closed-removed.result in
+    let asleep = waits_alike {P = g.row.P.Denot} _ _ _ _ _ _ _ _ _ _ admits.3 finishes.3 c.has_moved-made_progress.ensures
+    removes.3 (c.accepts-more.ensures ∙ ap (may_accept c.finish_connect.new.counters) c.count-2.ensures) in
+    let step : Round g.P.Ports.transition (record { hub = old.hub; counters = old.counters })
+    (Begins ∷ admits.0 ++ finishes.0 ++ turns.0 ++ removes.0 ++ wait_where progressed c.accepts-more.result)
+    (record { hub = c.remove_closed-removed.new.hub; counters = c.finish_connect.new.counters }) = record {
+      admission = admits.0;
+      meeting = finishes.0;
+      beginnings = turns.0;
+      removal = removes.0;
+      came = c.admit-came.new.counters;
+      connected = c.finish_connect.new.hub;
+      turned = c.turn_all.new.hub;
+      admits = subst (λ (n : ℕ). Admits n old.counters admits.0 c.admit-came.new.counters) c.count.ensures admits.2;
+      finishes = finishes.2;
+      turns = turns.2;
+      removes = removes.2;
+      within = record {
+        same_max = c.remove_closed-removed.ensures.max ∙ c.turn_all.ensures.max ∙ c.finish_connect.ensures.within.same_max;
+        held =
+            let held = c.finish_connect.ensures.within.held in
+            let count = c.turn_all.ensures.count in
+            let fewer = c.remove_closed-removed.ensures.fewer in
+            omega (arith, held, count, fewer);
+        accepted = c.finish_connect.ensures.within.accepted;
+      };
+      asked = ap (λ w. Begins ∷ admits.0 ++ finishes.0 ++ turns.0 ++ removes.0 ++ w) asleep;
+    } in (
+      Begins ∷ admits.0 ++ finishes.0 ++ turns.0 ++ removes.0 ++ wait_where progressed c.accepts-more.result,
+      transits_then go (Begins ∷ admits.0 ++ finishes.0 ++ turns.0 ++ removes.0) _ _ _ _
+          (transits_then go (Begins ∷ admits.0 ++ finishes.0 ++ turns.0) removes.0 _ _ _
+          (transits_then go (Begins ∷ admits.0 ++ finishes.0) turns.0 _ _ _
+          (transits_then go (Begins ∷ admits.0) finishes.0 _ _ _
+          (c.begin_round.new.self, c.begin_round.ensures, admits.1) finishes.1) turns.1) removes.1)
+          c.rest.ensures,
+      subst (λ (a : ServiceView g.row.P.Denot). Round g.P.Ports.transition a
+          (Begins ∷ admits.0 ++ finishes.0 ++ turns.0 ++ removes.0 ++ wait_where progressed c.accepts-more.result)
+          (record { hub = c.remove_closed-removed.new.hub; counters = c.finish_connect.new.counters })) c.self.view_is step,
+    )
+
+-- what holds anyway holds at an error
+at_error : {A E : Type 0} (r : Result A E) (P : Type 0) → P → OnErr r P
+at_error (Ok x) P h = tt
+at_error (Err e) P h = h
+
+pub returns-in_err-connected-clause-broken_off : goal.returns-in_err-connected-clause-broken_off
+returns-in_err-connected-clause-broken_off g c =
+    let go = g.S.System.transition in
+    let admits = c.admit-came.ensures.admits in
+    let broken = c.in_err-connected.ensures.broken_off in
+    let left = c.in_err-connected.ensures.left in
+    let old = c.self.inside in
+    let answers = Begins ∷ admits.0 ++ Connects (Ready broken.0) ∷ [] in
+    let after : ServiceView g.row.P.Denot = record { hub = c.finish_connect.new.hub; counters = c.finish_connect.new.counters } in
+    let breaks : BreaksOff g.A.Memory.Refuses (record { hub = old.hub; counters = old.counters }) answers after = record {
+      admission = admits.0;
+      came = c.admit-came.new.counters;
+      ports = broken.0;
+      admits = subst (λ (n : ℕ). Admits n old.counters admits.0 c.admit-came.new.counters) c.count.ensures admits.2;
+      under_way = broken.2;
+      asked = refl;
+      refused = c.in_err-connected.ensures.out_of_memory;
+      leaves = rw (left.0, left.1) refl;
+    } in
+    at_error c.from_residual.result ((all : List (SystemCall g.row.P.Denot))
+    × TransitsBy go c.args.system.now all c.finish_connect.new.system
+    × BreaksOff g.A.Memory.Refuses c.args.self.now all after) (
+      answers,
+      transits_then go (Begins ∷ admits.0) (Connects (Ready broken.0) ∷ []) _ _ _
+          (c.begin_round.new.self, c.begin_round.ensures, admits.1) broken.1,
+      subst (λ (a : ServiceView g.row.P.Denot). BreaksOff g.A.Memory.Refuses a answers after) c.self.view_is breaks,
+    )

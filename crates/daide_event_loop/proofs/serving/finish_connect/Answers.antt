@@ -1,0 +1,35 @@
+use Rattle.std.proofs.Common.{◌∷◌, [], refl, subst}
+use Rattle.daide_protocol.specs.declared.system.Connect.TheVariants.{Ready, Failed, Pending}
+use Rattle.daide_protocol.specs.declared.system.Notice.TheVariants.{CannotReach}
+use Rattle.daide_protocol.specs.System.{Connects, Notifies}
+use Rattle.daide_driver.specs.Hub.{AddsSession}
+use Rattle.daide_event_loop.specs.QuotaPorts.{QuotaPortsView}
+use Rattle.daide_event_loop.proofs.ServingLemmas.{not_none}
+use Rattle.daide_event_loop.proofs.serving.finish_connect.Goals as goal
+
+pub returns-in-Pending-clause-finishes : goal.returns-in-Pending-clause-finishes
+returns-in-Pending-clause-finishes g c = (
+  Connects Pending ∷ [],
+  (c.connected.new.self, c.in-Pending.ensures, refl),
+  rw (not_none c.args.counters.now.connecting c.if-counters-eq0.false) (Pending, [], refl, (refl, refl, refl)),
+  refl,
+)
+
+pub returns-in-Failed-clause-finishes : goal.returns-in-Failed-clause-finishes
+returns-in-Failed-clause-finishes g c = (
+  Connects Failed ∷ Notifies CannotReach ∷ [],
+  (c.connected.new.self, c.in-Failed.ensures, (c.tell.new.self, c.tell.ensures, refl)),
+  rw (not_none c.args.counters.now.connecting c.if-counters-eq0.false) (Failed, Notifies CannotReach ∷ [], refl, (refl, refl, refl)),
+  refl,
+)
+
+pub returns-in-Ok-clause-finishes : goal.returns-in-Ok-clause-finishes
+returns-in-Ok-clause-finishes g c =
+    let ports = c.in-Ready.ports in
+    let added = subst (λ (m : QuotaPortsView g.row.P.Denot). AddsSession c.args.hub.now m c.add.new.self) c.new.ensures
+    c.in-Ok.ensures.added in (
+      Connects (Ready ports) ∷ [],
+      (c.connected.new.self, c.in-Ready.ensures, refl),
+      rw (not_none c.args.counters.now.connecting c.if-counters-eq0.false) (Ready ports, [], refl, (refl, added, refl)),
+      refl,
+    )

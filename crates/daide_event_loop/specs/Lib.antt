@@ -1,0 +1,3 @@
+pub mod QuotaPorts
+pub mod Serving
+pub mod Served

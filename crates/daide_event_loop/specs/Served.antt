@@ -1,0 +1,163 @@
+-- What a run makes of each of its sessions: those that it holds, and those whose ports it lets go.
+use Rattle.std.specs.Prelude.{◌≡◌, ℕ, zero, suc, ◌+◌, nat_lt, true, false, List, [], ◌∷◌, length}
+use Rattle.std.specs.Prelude.{Option, Some, None, is_none, Ok, Contains, All}
+use Rattle.daide_protocol.specs.declared.ending.Ending.{Ending}
+use Rattle.daide_protocol.specs.Machine.{Limits, SessionState, Effect, Runs}
+use Rattle.daide_protocol.specs.Wires.{SessionView, is_closed}
+use Rattle.daide_words.specs.Words.{words_of}
+use Rattle.daide_protocol.specs.Config.{config_fault, limits_with}
+use Rattle.daide_protocol.specs.Ports.{PortCall, TurnBegins, Clock, Pulled, Offered, EvolvesBy, events_of}
+use Rattle.daide_driver.specs.Headline.{untouched, IsBoundedAndExact}
+use Rattle.daide_driver.specs.Hub.{IsBegun, IsTurned, IsHubSize}
+use Rattle.daide_settings.specs.declared.settings.Settings.{Settings}
+use Rattle.daide_protocol.specs.declared.system.Connect.TheVariants.{Ready, Failed, Pending}
+use Rattle.daide_protocol.specs.declared.system.Cause.{Cause}
+use Rattle.daide_protocol.specs.declared.system.Cause.TheVariants as Causes
+use Rattle.daide_protocol.specs.declared.system.SessionEnd.{SessionEnd}
+use Rattle.daide_event_loop.specs.QuotaPorts.{QuotaPortsView, Meters, progress_by}
+use Rattle.daide_protocol.specs.System.{SystemCall, Begins, BeginsTurn, Accepts, Connects, Retires, Notifies, Waits}
+use Rattle.daide_event_loop.specs.Serving.{ServiceView, fresh, initial_service, Rounds, Serves}
+
+-- the limits of a run's sessions
+abbrev pub run_limits : Settings → Limits
+run_limits settings = limits_with settings.config (words_of settings.words)
+
+-- A session of a run: a connect gave its ports, which had all their turns to come; and by all that they answered since,
+-- it is of this kind.
+pub record IsSessionOfRun {P : Type 0} (transition : P → PortCall → P → Type 0)
+    (Kind : Limits → List PortCall → SessionView → Type 0) (settings : Settings) (answers : List (SystemCall P))
+    (now : SessionView × QuotaPortsView P) : Type 0 where
+  pub ports : P
+  pub came : Contains answers (Connects (Ready ports))
+  pub history : List PortCall
+  pub answered : EvolvesBy (Meters transition) (fresh ports settings.turns) history now.1
+  pub stands : Kind (run_limits settings) history now.0
+
+-- by all that its ports answered it is bounded and exact
+abbrev pub IsServed : {P : Type 0} → (P → PortCall → P → Type 0) → Settings → List (SystemCall P) →
+    SessionView × QuotaPortsView P → Type 0
+IsServed transition = IsSessionOfRun transition IsBoundedAndExact
+
+-- the answers while turns were left: those before the turn that was one too many began
+abbrev pub while_left : ℕ → List PortCall → List PortCall
+while_left turns [] = []
+while_left zero (TurnBegins ∷ answers) = []
+while_left (suc turns) (TurnBegins ∷ answers) = TurnBegins ∷ while_left turns answers
+while_left turns (Clock im_timer_expired ∷ answers) = Clock im_timer_expired ∷ while_left turns answers
+while_left turns (Pulled side buffer pull bytes ∷ answers) = Pulled side buffer pull bytes ∷ while_left turns answers
+while_left turns (Offered side bytes put ∷ answers) = Offered side bytes put ∷ while_left turns answers
+
+-- the event that ended a session, if one did; else its turns were spent while it was open
+abbrev pub cause_of : Option Ending → Cause
+cause_of (Some ending) = Causes.Session ending
+cause_of None = Causes.TurnsSpent
+
+-- How a session ended, by all that its ports answered: its cause is what ended it while its turns were left, and its moves
+-- are counted.
+abbrev pub IsEndOf : Limits → ℕ → List PortCall → SessionView → SessionEnd → Type 0
+IsEndOf limits turns history session end =
+    (effects : List Effect) × (state : SessionState)
+    × Runs (untouched limits).state (events_of (while_left turns history)) effects state × (end.cause ≡ cause_of state.ending)
+    × (end.summary ≡ session.summary)
+
+-- ports that are let go are those of a session that is closed, and was served, and what is told of its end is its own
+abbrev pub RetiresClosed : {P : Type 0} → (P → PortCall → P → Type 0) → Settings → List (SystemCall P) →
+    SystemCall P → Type 0
+RetiresClosed {P} transition settings answers (Retires ports end) =
+    (now : SessionView × QuotaPortsView P) × (now.1.ports ≡ ports) × (is_closed now.0 ≡ true)
+    × ((served : IsServed transition settings answers now)
+    × IsEndOf (run_limits settings) settings.turns served.history now.0 end)
+RetiresClosed transition settings answers Begins = Unit {0}
+RetiresClosed transition settings answers (BeginsTurn before after) = Unit {0}
+RetiresClosed transition settings answers (Accepts came) = Unit {0}
+RetiresClosed transition settings answers (Connects connect) = Unit {0}
+RetiresClosed transition settings answers (Notifies notice) = Unit {0}
+RetiresClosed transition settings answers (Waits more) = Unit {0}
+
+-- ports that came with an answer, and those that went
+abbrev pub connects : {P : Type 0} → SystemCall P → ℕ
+connects (Connects (Ready ports)) = 1
+connects (Connects Failed) = 0
+connects (Connects Pending) = 0
+connects Begins = 0
+connects (BeginsTurn before after) = 0
+connects (Accepts came) = 0
+connects (Retires ports end) = 0
+connects (Notifies notice) = 0
+connects (Waits more) = 0
+
+abbrev pub retires : {P : Type 0} → SystemCall P → ℕ
+retires (Retires ports end) = 1
+retires Begins = 0
+retires (BeginsTurn before after) = 0
+retires (Accepts came) = 0
+retires (Connects connect) = 0
+retires (Notifies notice) = 0
+retires (Waits more) = 0
+
+-- bots that came with an answer, and those whose server couldn't be reached
+abbrev pub comes : {P : Type 0} → SystemCall P → ℕ
+comes (Accepts true) = 1
+comes (Accepts false) = 0
+comes Begins = 0
+comes (BeginsTurn before after) = 0
+comes (Connects connect) = 0
+comes (Retires ports end) = 0
+comes (Notifies notice) = 0
+comes (Waits more) = 0
+
+abbrev pub unreached : {P : Type 0} → SystemCall P → ℕ
+unreached (Connects Failed) = 1
+unreached (Connects (Ready ports)) = 0
+unreached (Connects Pending) = 0
+unreached Begins = 0
+unreached (BeginsTurn before after) = 0
+unreached (Accepts came) = 0
+unreached (Retires ports end) = 0
+unreached (Notifies notice) = 0
+unreached (Waits more) = 0
+
+abbrev pub sum_over_calls : {P : Type 0} → (SystemCall P → ℕ) → List (SystemCall P) → ℕ
+sum_over_calls count [] = 0
+sum_over_calls count (answer ∷ answers) = count answer + sum_over_calls count answers
+
+-- After whatever rounds of a run, each session that it holds is served, and so was each whose ports it let go; of the
+-- ports that came it holds all that it didn't let go; it counts each bot that came; and of these it has on their way to
+-- the server all that weren't joined to it and whose server could be reached.
+abbrev pub SessionsAreServed : {P : Type 0} → (P → PortCall → P → Type 0) → Type 0
+SessionsAreServed {P} transition = (settings : Settings) (n : ℕ) (answers : List (SystemCall P)) (run : ServiceView P) →
+    Rounds transition n (initial_service settings) answers run →
+    All (IsServed transition settings answers) run.hub.places × All (RetiresClosed transition settings answers) answers
+    × (sum_over_calls connects answers ≡ length run.hub.places + sum_over_calls retires answers)
+    × (run.counters.accepted ≡ sum_over_calls comes answers)
+    × (sum_over_calls comes answers ≡ run.counters.connecting + sum_over_calls connects answers + sum_over_calls unreached answers)
+
+-- A whole run of settings whose limits were accepted: rounds until all bots were served and none is held. So each connect that came about was a session, which
+-- was served, and let go as a closed one: by all that its ports answered it is bounded and exact, and none is lost. As
+-- many bots came as the settings say, and of each the ports were let go or the server couldn't be reached.
+pub record IsWholeRun {P : Type 0} (transition : P → PortCall → P → Type 0) (settings : Settings)
+    (answers : List (SystemCall P)) : Type 0 where
+  pub accepted : (config_fault settings.config ≡ Ok tt) × IsHubSize settings.max_sessions
+  pub serves : Serves transition settings answers
+  pub each : All (RetiresClosed transition settings answers) answers
+  pub none_lost : sum_over_calls connects answers ≡ sum_over_calls retires answers
+  pub all_came : sum_over_calls comes answers ≡ settings.sessions
+  pub all_served : sum_over_calls comes answers ≡ sum_over_calls retires answers + sum_over_calls unreached answers
+
+-- Whether anything moved in a turn that began, by which a round waits or doesn't, is told by the turn's answers.
+abbrev pub MovesAreAnswered : {P : Type 0} → (P → PortCall → P → Type 0) → Type 0
+MovesAreAnswered {P} transition = (old mid new : SessionView × QuotaPortsView P) → IsBegun (Meters transition) old mid →
+    (turn : IsTurned (Meters transition) mid new) → new.1.made_progress ≡ progress_by turn.exchange.call false
+
+-- how many turns began in a history
+abbrev pub turns_in : List PortCall → ℕ
+turns_in [] = 0
+turns_in (TurnBegins ∷ answers) = suc (turns_in answers)
+turns_in (Clock im_timer_expired ∷ answers) = turns_in answers
+turns_in (Pulled side buffer pull bytes ∷ answers) = turns_in answers
+turns_in (Offered side bytes put ∷ answers) = turns_in answers
+
+-- Ports that had so many turns to come are spent exactly where more turns began than that.
+abbrev pub TurnsAreCounted : {P : Type 0} → (P → PortCall → P → Type 0) → Type 0
+TurnsAreCounted {P} transition = (ports : P) (turns : ℕ) (history : List PortCall) (now : QuotaPortsView P) →
+    EvolvesBy (Meters transition) (fresh ports turns) history now → is_none now.turns_left ≡ nat_lt turns (turns_in history)

@@ -1,0 +1,140 @@
+//! Ports with so many turns, which remember whether their last turn moved anything.
+
+ghost use Rattle.std.specs.Prelude.{◌≡◌, false, Some, None, is_none};
+ghost use Rattle.daide_protocol.specs.Ports.{TurnBegins};
+ghost use Rattle.daide_protocol.specs.System.{TransitsBy};
+
+use daide_frame::side::Side;
+use daide_protocol::ending::Ending;
+use daide_protocol::ports::{Ports, Pull, Put};
+use daide_protocol::system::System;
+use std::marker::Model;
+
+/// Ports that may be asked so many turns. From the turn on that is one too many, they are asked no more: no clock pops,
+/// both wires fail, and both sides have ended.
+#[derive(Drop)]
+pub struct QuotaPorts<P: Ports> {
+    ports: P,
+    /// How many turns are left; none of ports whose turns are spent.
+    turns_left: Option<u64>,
+    made_progress: bool,
+    /// The end or failure that was told first since the turns are spent. A session that was open till then is ended by it.
+    first_synthetic_end: Option<Ending>,
+}
+
+impl<P: Ports> Model for QuotaPorts<P> {
+    ghost use Rattle.daide_event_loop.specs.QuotaPorts.{QuotaPortsView};
+
+    ghost Value = { QuotaPortsView P };
+
+    ghost view = { λ m. record { ports = m.ports; turns_left = m.turns_left; made_progress = m.made_progress; first_synthetic_end = m.first_synthetic_end } };
+}
+
+impl<P: Ports> QuotaPorts<P> {
+    ghost use Rattle.daide_event_loop.specs.QuotaPorts.{Meters, beginning};
+
+    /// Ports with so many turns to come.
+    pub fn new(ports: P, turns: u64) -> QuotaPorts<P>
+        ensures { result ≡ record { ports = ports; turns_left = Some turns; made_progress = false; first_synthetic_end = None } }
+    {
+        QuotaPorts {
+            ports,
+            turns_left: Some(turns),
+            made_progress: false,
+            first_synthetic_end: None,
+        }
+    }
+
+    /// Begins a turn: it is one of those that are left, and nothing moved in it yet. The system begins it with the ports
+    /// themselves, unless they are spent.
+    pub fn begin_turn<S: System<P>>(&mut self, system: &mut S)
+        ensures begins { Meters P.transition self.old TurnBegins self.new }
+        ensures asked { TransitsBy S.transition system.old (beginning self.old self.new) system.new }
+    {
+        self.turns_left = self.turns_left.and_then(|turns| turns.checked_sub(1));
+        self.made_progress = false;
+        if self.turns_left.is_some() {
+            system.begin_turn(&mut self.ports);
+        }
+    }
+
+    /// Whether more turns were begun than there are.
+    pub fn is_spent(&self) -> bool
+        ensures { result ≡ is_none self.now.turns_left }
+    {
+        self.turns_left.is_none()
+    }
+
+    /// Whether anything moved since the turn began: the clock had popped, bytes came or went, a side ended, or a wire
+    /// failed.
+    pub fn has_moved(&self) -> bool
+        ensures { result ≡ self.now.made_progress }
+    {
+        self.made_progress
+    }
+
+    /// The end or failure that was told first since the turns are spent.
+    pub fn first_synthetic_end(&self) -> Option<Ending>
+        ensures { result ≡ self.now.first_synthetic_end }
+    {
+        self.first_synthetic_end
+    }
+
+    /// The ports themselves.
+    pub fn into_ports(self) -> P
+        ensures { result ≡ self.ports }
+    {
+        let QuotaPorts {
+            ports,
+            turns_left: _,
+            made_progress: _,
+            first_synthetic_end: _,
+        } = self;
+        ports
+    }
+}
+
+impl<P: Ports> Ports for QuotaPorts<P> {
+    ghost use Rattle.daide_event_loop.specs.QuotaPorts.{Meters};
+
+    ghost transition = { Meters P.transition };
+
+    fn pull(&mut self, side: Side, buffer: &mut [u8]) -> Pull {
+        let pull = match self.turns_left {
+            Some(_turns) => self.ports.pull(side, buffer),
+            None => {
+                self.first_synthetic_end = self.first_synthetic_end.or(Some(Ending::Ended(side)));
+                Pull::Ended
+            }
+        };
+        self.made_progress = self.made_progress
+            || match pull {
+                Pull::Got(count) => count > 0,
+                Pull::Idle => false,
+                Pull::Ended => true,
+            };
+        pull
+    }
+
+    fn put(&mut self, side: Side, bytes: &[u8]) -> Put {
+        let put = match self.turns_left {
+            Some(_turns) => self.ports.put(side, bytes),
+            None => {
+                self.first_synthetic_end = self.first_synthetic_end.or(Some(Ending::Lost(side)));
+                Put::Failed
+            }
+        };
+        self.made_progress = self.made_progress
+            || match put {
+                Put::Took(count) => count > 0,
+                Put::Failed => true,
+            };
+        put
+    }
+
+    fn clock_popped(&mut self) -> bool {
+        let im_timer_expired = self.turns_left.is_some() && self.ports.clock_popped();
+        self.made_progress = self.made_progress || im_timer_expired;
+        im_timer_expired
+    }
+}

@@ -1,0 +1,336 @@
+//! The loop of a run: it admits bots one by one, gives each session its turns, and ends when all were served.
+//!
+//! It knows no socket. What the system gives is a parameter, so that whole runs can be driven in memory.
+
+ghost use Rattle.std.specs.Prelude.{◌≡◌, ◌+◌, ◌<◌, ◌≤◌, ◌==◌, false, List, [], ◌∷◌, length, Some};
+ghost use Rattle.std.specs.Prelude.{Ok, OnOk, OnErr, IfOk, IfErr};
+ghost use Rattle.daide_protocol.specs.Config.{config_fault};
+ghost use Rattle.daide_driver.specs.Hub.{IsHubSize};
+ghost use Rattle.daide_protocol.specs.System.{SystemCall, Connects, TransitsBy};
+ghost use Rattle.daide_event_loop.specs.Serving.{IsWithinQuotas, Admits, FinishesConnect, TakesTurn, TurnsAll, any_moved};
+ghost use Rattle.daide_event_loop.specs.Serving.{RemovesClosed, parting};
+ghost use Rattle.daide_event_loop.specs.Serving.{is_reported, cause_by, end_by};
+ghost use Rattle.daide_event_loop.specs.Serving.{wait_where, any_progress, Round, is_done, initial_service, fault_of};
+ghost use Rattle.daide_event_loop.specs.Served.{IsWholeRun};
+ghost use Rattle.daide_event_loop.specs.Serving.{IsServeCause, IsOpeningCause, IsOfSettings, BreaksOff, GivesUp, arrived};
+
+use crate::admission_counters::AdmissionCounters;
+use crate::quota_ports::QuotaPorts;
+use daide_driver::hub::{AddFault, Hub, HubError, Removed};
+use daide_frame::memory::Memory;
+use daide_protocol::config::ConfigError;
+use daide_protocol::ending::Ending;
+use daide_protocol::ports::Ports;
+use daide_protocol::system::{Cause, Connect, Notice, SessionEnd, System};
+use daide_settings::settings::Settings;
+use std::alloc::{Allocator, Global};
+use std::marker::Model;
+use thiserror::Error;
+
+/// Why a run ended before all its bots were served.
+#[derive(Clone, Copy, Debug, PartialEq, Eq, Error)]
+pub enum ServeFault {
+    /// A limit of the sessions is wrong. Settings that were read have none.
+    #[error("limits out of range")]
+    Config(ConfigError),
+    /// The number of sessions at once is not from 1 to 256. Settings that were read have none.
+    #[error("max_sessions out of range")]
+    Sessions,
+    /// The memory of the places, or of a session, was refused.
+    #[error("out of memory")]
+    Memory,
+    /// All rounds were made, 2^64 - 1 of them: a loop that may not end has this bound.
+    #[error("rounds spent")]
+    RoundsSpent,
+}
+
+/// A run at work: sessions, and the counts of bots. Contracts see both.
+#[derive(Drop)]
+pub struct Service<P: Ports, A: Allocator = Global> {
+    hub: Hub<QuotaPorts<P>, A>,
+    counters: AdmissionCounters,
+}
+
+impl<P: Ports, A: Allocator> Model for Service<P, A> {
+    ghost use Rattle.daide_event_loop.specs.Serving.{ServiceView, IsWithinQuotas};
+
+    ghost Value = { ServiceView P };
+
+    ghost view = { λ s. record { hub = s.hub; counters = s.counters } };
+
+    ghost invariant = { λ s. IsWithinQuotas s.hub s.counters };
+}
+
+/// A refusal of the hub, as a run tells it.
+fn fault_of(fault: HubError) -> ServeFault
+    ensures { result ≡ fault_of fault }
+{
+    match fault {
+        HubError::Config(fault) => ServeFault::Config(fault),
+        HubError::Sessions => ServeFault::Sessions,
+        HubError::Memory => ServeFault::Memory,
+    }
+}
+
+/// Lets a bot in, if there is a place for it and it is not one too many. Answers whether one came.
+fn admit<P: Ports, S: System<P>>(
+    count: usize,
+    counters: &mut AdmissionCounters,
+    system: &mut S,
+) -> bool
+    requires held { count + counters.old.connecting ≤ counters.old.max_sessions }
+    requires accepted { counters.old.accepted ≤ counters.old.sessions }
+    ensures admits { (answers : List (SystemCall P)) × TransitsBy S.transition system.old answers system.new
+        × Admits count counters.old answers counters.new × (result ≡ any_progress answers) }
+    ensures held { count + counters.new.connecting ≤ counters.new.max_sessions }
+    ensures accepted { counters.new.accepted ≤ counters.new.sessions }
+    ensures same_max { counters.new.max_sessions ≡ counters.old.max_sessions }
+{
+    if !counters.accepts(count) {
+        return false;
+    }
+    let came = system.accept();
+    if came {
+        counters.connecting += 1;
+        counters.accepted += 1;
+    }
+    came
+}
+
+/// Makes a session of a bot whose connect to the server came about, or lets it go where that failed. Answers
+/// whether it was either. `Memory` comes only after room for a body was refused.
+fn finish_connect<P: Ports, A: Memory + Copy, S: System<P>>(
+    hub: &mut Hub<QuotaPorts<P>, A>,
+    counters: &mut AdmissionCounters,
+    system: &mut S,
+) -> Result<bool, ServeFault>
+    requires { IsWithinQuotas hub.old counters.old }
+    ensures finishes { IfOk result (λ progressed. (answers : List (SystemCall P))
+        × TransitsBy S.transition system.old answers system.new
+        × FinishesConnect hub.old counters.old answers hub.new counters.new × (progressed ≡ any_progress answers)) }
+    ensures within { IsWithinQuotas hub.new counters.new }
+    ensures refused { IfErr result (λ fault. fault ≡ ServeFault.Memory) }
+    ensures broken_off { OnErr result ((ports : P)
+        × TransitsBy S.transition system.old (Connects (Connect.Ready ports) ∷ []) system.new
+        × ((counters.old.connecting == 0) ≡ false)) }
+    ensures out_of_memory { OnErr result (A.Refuses hub.old.limits.cap) }
+    ensures left { OnErr result ((hub.new ≡ hub.old) × (counters.new ≡ arrived counters.old)) }
+{
+    if counters.connecting == 0 {
+        return Ok(false);
+    }
+    match system.connected() {
+        Connect::Pending => Ok(false),
+        Connect::Failed => {
+            counters.connecting -= 1;
+            system.tell(Notice::CannotReach);
+            Ok(true)
+        }
+        Connect::Ready(ports) => {
+            counters.connecting -= 1;
+            match hub.add(QuotaPorts::new(ports, counters.turns)) {
+                Ok(_place) => Ok(true),
+                Err((AddFault::Memory, _ports)) => Err(ServeFault::Memory),
+                Err((AddFault::Full, _ports)) => unreachable!(),
+            }
+        }
+    }
+}
+
+/// One turn of the session at a place: the system begins it with that session's ports, and then it is made.
+fn take_turn<P: Ports, A: Allocator + Copy, S: System<P>>(
+    hub: &mut Hub<QuotaPorts<P>, A>,
+    i: usize,
+    system: &mut S,
+)
+    requires { i < length hub.old.places }
+    ensures { (answers : List (SystemCall P)) × TransitsBy S.transition system.old answers system.new
+        × TakesTurn P.transition hub.old i answers hub.new }
+{
+    hub.ports_mut(i).begin_turn(system);
+    hub.turn(i);
+}
+
+/// One turn of each session, in order of place.
+fn turn_all<P: Ports, A: Allocator + Copy, S: System<P>>(
+    hub: &mut Hub<QuotaPorts<P>, A>,
+    system: &mut S,
+)
+    ensures turns { (answers : List (SystemCall P)) × TransitsBy S.transition system.old answers system.new
+        × TurnsAll P.transition hub.old answers hub.new }
+    ensures max { hub.new.max ≡ hub.old.max }
+    ensures count { length hub.new.places ≡ length hub.old.places }
+{
+    for i in 0..hub.count() {
+        take_turn(hub, i, system);
+    }
+}
+
+/// Whether anything moved in the last turns.
+fn has_moved<P: Ports, A: Allocator + Copy>(hub: &Hub<QuotaPorts<P>, A>) -> bool
+    ensures { result ≡ any_moved hub.now.places }
+{
+    let mut made_progress = false;
+    for i in 0..hub.count() {
+        made_progress |= hub.ports(i).has_moved();
+    }
+    made_progress
+}
+
+/// Whether an event is the one that was told first since the turns are spent.
+fn is_reported(told: Option<Ending>, ending: Ending) -> bool
+    ensures { result ≡ is_reported told ending }
+{
+    match (told, ending) {
+        (Some(Ending::Ended(one)), Ending::Ended(side)) => one == side,
+        (Some(Ending::Lost(one)), Ending::Lost(side)) => one == side,
+        _ => false,
+    }
+}
+
+/// Why a session ended by this event, where that was told first since its turns are spent.
+fn cause_of(told: Option<Ending>, ending: Ending) -> Cause
+    ensures { result ≡ cause_by told (Some ending) }
+{
+    if is_reported(told, ending) {
+        Cause::TurnsSpent
+    } else {
+        Cause::Session(ending)
+    }
+}
+
+/// Lets ports go, with how their session ended, and tells where their turns are spent.
+fn part_with<P: Ports, S: System<P>>(removed: Removed<QuotaPorts<P>>, system: &mut S)
+    ensures { TransitsBy S.transition system.old (parting removed.ports
+        (end_by removed.ports.first_synthetic_end (Some removed.ending) removed.summary)) system.new }
+{
+    let Removed {
+        ports,
+        summary,
+        ending,
+    } = removed;
+    if ports.is_spent() {
+        system.tell(Notice::TurnsSpent);
+    }
+    let end = SessionEnd {
+        cause: cause_of(ports.first_synthetic_end(), ending),
+        summary,
+    };
+    system.retire(ports.into_ports(), end);
+}
+
+/// Takes out the sessions that are over and of which nothing waits, from the last place to the first. Answers
+/// whether there were any.
+fn remove_closed<P: Ports, A: Allocator + Copy, S: System<P>>(
+    hub: &mut Hub<QuotaPorts<P>, A>,
+    system: &mut S,
+) -> bool
+    ensures removes { (answers : List (SystemCall P)) × TransitsBy S.transition system.old answers system.new
+        × RemovesClosed hub.old answers hub.new × (result ≡ any_progress answers) }
+    ensures max { hub.new.max ≡ hub.old.max }
+    ensures fewer { length hub.new.places ≤ length hub.old.places }
+{
+    let mut removed = false;
+    for i in (0..hub.count()).rev() {
+        if let Some(session) = hub.remove_over(i) {
+            part_with(session, system);
+            removed = true;
+        }
+    }
+    removed
+}
+
+/// Waits, where nothing moved.
+fn rest<P: Ports, S: System<P>>(made_progress: bool, more: bool, system: &mut S)
+    ensures { TransitsBy S.transition system.old (wait_where made_progress more) system.new }
+{
+    if !made_progress {
+        system.wait(more);
+    }
+}
+
+impl<P: Ports, A: Memory + Copy> Service<P, A> {
+    /// A run that no bot came to yet.
+    pub fn new(alloc: A, settings: &Settings) -> Result<Service<P, A>, ServeFault>
+        ensures opening { IfOk result (λ service. service ≡ initial_service settings.now) }
+        ensures accepted { IfOk result (λ service. (config_fault settings.now.config ≡ Ok tt)
+            × IsHubSize settings.now.max_sessions) }
+        ensures refused { IfErr result (IsOpeningCause A.Refuses settings.now) }
+    {
+        match Hub::with_words(
+            alloc,
+            settings.config,
+            settings.max_sessions,
+            settings.words,
+        ) {
+            Err(fault) => Err(fault_of(fault)),
+            Ok(hub) => Ok(Service {
+                hub,
+                counters: AdmissionCounters {
+                    max_sessions: settings.max_sessions,
+                    sessions: settings.sessions,
+                    turns: settings.turns,
+                    connecting: 0,
+                    accepted: 0,
+                },
+            }),
+        }
+    }
+
+    /// Whether all bots were served, and none is held.
+    pub fn is_done(&self) -> bool
+        ensures { result ≡ is_done self.now }
+    {
+        self.counters.is_served(self.hub.count())
+    }
+
+    /// One round: the system is told that it begins; at most one bot is admitted, and at most one connect taken up;
+    /// each session has one turn, in order of place, which the system begins with its ports; those that are over and of
+    /// which nothing waits are taken out, from the last place to the first; and where nothing moved in all this, there is
+    /// one wait. Want of memory for a session is its only fault; its ports are dropped then, and the round broken off
+    /// behind the connect that gave them.
+    pub fn round<S: System<P>>(&mut self, system: &mut S) -> Result<(), ServeFault>
+        ensures round { OnOk result ((answers : List (SystemCall P))
+            × TransitsBy S.transition system.old answers system.new × Round P.transition self.old answers self.new) }
+        ensures refused { IfErr result (λ fault. fault ≡ ServeFault.Memory) }
+        ensures broken_off { OnErr result ((answers : List (SystemCall P))
+            × TransitsBy S.transition system.old answers system.new × BreaksOff A.Refuses self.old answers self.new) }
+    {
+        system.begin_round();
+        let came = admit::<P, S>(self.hub.count(), &mut self.counters, system);
+        let connected = finish_connect(&mut self.hub, &mut self.counters, system)?;
+        turn_all(&mut self.hub, system);
+        let made_progress = has_moved(&self.hub);
+        let removed = remove_closed(&mut self.hub, system);
+        let more = self.counters.accepts(self.hub.count());
+        rest::<P, S>(came | connected | made_progress | removed, more, system);
+        Ok(())
+    }
+}
+
+/// Serves so many bots as the settings say, and returns when all were served. A run waits for its peers, so no
+/// bound on its time is known: the bound on its rounds, 2^64 - 1, is one that no run comes to. It gives up for
+/// nothing else than wrong settings and memory that was refused, of the places or of a session, and says what was done
+/// till then.
+pub fn serve<P: Ports, A: Memory + Copy, S: System<P>>(
+    alloc: A,
+    settings: &Settings,
+    system: &mut S,
+) -> Result<(), ServeFault>
+    ensures served { OnOk result ((answers : List (SystemCall P))
+        × TransitsBy S.transition system.old answers system.new × IsWholeRun P.transition settings.now answers) }
+    ensures given_up { IfErr result (λ fault. (answers : List (SystemCall P))
+        × TransitsBy S.transition system.old answers system.new
+        × GivesUp A.Refuses P.transition settings.now fault answers) }
+    ensures refused { IfErr result (IsServeCause A.Refuses settings.now) }
+    ensures unasked { IfErr result (λ fault. IsOfSettings fault → system.new ≡ system.old) }
+{
+    let mut service = Service::<P, A>::new(alloc, settings)?;
+    for _round in 0..u64::MAX {
+        if service.is_done() {
+            return Ok(());
+        }
+        service.round(system)?;
+    }
+    Err(ServeFault::RoundsSpent)
+}

@@ -1,6 +1,0 @@
--- while tokens are read, the message is not ended
-use Rattle.std.proofs.Common.{◌≡◌, false}
-use Rattle.daide_examples.proofs.judging.course_of.Given as goal
-
-abbrev pub invariant-loop-token : goal.invariant-loop-token
-invariant-loop-token g l = l.reader.finished ≡ false

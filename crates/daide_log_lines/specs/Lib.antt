@@ -1,0 +1,11 @@
+pub mod LogLine
+pub mod Digits
+pub mod MatchLine
+pub mod WordLine
+pub mod Lines
+pub mod Input
+pub mod Reader
+pub mod Output
+pub mod Page
+pub mod ParsedEvents
+pub mod ParsedMatchEvents

@@ -1,0 +1,84 @@
+//! What was read of a log and not looked at yet.
+
+ghost use Rattle.std.specs.Prelude.{◌≡◌, ◌≤◌, [], length, drop, Ok, IfOk, IfErr, true, false};
+ghost use Rattle.std.specs.Io.KnownBytes.{Consumes, Keeps, IsAtEnd};
+ghost use Rattle.daide_log_lines.specs.Lines.{ReadsBlock, block_size};
+
+use crate::fault::LogFault;
+use crate::output::Output;
+use crate::reader::LogReader;
+use std::io::Write;
+use std::marker::Model;
+
+/// How many bytes are read at once.
+const BLOCK: usize = 8192;
+
+/// Bytes of a log, from the first that was not looked at to the last that was read. Contracts see their list.
+#[derive(Drop)]
+pub struct Block {
+    bytes: [u8; BLOCK],
+    from: usize,
+    to: usize,
+}
+
+impl Model for Block {
+    ghost use Rattle.std.specs.Prelude.{ℕ, List, ◌≤◌, ◌-◌, take, drop, length};
+    ghost use Rattle.daide_log_lines.specs.Lines.{block_size};
+
+    ghost Value = { List ℕ };
+
+    ghost view = { λ b. take (b.to - b.from) (drop b.from b.bytes) };
+
+    ghost invariant = { λ b. (b.from ≤ b.to) × (b.to ≤ block_size) };
+}
+
+impl Block {
+    /// No bytes.
+    pub fn new() -> Block
+        ensures { result ≡ [] }
+    {
+        Block {
+            bytes: [0; BLOCK],
+            from: 0,
+            to: 0,
+        }
+    }
+
+    /// The bytes.
+    pub fn as_slice(&self) -> &[u8]
+        ensures value { result.now ≡ self.now }
+        ensures fits { length result.now ≤ block_size }
+    {
+        &self.bytes[self.from..self.to]
+    }
+
+    /// Leaves out the first bytes.
+    pub fn skip(&mut self, count: usize)
+        requires { count ≤ length self.old }
+        ensures { self.new ≡ drop count self.old }
+    {
+        self.from += count;
+    }
+
+    /// Reads more, and answers whether there was any. A read may wait, so there is none while lines of the report are
+    /// held back.
+    pub fn refill<R: LogReader, W: Write>(
+        &mut self,
+        reader: &mut R,
+        output: &Output<'_, W>,
+    ) -> Result<bool, LogFault>
+        requires looked_at { self.old ≡ [] }
+        requires handed_over { output.now.page.items ≡ [] }
+        ensures { ReadsBlock (W.contents output.now.writer.now) (R.reader_view reader.old) (R.reader_view reader.new) self.new result }
+    {
+        self.from = 0;
+        self.to = 0;
+        match reader.read_log(&mut self.bytes, &*output.writer) {
+            Ok(count) => {
+                self.to = count;
+                Ok(count > 0)
+            }
+            Err(_) => Err(LogFault::Read),
+        }
+    }
+}

@@ -1,0 +1,98 @@
+//! Bytes in hexadecimal digits.
+//!
+//! Sixteen bytes are read together, whatever their digits are, in two plain loops of a length that the compiler knows:
+//! it reads all thirty-two digits in a few wide instructions.
+
+ghost use Rattle.std.specs.Prelude.{◌≡◌, ◌==◌, ◌+◌, ◌*◌, ◌<◌, ◌≤◌, length, min, max, true};
+ghost use Rattle.std.specs.List.{list_all};
+ghost use Rattle.hex.specs.Hex.{decode_of, is_hex_digit};
+ghost use Rattle.daide_log_lines.specs.Digits.{IsRead, bytes_of_hex, value_of};
+
+/// How many bytes are read together.
+const TOGETHER: usize = 16;
+
+/// The lesser of two bytes. Apart, since the compiler takes a choice for one instruction of the processor where it meets
+/// the choice by itself.
+fn lesser(one: u8, other: u8) -> u8
+    ensures { result ≡ min one other }
+{
+    if one < other { one } else { other }
+}
+
+/// The greater of two bytes.
+fn greater(one: u8, other: u8) -> u8
+    ensures { result ≡ max one other }
+{
+    if one < other { other } else { one }
+}
+
+/// The excess of a byte over a digit, 0 at digits of either case alone, and its value, which means nothing where there
+/// is an excess.
+fn read_digit(byte: u8) -> (u8, u8)
+    ensures digit { (result.0 == 0) ≡ is_hex_digit byte }
+    ensures value { is_hex_digit byte ≡ true → result.1 ≡ value_of byte }
+{
+    // `0` to `9` are the ten greatest, which become 0 to 9, and all others 16 or more
+    let decimal = greater(byte.wrapping_add(0xC6), 6).wrapping_add(10);
+    // `A` to `F` and `a` to `f` become 10 to 15, and all others 16 or more
+    let letter = lesser((byte & 0xDF).wrapping_add(0xBF), 0xF5) + 10;
+    let value = lesser(letter, decimal);
+    (value & 0xF0, value)
+}
+
+/// The byte of two digits' values, the high one first: the digits lie side by side in a number of sixteen bits, whose
+/// product has the byte above its low eight bits.
+fn byte_of(high: u8, low: u8) -> u8
+    ensures { (high < 16) → (low < 16) → result ≡ high * 16 + low }
+{
+    let pair = high as u16 + low as u16 * 256;
+    (pair.wrapping_mul(0x1001) / 256) as u8
+}
+
+/// Reads two digits for each byte, of no more bytes than are read together, and answers whether all are digits.
+#[inline(always)]
+fn read_together(digits: &[u8], bytes: &mut [u8]) -> bool
+    requires twice { length digits.now ≡ 2 * length bytes.old }
+    requires few { length bytes.old ≤ 16 }
+    ensures same { length bytes.new ≡ length bytes.old }
+    ensures all { result ≡ list_all is_hex_digit digits.now }
+    ensures bytes { list_all is_hex_digit digits.now ≡ true → bytes.new ≡ bytes_of_hex digits.now }
+{
+    let mut excess = 0;
+    let mut values = [0; 2 * TOGETHER];
+    for j in 0..digits.len() {
+        let (more, value) = read_digit(digits[j]);
+        excess |= more;
+        values[j] = value;
+    }
+    for i in 0..bytes.len() {
+        bytes[i] = byte_of(values[2 * i], values[2 * i + 1]);
+    }
+    excess == 0
+}
+
+/// Reads two digits for each byte, if all are digits. Where the bytes end within some that are read together, the last
+/// ones are read again.
+pub fn read_digits(digits: &[u8], bytes: &mut [u8]) -> bool
+    requires { length digits.now ≡ 2 * length bytes.old }
+    ensures { IsRead result (decode_of digits.now) bytes.new }
+{
+    let count = bytes.len();
+    if count < TOGETHER {
+        return read_together(digits, bytes);
+    }
+    let mut all = true;
+    for turn in 0..count / TOGETHER {
+        let from = turn * TOGETHER;
+        all &= read_together(
+            &digits[2 * from..2 * from + 2 * TOGETHER],
+            &mut bytes[from..from + TOGETHER],
+        );
+    }
+    let from = count - TOGETHER;
+    all &= read_together(
+        &digits[2 * from..2 * from + 2 * TOGETHER],
+        &mut bytes[from..from + TOGETHER],
+    );
+    all
+}

@@ -1,5 +1,0 @@
-use Rattle.daide_machine.proofs.HarmLemmas.{harms_alone}
-use Rattle.daide_machine.proofs.laws.a_side_harms_itself_alone.Goals as goal
-
-pub returns : goal.returns
-returns c = harms_alone

@@ -1,5 +1,0 @@
-use Rattle.daide_machine.proofs.CountLemmas.{counts_are_sent}
-use Rattle.daide_machine.proofs.laws.counts_are_the_moves.Goals as goal
-
-pub returns : goal.returns
-returns c = counts_are_sent

@@ -1,5 +1,0 @@
-use Rattle.daide_machine.proofs.SomeRun.{some_step}
-use Rattle.daide_machine.proofs.laws.each_event_has_a_step.Goals as goal
-
-pub returns : goal.returns
-returns c = some_step

@@ -1,7 +1,0 @@
-use Rattle.daide_words.specs.Word.{grammar_words}
-use Rattle.daide_words.proofs.AcceptedCodes.{accepted_free}
-use Rattle.daide_machine.proofs.WordedRuns.{step_over}
-use Rattle.daide_machine.proofs.laws.each_event_has_a_step_with_words.Goals as goal
-
-pub returns : goal.returns
-returns c words old event accepted same = step_over (grammar_words words) (accepted_free words accepted) old event same

@@ -1,5 +1,0 @@
-use Rattle.daide_machine.proofs.CallLemmas.{wires_get_answers}
-use Rattle.daide_machine.proofs.laws.each_wire_gets_the_answers.Goals as goal
-
-pub returns : goal.returns
-returns c = wires_get_answers

@@ -1,5 +1,0 @@
-use Rattle.daide_machine.proofs.PassingLemmas.{only_messages}
-use Rattle.daide_machine.proofs.laws.only_messages_pass.Goals as goal
-
-pub returns : goal.returns
-returns c = only_messages

@@ -1,5 +1,0 @@
-use Rattle.daide_machine.proofs.WireLemmas.{bytes_come-append}
-use Rattle.daide_machine.proofs.laws.pieces_do_not_matter.Goals as goal
-
-pub returns : goal.returns
-returns c = bytes_come-append

@@ -1,6 +1,0 @@
-use Rattle.std.proofs.Common.{[], refl}
-use Rattle.daide_machine.proofs.WordedVerdicts.{free_verdicts}
-use Rattle.daide_machine.proofs.laws.verdicts_are_the_grammars.Goals as goal
-
-pub returns : goal.returns
-returns c side level max_depth m v = free_verdicts [] refl side level max_depth m v

@@ -1,0 +1,89 @@
+-- What is counted of the frames that are sent, worked out by hand: of each side each kind of move.
+use Rattle.std.proofs.Common.{◌≡◌, ℕ, ◌*◌, List, [], ◌∷◌, length, refl}
+use Rattle.daide_token.specs.Class.{class_of}
+use Rattle.daide_token.specs.Token.{bra, ket, huh, prn, bytes_of_tokens}
+use Rattle.daide_frame.specs.declared.side.Side.{Side}
+use Rattle.daide_frame.specs.declared.side.Side.TheVariants.{Bot, Server}
+use Rattle.daide_frame.specs.Head.{head_bytes, parse_head}
+use Rattle.daide_frame.specs.Frames.{is_alien, first_items, last_items}
+use Rattle.daide_frame.specs.InitialMessage.{im_of}
+use Rattle.daide_grammar.specs.declared.level.Level.TheVariants.{L0, L60}
+use Rattle.daide_grammar.specs.Table.Symbols.{entries, may_end_of, table_answer}
+use Rattle.daide_protocol.specs.declared.phase.Phase.{Phase}
+use Rattle.daide_protocol.specs.declared.phase.Phase.TheVariants.{WaitIm, WaitRm, Open}
+use Rattle.daide_protocol.specs.declared.summary.Summary.{Summary}
+use Rattle.daide_protocol.specs.Answers.{answer_bytes}
+use Rattle.daide_protocol.specs.Events.{Event, Ends, Loses, ImTimerExpired, bytes_come}
+use Rattle.daide_protocol.specs.Machine.{SessionState, initial_state, in_phase}
+use Rattle.daide_protocol.specs.Counts.{frames_counted}
+use Rattle.daide_protocol.proofs.SomeRun.{outcome_of}
+
+-- a session in a phase, of which nothing is held
+abbrev standing : Phase → SessionState
+standing phase = in_phase phase L0 (initial_state (record { cap = 512; top_level = L60; max_depth = 4; words = [] }))
+
+-- what these events, or these bytes of a side, make it send, counted
+abbrev counts_by : Phase → List Event → Summary
+counts_by phase events = frames_counted (outcome_of (standing phase) events).effects
+
+abbrev counts_after : Phase → Side → List ℕ → Summary
+counts_after phase side bytes = counts_by phase (bytes_come side bytes)
+
+-- the frame of a message
+abbrev message : List ℕ → List ℕ
+message tokens = 0x02 ∷ 0x00 ∷ 0x00 ∷ 2 * length tokens ∷ bytes_of_tokens tokens
+
+abbrev fm : List ℕ
+fm = 0x03 ∷ 0x00 ∷ 0x00 ∷ 0x00 ∷ []
+
+abbrev em : List ℕ
+em = 0x04 ∷ 0x00 ∷ 0x00 ∷ 0x02 ∷ 0x00 ∷ 0x09 ∷ []
+
+abbrev of : ℕ → ℕ → ℕ → ℕ → Summary
+of relayed prn huh faults = record { relayed = relayed; prn = prn; huh = huh; faults = faults }
+
+-- OBS of the bot and OFF of the server go on, and each as the other's is answered with HUH; a bracket alone with PRN
+messages :
+    (counts_after Open Bot (message (0x480F ∷ [])) ≡ of 1 0 0 0)
+    × (counts_after Open Server (message (0x4810 ∷ [])) ≡ of 1 0 0 0)
+    × (counts_after Open Bot (message (bra ∷ [])) ≡ of 0 1 0 0)
+    × (counts_after Open Server (message (bra ∷ [])) ≡ of 0 1 0 0)
+    × (counts_after Open Bot (message (0x4810 ∷ [])) ≡ of 0 0 1 0)
+    × (counts_after Open Server (message (0x480F ∷ [])) ≡ of 0 0 1 0)
+unfolding last_items first_items parse_head is_alien entries may_end_of table_answer class_of answer_bytes head_bytes
+messages = (refl, refl, refl, refl, refl, refl)
+
+-- a HUH or a PRN that a side sends itself goes on as any message does
+answers_that_go_on :
+    (counts_after Open Bot (message (huh ∷ bra ∷ ket ∷ [])) ≡ of 1 0 0 0)
+    × (counts_after Open Server (message (huh ∷ bra ∷ ket ∷ [])) ≡ of 1 0 0 0)
+    × (counts_after Open Bot (message (prn ∷ bra ∷ 0x480F ∷ ket ∷ [])) ≡ of 1 0 0 0)
+    × (counts_after Open Server (message (prn ∷ bra ∷ 0x480F ∷ ket ∷ [])) ≡ of 1 0 0 0)
+unfolding last_items first_items parse_head is_alien entries may_end_of table_answer class_of answer_bytes head_bytes
+answers_that_go_on = (refl, refl, refl, refl)
+
+-- an IM, an RM, an FM and an EM that go on; an EM is no fault of its side, and before the IM it goes nowhere
+other_frames :
+    (counts_after WaitIm Bot (0x00 ∷ 0x00 ∷ 0x00 ∷ 0x04 ∷ 0x00 ∷ 0x01 ∷ 0xDA ∷ 0x10 ∷ []) ≡ of 1 0 0 0)
+    × (counts_after WaitRm Server (0x01 ∷ 0x00 ∷ 0x00 ∷ 0x00 ∷ []) ≡ of 1 0 0 0)
+    × (counts_after Open Bot fm ≡ of 1 0 0 0) × (counts_after Open Server fm ≡ of 1 0 0 0)
+    × (counts_after Open Bot em ≡ of 1 0 0 0) × (counts_after Open Server em ≡ of 1 0 0 0)
+    × (counts_after WaitIm Bot em ≡ of 0 0 0 0) × (counts_after WaitIm Server em ≡ of 1 0 0 0)
+unfolding last_items first_items parse_head is_alien im_of head_bytes answer_bytes
+other_frames = (refl, refl, refl, refl, refl, refl, refl, refl)
+
+-- a fault is counted once, though an FM goes to the other side too; and so is the timer's, in the phase WaitIm alone
+faults :
+    (counts_after Open Bot (0x02 ∷ 0x00 ∷ 0x00 ∷ 0x03 ∷ []) ≡ of 0 0 0 1)
+    × (counts_after Open Server (0x02 ∷ 0x00 ∷ 0x00 ∷ 0x03 ∷ []) ≡ of 0 0 0 1)
+    × (counts_after WaitIm Bot (0x02 ∷ 0x00 ∷ 0x00 ∷ 0x02 ∷ []) ≡ of 0 0 0 1)
+    × (counts_after WaitIm Server (0x00 ∷ 0x00 ∷ 0x00 ∷ 0x04 ∷ []) ≡ of 0 0 0 1)
+    × (counts_by WaitIm (ImTimerExpired ∷ []) ≡ of 0 0 0 1) × (counts_by Open (ImTimerExpired ∷ []) ≡ of 0 0 0 0)
+unfolding last_items first_items parse_head is_alien
+faults = (refl, refl, refl, refl, refl, refl)
+
+-- an end is counted nowhere
+ends :
+    (counts_by Open (Ends Bot ∷ []) ≡ of 0 0 0 0) × (counts_by Open (Ends Server ∷ []) ≡ of 0 0 0 0)
+    × (counts_by Open (Loses Bot ∷ []) ≡ of 0 0 0 0) × (counts_by Open (Loses Server ∷ []) ≡ of 0 0 0 0)
+ends = (refl, refl, refl, refl)

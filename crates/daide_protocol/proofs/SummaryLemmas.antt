@@ -1,0 +1,30 @@
+-- Counts of moves, one stretch after another, and the same in numbers without a bound.
+use Rattle.std.proofs.Common.{◌≡◌, ℕ, ◌+◌, ◌%◌, ◌^◌, List, [], ◌∷◌, ◌++◌, refl, sym, ap, ◌∙◌}
+use Rattle.std.proofs.Math.Nat.{mod-add-mod}
+use Rattle.daide_protocol.specs.declared.note.Deed.TheVariants as Deeds
+use Rattle.daide_protocol.specs.declared.note.Note.{Note}
+use Rattle.daide_protocol.specs.declared.note.Note.TheVariants as Notes
+use Rattle.daide_protocol.specs.declared.summary.Summary.{Summary}
+use Rattle.daide_protocol.specs.Machine.{Effect}
+use Rattle.daide_protocol.specs.Summary.{count_note, counted_on, one_more, tallied, reduced}
+
+pub tallied-append : (a b : List Effect) (s : Summary) → tallied (a ++ b) s ≡ tallied b (tallied a s)
+tallied-append [] b s = refl
+tallied-append (effect ∷ a) b s = tallied-append a b (counted_on effect.reported s)
+
+-- the counts after one stretch, and after the next
+pub tallied_then : (a b : List Effect) (old mid new : Summary) → mid ≡ tallied a old → new ≡ tallied b mid →
+    new ≡ tallied (a ++ b) old
+tallied_then a b old mid new first second = second ∙ (ap (tallied b) first ∙ sym (tallied-append a b old))
+
+-- one more of a count modulo 2^64 is one more of the count, modulo 2^64
+one_more_mod : (n : ℕ) → one_more (n % 2 ^ 64) ≡ (n + 1) % 2 ^ 64
+one_more_mod n = mod-add-mod n (2 ^ 64) 1
+
+pub counted_reduced : (reported : Note) (s : Summary) → counted_on reported (reduced s) ≡ reduced (count_note reported s)
+counted_reduced Notes.Nothing s = refl
+counted_reduced (Notes.Frame head Deeds.Relayed) s = rw (one_more_mod s.relayed) refl
+counted_reduced (Notes.Frame head Deeds.Dropped) s = refl
+counted_reduced (Notes.Frame head Deeds.Prn) s = rw (one_more_mod s.prn) refl
+counted_reduced (Notes.Frame head (Deeds.Huh place)) s = rw (one_more_mod s.huh) refl
+counted_reduced (Notes.Fault code) s = rw (one_more_mod s.faults) refl

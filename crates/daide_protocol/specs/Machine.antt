@@ -1,0 +1,428 @@
+-- What a session does, as a machine: a state, and what one event makes of it. The state holds for each
+-- side the bytes since its last whole frame, so the frames of both sides come in the order in which
+-- their last bytes do. The rules are those of docs/PROTOCOL.md, "The session"; a choice of ours is (own).
+use Rattle.std.specs.Prelude.{◌≡◌, ℕ, Bool, true, false, List, [], ◌∷◌, ◌++◌}
+use Rattle.std.specs.Prelude.{Option, Some, None, is_some, Result, Ok, Err, if◌then◌else◌}
+use Rattle.daide_token.specs.Token.{tokens_of}
+use Rattle.daide_frame.specs.declared.side.Side.{Side}
+use Rattle.daide_frame.specs.declared.side.Side.TheVariants.{Bot, Server}
+use Rattle.daide_frame.specs.declared.head.Kind.{Kind}
+use Rattle.daide_frame.specs.declared.head.Kind.TheVariants.{Im, Rm, Dm, Fm, Em}
+use Rattle.daide_frame.specs.declared.head.Head.{Head}
+use Rattle.daide_frame.specs.declared.code.Code.{Code}
+use Rattle.daide_frame.specs.declared.code.Code.TheVariants.{ImTimeout, ImNotFirst, SecondIm, ImFromServer}
+use Rattle.daide_frame.specs.declared.code.Code.TheVariants.{UnknownMessage, DmBeforeRm, RmNotFirst, SecondRm}
+use Rattle.daide_frame.specs.declared.code.Code.TheVariants.{RmFromClient}
+use Rattle.daide_frame.specs.Code.{code_number}
+use Rattle.daide_frame.specs.Head.{is_im}
+use Rattle.daide_frame.specs.InitialMessage.{im_of}
+use Rattle.daide_frame.specs.Frames.{FrameEvent, Begun, Whole, Wrong, last_items}
+use Rattle.daide_grammar.specs.declared.level.Level.{Level}
+use Rattle.daide_grammar.specs.declared.level.Level.TheVariants.{L0}
+use Rattle.daide_reader.specs.declared.verdict.Verdict.{Verdict}
+use Rattle.daide_reader.specs.declared.verdict.Verdict.TheVariants.{Relay, Prn, Huh}
+use Rattle.daide_grammar.specs.declared.side.Side2.{Side2}
+use Rattle.daide_grammar.specs.declared.side.Side2.TheVariants.{Client, ServerEnd}
+use Rattle.daide_grammar.specs.SideMessages.{IsMessageOver}
+use Rattle.daide_grammar.specs.Words.{Words}
+use Rattle.daide_reader.specs.Verdict.{HasVerdict}
+use Rattle.daide_protocol.specs.declared.phase.Phase.{Phase}
+use Rattle.daide_protocol.specs.declared.phase.Phase.TheVariants.{WaitIm, WaitRm, Open, Over}
+use Rattle.daide_protocol.specs.declared.note.Deed.{Deed}
+use Rattle.daide_protocol.specs.declared.note.Deed.TheVariants as Deeds
+use Rattle.daide_protocol.specs.declared.note.Note.{Note}
+use Rattle.daide_protocol.specs.declared.note.Note.TheVariants as Notes
+use Rattle.daide_protocol.specs.declared.ending.Ending.{Ending}
+use Rattle.daide_protocol.specs.declared.ending.Ending.TheVariants as Endings
+use Rattle.daide_protocol.specs.Events.{Event, Comes, Ends, Loses, ImTimerExpired, other}
+use Rattle.daide_protocol.specs.Answers.{answer_bytes}
+use Rattle.daide_protocol.specs.HloLevel.{level_reported}
+
+-- ---- the state
+
+-- what the operator set: the longest body, the highest level of press, the most brackets open at once, and the
+-- press words that were added to the grammar
+pub record Limits : Type 0 where
+  pub cap : ℕ
+  pub top_level : Level
+  pub max_depth : ℕ
+  pub words : Words
+
+-- a side's messages: the bytes since its last whole frame, and the level that held when the header of
+-- its last message became whole
+pub record Coming : Type 0 where
+  pub pending : List ℕ
+  pub noted : Level
+
+pub record SessionState : Type 0 where
+  pub limits : Limits
+  pub phase : Phase
+  -- the level of press in the phase Open, level 0 in every other phase
+  pub level : Level
+  -- which event ended the session: none before the phase Over, and from then on that one
+  pub ending : Option Ending
+  pub bot : Coming
+  pub server : Coming
+
+abbrev pub coming : SessionState → Side → Coming
+coming state Bot = state.bot
+coming state Server = state.server
+
+abbrev pub with_coming : SessionState → Side → Coming → SessionState
+with_coming state Bot c = record {
+  limits = state.limits;
+  phase = state.phase;
+  level = state.level;
+  ending = state.ending;
+  bot = c;
+  server = state.server;
+}
+with_coming state Server c = record {
+  limits = state.limits;
+  phase = state.phase;
+  level = state.level;
+  ending = state.ending;
+  bot = state.bot;
+  server = c;
+}
+
+-- the same with other bytes since the last whole frame
+abbrev pub with_pending : SessionState → Side → List ℕ → SessionState
+with_pending state side bytes = with_coming state side (record { pending = bytes; noted = (coming state side).noted })
+
+-- the same with another level noted
+abbrev pub with_noted : SessionState → Side → Level → SessionState
+with_noted state side level = with_coming state side (record { pending = (coming state side).pending; noted = level })
+
+abbrev pub in_phase : Phase → Level → SessionState → SessionState
+in_phase phase level state = record {
+  limits = state.limits;
+  phase = phase;
+  level = level;
+  ending = state.ending;
+  bot = state.bot;
+  server = state.server;
+}
+
+abbrev pub with_ending : Option Ending → SessionState → SessionState
+with_ending ending state = record {
+  limits = state.limits;
+  phase = state.phase;
+  level = state.level;
+  ending = ending;
+  bot = state.bot;
+  server = state.server;
+}
+
+-- ended by this
+abbrev pub over : Ending → SessionState → SessionState
+over ending state = in_phase Over L0 (with_ending (Some ending) state)
+
+abbrev pub is_over : Phase → Bool
+is_over WaitIm = false
+is_over WaitRm = false
+is_over Open = false
+is_over Over = true
+
+-- nothing came yet
+abbrev pub initial_state : Limits → SessionState
+initial_state limits = record {
+  limits = limits;
+  phase = WaitIm;
+  level = L0;
+  ending = None;
+  bot = record { pending = []; noted = L0 };
+  server = record { pending = []; noted = L0 };
+}
+
+-- ---- what is sent
+
+-- a frame for the wire toward a side, with the side whose last frame it answers, if any
+pub record Sent : Type 0 where
+  pub to : Side
+  pub answers : Option Side
+  pub bytes : List ℕ
+
+abbrev pub fm_bytes : List ℕ
+fm_bytes = 3 ∷ 0 ∷ 0 ∷ 0 ∷ []
+
+abbrev pub em_bytes : Code → List ℕ
+em_bytes code = 4 ∷ 0 ∷ 0 ∷ 2 ∷ 0 ∷ code_number code ∷ []
+
+-- before the IM was relayed nothing reaches the server (own)
+abbrev pub may_reach : Phase → Side → Bool
+may_reach WaitIm Bot = true
+may_reach WaitIm Server = false
+may_reach WaitRm side = true
+may_reach Open side = true
+may_reach Over side = true
+
+-- an FM, where it may reach that side
+abbrev pub fm_to : Phase → Side → List Sent
+fm_to phase side = if may_reach phase side then record { to = side; answers = None; bytes = fm_bytes } ∷ [] else []
+
+abbrev pub em_to : Side → Code → Sent
+em_to side code = record { to = side; answers = None; bytes = em_bytes code }
+
+-- ---- moves
+
+-- one move: what it is called, and the frames that it sends
+pub record Effect : Type 0 where
+  pub reported : Note
+  pub sent : List Sent
+
+-- what an item or an event makes of a state: the state after, and the moves that were made
+pub record Successor : Type 0 where
+  pub state : SessionState
+  pub effects : List Effect
+
+-- no move
+abbrev pub nothing : SessionState → Successor
+nothing state = record { state = state; effects = [] }
+
+-- one move
+abbrev pub one_effect : SessionState → Note → List Sent → Successor
+one_effect state reported sent = record { state = state; effects = record { reported = reported; sent = sent } ∷ [] }
+
+-- a side's fault: an EM to it, an FM to the other
+abbrev pub fault : SessionState → Side → Code → Successor
+fault state side code =
+    one_effect (over (Endings.Fault side code) state) (Notes.Fault code)
+    (em_to side code ∷ fm_to state.phase (other side))
+
+-- a side's end, by its stream or its wire: an FM to the other; a frame that is not whole is dropped
+abbrev pub end : SessionState → Ending → Side → Successor
+end state ending side = one_effect (over ending state) Notes.Nothing (fm_to state.phase (other side))
+
+-- ---- a header
+
+-- the code of a header that may not come now, by phase, side and kind. That 02 is told of the bot's first
+-- frame before 0D, and 08 of an RM before the IM, is (own).
+abbrev pub untimely : Phase → Side → Kind → Option Code
+untimely WaitIm Bot Im = None
+untimely WaitIm Bot Rm = Some ImNotFirst
+untimely WaitIm Bot Dm = Some ImNotFirst
+untimely WaitIm Bot Fm = None
+untimely WaitIm Bot Em = None
+untimely WaitIm Server Im = Some ImFromServer
+untimely WaitIm Server Rm = Some UnknownMessage
+untimely WaitIm Server Dm = Some RmNotFirst
+untimely WaitIm Server Fm = None
+untimely WaitIm Server Em = None
+untimely WaitRm Bot Im = Some SecondIm
+untimely WaitRm Bot Rm = Some RmFromClient
+untimely WaitRm Bot Dm = Some DmBeforeRm
+untimely WaitRm Bot Fm = None
+untimely WaitRm Bot Em = None
+untimely WaitRm Server Im = Some ImFromServer
+untimely WaitRm Server Rm = None
+untimely WaitRm Server Dm = Some RmNotFirst
+untimely WaitRm Server Fm = None
+untimely WaitRm Server Em = None
+untimely Open Bot Im = Some SecondIm
+untimely Open Bot Rm = Some RmFromClient
+untimely Open Bot Dm = None
+untimely Open Bot Fm = None
+untimely Open Bot Em = None
+untimely Open Server Im = Some ImFromServer
+untimely Open Server Rm = Some SecondRm
+untimely Open Server Dm = None
+untimely Open Server Fm = None
+untimely Open Server Em = None
+untimely Over Bot Im = None
+untimely Over Bot Rm = None
+untimely Over Bot Dm = None
+untimely Over Bot Fm = None
+untimely Over Bot Em = None
+untimely Over Server Im = None
+untimely Over Server Rm = None
+untimely Over Server Dm = None
+untimely Over Server Fm = None
+untimely Over Server Em = None
+
+-- a whole header: it is a fault, or the level is noted by which the message will be judged (own)
+abbrev pub header_outcome : SessionState → Side → Option Code → Successor
+header_outcome state side None = nothing (with_noted state side state.level)
+header_outcome state side (Some code) = fault state side code
+
+-- ---- a whole frame
+
+abbrev pub is_dm : Kind → Bool
+is_dm Im = false
+is_dm Rm = false
+is_dm Dm = true
+is_dm Fm = false
+is_dm Em = false
+
+-- where the answer to a side's frame goes: on to the other side, or back to its sender
+abbrev pub destination : Side → Verdict → Side
+destination side Relay = other side
+destination side Prn = side
+destination side (Huh place) = side
+
+-- the phase after a frame of a kind was answered
+abbrev pub phase_after : Kind → Phase → Phase
+phase_after Im phase = WaitRm
+phase_after Rm phase = Open
+phase_after Dm phase = phase
+phase_after Fm phase = Over
+phase_after Em phase = Over
+
+-- what ended the session after a side's frame of a kind was answered: an FM or an EM does
+abbrev pub ending_after : Kind → Side → Option Ending → Option Ending
+ending_after Im side ending = ending
+ending_after Rm side ending = ending
+ending_after Dm side ending = ending
+ending_after Fm side ending = Some (Endings.Final side)
+ending_after Em side ending = Some (Endings.Error side)
+
+-- the level after a side's frame of a kind was answered: a relayed HLO of the server sets it
+abbrev pub level_after : Level → Kind → Side → Verdict → List ℕ → Level → Level
+level_after top Im side verdict tokens level = L0
+level_after top Rm side verdict tokens level = L0
+level_after top Dm Bot verdict tokens level = level
+level_after top Dm Server Relay tokens level = level_reported top tokens level
+level_after top Dm Server Prn tokens level = level
+level_after top Dm Server (Huh place) tokens level = level
+level_after top Fm side verdict tokens level = L0
+level_after top Em side verdict tokens level = L0
+
+-- whether the answer goes out: an FM or EM of the bot before the IM does not. (No RM or DM is whole then,
+-- since its header is untimely.)
+abbrev pub is_sent : Phase → Kind → Side → Bool
+is_sent phase Im to = true
+is_sent phase Rm to = true
+is_sent phase Dm to = true
+is_sent phase Fm to = may_reach phase to
+is_sent phase Em to = may_reach phase to
+
+abbrev pub deed_of : Bool → Verdict → Deed
+deed_of false verdict = Deeds.Dropped
+deed_of true Relay = Deeds.Relayed
+deed_of true Prn = Deeds.Prn
+deed_of true (Huh place) = Deeds.Huh place
+
+abbrev pub reply_to : Side → Head → List ℕ → Verdict → Sent
+reply_to side head body verdict =
+    record { to = destination side verdict; answers = Some side; bytes = answer_bytes head body verdict }
+
+-- the answer to a frame: itself, sent on; but a DM goes by its verdict, which is Relay for every other kind
+abbrev pub answered : SessionState → Side → Head → List ℕ → Verdict → Successor
+answered state side head body verdict =
+    let goes = is_sent state.phase head.kind (destination side verdict) in
+    let level = level_after state.limits.top_level head.kind side verdict (tokens_of body) state.level in
+    let ending = ending_after head.kind side state.ending in
+    one_effect (in_phase (phase_after head.kind state.phase) level (with_ending ending (with_pending state side [])))
+    (Notes.Frame head (deed_of goes verdict))
+    (if goes then reply_to side head body verdict ∷ [] else [])
+
+-- an IM is checked first
+abbrev pub im_answered : Successor → SessionState → Side → Result (Unit {0}) Code → Successor
+im_answered good state side (Ok nothing) = good
+im_answered good state side (Err code) = fault state side code
+
+abbrev pub frame_outcome : SessionState → Side → Head → List ℕ → Verdict → Successor
+frame_outcome state side head body verdict =
+    if is_im head.kind then im_answered (answered state side head body verdict) state side (im_of body)
+    else answered state side head body verdict
+
+-- ---- events
+
+abbrev pub item_outcome : SessionState → Side → FrameEvent → Verdict → Successor
+item_outcome state side (Begun head) verdict = header_outcome state side (untimely state.phase side head.kind)
+item_outcome state side (Whole head body) verdict = frame_outcome state side head body verdict
+item_outcome state side (Wrong code) verdict = fault state side code
+
+-- the items of a side in order; once the session is over nothing moves
+abbrev pub items_outcome : SessionState → Side → List FrameEvent → Verdict → Successor
+items_outcome state side [] verdict = nothing state
+items_outcome state side (item ∷ items) verdict =
+    if is_over state.phase then nothing state
+    else (let first = item_outcome state side item verdict in
+    let more = items_outcome first.state side items verdict in
+    record { state = more.state; effects = first.effects ++ more.effects })
+
+-- the items that end with the last of a side's bytes
+abbrev pub byte_outcome : SessionState → Side → List ℕ → Verdict → Successor
+byte_outcome state side bytes verdict =
+    items_outcome (with_pending state side bytes) side (last_items state.limits.cap bytes) verdict
+
+-- the timer: in the phase WaitIm the bot's fault
+abbrev pub im_timer_expired : Phase → SessionState → Successor
+im_timer_expired WaitIm state =
+    one_effect (over (Endings.Fault Bot ImTimeout) state) (Notes.Fault ImTimeout) (em_to Bot ImTimeout ∷ [])
+im_timer_expired WaitRm state = nothing state
+im_timer_expired Open state = nothing state
+im_timer_expired Over state = nothing state
+
+abbrev pub event_outcome : SessionState → Event → Verdict → Successor
+event_outcome state (Comes side byte) verdict =
+    if is_over state.phase then nothing state
+    else byte_outcome state side ((coming state side).pending ++ byte ∷ []) verdict
+event_outcome state (Ends side) verdict =
+    if is_over state.phase then nothing state else end state (Endings.Ended side) side
+event_outcome state (Loses side) verdict =
+    if is_over state.phase then nothing state else end state (Endings.Lost side) side
+event_outcome state ImTimerExpired verdict = im_timer_expired state.phase state
+
+-- ---- the verdict
+
+-- a message that is to be judged: whose it is, and by which level
+pub record Question : Type 0 where
+  pub side : Side
+  pub level : Level
+  pub message : List ℕ
+
+abbrev pub question_of : Side → Level → Head → List ℕ → Option Question
+question_of side level head body =
+    if is_dm head.kind then Some (record { side = side; level = level; message = tokens_of body }) else None
+
+-- by the level noted at the header, or by the present one where the header ends here too; a message
+-- whose header is untimely is not judged
+abbrev pub question_in : Side → Level → Level → (Kind → Option Code) → List FrameEvent → Option Question
+question_in side noted now refusal [] = None
+question_in side noted now refusal (Whole head body ∷ items) = question_of side noted head body
+question_in side noted now refusal (Begun head ∷ Whole again body ∷ items) =
+    if is_some (refusal head.kind) then None else question_of side now again body
+question_in side noted now refusal (Begun head ∷ []) = None
+question_in side noted now refusal (Begun head ∷ Begun again ∷ items) = None
+question_in side noted now refusal (Begun head ∷ Wrong code ∷ items) = None
+question_in side noted now refusal (Wrong code ∷ items) = None
+
+abbrev pub asked_by : SessionState → Side → List FrameEvent → Option Question
+asked_by state side items = question_in side (coming state side).noted state.level (untimely state.phase side) items
+
+-- the message that an event asks the grammar about, if any
+abbrev pub question : SessionState → Event → Option Question
+question state (Comes side byte) =
+    if is_over state.phase then None
+    else asked_by state side (last_items state.limits.cap ((coming state side).pending ++ byte ∷ []))
+question state (Ends side) = None
+question state (Loses side) = None
+question state ImTimerExpired = None
+
+-- the gateway is the server to the bot, and the client to the server
+abbrev pub side2_of : Side → Side2
+side2_of Bot = Client
+side2_of Server = ServerEnd
+
+-- the verdict is that of the grammar with the operator's words, where a message is judged
+abbrev pub IsCorrectVerdict : Words → ℕ → Option Question → Verdict → Type 0
+IsCorrectVerdict words max_depth None verdict = verdict ≡ Relay
+IsCorrectVerdict words max_depth (Some q) verdict =
+    HasVerdict (IsMessageOver words (side2_of q.side) q.level) max_depth q.message verdict
+
+-- ---- runs
+
+-- the machine goes by this event from old to new with these moves
+pub record Transition (old : SessionState) (event : Event) (effects : List Effect) (new : SessionState) : Type 0 where
+  pub verdict : Verdict
+  pub right : IsCorrectVerdict old.limits.words old.limits.max_depth (question old event) verdict
+  pub outcome : event_outcome old event verdict ≡ record { state = new; effects = effects }
+
+-- the machine goes by these events from old to new with these moves
+abbrev pub Runs : SessionState → List Event → List Effect → SessionState → Type 0
+Runs old [] effects new = (effects ≡ []) × (new ≡ old)
+Runs old (event ∷ events) effects new =
+    (mid : SessionState) × (first : List Effect) × (rest : List Effect)
+    × Transition old event first mid × Runs mid events rest new × (effects ≡ first ++ rest)

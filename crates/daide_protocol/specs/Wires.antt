@@ -1,0 +1,264 @@
+-- A session as its callers see it: its state, the frames that wait for each wire, and what it holds of
+-- each side; and what each call does to these.
+use Rattle.std.specs.Prelude.{◌≡◌, ℕ, ◌+◌, ◌-◌, ◌*◌, ◌/◌, ◌%◌, ◌^◌, ◌<◌, Bool, true, false, ◌||◌, ◌&&◌, nat_lt}
+use Rattle.std.specs.Prelude.{List, [], ◌∷◌, ◌++◌, length, drop, Option, Some, None, if◌then◌else◌}
+use Rattle.daide_frame.specs.declared.side.Side.{Side}
+use Rattle.daide_frame.specs.declared.side.Side.TheVariants.{Bot, Server}
+use Rattle.daide_frame.specs.declared.head.Head.{Head}
+use Rattle.daide_frame.specs.Frames.{fed, head_in, missing}
+use Rattle.daide_reader.specs.Reading.{IsRaised}
+use Rattle.daide_protocol.specs.declared.note.Deed.TheVariants as Deeds
+use Rattle.daide_protocol.specs.declared.note.Note.{Note}
+use Rattle.daide_protocol.specs.declared.note.Note.TheVariants as Notes
+use Rattle.daide_protocol.specs.Events.{Event, Loses, other}
+use Rattle.daide_protocol.specs.declared.summary.Summary.{Summary}
+use Rattle.daide_protocol.specs.Summary.{nothing_counted, tallied}
+use Rattle.daide_protocol.specs.Machine.{Sent, Effect, SessionState, Limits, Runs, coming, is_dm, is_over, initial_state}
+
+abbrev pub same_side : Side → Side → Bool
+same_side Bot Bot = true
+same_side Bot Server = false
+same_side Server Bot = false
+same_side Server Server = true
+
+-- ---- the answers on a wire
+
+-- the frames for the wire toward a side
+abbrev pub frames_to : Side → List Sent → List Sent
+frames_to side [] = []
+frames_to side (frame ∷ frames) =
+    if same_side frame.to side then frame ∷ frames_to side frames else frames_to side frames
+
+-- those that moves send
+abbrev pub sent_to : Side → List Effect → List Sent
+sent_to side [] = []
+sent_to side (effect ∷ effects) = frames_to side effect.sent ++ sent_to side effects
+
+-- frames as bytes, one after the other
+abbrev pub sent_bytes : List Sent → List ℕ
+sent_bytes [] = []
+sent_bytes (frame ∷ frames) = frame.bytes ++ sent_bytes frames
+
+abbrev pub note_or : Note → Note → Note
+note_or Notes.Nothing later = later
+note_or (Notes.Frame head deed) later = Notes.Frame head deed
+note_or (Notes.Fault code) later = Notes.Fault code
+
+-- the first thing that moves tell
+abbrev pub note_of : List Effect → Note
+note_of [] = Notes.Nothing
+note_of (effect ∷ effects) = note_or effect.reported (note_of effects)
+
+-- ---- the value of a session
+
+-- what is held of a side: the bytes of its frame, also while the answer to it waits; the entries of its
+-- reader's stack; the answers of its reader's table in all, and those before the present message; and how many
+-- tokens were looked at for the level of an HLO. These three are modulo 2^64.
+pub record Holding : Type 0 where
+  pub held : List ℕ
+  pub entries : ℕ
+  pub total : ℕ
+  pub total_before : ℕ
+  pub looked_at : ℕ
+
+pub record SessionView : Type 0 where
+  pub state : SessionState
+  -- the frames that wait for each wire, the first perhaps in part
+  pub to_bot : List Sent
+  pub to_server : List Sent
+  -- what is left of the first of them, in the parts in which it is handed over
+  pub bot_parts : List (List ℕ)
+  pub server_parts : List (List ℕ)
+  pub bot : Holding
+  pub server : Holding
+  -- its moves counted, modulo 2^64
+  pub summary : Summary
+
+abbrev pub queued : SessionView → Side → List Sent
+queued g Bot = g.to_bot
+queued g Server = g.to_server
+
+abbrev pub parts_of : SessionView → Side → List (List ℕ)
+parts_of g Bot = g.bot_parts
+parts_of g Server = g.server_parts
+
+-- the first of these parts of which something is left
+abbrev pub next_part : List (List ℕ) → List ℕ
+next_part [] = []
+next_part ([] ∷ parts) = next_part parts
+next_part ((byte ∷ part) ∷ parts) = byte ∷ part
+
+-- what is left of them after n bytes
+abbrev pub parts_after : ℕ → List (List ℕ) → List (List ℕ)
+parts_after n [] = []
+parts_after n (part ∷ parts) = drop n part ∷ parts_after (n - length part) parts
+
+-- what is handed to a wire next: a front of its first frame; empty exactly where none waits
+abbrev pub front_of : SessionView → Side → List ℕ
+front_of g side = next_part (parts_of g side)
+
+abbrev pub holding : SessionView → Side → Holding
+holding g Bot = g.bot
+holding g Server = g.server
+
+abbrev pub is_answer : Side → Option Side → Bool
+is_answer side None = false
+is_answer side (Some one) = same_side one side
+
+-- whether one of the frames answers a side's last frame
+abbrev pub has_answer : Side → List Sent → Bool
+has_answer side [] = false
+has_answer side (frame ∷ frames) = is_answer side frame.answers || has_answer side frames
+
+-- whether an answer to a side's last frame waits for one of the two wires
+abbrev pub is_awaited : (Side → List Sent) → Side → Bool
+is_awaited wires side = has_answer side (wires Bot) || has_answer side (wires Server)
+
+-- how many bytes of a side are taken next: none where an answer to its last frame waits, or the session
+-- is over; else what is missing of the header or the body
+unfoldable pub room_of : SessionView → Side → ℕ
+room_of g side =
+    if is_over g.state.phase || is_awaited (queued g) side then 0
+    else missing g.state.limits.cap (coming g.state side).pending
+
+abbrev pub no_frame : List Sent → Bool
+no_frame [] = true
+no_frame (frame ∷ frames) = false
+
+-- over, and nothing waits
+abbrev pub is_closed : SessionView → Bool
+is_closed g = is_over g.state.phase && (no_frame g.to_bot && no_frame g.to_server)
+
+-- the first n bytes of the first frame are gone, and the frame where these are all
+abbrev pub without : ℕ → List Sent → List Sent
+without n [] = []
+without n (frame ∷ frames) =
+    if nat_lt n (length frame.bytes)
+    then record { to = frame.to; answers = frame.answers; bytes = drop n frame.bytes } ∷ frames
+    else frames
+
+-- how many bytes are left of the first frame
+abbrev pub first_len : List Sent → ℕ
+first_len [] = 0
+first_len (frame ∷ frames) = length frame.bytes
+
+-- xs is a front of the first frame that waits, and empty only where none waits
+abbrev pub IsFrontOf : List ℕ → List Sent → Type 0
+IsFrontOf xs [] = xs ≡ []
+IsFrontOf xs (frame ∷ frames) = (0 < length xs) × ((rest : List ℕ) × (frame.bytes ≡ xs ++ rest))
+
+-- ---- what a call does
+
+-- a new session: nothing came, nothing is held, nothing waits, no table was asked, no token looked at and no move
+-- counted
+pub record IsNew (limits : Limits) (g : SessionView) : Type 0 where
+  pub state : g.state ≡ initial_state limits
+  pub to_bot : g.to_bot ≡ []
+  pub to_server : g.to_server ≡ []
+  pub held : (g.bot.held ≡ []) × (g.server.held ≡ [])
+  pub unasked : (g.bot.total ≡ 0) × (g.server.total ≡ 0)
+  pub unlooked : (g.bot.looked_at ≡ 0) × (g.server.looked_at ≡ 0)
+  pub uncounted : g.summary ≡ nothing_counted
+
+-- By these events the session goes from old to new with what the note tells, what they cause waits behind what
+-- waited, and their moves are counted.
+pub record Refines (old : SessionView) (events : List Event) (reported : Note) (new : SessionView) : Type 0 where
+  pub effects : List Effect
+  pub run : Runs old.state events effects new.state
+  pub kept : (side : Side) → queued new side ≡ queued old side ++ sent_to side effects
+  pub note : reported ≡ note_of effects
+  pub counts : new.summary ≡ tallied effects old.summary
+
+-- What is held of a side whose answer is gone: nothing; of any other, what was held. No table was asked.
+pub record Releases (old new : SessionView) : Type 0 where
+  pub gone : (side : Side) → is_awaited (queued old) side ≡ true → is_awaited (queued new) side ≡ false →
+      ((holding new side).held ≡ []) × ((holding new side).total ≡ (holding old side).total)
+  pub kept : (side : Side) → is_awaited (queued new) side ≡ is_awaited (queued old) side →
+      holding new side ≡ holding old side
+
+-- One event, after which the session is over and nothing waits for the wire that failed.
+pub record Lost (old : SessionView) (side : Side) (new : SessionView) : Type 0 where
+  pub effects : List Effect
+  pub run : Runs old.state (Loses side ∷ []) effects new.state
+  pub dropped : queued new side ≡ []
+  pub other_wire : queued new (other side) ≡ queued old (other side) ++ sent_to (other side) effects
+  pub over : is_over new.state.phase ≡ true
+  pub counts : new.summary ≡ tallied effects old.summary
+  pub held : Releases old new
+
+-- n bytes of what waited for a wire were taken, and nothing else changed of the state and the wires
+pub record Wrote (old : SessionView) (side : Side) (n : ℕ) (new : SessionView) : Type 0 where
+  pub same_state : new.state ≡ old.state
+  pub taken : queued new side ≡ without n (queued old side)
+  pub front_bytes : sent_bytes (queued new side) ≡ drop n (sent_bytes (queued old side))
+  pub other_wire : queued new (other side) ≡ queued old (other side)
+  pub counts : new.summary ≡ old.summary
+  pub held : Releases old new
+
+-- ---- what is held after a call
+
+-- the number of the table's answers for the present message, modulo 2^64
+abbrev pub steps_of : Holding → ℕ
+steps_of h = (h.total + (2 ^ 64 - h.total_before)) % 2 ^ 64
+
+abbrev pub is_dm_head : Option Head → Bool
+is_dm_head None = false
+is_dm_head (Some head) = is_dm head.kind
+
+-- the bytes of a side's frame after more of them came: none where the frame is dropped
+abbrev pub held_after : Note → List ℕ → List ℕ
+held_after Notes.Nothing bytes = bytes
+held_after (Notes.Frame head Deeds.Relayed) bytes = bytes
+held_after (Notes.Frame head Deeds.Dropped) bytes = []
+held_after (Notes.Frame head Deeds.Prn) bytes = bytes
+held_after (Notes.Frame head (Deeds.Huh place)) bytes = bytes
+held_after (Notes.Fault code) bytes = bytes
+
+-- the count before the present message: the total where a message's header became whole
+abbrev pub counts_from : Option Head → Option Head → Holding → ℕ
+counts_from None None h = h.total_before
+counts_from None (Some head) h = if is_dm head.kind then h.total else h.total_before
+counts_from (Some head) later h = h.total_before
+
+-- the bytes of a side's frame with more of them, up to the end of the frame
+abbrev pub grown : SessionView → Side → List ℕ → List ℕ
+grown g side piece = fed g.state.limits.cap (holding g side).held piece
+
+-- the header of a side's frame that has these bytes, once it is whole and good
+abbrev pub head_by : SessionView → List ℕ → Option Head
+head_by g bytes = head_in g.state.limits.cap bytes
+
+-- the most that a table is asked for a piece: four answers for each token that it ends or begins, and four
+-- at a message's end
+abbrev pub asked_at_most : List ℕ → ℕ
+asked_at_most piece = 4 * (length piece / 2 + 1) + 4
+
+-- the most tokens that are looked at for the level of an HLO: those that a piece may end
+abbrev pub looked_at_most : List ℕ → ℕ
+looked_at_most piece = length piece / 2 + 1
+
+-- Bytes of a side came: its frame has them, its table was asked for a message alone, each token once and
+-- as it came, as each was looked at for the level of an HLO, and nothing changed of what is held of the other
+-- side. Where no byte came, nothing changed at all.
+pub record ReceivesBytes (old : SessionView) (side : Side) (piece : List ℕ) (reported : Note) (new : SessionView) : Type 0 where
+  pub nothing : piece ≡ [] → holding new side ≡ holding old side
+  pub bytes : (holding new side).held ≡ held_after reported (grown old side piece)
+  pub base : (holding new side).total_before
+      ≡ counts_from (head_by old (holding old side).held) (head_by old (grown old side piece)) (holding old side)
+  pub no_message : is_dm_head (head_by old (grown old side piece)) ≡ false →
+      (holding new side).total ≡ (holding old side).total
+  pub raised : IsRaised (asked_at_most piece) (holding old side).total (holding new side).total
+  pub looked_at : IsRaised (looked_at_most piece) (holding old side).looked_at (holding new side).looked_at
+  pub other_side : holding new (other side) ≡ holding old (other side)
+
+-- nothing changed of what is held
+abbrev pub HoldsTheSame : SessionView → SessionView → Type 0
+HoldsTheSame old new = (new.bot ≡ old.bot) × (new.server ≡ old.server)
+
+-- no table was asked
+abbrev pub AsksNothing : SessionView → SessionView → Type 0
+AsksNothing old new = (new.bot.total ≡ old.bot.total) × (new.server.total ≡ old.server.total)
+
+-- no token was looked at for the level of an HLO
+abbrev pub LooksAtNothing : SessionView → SessionView → Type 0
+LooksAtNothing old new = (new.bot.looked_at ≡ old.bot.looked_at) × (new.server.looked_at ≡ old.server.looked_at)

@@ -1,0 +1,67 @@
+//! The words round a frame's answer, and the frames that end a session.
+//!
+//! An answer is the body that came, with fixed words round it; so they stand here once, for whoever sends an
+//! answer and whoever prints one.
+
+ghost use Rattle.std.specs.Prelude.{◌≡◌, ◌≤◌};
+ghost use Rattle.daide_protocol.specs.Answers.{answer_head as head_of_answer};
+ghost use Rattle.daide_protocol.specs.Bounds.{longest_body};
+ghost use Rattle.daide_protocol.specs.Machine.{em_bytes};
+
+use daide_frame::{Code, Head, Kind};
+use daide_reader::Verdict;
+
+/// `PRN (`, before a message whose brackets are not paired.
+pub const PRN_OPEN: [u8; 4] = [0x48, 0x13, 0x40, 0x00];
+
+/// `HUH (`, before a message that is not in the grammar.
+pub const HUH_OPEN: [u8; 4] = [0x48, 0x06, 0x40, 0x00];
+
+/// `ERR`, before the first token that no message continues.
+pub const ERR_WORD: [u8; 2] = [0x49, 0x02];
+
+/// `)`, behind the message.
+pub const CLOSE_WORD: [u8; 2] = [0x40, 0x01];
+
+/// A final message.
+pub const FM: [u8; 4] = [3, 0, 0, 0];
+
+/// The bytes of the error message with a code.
+pub fn em_frame(code: Code) -> &'static [u8]
+    ensures { result.now ≡ em_bytes code }
+{
+    match code {
+        Code::ImTimeout => &[4, 0, 0, 2, 0, 0x01],
+        Code::ImNotFirst => &[4, 0, 0, 2, 0, 0x02],
+        Code::WrongEndian => &[4, 0, 0, 2, 0, 0x03],
+        Code::WrongMagic => &[4, 0, 0, 2, 0, 0x04],
+        Code::WrongVersion => &[4, 0, 0, 2, 0, 0x05],
+        Code::SecondIm => &[4, 0, 0, 2, 0, 0x06],
+        Code::ImFromServer => &[4, 0, 0, 2, 0, 0x07],
+        Code::UnknownMessage => &[4, 0, 0, 2, 0, 0x08],
+        Code::WrongLength => &[4, 0, 0, 2, 0, 0x09],
+        Code::DmBeforeRm => &[4, 0, 0, 2, 0, 0x0A],
+        Code::RmNotFirst => &[4, 0, 0, 2, 0, 0x0B],
+        Code::SecondRm => &[4, 0, 0, 2, 0, 0x0C],
+        Code::RmFromClient => &[4, 0, 0, 2, 0, 0x0D],
+        Code::InvalidToken => &[4, 0, 0, 2, 0, 0x0E],
+    }
+}
+
+/// The header of the answer to a frame with this header: the words round a message count to its length.
+pub fn answer_head(head: Head, verdict: Verdict) -> Head
+    requires { head.len ≤ longest_body }
+    ensures { result ≡ head_of_answer head verdict }
+{
+    match verdict {
+        Verdict::Relay => head,
+        Verdict::Prn => Head {
+            kind: Kind::Dm,
+            len: head.len + 6,
+        },
+        Verdict::Huh(_) => Head {
+            kind: Kind::Dm,
+            len: head.len + 8,
+        },
+    }
+}

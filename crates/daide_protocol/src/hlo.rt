@@ -1,0 +1,185 @@
+//! The level of press that a server's HLO sets, found as its tokens come.
+//!
+//! An HLO's options stand at its end, and a reader of messages keeps nothing of what it has read. So what matters
+//! of the tokens so far is kept beside it, in a value of fixed size: each token is looked at once, when it comes,
+//! and none any more once the number is found or the message is no HLO.
+
+ghost use Rattle.std.specs.Prelude.{◌≡◌, ℕ, ◌+◌, ◌-◌, ◌*◌, ◌/◌, ◌%◌, ◌^◌, ◌≤◌, true, List, [], ◌∷◌, ◌++◌, length, take};
+ghost use Rattle.daide_token.specs.Token.{tokens_of};
+ghost use Rattle.daide_reader.specs.Bounds.{longest_message};
+ghost use Rattle.daide_reader.specs.Reading.{IsRaised};
+ghost use Rattle.daide_protocol.specs.HloLevel.{option_number as number_of_option, lvl_scan_of};
+ghost use Rattle.daide_protocol.specs.HloLevel.{level_reported as level_of_message};
+
+use daide_grammar::Level;
+use daide_token::Token;
+
+/// The token `(`.
+const BRA: u16 = 0x4000;
+
+/// The token `)`.
+const KET: u16 = 0x4001;
+
+/// The token `HLO`.
+const HLO: u16 = 0x4804;
+
+/// The token `LVL`.
+const LVL: u16 = 0x4903;
+
+/// What is found in the tokens of a message so far.
+#[derive(Clone, Copy)]
+pub enum LvlScan {
+    /// No token came.
+    NoToken,
+    /// The message is no HLO.
+    NoHlo,
+    /// An HLO, without an option `( LVL n )` so far: its last three tokens, with 0 for one that is not there.
+    NoNumber(Token, Token, Token),
+    /// The number of the first option `( LVL n )` of an HLO.
+    Number(i16),
+}
+
+/// The number of an option `( LVL n )`, if four tokens are one.
+fn option_number(first: Token, word: Token, number: Token, last: Token) -> Option<i16>
+    ensures { result ≡ number_of_option (first ∷ word ∷ number ∷ last ∷ []) }
+{
+    if first.code() == BRA && word.code() == LVL && last.code() == KET {
+        return number.number();
+    }
+    None
+}
+
+impl LvlScan {
+    /// Whether nothing that may still come of the message changes what is found.
+    fn is_settled(self) -> bool
+        ensures { result ≡ true → (tokens more : List ℕ) → self ≡ lvl_scan_of tokens → self ≡ lvl_scan_of (tokens ++ more) }
+    {
+        match self {
+            LvlScan::NoToken | LvlScan::NoNumber(..) => false,
+            LvlScan::NoHlo | LvlScan::Number(_) => true,
+        }
+    }
+
+    /// What is found once the next token came.
+    fn with(self, token: Token) -> LvlScan
+        ensures { (tokens : List ℕ) → self ≡ lvl_scan_of tokens → result ≡ lvl_scan_of (tokens ++ token ∷ []) }
+    {
+        match self {
+            LvlScan::NoToken => {
+                if token.code() == HLO {
+                    return LvlScan::NoNumber(Token::from_code(0), Token::from_code(0), token);
+                }
+                LvlScan::NoHlo
+            }
+            LvlScan::NoNumber(third, second, last) => {
+                match option_number(third, second, last, token) {
+                    Some(number) => LvlScan::Number(number),
+                    None => LvlScan::NoNumber(second, last, token),
+                }
+            }
+            LvlScan::NoHlo | LvlScan::Number(_) => self,
+        }
+    }
+}
+
+/// An HLO as its tokens come, and how many tokens were looked at, of all messages, modulo 2^64.
+#[derive(Drop)]
+pub struct HloScan {
+    found: LvlScan,
+    looked_at: u64,
+}
+
+impl HloScan {
+    /// No token came, and none was looked at.
+    pub fn new() -> HloScan
+        ensures found { result.found ≡ lvl_scan_of [] }
+        ensures looked_at { result.looked_at ≡ 0 }
+    {
+        HloScan {
+            found: LvlScan::NoToken,
+            looked_at: 0,
+        }
+    }
+
+    /// A message begins: no token of it came.
+    pub fn start(&mut self)
+        ensures found { self.new.found ≡ lvl_scan_of [] }
+        ensures looked_at { self.new.looked_at ≡ self.old.looked_at }
+    {
+        self.found = LvlScan::NoToken;
+    }
+
+    /// What is found in the tokens of the message so far.
+    pub fn found(&self) -> LvlScan
+        ensures { result ≡ self.now.found }
+    {
+        self.found
+    }
+
+    /// How many tokens were looked at, of all messages, modulo 2^64.
+    pub fn looked_at(&self) -> u64
+        ensures { result ≡ self.now.looked_at }
+    {
+        self.looked_at
+    }
+
+    /// Looks at the next token, which is counted.
+    fn look(&mut self, token: Token)
+        ensures found { (tokens : List ℕ) → self.old.found ≡ lvl_scan_of tokens →
+            self.new.found ≡ lvl_scan_of (tokens ++ token ∷ []) }
+        ensures looked_at { self.new.looked_at ≡ (self.old.looked_at + 1) % 2 ^ 64 }
+    {
+        self.found = self.found.with(token);
+        self.looked_at = self.looked_at.wrapping_add(1);
+    }
+
+    /// Looks at the tokens of a body from the token `from` on, each once; those before it came before.
+    fn read_on(&mut self, body: &[u8], from: usize)
+        requires came_before { 2 * from ≤ length body.now }
+        requires short { length body.now ≤ longest_message }
+        ensures found { self.old.found ≡ lvl_scan_of (tokens_of (take (2 * from) body.now)) →
+            self.new.found ≡ lvl_scan_of (tokens_of body.now) }
+        ensures looked_at { IsRaised (length body.now / 2 - from) self.old.looked_at self.new.looked_at }
+    {
+        for i in from..body.len() / 2 {
+            if self.found.is_settled() {
+                return;
+            }
+            self.look(Token::from_be([body[2 * i], body[2 * i + 1]]));
+        }
+    }
+
+    /// Looks at the tokens of a body from the token `from` on, each once; those before it came before. An odd byte
+    /// at the end waits for its other half. Most messages are no HLO, which their first token tells.
+    #[inline(always)]
+    pub fn read(&mut self, body: &[u8], from: usize)
+        requires came_before { 2 * from ≤ length body.now }
+        requires short { length body.now ≤ longest_message }
+        ensures found { self.old.found ≡ lvl_scan_of (tokens_of (take (2 * from) body.now)) →
+            self.new.found ≡ lvl_scan_of (tokens_of body.now) }
+        ensures looked_at { IsRaised (length body.now / 2 - from) self.old.looked_at self.new.looked_at }
+    {
+        if let LvlScan::NoToken = self.found
+            && from < body.len() / 2
+        {
+            let first = Token::from_be([body[2 * from], body[2 * from + 1]]);
+            if first.code() != HLO {
+                self.look(first);
+                return;
+            }
+        }
+        self.read_on(body, from);
+    }
+}
+
+/// The level after a message of the server that was relayed, in whose tokens this is found: an HLO sets it,
+/// to at most `top`.
+pub fn level_reported(top: Level, found: LvlScan, level: Level) -> Level
+    ensures { (tokens : List ℕ) → found ≡ lvl_scan_of tokens → result ≡ level_of_message top tokens level }
+{
+    match found {
+        LvlScan::NoToken | LvlScan::NoHlo => level,
+        LvlScan::NoNumber(..) => Level::L0,
+        LvlScan::Number(number) => Level::of_lvl(number, top),
+    }
+}

@@ -1,0 +1,48 @@
+//! The counts of a session's moves.
+
+ghost use Rattle.std.specs.Prelude.{◌≡◌};
+ghost use Rattle.daide_protocol.specs.Summary.{count_note, counted_on, nothing_counted, HasRoom, IsMoreBy};
+
+use crate::note::{Deed, Note};
+
+/// How many frames were passed on, how many answered by PRN and by HUH, and how many faults there were.
+#[derive(Clone, Copy, Debug, PartialEq, Eq)]
+pub struct Summary {
+    /// Frames that were passed on to the other side.
+    pub relayed: u64,
+    /// Messages that were answered by PRN.
+    pub prn: u64,
+    /// Messages that were answered by HUH.
+    pub huh: u64,
+    /// Faults, each of which ended the session.
+    pub faults: u64,
+}
+
+impl Summary {
+    /// Nothing counted.
+    pub fn new() -> Summary
+        ensures { result ≡ nothing_counted }
+    {
+        Summary {
+            relayed: 0,
+            prn: 0,
+            huh: 0,
+            faults: 0,
+        }
+    }
+
+    /// Counts a move, modulo 2^64. Frames that went nowhere and ends are counted nowhere.
+    pub fn count(&mut self, reported: Note)
+        ensures modulo { self.new ≡ counted_on reported self.old }
+        ensures counted { HasRoom 1 self.old → self.new ≡ count_note reported self.old }
+        ensures few { IsMoreBy 1 self.old self.new }
+    {
+        match reported {
+            Note::Frame(_, Deed::Relayed) => self.relayed = self.relayed.wrapping_add(1),
+            Note::Frame(_, Deed::Prn) => self.prn = self.prn.wrapping_add(1),
+            Note::Frame(_, Deed::Huh(_)) => self.huh = self.huh.wrapping_add(1),
+            Note::Fault(_) => self.faults = self.faults.wrapping_add(1),
+            Note::Nothing | Note::Frame(_, Deed::Dropped) => {}
+        }
+    }
+}

@@ -1,0 +1,150 @@
+//! Names of two addresses, of the server and to listen on. No machine need have such a name, so a runtime that knows one
+//! stands in for it.
+
+use crate::doors::any_port;
+use crate::frames::{FM, IM};
+use daide_commands::running::run_text;
+use daide_test_support::rows::holds;
+use std::alloc::Global;
+use std::io;
+use std::io::{Read, Write};
+use std::net::{Net, SocketAddr, TcpListener, TcpStream};
+use std::rt::Clock;
+use std::test::Fail;
+use std::time::Duration;
+
+/// Each name has these two addresses, whatever its port.
+#[derive(Drop)]
+struct Named<'a> {
+    rt: &'a HostRuntime,
+    addresses: [SocketAddr; 2],
+}
+
+impl Alloc for Named<'_> {
+    type A = Global;
+
+    fn alloc(&self) -> Global {
+        self.rt.alloc()
+    }
+}
+
+impl Clock for Named<'_> {
+    fn monotonic(&self) -> io::Result<Duration> {
+        self.rt.monotonic()
+    }
+
+    fn since_1970(&self) -> io::Result<Duration> {
+        self.rt.since_1970()
+    }
+}
+
+impl Net for Named<'_> {
+    type Stream = TcpStream;
+
+    type Listener = TcpListener;
+
+    fn bind(&self, addr: SocketAddr) -> io::Result<TcpListener> {
+        self.rt.bind(addr)
+    }
+
+    fn connect(&self, addr: SocketAddr) -> io::Result<TcpStream> {
+        self.rt.connect(addr)
+    }
+
+    fn lookup_host(&self, _host: &str, _port: u16, found: &mut [SocketAddr]) -> io::Result<usize> {
+        let count = found.len().min(2);
+        found[..count].copy_from_slice(&self.addresses[..count]);
+        Ok(count)
+    }
+}
+
+/// The initial and the final message.
+const IM_FM: &[u8] = b"\x00\x00\x00\x04\x00\x01\xda\x10\x03\x00\x00\x00";
+
+/// An output at whose first line a bot comes, which opens and ends its session and stays.
+#[derive(Drop)]
+struct Announced<'a, R: Net> {
+    rt: &'a R,
+    gate: &'a str,
+    text: Vec<u8>,
+    bot: Option<R::Stream>,
+}
+
+impl<R: Net> Write for Announced<'_, R> {
+    fn write(&mut self, bytes: &[u8]) -> io::Result<usize> {
+        self.text.extend_from_slice(bytes)?;
+        if self.text.as_slice() == b"listening\n".as_slice() {
+            let mut bot = TcpStream::connect(self.rt, self.gate)?;
+            bot.write_all(IM_FM)?;
+            self.bot = Some(bot);
+        }
+        Ok(bytes.len())
+    }
+
+    fn flush(&mut self) -> io::Result<()> {
+        Ok(())
+    }
+}
+
+/// A run with a bot that comes once it listens: what it prints is one line, and nothing is told.
+fn serves_one<R: AllocGlobal + Clock + Net>(
+    rt: &R,
+    (listen, at): (&str, &str),
+    to: &str,
+) -> Result<(), Fail> {
+    let settings = format!(in rt.alloc(); "listen = '{listen}'\nserver = '{to}'")?;
+    let mut output = Announced {
+        rt,
+        gate: at,
+        text: Vec::new(rt.alloc()),
+        bot: None,
+    };
+    let mut errors = Vec::new(rt.alloc());
+    let ended = run_text(rt, settings.as_str(), false, &mut output, &mut errors);
+    let is_quiet = errors.is_empty() && output.text.as_slice() == b"listening\n".as_slice();
+    holds(
+        ended == Ok(()) && is_quiet && output.bot.is_some(),
+        "the run",
+    )
+}
+
+/// Whether a connection that waits at the server brought an IM and an FM.
+fn brought_both(rt: &HostRuntime, server: &TcpListener) -> Result<bool, Fail> {
+    let (mut heard, _) = server.accept()?;
+    heard.set_read_timeout(Some(Duration::from_secs(5)))?;
+    let mut bytes = vec![in rt.alloc(); 0u8; 12]?;
+    heard.read_exact(bytes.as_mut_slice())?;
+    Ok(bytes.starts_with(IM) && bytes.ends_with(FM))
+}
+
+/// Of a name's addresses nobody listens at the first, and the server at the second: the bot is served there, and
+/// nothing is told.
+#[test]
+fn second_address_of_the_server_is_tried(rt: HostRuntime) -> Result<(), Fail> {
+    let server = TcpListener::bind(&rt, any_port())?;
+    let nobody = TcpListener::bind(&rt, any_port())?.local_addr()?;
+    let names = Named {
+        rt: &rt,
+        addresses: [nobody, server.local_addr()?],
+    };
+    let at = TcpListener::bind(&rt, any_port())?.local_addr()?;
+    let at = at.to_string(rt.alloc())?;
+    serves_one(&names, (at.as_str(), at.as_str()), "server:1")?;
+    holds(brought_both(&rt, &server)?, "both frames")
+}
+
+/// The first of a name's addresses is taken by another: bots come at the second.
+#[test]
+fn second_address_is_listened_on(rt: HostRuntime) -> Result<(), Fail> {
+    let server = TcpListener::bind(&rt, any_port())?;
+    let taken = TcpListener::bind(&rt, any_port())?;
+    let free = TcpListener::bind(&rt, any_port())?.local_addr()?;
+    let names = Named {
+        rt: &rt,
+        addresses: [taken.local_addr()?, free],
+    };
+    let at = free.to_string(rt.alloc())?;
+    let to = server.local_addr()?.to_string(rt.alloc())?;
+    serves_one(&names, ("gate:1", at.as_str()), to.as_str())?;
+    holds(brought_both(&rt, &server)?, "both frames")
+}

@@ -1,0 +1,110 @@
+//! The text of a file of settings: its bound, and what can't be read.
+
+use daide_commands::running::{RunFault, text_of};
+use daide_commands::text::{SettingsTextFault, read_text};
+use daide_test_support::rows::{holds, same};
+use linked_list_allocator::LocalHeap;
+use std::alloc::Global;
+use std::io;
+use std::io::{ErrorKind, Read};
+use std::test::Fail;
+
+/// A reader that fails with one kind of error.
+#[derive(Drop)]
+struct Fails(ErrorKind);
+
+impl Read for Fails {
+    fn read(&mut self, _buffer: &mut [u8]) -> io::Result<usize> {
+        Err(io::Error::from(self.0))
+    }
+}
+
+/// A reader that gives a byte at a time, and is interrupted before each.
+#[derive(Drop)]
+struct Halting {
+    bytes: &'static [u8],
+    is_next: bool,
+}
+
+impl Read for Halting {
+    fn read(&mut self, buffer: &mut [u8]) -> io::Result<usize> {
+        self.is_next = !self.is_next;
+        if self.is_next {
+            return Err(ErrorKind::Interrupted.into());
+        }
+        let count = self.bytes.len().min(buffer.len()).min(1);
+        buffer[..count].copy_from_slice(&self.bytes[..count]);
+        self.bytes = &self.bytes[count..];
+        Ok(count)
+    }
+}
+
+/// Why a text of settings is refused, if it is.
+fn refusal(alloc: Global, input: &mut impl Read) -> Option<SettingsTextFault> {
+    read_text(alloc, input).err()
+}
+
+/// Why a text is refused that can't be read to its end for an error of this kind.
+fn refusal_at(alloc: Global, kind: ErrorKind) -> Option<SettingsTextFault> {
+    refusal(alloc, &mut Fails(kind))
+}
+
+#[test]
+fn settings_have_a_longest_text(rt: HostRuntime) -> Result<(), Fail> {
+    let mut text = vec![in rt.alloc(); b'#'; 65_536]?;
+    same(&refusal(rt.alloc(), &mut text.as_slice()), &None, &65_536)?;
+    text.push(b'#')?;
+    let unreadable = Some(SettingsTextFault::Unreadable);
+    same(
+        &refusal(rt.alloc(), &mut text.as_slice()),
+        &unreadable,
+        &65_537,
+    )
+}
+
+#[test]
+fn settings_that_cannot_be_read(rt: HostRuntime) -> Result<(), Fail> {
+    let unreadable = Some(SettingsTextFault::Unreadable);
+    let mut not_text = b"listen = '\xff'".as_slice();
+    same(&refusal(rt.alloc(), &mut not_text), &unreadable, &"no text")?;
+    let other = refusal_at(rt.alloc(), ErrorKind::Other);
+    same(&other, &unreadable, &"another error")?;
+    let waits = refusal_at(rt.alloc(), ErrorKind::WouldBlock);
+    same(&waits, &unreadable, &"a read that would wait")?;
+    let reset = refusal_at(rt.alloc(), ErrorKind::ConnectionReset);
+    same(&reset, &unreadable, &"a reset")?;
+    let memory = refusal_at(rt.alloc(), ErrorKind::OutOfMemory);
+    same(&memory, &Some(SettingsTextFault::Memory), &"want of memory")
+}
+
+/// What a run is told where its settings can't be read for an error of this kind.
+fn told_at(alloc: Global, kind: ErrorKind) -> Option<RunFault> {
+    text_of(alloc, &mut Fails(kind)).err()
+}
+
+/// What it is told where their text is to lie in a heap of so many bytes.
+fn told_within(alloc: Global, size: usize) -> Result<Option<RunFault>, Fail> {
+    let heap = LocalHeap::new(alloc, size)?;
+    Ok(text_of(&heap, &mut b"listen = ".as_slice()).err())
+}
+
+/// A run tells want of memory for the text of its settings as such, and nothing else.
+#[test]
+fn want_of_memory_for_settings_is_told(rt: HostRuntime) -> Result<(), Fail> {
+    let other = told_at(rt.alloc(), ErrorKind::Other);
+    same(&other, &Some(RunFault::Unreadable), &"another error")?;
+    let memory = told_at(rt.alloc(), ErrorKind::OutOfMemory);
+    same(&memory, &Some(RunFault::Memory), &"want of memory")?;
+    same(&told_within(rt.alloc(), 0)?, &Some(RunFault::Memory), &0)?;
+    same(&told_within(rt.alloc(), 4096)?, &None, &4096)
+}
+
+#[test]
+fn settings_that_come_in_parts(rt: HostRuntime) -> Result<(), Fail> {
+    let mut parts = Halting {
+        bytes: b"listen = ",
+        is_next: false,
+    };
+    let text = read_text(rt.alloc(), &mut parts)?;
+    holds(text.as_str() == "listen = ", text.as_str())
+}

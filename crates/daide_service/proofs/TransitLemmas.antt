@@ -1,9 +1,0 @@
--- Calls of a system, one after another.
-use Rattle.std.proofs.Common.{List, [], ◌∷◌, ◌++◌, subst}
-use Rattle.daide_machine.specs.System.{SystemAnswer, TransitsBy}
-
-module _ {P S : Type 0} (transition : S → SystemAnswer P → S → Type 0) where
-  pub transits_then : (xs ys : List (SystemAnswer P)) (a b c : S) → TransitsBy transition a xs b →
-      TransitsBy transition b ys c → TransitsBy transition a (xs ++ ys) c
-  transits_then [] ys a b c h k = subst (λ (x : S). TransitsBy transition x ys c) h k
-  transits_then (x ∷ xs) ys a b c h k = (h.0, h.1, transits_then xs ys h.0 b c h.2 k)

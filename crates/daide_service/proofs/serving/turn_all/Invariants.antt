@@ -1,7 +1,0 @@
-use Rattle.daide_service.proofs.BeginningLemmas.{Turning}
-use Rattle.daide_service.proofs.serving.turn_all.Given as goal
-
--- the places before this one had their turns
-abbrev pub invariant-loop-i : goal.invariant-loop-i
-invariant-loop-i g l =
-    Turning g.P.Ports.becomes g.S.System.transition l.initial.system l.initial.hub l.i l.hub l.system

@@ -1,0 +1,167 @@
+-- How the moves of an outcome are made on the traffic.
+use Rattle.std.proofs.Common.{◌≡◌, ℕ, Bool, true, false, cond, List, [], ◌∷◌, ◌++◌, Option, Some, refl, sym, ap}
+use Rattle.std.proofs.Common.{◌∙◌, subst, append_assoc, append-nil, ◌<◌, ◌≤◌, length, arith}
+use Rattle.daide_frame.specs.declared.side.Side.{Side}
+use Rattle.daide_frame.specs.declared.side.Side.TheVariants.{Bot, Server}
+use Rattle.daide_frame.specs.declared.code.Code.{Code}
+use Rattle.daide_grammar.specs.declared.level.Level.TheVariants.{L0}
+use Rattle.daide_protocol.specs.declared.ending.Ending.{Ending}
+use Rattle.daide_protocol.specs.declared.ending.Ending.TheVariants as Endings
+use Rattle.daide_protocol.specs.declared.note.Note.TheVariants as Notes
+use Rattle.daide_protocol.specs.declared.phase.Phase.TheVariants.{Over}
+use Rattle.daide_protocol.specs.declared.summary.Summary.{Summary}
+use Rattle.daide_protocol.specs.Summary.{counted_on}
+use Rattle.daide_protocol.specs.Events.{other}
+use Rattle.daide_protocol.specs.Machine.{Sent, Coming, fault, fm_to, em_to, coming, is_over}
+use Rattle.std.specs.Prelude.{◌==◌}
+use Rattle.daide_frame.specs.Frames.{missing}
+use Rattle.daide_protocol.specs.Wires.{SessionView, queued, same_side, frames_to, is_awaited, room_of}
+use Rattle.daide_session.specs.declared.protocol_state.ProtocolState.{ProtocolState}
+use Rattle.daide_channels.specs.PerSide.{PerSide, at}
+use Rattle.daide_channels.specs.Channels.{Channels, posted, final_frame_to, pending}
+use Rattle.daide_session.specs.Session.{state_of, view_of}
+use Rattle.daide_session.specs.FrameEvents.{Emits, KeepsSides}
+
+-- ---- the value by its parts
+
+pub waiting_at : (t : Channels) (s : ProtocolState) (wire : Side) → queued (view_of t s) wire ≡ at t.queued wire
+waiting_at t s Bot = refl
+waiting_at t s Server = refl
+
+-- what waits, where what the traffic lets wait is the same
+pub waits_same : (t u : Channels) (s r : ProtocolState) (wire : Side) → u.queued ≡ t.queued →
+    queued (view_of u r) wire ≡ queued (view_of t s) wire
+waits_same t u s r wire e =
+    waiting_at u r wire ∙ (ap (λ (w : PerSide (List Sent)). at w wire) e ∙ sym (waiting_at t s wire))
+
+-- ---- frames that come to wait
+
+pub frames_to-cons : (wire : Side) (frame : Sent) (frames : List Sent) →
+    frames_to wire (frame ∷ frames) ≡ frames_to wire (frame ∷ []) ++ frames_to wire frames
+frames_to-cons wire frame frames = go (same_side frame.to wire)
+  where
+    go : (b : Bool) → cond b (frame ∷ frames_to wire frames) (frames_to wire frames)
+        ≡ cond b (frame ∷ []) [] ++ frames_to wire frames
+    go true = refl
+    go false = refl
+
+pub posted_at : (w : PerSide (List Sent)) (frame : Sent) (wire : Side) →
+    at (posted w frame) wire ≡ at w wire ++ frames_to wire (frame ∷ [])
+posted_at w frame wire = go frame.to wire
+  where
+    go : (to wire : Side) →
+        at (posted w (record { to = to; answers = frame.answers; bytes = frame.bytes })) wire
+        ≡ at w wire ++ frames_to wire (record { to = to; answers = frame.answers; bytes = frame.bytes } ∷ [])
+    go Bot Bot = refl
+    go Bot Server = sym (append-nil w.server)
+    go Server Bot = sym (append-nil w.bot)
+    go Server Server = refl
+
+-- a frame for one wire leaves the other alone
+pub other_post : (w : PerSide (List Sent)) (side : Side) (code : Option Code) →
+    at (posted w (final_frame_to side code)) (other side) ≡ at w (other side)
+other_post w Bot code = refl
+other_post w Server code = refl
+
+-- ---- the end
+
+-- the same with other counts
+abbrev pub with_counts : ProtocolState → Summary → ProtocolState
+with_counts protocol summary = record {
+  top_level = protocol.top_level;
+  phase = protocol.phase;
+  level = protocol.level;
+  ending = protocol.ending;
+  summary = summary;
+}
+
+-- ended by this
+abbrev pub ended_by : Ending → ProtocolState → ProtocolState
+ended_by ending protocol = record {
+  top_level = protocol.top_level;
+  phase = Over;
+  level = L0;
+  ending = Some ending;
+  summary = protocol.summary;
+}
+
+pub failed : (old mid new : Channels) (protocol closed : ProtocolState) (counts : Summary) (side : Side) (code : Code) →
+    KeepsSides old new → mid.queued ≡ posted old.queued (final_frame_to side (Some code)) →
+    closed ≡ ended_by (Endings.Fault side code) protocol → counts ≡ counted_on (Notes.Fault code) closed.summary →
+    ((wire : Side) → at new.queued wire ≡ at mid.queued wire ++ frames_to wire (fm_to protocol.phase (other side))) →
+    Emits (view_of old protocol) (fault (state_of old protocol) side code) (view_of new (with_counts closed counts))
+failed old mid new protocol closed counts side code keeps post queue_final counted close = record {
+  state = rw (keeps.cap, keeps.rules, keeps.sides, queue_final) refl;
+  counts = counted ∙ ap (λ (s : ProtocolState). counted_on (Notes.Fault code) s.summary) queue_final;
+  sent = λ wire. waiting_at new (with_counts closed counts) wire
+      ∙ (close wire
+      ∙ (ap (λ (w : PerSide (List Sent)). at w wire ++ frames_to wire fm) post
+      ∙ (ap (λ (x : List Sent). x ++ frames_to wire fm) (posted_at old.queued em wire)
+      ∙ (append_assoc (at old.queued wire) (frames_to wire (em ∷ [])) (frames_to wire fm)
+      ∙ (ap (λ (x : List Sent). at old.queued wire ++ x) (sym (frames_to-cons wire em fm)
+      ∙ sym (append-nil (frames_to wire (em ∷ fm))))
+      ∙ ap (λ (x : List Sent). x ++ (frames_to wire (em ∷ fm) ++ [])) (sym (waiting_at old protocol wire)))))));
+}
+  where
+    em : Sent
+    em = em_to side code
+
+    fm : List Sent
+    fm = fm_to protocol.phase (other side)
+
+-- ---- the room
+
+pub coming_at : (t : Channels) (s : ProtocolState) (side : Side) → coming (state_of t s) side ≡ (at t.sides side).coming
+coming_at t s Bot = refl
+coming_at t s Server = refl
+
+-- where a session takes bytes
+pub record IsFree (g : SessionView) (side : Side) : Type 0 where
+  pub live : is_over g.state.phase ≡ false
+  pub free : is_awaited (queued g) side ≡ false
+  pub room : room_of g side ≡ missing g.state.limits.cap (coming g.state side).pending
+
+pub free_of : (g : SessionView) (side : Side) → 0 < room_of g side → IsFree g side
+unfolding room_of
+free_of g side h = go (is_over g.state.phase) refl (is_awaited (queued g) side) refl
+  where
+    go : (a : Bool) → is_over g.state.phase ≡ a → (b : Bool) → is_awaited (queued g) side ≡ b → IsFree g side
+    go true e b f = absurd (let none = rw e at h in omega (arith, none))
+    go false e true f = absurd (let none = rw (e, f) at h in omega (arith, none))
+    go false e false f = record { live = e; free = f; room = rw (e, f) refl }
+
+pub not_empty : (piece : List ℕ) → (length piece == 0) ≡ false → 0 < length piece
+not_empty [] e = absurd (cc)
+not_empty (x ∷ piece) e = omega arith
+
+-- a piece that has a byte and for which there is room
+pub free_for : {g now : SessionView} {empty : Bool} (side : Side) (piece : List ℕ) → g ≡ now →
+    empty ≡ (length piece == 0) → empty ≡ false → length piece ≤ room_of now side → IsFree g side
+free_for {g} side piece same e f few =
+    free_of g side (rw same (let some = not_empty piece (sym e ∙ f) in omega (arith, some, few)))
+
+-- what has room, as the traffic sees it
+pub fits : (t : Channels) (s : ProtocolState) (side : Side) (piece : List ℕ) (now : SessionView) → view_of t s ≡ now →
+    room_of (view_of t s) side ≡ missing t.cap (coming (state_of t s) side).pending →
+    length piece ≤ room_of now side → length piece ≤ missing t.cap (pending t side)
+fits t s side piece now same room few =
+    subst (λ (c : Coming). length piece ≤ missing t.cap c.pending) (coming_at t s side)
+    (subst (λ (n : ℕ). length piece ≤ n) room
+    (subst (λ (g : SessionView). length piece ≤ room_of g side) (sym same) few))
+
+pub room_over : (g : SessionView) (side : Side) → is_over g.state.phase ≡ true → room_of g side ≡ 0
+unfolding room_of
+room_over g side e = rw e refl
+
+pub room_awaited : (g : SessionView) (side : Side) → is_awaited (queued g) side ≡ true → room_of g side ≡ 0
+unfolding room_of
+room_awaited g side e = go (is_over g.state.phase) refl
+  where
+    go : (b : Bool) → is_over g.state.phase ≡ b → room_of g side ≡ 0
+    go true f = rw f refl
+    go false f = rw (f, e) refl
+
+pub room_open : (g : SessionView) (side : Side) → is_over g.state.phase ≡ false → is_awaited (queued g) side ≡ false →
+    room_of g side ≡ missing g.state.limits.cap (coming g.state side).pending
+unfolding room_of
+room_open g side e f = rw (e, f) refl

@@ -1,0 +1,455 @@
+-- What the items that end with a byte make of a session's value.
+use Rattle.std.proofs.Common.{◌≡◌, ℕ, true, false, List, [], ◌∷◌, ◌++◌, length, drop, Option}
+use Rattle.std.proofs.Common.{Some, None, Ok}
+use Rattle.std.proofs.Common.{refl, sym, ap, ◌∙◌, subst, append-nil, arith, inl, inr, ⊎_elim}
+use Rattle.daide_frame.specs.declared.side.Side.{Side}
+use Rattle.daide_frame.specs.declared.side.Side.TheVariants.{Bot, Server}
+use Rattle.daide_frame.specs.declared.head.Head.{Head}
+use Rattle.daide_frame.specs.declared.code.Code.{Code}
+use Rattle.daide_frame.specs.declared.head.Kind.{Kind}
+use Rattle.daide_frame.specs.declared.head.Kind.TheVariants.{Im, Rm, Dm, Fm, Em}
+use Rattle.daide_token.specs.Token.{tokens_of}
+use Rattle.daide_frame.specs.declared.cutter.Step.TheVariants.{Bodied}
+use Rattle.daide_frame.specs.Frames.{Begun, Whole, items_of_step, head_in}
+use Rattle.daide_frame.specs.Head.{is_im}
+use Rattle.daide_grammar.specs.declared.level.Level.{Level}
+use Rattle.daide_grammar.specs.declared.level.Level.TheVariants.{L0}
+use Rattle.daide_protocol.specs.declared.note.Deed.TheVariants.{Dropped}
+use Rattle.daide_protocol.specs.declared.ending.Ending.{Ending}
+use Rattle.daide_protocol.specs.declared.phase.Phase.{Phase}
+use Rattle.daide_reader.specs.declared.verdict.Verdict.{Verdict}
+use Rattle.daide_reader.specs.declared.verdict.Verdict.TheVariants.{Relay, Prn, Huh}
+use Rattle.daide_reader.proofs.ReadingLemmas.{raised_none}
+use Rattle.daide_reader.specs.Reading.{IsRaised}
+use Rattle.daide_protocol.specs.declared.note.Note.{Note}
+use Rattle.daide_protocol.specs.declared.note.Note.TheVariants as Notes
+use Rattle.daide_protocol.specs.Events.{other}
+use Rattle.daide_protocol.specs.Machine.{Sent, Effect, Successor, SessionState, Coming, with_noted}
+use Rattle.daide_protocol.specs.Machine.{is_over, is_dm, is_sent, level_after, phase_after, in_phase, with_pending}
+use Rattle.daide_protocol.specs.Machine.{untimely, frame_outcome, answered, im_answered, with_ending, ending_after}
+use Rattle.daide_protocol.specs.Machine.{one_effect, reply_to, destination, deed_of}
+use Rattle.daide_protocol.specs.declared.summary.Summary.{Summary}
+use Rattle.daide_protocol.specs.Summary.{tallied, counted_on}
+use Rattle.daide_grammar.specs.Words.{Words}
+use Rattle.daide_protocol.specs.Machine.{items_outcome, IsCorrectVerdict}
+use Rattle.daide_protocol.specs.Machine.{question_of}
+use Rattle.daide_protocol.specs.Wires.{SessionView, Holding, queued, holding, sent_to, note_of, held_after}
+use Rattle.daide_protocol.specs.Weight.{tokens_held}
+use Rattle.daide_protocol.specs.Wires.{is_dm_head, frames_to}
+use Rattle.daide_session.specs.declared.protocol_state.ProtocolState.{ProtocolState}
+use Rattle.daide_channels.specs.PerSide.{PerSide, at}
+use Rattle.daide_channels.specs.Receiver.{ReaderLimits}
+use Rattle.daide_channels.specs.Channels.{Channels, ReceiveState, IsAnswered, IsCleared, Keeps, pending, posted}
+use Rattle.daide_session.specs.Session.{state_of, view_of}
+use Rattle.daide_session.specs.FrameEvents.{HasNoMessageBytes, HandlesFrameEvents, StartsMessage, note_by, check_of}
+use Rattle.daide_session.proofs.EmitsLemmas.{coming_at, waiting_at, waits_same, posted_at}
+
+-- ---- outcomes
+
+abbrev outcome : SessionState → List Effect → Successor
+outcome s effects = record { state = s; effects = effects }
+
+same_outcome : (o : Successor) → outcome o.state (o.effects ++ []) ≡ o
+same_outcome o = ap (outcome o.state) (append-nil o.effects)
+
+whole_outcome : (s : SessionState) (side : Side) (head : Head) (body : List ℕ) (v : Verdict) →
+    is_over s.phase ≡ false → items_outcome s side (Whole head body ∷ []) v ≡ frame_outcome s side head body v
+whole_outcome s side head body v live = rw live (same_outcome (frame_outcome s side head body v))
+
+noted_phase : (s : SessionState) (side : Side) (level : Level) → (with_noted s side level).phase ≡ s.phase
+noted_phase s Bot level = refl
+noted_phase s Server level = refl
+
+-- a header that is timely, and its empty body
+empty_outcome : (s : SessionState) (side : Side) (head : Head) (v : Verdict) → is_over s.phase ≡ false →
+    untimely s.phase side head.kind ≡ None →
+    items_outcome s side (Begun head ∷ Whole head [] ∷ []) v ≡ frame_outcome (with_noted s side s.level) side head [] v
+empty_outcome s side head v live timely =
+    rw (live, timely) (rw (ap is_over (noted_phase s side s.level) ∙ live)
+    (same_outcome (frame_outcome (with_noted s side s.level) side head [] v)))
+
+-- ---- the value by its parts
+
+pub holding_at : (t : Channels) (s : ProtocolState) (side : Side) → holding (view_of t s) side ≡ (at t.sides side).holding
+holding_at t s Bot = refl
+holding_at t s Server = refl
+
+-- what is held of a side, where all that came of it is the same
+pub holding_same : (t u : Channels) (s r : ProtocolState) (side : Side) → at u.sides side ≡ at t.sides side →
+    holding (view_of u r) side ≡ holding (view_of t s) side
+holding_same t u s r side e =
+    holding_at u r side ∙ (ap (λ (a : ReceiveState). a.holding) e ∙ sym (holding_at t s side))
+
+-- ---- a header
+
+noted_state : (t u : Channels) (s : ProtocolState) (side : Side) → Keeps side t u →
+    (at u.sides side).coming ≡ record { pending = (at t.sides side).coming.pending; noted = s.level } →
+    state_of u s ≡ with_noted (state_of t s) side s.level
+noted_state t u s Bot keeps e = rw (keeps.cap, keeps.rules, keeps.other_side, e) refl
+noted_state t u s Server keeps e = rw (keeps.cap, keeps.rules, keeps.other_side, e) refl
+
+-- ---- a header
+
+-- a header that is timely, of whose body nothing came
+pub begun_alone : (t u : Channels) (s : ProtocolState) (side : Side) (head : Head) → is_over s.phase ≡ false →
+    untimely s.phase side head.kind ≡ None → drop 4 (pending t side) ≡ [] →
+    (at t.sides side).holding.held ≡ pending t side → StartsMessage side t s u s →
+    HandlesFrameEvents (view_of t s) side (Begun head ∷ []) Notes.Nothing (view_of u s)
+begun_alone t u s side head live timely bodiless tied b = record {
+  verdict = Relay;
+  right = refl;
+  moves = record {
+    state = rw (live, timely) (noted_state t u s side b.keeps b.started.coming);
+    sent = λ wire. rw (live, timely)
+        (waits_same t u s s wire b.queued ∙ sym (append-nil (queued (view_of t s) wire)));
+    counts = rw (live, timely) refl;
+  };
+  note = rw (live, timely) refl;
+  held = rw (holding_at u s side, holding_at t s side) b.started.held;
+  asks = record {
+    base = inr (
+      inl (ap (λ (h : Holding). drop 4 h.held) (holding_at t s side) ∙ (ap (drop 4) tied ∙ bodiless)),
+      rw (holding_at u s side, holding_at t s side) b.started.base,
+    );
+    raised = raised_none _ _ total;
+    no_message = λ none. total;
+    looked_at = rw (holding_at u s side, holding_at t s side) b.started.looked_at;
+  };
+  other_side = holding_same t u s s (other side) b.keeps.other_side;
+}
+  where
+    total : (holding (view_of u s) side).total ≡ (holding (view_of t s) side).total
+    total = rw (holding_at u s side, holding_at t s side) b.started.total
+
+-- ---- a header whose body is empty
+
+-- what is called by a code, and isn't nothing, has one
+pub some_code : (code : Option Code) (items_of_step : Note) → items_of_step ≡ note_by code → (items_of_step ≡ Notes.Nothing → ⊥) →
+    (x : Code) × (code ≡ Some x)
+some_code None items_of_step called more = absurd (more called)
+some_code (Some x) items_of_step called more = (x, refl)
+
+-- a header that is untimely ends the session, so that its empty body is no more looked at
+pub begun_late : (o n : SessionView) (side : Side) (head : Head) (items_of_step : Note) (code : Code) →
+    untimely o.state.phase side head.kind ≡ Some code →
+    HandlesFrameEvents o side (Begun head ∷ []) items_of_step n → HandlesFrameEvents o side (Begun head ∷ Whole head [] ∷ []) items_of_step n
+begun_late o n side head items_of_step code late h = record {
+  verdict = h.verdict;
+  right = rw late h.right;
+  moves = record {
+    state = h.moves.state ∙ ap (λ (x : Successor). x.state) same;
+    sent = λ wire. h.moves.sent wire ∙ ap (λ (x : Successor). queued o wire ++ sent_to wire x.effects) same;
+    counts = h.moves.counts ∙ ap (λ (x : Successor). tallied x.effects o.summary) same;
+  };
+  note = h.note ∙ ap (λ (x : Successor). note_of x.effects) same;
+  held = h.held;
+  asks = h.asks;
+  other_side = h.other_side;
+}
+  where
+    same : items_outcome o.state side (Begun head ∷ []) h.verdict
+        ≡ items_outcome o.state side (Begun head ∷ Whole head [] ∷ []) h.verdict
+    same = rw late refl
+
+pub begun_and_empty : (t u v : Channels) (s r q : ProtocolState) (side : Side) (head : Head) (items_of_step : Note) →
+    is_over s.phase ≡ false → untimely s.phase side head.kind ≡ None → drop 4 (at t.sides side).holding.held ≡ [] →
+    StartsMessage side t s u r →
+    HandlesFrameEvents (view_of u r) side (Whole head [] ∷ []) items_of_step (view_of v q) →
+    HandlesFrameEvents (view_of t s) side (Begun head ∷ Whole head [] ∷ []) items_of_step (view_of v q)
+begun_and_empty t u v s r q side head items_of_step live timely bodiless b h = record {
+  verdict = h.verdict;
+  right = rw timely right;
+  moves = record {
+    state = h.moves.state ∙ ap (λ (o : Successor). o.state) same;
+    sent = λ wire. h.moves.sent wire
+        ∙ (ap (λ (x : List Sent). x ++ sent_to wire after.effects) (waited wire)
+        ∙ ap (λ (o : Successor). queued (view_of t s) wire ++ sent_to wire o.effects) same);
+    counts = h.moves.counts
+        ∙ (ap (λ (x : ProtocolState). tallied after.effects x.summary) b.protocol_kept
+        ∙ ap (λ (o : Successor). tallied o.effects s.summary) same);
+  };
+  note = h.note ∙ ap (λ (o : Successor). note_of o.effects) same;
+  held = h.held ∙ ap (held_after items_of_step) held;
+  asks = record {
+    base = ⊎_elim
+        (λ (e : (holding (view_of v q) side).total_before ≡ (holding (view_of u r) side).total_before).
+        inr (unread, e ∙ base))
+        (λ (e : HasNoMessageBytes u.cap (holding (view_of u r) side).held
+        × ((holding (view_of v q) side).total_before ≡ (holding (view_of u r) side).total)).
+        inr (unread, e.1 ∙ total))
+        h.asks.base;
+    raised = subst (λ (n : ℕ). IsRaised 4 n (holding (view_of v q) side).total) total h.asks.raised;
+    no_message = λ none. h.asks.no_message (head_same ∙ none) ∙ total;
+    looked_at = h.asks.looked_at ∙ looked_at;
+  };
+  other_side = h.other_side ∙ holding_same t u s r (other side) b.keeps.other_side;
+}
+  where
+    mid : state_of u r ≡ with_noted (state_of t s) side s.level
+    mid = ap (state_of u) b.protocol_kept ∙ noted_state t u s side b.keeps b.started.coming
+
+    after : Successor
+    after = items_outcome (state_of u r) side (Whole head [] ∷ []) h.verdict
+
+    same : after ≡ items_outcome (state_of t s) side (Begun head ∷ Whole head [] ∷ []) h.verdict
+    same = whole_outcome (state_of u r) side head [] h.verdict (ap (λ (x : ProtocolState). is_over x.phase) b.protocol_kept ∙ live)
+        ∙ (ap (λ (x : SessionState). frame_outcome x side head [] h.verdict) mid
+        ∙ sym (empty_outcome (state_of t s) side head h.verdict live timely))
+
+    right : IsCorrectVerdict t.rules.words t.rules.max_depth (question_of side s.level head []) h.verdict
+    right = subst (λ (r : ReaderLimits). IsCorrectVerdict r.words r.max_depth (question_of side s.level head []) h.verdict) b.keeps.rules
+        (subst (λ (l : Level). IsCorrectVerdict u.rules.words u.rules.max_depth (question_of side l head []) h.verdict)
+        (ap (λ (c : Coming). c.noted) (coming_at u r side ∙ b.started.coming)) h.right)
+
+    waited : (wire : Side) → queued (view_of u r) wire ≡ queued (view_of t s) wire
+    waited wire = waits_same t u s r wire b.queued
+
+    held : (holding (view_of u r) side).held ≡ (holding (view_of t s) side).held
+    held = rw (holding_at u r side, holding_at t s side) b.started.held
+
+    base : (holding (view_of u r) side).total_before ≡ (holding (view_of t s) side).total
+    base = rw (holding_at u r side, holding_at t s side) b.started.base
+
+    total : (holding (view_of u r) side).total ≡ (holding (view_of t s) side).total
+    total = rw (holding_at u r side, holding_at t s side) b.started.total
+
+    looked_at : (holding (view_of u r) side).looked_at ≡ (holding (view_of t s) side).looked_at
+    looked_at = rw (holding_at u r side, holding_at t s side) b.started.looked_at
+
+    unread : HasNoMessageBytes t.cap (holding (view_of t s) side).held
+    unread = inl (ap (λ (h : Holding). drop 4 h.held) (holding_at t s side) ∙ bodiless)
+
+    head_same : is_dm_head (head_in u.cap (holding (view_of u r) side).held)
+        ≡ is_dm_head (head_in t.cap (holding (view_of t s) side).held)
+    head_same = ap (λ (n : ℕ). is_dm_head (head_in n (holding (view_of u r) side).held)) b.keeps.cap
+        ∙ ap (λ (x : List ℕ). is_dm_head (head_in t.cap x)) held
+
+-- ---- a whole frame that is dropped
+
+-- only an FM or EM may not go out
+record IsLast (kind : Kind) (top : Level) (side : Side) (tokens : List ℕ) (level : Level) : Type 0 where
+  not_dm : is_dm kind ≡ false
+  not_im : is_im kind ≡ false
+  ends : level_after top kind side Relay tokens level ≡ L0
+
+last_of : (phase : Phase) (kind : Kind) (to : Side) (top : Level) (side : Side) (tokens : List ℕ) (level : Level) →
+    is_sent phase kind to ≡ false → IsLast kind top side tokens level
+last_of phase Im to top side tokens level e = absurd (cc)
+last_of phase Rm to top side tokens level e = absurd (cc)
+last_of phase Dm to top side tokens level e = absurd (cc)
+last_of phase Fm to top side tokens level e = record { not_dm = refl; not_im = refl; ends = refl }
+last_of phase Em to top side tokens level e = record { not_dm = refl; not_im = refl; ends = refl }
+
+-- a stage after a frame that was dropped
+abbrev dropped_protocol : ProtocolState → Phase → Option Ending → ProtocolState
+dropped_protocol s phase ending =
+    record { top_level = s.top_level; phase = phase; level = L0; ending = ending; summary = s.summary }
+
+cleared_state : (t u : Channels) (s : ProtocolState) (side : Side) (phase : Phase) (ending : Option Ending) → Keeps side t u →
+    (at u.sides side).coming ≡ record { pending = []; noted = (at t.sides side).coming.noted } →
+    state_of u (dropped_protocol s phase ending)
+    ≡ in_phase phase L0 (with_ending ending (with_pending (state_of t s) side []))
+cleared_state t u s Bot phase ending keeps e = rw (keeps.cap, keeps.rules, keeps.other_side, e) refl
+cleared_state t u s Server phase ending keeps e = rw (keeps.cap, keeps.rules, keeps.other_side, e) refl
+
+pub dropped_whole : (t u : Channels) (s : ProtocolState) (side : Side) (head : Head) (body : List ℕ) (phase : Phase)
+    (ending : Option Ending) →
+    is_over s.phase ≡ false → is_sent s.phase head.kind (other side) ≡ false →
+    (at t.sides side).holding.held ≡ pending t side → head_in t.cap (pending t side) ≡ Some head →
+    phase ≡ phase_after head.kind s.phase → ending ≡ ending_after head.kind side s.ending → Keeps side t u →
+    u.queued ≡ t.queued →
+    IsCleared (at t.sides side) (at u.sides side) →
+    HandlesFrameEvents (view_of t s) side (Whole head body ∷ []) (Notes.Frame head Dropped)
+    (view_of u (dropped_protocol s phase ending))
+dropped_whole t u s side head body phase ending live unsent tied head_is now by keeps waits cleared = record {
+  verdict = Relay;
+  right = rw last.not_dm refl;
+  moves = record {
+    state = rw (live, last.not_im, last.ends) (cleared_state t u s side phase ending keeps cleared.coming
+        ∙ (ap (λ (p : Phase). in_phase p L0 (with_ending ending (with_pending (state_of t s) side []))) now
+        ∙ ap (λ (o : Option Ending). in_phase (phase_after head.kind s.phase) L0
+        (with_ending o (with_pending (state_of t s) side []))) by));
+    counts = rw (live, last.not_im, unsent) refl;
+    sent = λ wire. rw (live, last.not_im, unsent)
+        (waits_same t u s later wire waits ∙ sym (append-nil (queued (view_of t s) wire)));
+  };
+  note = rw (live, last.not_im, unsent) refl;
+  held = ap (λ (h : Holding). h.held) (holding_at u later side) ∙ cleared.held;
+  asks = record {
+    base = inr (
+      inr (ap (λ (h : Holding). is_dm_head (head_in t.cap h.held)) (holding_at t s side)
+          ∙ (ap (λ (b : List ℕ). is_dm_head (head_in t.cap b)) tied
+          ∙ (ap is_dm_head head_is ∙ last.not_dm))),
+      rw (holding_at u later side, holding_at t s side) cleared.base,
+    );
+    raised = raised_none _ _ total;
+    no_message = λ none. total;
+    looked_at = rw (holding_at u later side, holding_at t s side) cleared.looked_at;
+  };
+  other_side = holding_same t u s later (other side) keeps.other_side;
+}
+  where
+    last : IsLast head.kind s.top_level side (tokens_of body) s.level
+    last = last_of s.phase head.kind (other side) s.top_level side (tokens_of body) s.level unsent
+
+    later : ProtocolState
+    later = dropped_protocol s phase ending
+
+    total : (holding (view_of u later) side).total ≡ (holding (view_of t s) side).total
+    total = rw (holding_at u later side, holding_at t s side) cleared.total
+
+-- ---- the items that a step tells
+
+pub reported_empty : (head : Head) (body : List ℕ) → length body ≡ head.len → head.len ≡ 0 →
+    items_of_step Bodied (Some head) body ≡ Begun head ∷ Whole head [] ∷ []
+reported_empty head [] e z = refl
+reported_empty head (x ∷ body) e z = absurd (omega (arith, e, z))
+
+pub no_body : (head : Head) (body : List ℕ) → length body ≡ head.len → head.len ≡ 0 → body ≡ []
+no_body head [] e z = refl
+no_body head (x ∷ body) e z = absurd (omega (arith, e, z))
+
+pub no_code : (code : Option Code) → Notes.Nothing ≡ note_by code → code ≡ None
+no_code None e = refl
+no_code (Some code) e = absurd (cc)
+
+-- ---- a whole frame that is answered
+
+whole_good : (s : SessionState) (side : Side) (kind : Kind) (len : ℕ) (body : List ℕ) (v : Verdict) →
+    check_of kind body ≡ Ok tt →
+    frame_outcome s side (record { kind = kind; len = len }) body v ≡ answered s side (record { kind = kind; len = len }) body v
+whole_good s side Im len body v good =
+    let head : Head = record { kind = Im; len = len } in
+    ap (im_answered (answered s side head body v) s side) good
+whole_good s side Rm len body v good = refl
+whole_good s side Dm len body v good = refl
+whole_good s side Fm len body v good = refl
+whole_good s side Em len body v good = refl
+
+-- only a message may go back to its sender
+goes_out : (phase : Phase) (side : Side) (noted : Level) (kind : Kind) (len : ℕ) (body : List ℕ) (v : Verdict)
+    (words : Words) (depth : ℕ) →
+    IsCorrectVerdict words depth (question_of side noted (record { kind = kind; len = len }) body) v →
+    is_sent phase kind (other side) ≡ true → is_sent phase kind (destination side v) ≡ true
+goes_out phase side noted Im len body v words depth right sent = refl
+goes_out phase side noted Rm len body v words depth right sent = refl
+goes_out phase side noted Dm len body v words depth right sent = refl
+goes_out phase side noted Fm len body v words depth right sent = rw right sent
+goes_out phase side noted Em len body v words depth right sent = rw right sent
+
+held_on : (head : Head) (v : Verdict) (bytes : List ℕ) → held_after (Notes.Frame head (deed_of true v)) bytes ≡ bytes
+held_on head Relay bytes = refl
+held_on head Prn bytes = refl
+held_on head (Huh place) bytes = refl
+
+-- only of a message the tokens count
+level_of_held : (cap : ℕ) (held : List ℕ) (top : Level) (kind : Kind) (len : ℕ) (side : Side) (v : Verdict) (level : Level) →
+    head_in cap held ≡ Some (record { kind = kind; len = len }) →
+    level_after top kind side v (tokens_held cap held) level ≡ level_after top kind side v (tokens_of (drop 4 held)) level
+level_of_held cap held top Im len side v level e = refl
+level_of_held cap held top Rm len side v level e = refl
+level_of_held cap held top Dm len side v level e = rw e refl
+level_of_held cap held top Fm len side v level e = refl
+level_of_held cap held top Em len side v level e = refl
+
+pub level_held : (t u : Channels) (side : Side) (top : Level) (head : Head) (v : Verdict) (level : Level) →
+    Keeps side t u → IsAnswered (at t.sides side) (at u.sides side) →
+    (at t.sides side).holding.held ≡ pending t side → head_in t.cap (pending t side) ≡ Some head →
+    level_after top head.kind side v (tokens_held u.cap (at u.sides side).holding.held) level
+    ≡ level_after top head.kind side v (tokens_of (drop 4 (pending t side))) level
+level_held t u side top head v level keeps answered_by tied head_is =
+    ap (λ (n : ℕ). level_after top head.kind side v (tokens_held n (at u.sides side).holding.held) level) keeps.cap
+    ∙ (ap (λ (b : List ℕ). level_after top head.kind side v (tokens_held t.cap b) level) (answered_by.held ∙ tied)
+    ∙ level_of_held t.cap (pending t side) top head.kind head.len side v level head_is)
+
+-- a stage after a frame that was answered
+abbrev answered_protocol : ProtocolState → Phase → Level → Option Ending → Summary → ProtocolState
+answered_protocol s phase level ending counts =
+    record { top_level = s.top_level; phase = phase; level = level; ending = ending; summary = counts }
+
+answered_state : (t u : Channels) (s : ProtocolState) (side : Side) (phase : Phase) (level : Level) (ending : Option Ending)
+    (counts : Summary) → Keeps side t u →
+    (at u.sides side).coming ≡ record { pending = []; noted = (at t.sides side).coming.noted } →
+    state_of u (answered_protocol s phase level ending counts)
+    ≡ in_phase phase level (with_ending ending (with_pending (state_of t s) side []))
+answered_state t u s Bot phase level ending counts keeps e = rw (keeps.cap, keeps.rules, keeps.other_side, e) refl
+answered_state t u s Server phase level ending counts keeps e = rw (keeps.cap, keeps.rules, keeps.other_side, e) refl
+
+pub answered_whole : (t u : Channels) (s : ProtocolState) (side : Side) (head : Head) (body : List ℕ) (verdict : Verdict)
+    (phase : Phase) (level : Level) (ending : Option Ending) (counts : Summary) (items_of_step : Note) →
+    is_over s.phase ≡ false → is_sent s.phase head.kind (other side) ≡ true → check_of head.kind body ≡ Ok tt →
+    (at t.sides side).holding.held ≡ pending t side → head_in t.cap (pending t side) ≡ Some head →
+    IsCorrectVerdict t.rules.words t.rules.max_depth (question_of side (at t.sides side).coming.noted head body) verdict →
+    Keeps side t u → u.queued ≡ posted t.queued (reply_to side head body verdict) →
+    IsAnswered (at t.sides side) (at u.sides side) →
+    IsRaised 4 (at t.sides side).holding.total (at u.sides side).holding.total →
+    (is_dm head.kind ≡ false → (at u.sides side).holding.total ≡ (at t.sides side).holding.total) →
+    phase ≡ phase_after head.kind s.phase →
+    level ≡ level_after s.top_level head.kind side verdict (tokens_of body) s.level →
+    ending ≡ ending_after head.kind side s.ending → items_of_step ≡ Notes.Frame head (deed_of true verdict) →
+    counts ≡ counted_on items_of_step s.summary →
+    HandlesFrameEvents (view_of t s) side (Whole head body ∷ []) items_of_step (view_of u (answered_protocol s phase level ending counts))
+answered_whole t u s side head body verdict phase level ending counts items_of_step live sent good tied head_is right keeps
+    waits answered_by raised no_message its_phase its_level its_ending its_note counted = record {
+      verdict = verdict;
+      right = subst (λ (c : Coming). IsCorrectVerdict t.rules.words t.rules.max_depth (question_of side c.noted head body) verdict)
+          (sym (coming_at t s side)) right;
+      moves = record {
+        state = answered_state t u s side phase level ending counts keeps answered_by.coming
+            ∙ (ap (λ (p : Phase). in_phase p level (with_ending ending (with_pending (state_of t s) side []))) its_phase
+            ∙ (ap (λ (l : Level). in_phase (phase_after head.kind s.phase) l
+            (with_ending ending (with_pending (state_of t s) side []))) its_level
+            ∙ (ap (λ (o : Option Ending). in_phase (phase_after head.kind s.phase)
+            (level_after s.top_level head.kind side verdict (tokens_of body) s.level)
+            (with_ending o (with_pending (state_of t s) side []))) its_ending
+            ∙ sym (ap (λ (o : Successor). o.state) same))));
+        sent = λ wire. waiting_at u later wire
+            ∙ (ap (λ (w : PerSide (List Sent)). at w wire) waits
+            ∙ (posted_at t.queued frame wire
+            ∙ (ap (λ (x : List Sent). at t.queued wire ++ x) (sym (append-nil (frames_to wire (frame ∷ []))))
+            ∙ (ap (λ (x : List Sent). x ++ sent_to wire made.effects) (sym (waiting_at t s wire))
+            ∙ sym (ap (λ (o : Successor). queued (view_of t s) wire ++ sent_to wire o.effects) same)))));
+        counts = counted ∙ (ap (λ (n : Note). counted_on n s.summary) its_note
+            ∙ sym (ap (λ (o : Successor). tallied o.effects s.summary) same));
+      };
+      note = its_note ∙ sym (ap (λ (o : Successor). note_of o.effects) same);
+      held = ap (λ (h : Holding). h.held) (holding_at u later side)
+          ∙ (answered_by.held
+          ∙ (sym (held_on head verdict (at t.sides side).holding.held)
+          ∙ (ap (λ (n : Note). held_after n (at t.sides side).holding.held) (sym its_note)
+          ∙ ap (λ (h : Holding). held_after items_of_step h.held) (sym (holding_at t s side)))));
+      asks = record {
+        base = inl (rw (holding_at u later side, holding_at t s side) answered_by.base);
+        raised = rw (holding_at u later side, holding_at t s side) raised;
+        no_message = λ none. rw (holding_at u later side, holding_at t s side) (no_message (sym is_message ∙ none));
+        looked_at = rw (holding_at u later side, holding_at t s side) answered_by.looked_at;
+      };
+      other_side = holding_same t u s later (other side) keeps.other_side;
+    }
+  where
+    later : ProtocolState
+    later = answered_protocol s phase level ending counts
+
+    frame : Sent
+    frame = reply_to side head body verdict
+
+    made : Successor
+    made = one_effect (in_phase (phase_after head.kind s.phase)
+        (level_after s.top_level head.kind side verdict (tokens_of body) s.level)
+        (with_ending (ending_after head.kind side s.ending) (with_pending (state_of t s) side [])))
+        (Notes.Frame head (deed_of true verdict)) (frame ∷ [])
+
+    goes : is_sent s.phase head.kind (destination side verdict) ≡ true
+    goes = goes_out s.phase side (at t.sides side).coming.noted head.kind head.len body verdict t.rules.words
+        t.rules.max_depth right sent
+
+    made_so : answered (state_of t s) side head body verdict ≡ made
+    made_so = rw goes refl
+
+    same : items_outcome (state_of t s) side (Whole head body ∷ []) verdict ≡ made
+    same = whole_outcome (state_of t s) side head body verdict live
+        ∙ (whole_good (state_of t s) side head.kind head.len body verdict good ∙ made_so)
+
+    is_message : is_dm_head (head_in t.cap (holding (view_of t s) side).held) ≡ is_dm head.kind
+    is_message = ap (λ (h : Holding). is_dm_head (head_in t.cap h.held)) (holding_at t s side)
+        ∙ (ap (λ (b : List ℕ). is_dm_head (head_in t.cap b)) tied ∙ ap is_dm_head head_is)

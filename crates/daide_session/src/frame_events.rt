@@ -1,0 +1,196 @@
+//! What the last byte of a piece makes of a session.
+
+ghost use Rattle.std.specs.Prelude.{◌≡◌, ◌⊎◌, false, [], ◌∷◌, length, drop, Some, None, Ok};
+ghost use Rattle.daide_frame.specs.declared.side.Side.{Side};
+ghost use Rattle.daide_frame.specs.declared.head.Head.{Head};
+ghost use Rattle.daide_frame.specs.declared.head.Kind.TheVariants as Kinds;
+ghost use Rattle.daide_frame.specs.declared.cutter.Step.TheVariants.{Headed, Bodied};
+ghost use Rattle.daide_frame.specs.Frames.{Begun, Whole, head_in, items_of_step, IsWholeBody};
+ghost use Rattle.daide_protocol.specs.Machine.{untimely as untimely_code, is_over as is_over_phase};
+ghost use Rattle.daide_protocol.specs.Wires.{is_awaited};
+ghost use Rattle.daide_channels.specs.PerSide.{at};
+ghost use Rattle.daide_channels.specs.Fronts.{KeepsFronts};
+ghost use Rattle.daide_channels.specs.Channels.{pending, side_holding, has_final_frame};
+ghost use Rattle.daide_session.specs.Session.{view_of};
+ghost use Rattle.daide_session.specs.FrameEvents.{HandlesFrameEvents, StartsMessage, note_by, check_of};
+
+use crate::protocol_state::{ProtocolState, fail};
+use daide_channels::channels::Channels;
+use daide_frame::code::Code;
+use daide_frame::cutter::Step;
+use daide_frame::head::{Head, Kind};
+use daide_frame::initial_message::check_im;
+use daide_frame::side::Side;
+use daide_grammar::level::Level;
+use daide_protocol::note::{Deed, Note};
+use daide_protocol::transitions::{
+    deed_of, ending_after, is_sent, level_after, other, phase_after, untimely,
+};
+use std::alloc::Allocator;
+
+/// Checks a whole frame by its body: an IM must have the protocol's magic number and version.
+#[tactic(auto, unfolding(daide_frame::specs::InitialMessage::im_of))]
+fn check_frame(kind: Kind, body: &[u8]) -> Result<(), Code>
+    requires { kind ≡ Kinds.Im → length body.now ≡ 4 }
+    ensures { result ≡ check_of kind body.now }
+{
+    match kind {
+        Kind::Im => check_im([body[0], body[1], body[2], body[3]]),
+        Kind::Rm | Kind::Dm | Kind::Fm | Kind::Em => Ok(()),
+    }
+}
+
+/// A side's header is whole: it is untimely, which ends the session, or its message is begun at the
+/// level that holds now.
+#[inline(always)]
+fn begin<A: Allocator>(
+    channels: &mut Channels<A>,
+    protocol: &mut ProtocolState,
+    side: Side,
+    head: Head,
+) -> Note
+    requires live { is_over_phase protocol.old.phase ≡ false }
+    requires no_end { (wire : Side) → has_final_frame (at channels.old.queued wire) ≡ false }
+    requires free { is_awaited (at channels.old.queued) side ≡ false }
+    requires bodiless { drop 4 (pending channels.old side) ≡ [] }
+    requires tied { (side_holding channels.old side).held ≡ pending channels.old side }
+    ensures reacts { HandlesFrameEvents (view_of channels.old protocol.old) side (Begun head ∷ []) result
+        (view_of channels.new protocol.new) }
+    ensures note { result ≡ note_by (untimely_code protocol.old.phase side head.kind) }
+    ensures begun { untimely_code protocol.old.phase side head.kind ≡ None →
+        StartsMessage side channels.old protocol.old channels.new protocol.new }
+    ensures fronts { KeepsFronts channels.old channels.new }
+    ensures unasked { (side_holding channels.new side).total ≡ (side_holding channels.old side).total }
+{
+    if let Some(code) = untimely(protocol.phase, side, head.kind) {
+        return fail(channels, protocol, side, code);
+    }
+    channels.begin(side, protocol.level);
+    Note::Nothing
+}
+
+/// A side's frame is whole and its check went well: it is judged, and the answer waits for its wire; or the
+/// frame is dropped, where the answer may not go out. What became of it is counted.
+#[inline(always)]
+fn answer<A: Allocator>(
+    channels: &mut Channels<A>,
+    protocol: &mut ProtocolState,
+    side: Side,
+    head: Head,
+) -> Note
+    requires live { is_over_phase protocol.old.phase ≡ false }
+    requires free { is_awaited (at channels.old.queued) side ≡ false }
+    requires tied { (side_holding channels.old side).held ≡ pending channels.old side }
+    requires head { head_in channels.old.cap (pending channels.old side) ≡ Some head }
+    requires good { check_of head.kind (drop 4 (pending channels.old side)) ≡ Ok tt }
+    ensures reacts { HandlesFrameEvents (view_of channels.old protocol.old) side
+        (Whole head (drop 4 (pending channels.old side)) ∷ []) result (view_of channels.new protocol.new) }
+    ensures fronts { KeepsFronts channels.old channels.new }
+{
+    // Only an FM or EM may not go out, and these are relayed.
+    if !is_sent(protocol.phase, head.kind, other(side)) {
+        channels.clear(side);
+        protocol.phase = phase_after(head.kind, protocol.phase);
+        protocol.level = Level::L0;
+        protocol.ending = ending_after(head.kind, side, protocol.ending);
+        return Note::Frame(head, Deed::Dropped);
+    }
+    let verdict = channels.reply(side, head);
+    protocol.level = level_after(
+        protocol.top_level,
+        head.kind,
+        side,
+        verdict,
+        channels.found(side),
+        protocol.level,
+    );
+    protocol.phase = phase_after(head.kind, protocol.phase);
+    protocol.ending = ending_after(head.kind, side, protocol.ending);
+    let note = Note::Frame(head, deed_of(true, verdict));
+    protocol.summary.count(note);
+    note
+}
+
+/// A side's frame is whole: an IM is checked, and then the frame is answered.
+#[inline(always)]
+fn complete<A: Allocator>(
+    channels: &mut Channels<A>,
+    protocol: &mut ProtocolState,
+    side: Side,
+    head: Head,
+) -> Note
+    requires live { is_over_phase protocol.old.phase ≡ false }
+    requires no_end { (wire : Side) → has_final_frame (at channels.old.queued wire) ≡ false }
+    requires free { is_awaited (at channels.old.queued) side ≡ false }
+    requires tied { (side_holding channels.old side).held ≡ pending channels.old side }
+    requires head { head_in channels.old.cap (pending channels.old side) ≡ Some head }
+    requires full { IsWholeBody (Some head) (drop 4 (pending channels.old side)) }
+    ensures reacts { HandlesFrameEvents (view_of channels.old protocol.old) side
+        (Whole head (drop 4 (pending channels.old side)) ∷ []) result (view_of channels.new protocol.new) }
+    ensures fronts { KeepsFronts channels.old channels.new }
+{
+    match check_frame(head.kind, channels.body(side)) {
+        Err(code) => fail(channels, protocol, side, code),
+        Ok(()) => answer(channels, protocol, side, head),
+    }
+}
+
+/// A side's header is whole and has no body, so that it is the whole frame: its message is begun, and then completed
+/// where the header is timely.
+#[inline(always)]
+fn begin_and_complete<A: Allocator>(
+    channels: &mut Channels<A>,
+    protocol: &mut ProtocolState,
+    side: Side,
+    head: Head,
+) -> Note
+    requires live { is_over_phase protocol.old.phase ≡ false }
+    requires no_end { (wire : Side) → has_final_frame (at channels.old.queued wire) ≡ false }
+    requires free { is_awaited (at channels.old.queued) side ≡ false }
+    requires bodiless { drop 4 (pending channels.old side) ≡ [] }
+    requires tied { (side_holding channels.old side).held ≡ pending channels.old side }
+    requires head { head_in channels.old.cap (pending channels.old side) ≡ Some head }
+    requires full { IsWholeBody (Some head) [] }
+    ensures reacts { HandlesFrameEvents (view_of channels.old protocol.old) side (Begun head ∷ Whole head [] ∷ []) result
+        (view_of channels.new protocol.new) }
+    ensures fronts { KeepsFronts channels.old channels.new }
+{
+    match begin(channels, protocol, side, head) {
+        Note::Nothing => complete(channels, protocol, side, head),
+        fault => fault,
+    }
+}
+
+/// Goes by what the last byte of a piece made of a side's frame.
+pub fn on_frame_event<A: Allocator>(
+    channels: &mut Channels<A>,
+    protocol: &mut ProtocolState,
+    side: Side,
+    step: Step,
+) -> Note
+    requires live { is_over_phase protocol.old.phase ≡ false }
+    requires no_end { (wire : Side) → has_final_frame (at channels.old.queued wire) ≡ false }
+    requires free { is_awaited (at channels.old.queued) side ≡ false }
+    requires tied { (side_holding channels.old side).held ≡ pending channels.old side }
+    requires bodiless { (head : Head) → step ≡ Headed → head_in channels.old.cap (pending channels.old side) ≡ Some head
+        → drop 4 (pending channels.old side) ≡ [] }
+    requires full { step ≡ Bodied → IsWholeBody (head_in channels.old.cap (pending channels.old side))
+        (drop 4 (pending channels.old side)) }
+    ensures reacts { HandlesFrameEvents (view_of channels.old protocol.old) side
+        (items_of_step step (head_in channels.old.cap (pending channels.old side)) (drop 4 (pending channels.old side))) result
+        (view_of channels.new protocol.new) }
+    ensures fronts { KeepsFronts channels.old channels.new }
+    ensures unasked { (step ≡ Bodied) ⊎ ((side_holding channels.new side).total ≡ (side_holding channels.old side).total) }
+{
+    match (step, channels.head(side)) {
+        (Step::Fault(code), _) => fail(channels, protocol, side, code),
+        (Step::Headed, Some(head)) => begin(channels, protocol, side, head),
+        (Step::Bodied, Some(head)) => {
+            if head.len > 0 {
+                return complete(channels, protocol, side, head);
+            }
+            begin_and_complete(channels, protocol, side, head)
+        }
+        _ => Note::Nothing,
+    }
+}

@@ -1,0 +1,122 @@
+//! Where a session stands in the machine, and how it ends: by a side's fault, or by a side's end.
+//!
+//! Only this module and `frame_events`, where a frame is answered, change the phase or the level, and count moves.
+
+ghost use Rattle.std.specs.Prelude.{◌≡◌, ◌++◌, false, Some};
+ghost use Rattle.daide_frame.specs.declared.side.Side.{Side};
+ghost use Rattle.daide_grammar.specs.declared.level.Level.TheVariants.{L0};
+ghost use Rattle.daide_protocol.specs.declared.ending.Ending.TheVariants as Endings;
+ghost use Rattle.daide_protocol.specs.declared.phase.Phase.TheVariants.{Over};
+ghost use Rattle.daide_protocol.specs.declared.note.Note.TheVariants as Notes;
+ghost use Rattle.daide_protocol.specs.Events.{other as other_side};
+ghost use Rattle.daide_protocol.specs.Machine.{fault, fm_to, is_over as is_over_phase};
+ghost use Rattle.daide_protocol.specs.Wires.{frames_to};
+ghost use Rattle.daide_channels.specs.PerSide.{at};
+ghost use Rattle.daide_channels.specs.Channels.{has_final_frame};
+ghost use Rattle.daide_channels.specs.Fronts.{KeepsFronts};
+ghost use Rattle.daide_session.specs.Session.{state_of, view_of, IsConsistentSession};
+ghost use Rattle.daide_session.specs.FrameEvents.{Emits, KeepsSides, stopped};
+
+use daide_channels::channels::Channels;
+use daide_frame::code::Code;
+use daide_frame::side::Side;
+use daide_grammar::level::Level;
+use daide_protocol::ending::Ending;
+use daide_protocol::note::Note;
+use daide_protocol::phase::Phase;
+use daide_protocol::summary::Summary;
+use daide_protocol::transitions::{may_reach, other};
+use std::alloc::Allocator;
+
+/// The phase of a session, the level of press, and the highest level that an HLO may set; what ended the session,
+/// and its moves counted.
+#[derive(Clone, Copy, Debug, PartialEq, Eq)]
+pub struct ProtocolState {
+    /// The highest level that an HLO may set.
+    pub top_level: Level,
+    /// Where the session stands.
+    pub phase: Phase,
+    /// The level of press in the phase Open, level 0 in every other phase.
+    pub level: Level,
+    /// What ended the session, in the phase Over alone.
+    pub ending: Option<Ending>,
+    /// The moves of the session.
+    pub summary: Summary,
+}
+
+impl ProtocolState {
+    /// Whether the session is over.
+    pub fn is_over(&self) -> bool
+        ensures { result ≡ is_over_phase self.now.phase }
+    {
+        self.phase == Phase::Over
+    }
+}
+
+/// A side's end: the other side gets an FM, where one may reach it, and the session is over.
+fn terminate<A: Allocator>(
+    channels: &mut Channels<A>,
+    protocol: &mut ProtocolState,
+    side: Side,
+    ending: Ending,
+)
+    requires { has_final_frame (at channels.old.queued (other_side side)) ≡ false }
+    ensures protocol { protocol.new ≡ record {
+      top_level = protocol.old.top_level;
+      phase = Over;
+      level = L0;
+      ending = Some ending;
+      summary = protocol.old.summary;
+    } }
+    ensures keeps { KeepsSides channels.old channels.new }
+    ensures sent { (wire : Side) → at channels.new.queued wire
+        ≡ at channels.old.queued wire ++ frames_to wire (fm_to protocol.old.phase (other_side side)) }
+    ensures fronts { KeepsFronts channels.old channels.new }
+{
+    if may_reach(protocol.phase, other(side)) {
+        channels.queue_final(other(side), None);
+    }
+    protocol.phase = Phase::Over;
+    protocol.level = Level::L0;
+    protocol.ending = Some(ending);
+}
+
+/// A side's end, by its stream or its wire, where the session is not over.
+pub fn on_peer_closed<A: Allocator>(
+    channels: &mut Channels<A>,
+    protocol: &mut ProtocolState,
+    side: Side,
+    ending: Ending,
+)
+    requires { IsConsistentSession (view_of channels.old protocol.old) }
+    ensures moves { Emits (view_of channels.old protocol.old) (stopped (state_of channels.old protocol.old) ending side)
+        (view_of channels.new protocol.new) }
+    ensures keeps { KeepsSides channels.old channels.new }
+    ensures fronts { KeepsFronts channels.old channels.new }
+{
+    if protocol.is_over() {
+        return;
+    }
+    terminate(channels, protocol, side, ending);
+}
+
+/// A side's fault: an EM to it, and an FM to the other side.
+pub fn fail<A: Allocator>(
+    channels: &mut Channels<A>,
+    protocol: &mut ProtocolState,
+    side: Side,
+    code: Code,
+) -> Note
+    requires { (wire : Side) → has_final_frame (at channels.old.queued wire) ≡ false }
+    ensures note { result ≡ Notes.Fault code }
+    ensures moves { Emits (view_of channels.old protocol.old) (fault (state_of channels.old protocol.old) side code)
+        (view_of channels.new protocol.new) }
+    ensures keeps { KeepsSides channels.old channels.new }
+    ensures fronts { KeepsFronts channels.old channels.new }
+{
+    channels.queue_final(side, Some(code));
+    terminate(channels, protocol, side, Ending::Fault(side, code));
+    let note = Note::Fault(code);
+    protocol.summary.count(note);
+    note
+}

@@ -1,5 +1,0 @@
-use Rattle.daide_streams.proofs.BufferLemmas.{same_passes}
-use Rattle.daide_sockets.proofs.closing.Closing.shut_down.Goals as goal
-
-pub returns-then-not-is_written-clause-passes : goal.returns-then-not-is_written-clause-passes
-returns-then-not-is_written-clause-passes g c = same_passes g.S.Duplex.to_give g.S.Duplex.taken _

@@ -1,6 +1,0 @@
-use Rattle.daide_streams.proofs.BufferLemmas.{then_flush}
-use Rattle.daide_streams.proofs.buffered.Buffered.put_many.Goals as goal
-
-pub returns-clause-passes : goal.returns-clause-passes
-returns-clause-passes g c =
-    then_flush g.S.Duplex.to_give g.S.Duplex.taken _ _ _ _ c.take_behind-put.ensures.passes c.flush.ensures.passes

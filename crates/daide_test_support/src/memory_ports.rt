@@ -1,0 +1,234 @@
+//! Ports in memory, for tests: they give what a script says, and store a record of all calls.
+//!
+//! The record is what tests look at. Where memory for it is refused the ports go on by their script, and tell
+//! nothing from then on.
+
+ghost use Rattle.std.specs.Prelude.{◌≡◌, [], ◌∷◌, ◌++◌, ◌≤◌, length, Some, Ok, IfSome, Option, Vec, map, option_map};
+ghost use Rattle.daide_protocol.specs.Ports.{AppendsTo, TurnBegins, IsPullWithin, IsPutWithin, pulled_len};
+ghost use Rattle.daide_test_support.specs.MemoryPorts.{answer_stored, answers_stored};
+ghost use Rattle.daide_test_support.specs.declared.memory_ports.Call.{Call};
+
+use daide_frame::side::Side;
+use daide_protocol::ports::{Ports, Pull, Put};
+use std::alloc::{AllocError, Allocator, Global};
+
+/// What one pull from a side gives.
+#[derive(Clone, Copy, Debug)]
+pub enum ScriptedRead<'a> {
+    /// These bytes; what the buffer doesn't hold comes with the next pull.
+    Bytes(&'a [u8]),
+    /// Nothing yet.
+    Idle,
+    /// The end of the stream, for good.
+    End,
+}
+
+/// What a wire takes of one put.
+#[derive(Clone, Copy, Debug)]
+pub enum Acceptance {
+    /// At most so many bytes.
+    Takes(usize),
+    /// Nothing: the wire fails.
+    Fails,
+}
+
+/// What one side sends, and what the wire toward it takes. After the last arrival nothing comes; after the last
+/// acceptance each put is taken whole.
+#[derive(Clone, Copy, Debug)]
+pub struct Script<'a> {
+    pub pulls: &'a [ScriptedRead<'a>],
+    pub puts: &'a [Acceptance],
+}
+
+/// A call, and what it answered.
+#[derive(Drop)]
+pub enum Call<A: Allocator = Global> {
+    /// A turn began.
+    TurnBegins,
+    /// The clock was asked, and had popped or not.
+    Clock(bool),
+    /// A side was read into a buffer of this length, and these bytes came.
+    Pulled(Side, usize, Pull, Vec<u8, A>),
+    /// A wire was handed these bytes.
+    Offered(Side, Vec<u8, A>, Put),
+}
+
+/// How far one side's script was played.
+#[derive(Clone, Copy, Debug)]
+struct Player<'a> {
+    script: Script<'a>,
+    /// How many arrivals and how many acceptances are behind.
+    pulls: usize,
+    puts: usize,
+    /// How many bytes of the present arrival came.
+    offset: usize,
+}
+
+/// Ports in memory.
+#[derive(Drop)]
+pub struct MemoryPorts<'a, A: Allocator = Global> {
+    alloc: A,
+    calls: Option<Vec<Call<A>, A>>,
+    bot: Player<'a>,
+    server: Player<'a>,
+    /// How often the clock is asked before it pops.
+    quiet: u64,
+}
+
+/// The record with one more call, or none where memory is refused.
+fn with_call<A: Allocator>(
+    calls: Option<Vec<Call<A>, A>>,
+    call: Result<Call<A>, AllocError>,
+) -> Option<Vec<Call<A>, A>>
+    ensures { IfSome result (λ after. (before : Vec (Call A) A) × (calls ≡ Some before)
+        × ((one : Call A) × (call ≡ Ok one) × (after.items ≡ before.items ++ one ∷ []))) }
+{
+    let mut calls = calls?;
+    let Ok(one) = call else {
+        return None;
+    };
+    match calls.push(one) {
+        Ok(()) => Some(calls),
+        Err(_) => None,
+    }
+}
+
+/// How many bytes a pull gave.
+fn count_of(pull: Pull) -> usize
+    ensures { result ≡ pulled_len pull }
+{
+    match pull {
+        Pull::Got(count) => count,
+        Pull::Idle | Pull::Ended => 0,
+    }
+}
+
+impl<'a> Player<'a> {
+    /// Before the first call.
+    fn new(script: Script<'a>) -> Player<'a> {
+        Player {
+            script,
+            pulls: 0,
+            puts: 0,
+            offset: 0,
+        }
+    }
+
+    /// What comes next of these bytes, as much of it as the buffer holds.
+    fn fill(&mut self, bytes: &[u8], buffer: &mut [u8]) -> usize
+        ensures within { result ≤ length buffer.old }
+        ensures len { length buffer.new ≡ length buffer.old }
+    {
+        let rest = &bytes[self.offset.min(bytes.len())..];
+        let count = rest.len().min(buffer.len());
+        buffer[..count].copy_from_slice(&rest[..count]);
+        if count < rest.len() {
+            self.offset = self.offset.saturating_add(count);
+        } else {
+            self.offset = 0;
+            self.pulls = self.pulls.saturating_add(1);
+        }
+        count
+    }
+
+    /// What the next pull gives.
+    fn pull(&mut self, buffer: &mut [u8]) -> Pull
+        ensures within { IsPullWithin result (length buffer.old) }
+        ensures len { length buffer.new ≡ length buffer.old }
+    {
+        match self.script.pulls.get(self.pulls) {
+            None => Pull::Idle,
+            Some(ScriptedRead::Bytes(bytes)) => Pull::Got(self.fill(bytes, buffer)),
+            Some(ScriptedRead::Idle) => {
+                self.pulls = self.pulls.saturating_add(1);
+                Pull::Idle
+            }
+            Some(ScriptedRead::End) => Pull::Ended,
+        }
+    }
+
+    /// What the next put takes of so many bytes.
+    fn put(&mut self, len: usize) -> Put
+        ensures { IsPutWithin result len }
+    {
+        let acceptance = self.script.puts.get(self.puts);
+        self.puts = self.puts.saturating_add(1);
+        match acceptance {
+            None => Put::Took(len),
+            Some(Acceptance::Takes(count)) => Put::Took(len.min(*count)),
+            Some(Acceptance::Fails) => Put::Failed,
+        }
+    }
+}
+
+impl<'a, A: Allocator + Copy> MemoryPorts<'a, A> {
+    /// Ports that no call was made of yet. The clock pops at the ask after so many; see `NEVER`.
+    pub fn new(alloc: A, bot: Script<'a>, server: Script<'a>, quiet: u64) -> MemoryPorts<'a, A>
+        ensures { answers_stored result.calls ≡ Some [] }
+    {
+        MemoryPorts {
+            alloc,
+            calls: Some(Vec::new(alloc)),
+            bot: Player::new(bot),
+            server: Player::new(server),
+            quiet,
+        }
+    }
+
+    /// Stores that a turn begins.
+    pub fn begin_turn(&mut self)
+        ensures { AppendsTo (answers_stored self.old.calls) (TurnBegins ∷ []) (answers_stored self.new.calls) }
+    {
+        let calls = self.calls.take();
+        self.calls = with_call(calls, Ok(Call::TurnBegins));
+    }
+
+    /// The calls so far, or none where memory for them was refused.
+    pub fn calls(&self) -> Option<&[Call<A>]>
+        ensures { option_map (λ calls. map answer_stored calls.now) result ≡ answers_stored self.now.calls }
+    {
+        match &self.calls {
+            None => None,
+            Some(calls) => Some(calls.as_slice()),
+        }
+    }
+}
+
+impl<'a, A: Allocator + Copy> Ports for MemoryPorts<'a, A> {
+    ghost use Rattle.std.specs.Prelude.{[], ◌∷◌};
+    ghost use Rattle.daide_protocol.specs.Ports.{AppendsTo};
+    ghost use Rattle.daide_test_support.specs.MemoryPorts.{answers_stored};
+
+    ghost transition = { λ old answer new. AppendsTo (answers_stored old.calls) (answer ∷ []) (answers_stored new.calls) };
+
+    fn pull(&mut self, side: Side, buffer: &mut [u8]) -> Pull {
+        let pull = match side {
+            Side::Bot => self.bot.pull(buffer),
+            Side::Server => self.server.pull(buffer),
+        };
+        let came = Vec::from_slice(self.alloc, &buffer[..count_of(pull)]);
+        let call = came.map(|bytes| Call::Pulled(side, buffer.len(), pull, bytes));
+        let calls = self.calls.take();
+        self.calls = with_call(calls, call);
+        pull
+    }
+
+    fn put(&mut self, side: Side, bytes: &[u8]) -> Put {
+        let put = match side {
+            Side::Bot => self.bot.put(bytes.len()),
+            Side::Server => self.server.put(bytes.len()),
+        };
+        let call = Vec::from_slice(self.alloc, bytes).map(|copy| Call::Offered(side, copy, put));
+        let calls = self.calls.take();
+        self.calls = with_call(calls, call);
+        put
+    }
+
+    fn clock_popped(&mut self) -> bool {
+        let im_timer_expired = self.quiet == 0;
+        self.quiet = self.quiet.saturating_sub(1);
+        let calls = self.calls.take();
+        self.calls = with_call(calls, Ok(Call::Clock(im_timer_expired)));
+        im_timer_expired
+    }
+}

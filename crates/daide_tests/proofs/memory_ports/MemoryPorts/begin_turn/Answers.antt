@@ -1,9 +1,0 @@
-use Rattle.std.proofs.Common.{refl}
-use Rattle.daide_machine.specs.Ports.{TurnBegins}
-use Rattle.daide_tests.proofs.StoredLemmas.{tells}
-use Rattle.daide_tests.proofs.memory_ports.MemoryPorts.begin_turn.Goals as goal
-
-pub returns : goal.returns
-returns g c =
-    tells c.args.self.now.calls c.take-calls.result c.with_call.result _ TurnBegins c.take-calls.ensures.value
-    c.with_call.ensures refl

@@ -1,5 +1,0 @@
-use Rattle.std.proofs.Common.{rules}
-use Rattle.daide_traffic.proofs.wire.Wire.first.Goals as goal
-
-pub returns-in-len1-up : goal.returns-in-len1-up
-returns-in-len1-up c = search rules

@@ -1,6 +1,0 @@
-pub mod Both
-pub mod Lends
-pub mod Inbound
-pub mod Wire
-pub mod Traffic
-pub mod Fronts

@@ -1,5 +1,0 @@
-use Rattle.daide_turns.proofs.DueLemmas.{due_go}
-use Rattle.daide_turns.proofs.laws.due_bytes_go.Goals as goal
-
-pub returns : goal.returns
-returns c = due_go

@@ -1,5 +1,0 @@
-use Rattle.daide_turns.proofs.FramesGone.{frames_gone}
-use Rattle.daide_turns.proofs.laws.frames_go.Goals as goal
-
-pub returns : goal.returns
-returns c = frames_gone

@@ -1,8 +1,0 @@
-use Rattle.daide_words.specs.Word.{grammar_words}
-use Rattle.daide_words.proofs.AcceptedCodes.{accepted_free}
-use Rattle.daide_words.proofs.OverMessages.{opening-language}
-use Rattle.daide_words.proofs.laws.opening_stands_for_messages.Goals as goal
-
-pub returns : goal.returns
-returns c words side level m accepted =
-    opening-language (grammar_words words) (accepted_free words accepted) side level m
