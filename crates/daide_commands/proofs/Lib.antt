@@ -3,3 +3,7 @@ mod ExchangeLemmas
 mod Reading
 mod StreamLemmas
 mod AcceptedLemmas
+mod CommandLemmas
+mod RunLemmas
+mod CommandFacts
+mod LawFacts

@@ -1,8 +1,10 @@
 -- How `show`, `check` and `frame` end: the exit status by what their libraries answered, and what was written. (own)
-use Rattle.std.specs.Prelude.{◌≡◌, ◌≢◌, ℕ, ◌≤◌, ◌==◌, ◌&&◌, Bool, true, false, if◌then◌else◌, codes}
+use Rattle.std.specs.Prelude.{◌≡◌, ◌≢◌, ◌⊎◌, ℕ, ◌≤◌, ◌==◌, ◌&&◌, Bool, true, false, if◌then◌else◌, codes}
 use Rattle.std.specs.Prelude.{List, [], ◌∷◌, ◌++◌, map, Option, Some, None, IfSome, option_map, Result, Ok, Err}
 use Rattle.std.specs.List.{join_with_byte}
 use Rattle.std.specs.Io.KnownBytes.{Keeps}
+use Rattle.clap.specs.declared.error.kind.ErrorKind.{ErrorKind}
+use Rattle.clap.specs.declared.error.kind.ErrorKind.TheVariants.{DisplayHelp, DisplayVersion, OutOfMemory}
 use Rattle.daide_words.specs.declared.word.Word.{Word}
 use Rattle.daide_words.specs.Word.{names_of}
 use Rattle.daide_token.specs.Names.{Named}
@@ -19,6 +21,7 @@ use Rattle.daide_show.specs.declared.frame_view.ShowFault.{ShowFault}
 use Rattle.daide_show.specs.declared.frame_view.ShowFault.TheVariants as show_faults
 use Rattle.daide_text.specs.Frames.{Writes, WritesUpTo}
 use Rattle.daide_text.specs.declared.frames.TextFault.{TextFault}
+use Rattle.daide_commands.specs.Gateway.{Announces}
 use Rattle.daide_commands.specs.declared.arguments.Order.{Order}
 use Rattle.daide_commands.specs.declared.arguments.Order.TheVariants.{Show, Check, Frame, Run, BadSide, BadLevel}
 use Rattle.daide_commands.specs.declared.arguments.ShowOrder.{ShowOrder}
@@ -123,10 +126,21 @@ FrameRuns order known old new status =
     × FrameEnds (names_of words)
     (lines_by (option_map (λ typed. map (λ word. word.now) typed.now) order.typed) known) old new status
 
-abbrev pub OrderEnds : Order → Option (List ℕ) → Option (List ℕ) → Option (List ℕ) → Option (List ℕ) → ℕ → Type 0
-OrderEnds (Show order) known rest old new status = ShowRuns order known old new status
-OrderEnds (Check order) known rest old new status = CheckRuns order known rest old new status
-OrderEnds (Frame order) known rest old new status = FrameRuns order known old new status
-OrderEnds (Run order) known rest old new status = status ≤ 1
-OrderEnds BadSide known rest old new status = status ≡ 2
-OrderEnds BadLevel known rest old new status = status ≡ 2
+-- `failed` says that a write of the output failed
+abbrev pub OrderEnds : Type 0 → Order → Option (List ℕ) → Option (List ℕ) → Option (List ℕ) → Option (List ℕ) → ℕ →
+    Type 0
+OrderEnds failed (Show order) known rest old new status = ShowRuns order known old new status
+OrderEnds failed (Check order) known rest old new status = CheckRuns order known rest old new status
+OrderEnds failed (Frame order) known rest old new status = FrameRuns order known old new status
+OrderEnds failed (Run order) known rest old new status = (status ≤ 1) × (status ≡ 0 → Announces failed old new)
+OrderEnds failed BadSide known rest old new status = (status ≡ 2) × (new ≡ old)
+OrderEnds failed BadLevel known rest old new status = (status ≡ 2) × (new ≡ old)
+
+-- ---- words that give no order
+
+-- By the reason that clap returned: want of memory is a fault; help and the version go to the output, which may fail to take
+-- them; and with words that are not understood nothing is written there.
+pub record UsageEnds (why : ErrorKind) (old new : Option (List ℕ)) (status : ℕ) : Type 0 where
+  pub memory : why ≡ OutOfMemory → (status ≡ 1) × (new ≡ old)
+  pub shown : (why ≡ DisplayHelp) ⊎ (why ≡ DisplayVersion) → status ≤ 1
+  pub mistaken : why ≢ OutOfMemory → why ≢ DisplayHelp → why ≢ DisplayVersion → (status ≡ 2) × (new ≡ old)

@@ -1,4 +1,6 @@
--- What a gateway's faults say.
+-- What a gateway's faults say, and what it writes.
+use Rattle.std.specs.Prelude.{◌⊎◌, ℕ, List, Option, codes}
+use Rattle.std.specs.Io.KnownBytes.{Appends}
 use Rattle.daide_sockets.specs.declared.bound_sockets.BindError.{BindError}
 use Rattle.daide_sockets.specs.declared.bound_sockets.BindError.TheVariants as BindErrors
 use Rattle.daide_commands.specs.declared.gateway.GatewayFault.{GatewayFault}
@@ -14,3 +16,7 @@ abbrev pub IsBeforeServing : GatewayFault → Type 0
 IsBeforeServing Listen = Unit {0}
 IsBeforeServing Memory = Unit {0}
 IsBeforeServing (Serve fault) = ⊥
+
+-- it said that it listens, and wrote nothing else; or a write failed
+abbrev pub Announces : Type 0 → Option (List ℕ) → Option (List ℕ) → Type 0
+Announces failed old new = failed ⊎ Appends old new (codes "listening\n")

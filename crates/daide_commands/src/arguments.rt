@@ -1,9 +1,19 @@
 //! The words of the command line, and what they ask for.
 
+ghost use Rattle.std.specs.Prelude.{◌≡◌, IfOk, map, option_map, unwrap_or, codes, false};
+ghost use Rattle.std.specs.List.{list_any};
+ghost use Rattle.clap.specs.Words.{app_of, rule_of, rows_of, found_of, subcommand_rows_of, first_of, all_of};
+ghost use Rattle.clap.specs.declared.builder.command.Command.TheViews.{out-Command};
+ghost use Rattle.daide_commands.specs.CommandLine.{AreCommands, option_rule, flag_rule, words_rule, gate_app, frame_app, show_app, check_app, run_app};
+ghost use Rattle.daide_commands.specs.CommandLine.{begins_negative, side_named, level_named, is_set};
+ghost use Rattle.daide_commands.specs.CommandLine.{IsRunOrder, IsCheckOrder, IsFrameOrder, IsShowOrder, IsOrderFor, IsOrderOf, subcommand_named, ParsesTo, parsed_by};
+
+use clap::error::Error;
 use clap::{Arg, ArgAction, ArgMatches, Command};
 use daide_frame::side::Side;
 use daide_grammar::level::Level;
 use std::alloc::{AllocError, Global};
+use std::convert::AsStr;
 
 /// What the words ask for. Words of one command line are borrowed for `'m`, their texts for `'a`.
 #[derive(Clone, Copy)]
@@ -125,7 +135,10 @@ Examples:
   daide-gate run --verbose --record . examples/tournament.toml";
 
 /// Returns an option that takes any one word, so that a wrong one is refused in the program's own words.
-fn option<'a>(alloc: Global, name: &'a str, value: &'a str, help: &'a str) -> Arg<'a> {
+fn option<'a>(alloc: Global, name: &'a str, value: &'a str, help: &'a str) -> Arg<'a>
+    ensures rule { rule_of result ≡ option_rule name.entry.now }
+    ensures local { result.global ≡ false }
+{
     Arg::new(alloc, name)
         .long(name)
         .action(ArgAction::Set)
@@ -134,7 +147,10 @@ fn option<'a>(alloc: Global, name: &'a str, value: &'a str, help: &'a str) -> Ar
 }
 
 /// Returns an option without a value.
-fn flag<'a>(alloc: Global, name: &'a str, help: &'a str) -> Arg<'a> {
+fn flag<'a>(alloc: Global, name: &'a str, help: &'a str) -> Arg<'a>
+    ensures rule { rule_of result ≡ flag_rule name.entry.now }
+    ensures local { result.global ≡ false }
+{
     Arg::new(alloc, name)
         .long(name)
         .action(ArgAction::SetTrue)
@@ -142,7 +158,11 @@ fn flag<'a>(alloc: Global, name: &'a str, help: &'a str) -> Arg<'a> {
 }
 
 /// Returns an argument that takes all words that are no options.
-fn all_words<'a>(alloc: Global, name: &'a str, help: &'a str) -> Arg<'a> {
+fn all_words<'a>(alloc: Global, name: &'a str, help: &'a str) -> Arg<'a>
+    ensures rule { rule_of result ≡ words_rule name.entry.now }
+    ensures local { result.global ≡ false }
+    ensures plain { result.allow_negative_numbers ≡ false }
+{
     Arg::new(alloc, name)
         .action(ArgAction::Append)
         .num_args(1..)
@@ -150,7 +170,10 @@ fn all_words<'a>(alloc: Global, name: &'a str, help: &'a str) -> Arg<'a> {
 }
 
 /// Returns the command `show`.
-fn show_command<'a>(alloc: Global) -> Result<Command<'a>, AllocError> {
+fn show_command<'a>(alloc: Global) -> Result<Command<'a>, AllocError>
+    ensures app { IfOk result (λ command. app_of command ≡ show_app) }
+    ensures local { IfOk result (λ command. (out-Command command).has_globals ≡ false) }
+{
     let side = "Whose frame it is, bot or server [default: bot]";
     let level = "The level of press, 0, 10, 20, 30, 40, 50 or 60 [default: 0]";
     let words = "The file of settings whose words count as words of press";
@@ -169,7 +192,10 @@ fn show_command<'a>(alloc: Global) -> Result<Command<'a>, AllocError> {
 }
 
 /// Returns the command `check`.
-fn check_command<'a>(alloc: Global) -> Result<Command<'a>, AllocError> {
+fn check_command<'a>(alloc: Global) -> Result<Command<'a>, AllocError>
+    ensures app { IfOk result (λ command. app_of command ≡ check_app) }
+    ensures local { IfOk result (λ command. (out-Command command).has_globals ≡ false) }
+{
     let explain = "Print each message and its answer, and say why it was not relayed";
     let file = Arg::new(alloc, "FILE")
         .action(ArgAction::Set)
@@ -183,13 +209,16 @@ fn check_command<'a>(alloc: Global) -> Result<Command<'a>, AllocError> {
         .args(words_taken)
 }
 
-/// Returns the command `frame`.
-fn frame_command<'a>(alloc: Global) -> Result<Command<'a>, AllocError> {
+/// Returns the command `frame`, whose words may be negative numbers where it `takes_negative`.
+fn frame_command<'a>(alloc: Global, takes_negative: bool) -> Result<Command<'a>, AllocError>
+    ensures app { takes_negative ≡ false → IfOk result (λ command. app_of command ≡ frame_app) }
+    ensures local { IfOk result (λ command. (out-Command command).has_globals ≡ false) }
+{
     let words = "The file of settings whose words may be named";
     let typed = "One message, as one word or more; without any, standard input has one a line";
     let mut words_taken = Vec::new(alloc);
     words_taken.push(option(alloc, "words", "SETTINGS", words))?;
-    words_taken.push(all_words(alloc, "TEXT", typed).allow_negative_numbers(true))?;
+    words_taken.push(all_words(alloc, "TEXT", typed).allow_negative_numbers(takes_negative))?;
     Command::new(alloc, "frame")
         .about("Writes the frames of messages, as hexadecimal digits")
         .after_help(FRAME_NOTES)
@@ -197,7 +226,10 @@ fn frame_command<'a>(alloc: Global) -> Result<Command<'a>, AllocError> {
 }
 
 /// Returns the command `run`.
-fn run_command<'a>(alloc: Global) -> Result<Command<'a>, AllocError> {
+fn run_command<'a>(alloc: Global) -> Result<Command<'a>, AllocError>
+    ensures app { IfOk result (λ command. app_of command ≡ run_app) }
+    ensures local { IfOk result (λ command. (out-Command command).has_globals ≡ false) }
+{
     let verbose = "Tell where each session begins, and how it ended, on standard error";
     let record = "The folder in which a log of each session is kept";
     let settings = Arg::new(alloc, "SETTINGS")
@@ -217,18 +249,22 @@ fn run_command<'a>(alloc: Global) -> Result<Command<'a>, AllocError> {
 }
 
 /// Returns the commands, in the order in which the help has them.
-fn subcommands<'a>(alloc: Global) -> Result<Vec<Command<'a>>, AllocError> {
+fn subcommands<'a>(alloc: Global, takes_negative: bool) -> Result<Vec<Command<'a>>, AllocError>
+    ensures { IfOk result (λ commands. AreCommands takes_negative commands.items) }
+{
     let mut commands = Vec::new(alloc);
     commands.push(show_command(alloc)?)?;
     commands.push(check_command(alloc)?)?;
-    commands.push(frame_command(alloc)?)?;
+    commands.push(frame_command(alloc, takes_negative)?)?;
     commands.push(run_command(alloc)?)?;
     Ok(commands)
 }
 
-/// Returns the command line that is understood.
-pub(crate) fn command<'a>(alloc: Global) -> Result<Command<'a>, AllocError> {
-    let subcommands = subcommands(alloc)?;
+/// Returns the command line that is understood. Negative numbers are words of `frame` where it `takes_negative`.
+pub(crate) fn command<'a>(alloc: Global, takes_negative: bool) -> Result<Command<'a>, AllocError>
+    ensures { takes_negative ≡ false → IfOk result (λ command. app_of command ≡ gate_app) }
+{
+    let subcommands = subcommands(alloc, takes_negative)?;
     Command::new(alloc, "daide-gate")
         .bin_name("daide-gate")?
         .version("1.0.0")
@@ -238,7 +274,9 @@ pub(crate) fn command<'a>(alloc: Global) -> Result<Command<'a>, AllocError> {
 }
 
 /// Returns the side that a word names.
-fn side_of(word: &str) -> Option<Side> {
+fn side_of(word: &str) -> Option<Side>
+    ensures { result ≡ side_named word.now }
+{
     match word {
         "bot" => Some(Side::Bot),
         "server" => Some(Side::Server),
@@ -247,7 +285,9 @@ fn side_of(word: &str) -> Option<Side> {
 }
 
 /// Returns the level that a word names, in decimal digits.
-fn level_named(word: &str) -> Option<Level> {
+fn level_named(word: &str) -> Option<Level>
+    ensures { result ≡ level_named word.now }
+{
     match word {
         "0" => Some(Level::L0),
         "10" => Some(Level::L10),
@@ -260,55 +300,130 @@ fn level_named(word: &str) -> Option<Level> {
     }
 }
 
+/// Returns what words give, by the command line that is understood. The first word is the program's name.
+pub(crate) fn parse<'a, S: AsStr>(alloc: Global, words: &'a [S]) -> Result<ArgMatches<'a>, Error>
+    ensures { ParsesTo (map S.text words.now) (parsed_by result) }
+{
+    let command = command(alloc, has_negative(words))?;
+    command.try_get_matches_from(words)
+}
+
+/// Returns whether a flag was given.
+fn is_given(matches: &ArgMatches<'_>, name: &str) -> bool
+    ensures { result ≡ is_set name.now (rows_of (found_of matches.now)) }
+{
+    match value_of(matches, name) {
+        Some(value) => value == "true",
+        None => false,
+    }
+}
+
+/// Returns a value as text, if there is one.
+fn value_of<'a>(matches: &ArgMatches<'a>, name: &str) -> Option<&'a str>
+    ensures { option_map (λ text. text.now) result ≡ first_of name.now (rows_of (found_of matches.now)) }
+{
+    matches.get_str(name)
+}
+
+/// Returns the values that words have, if there are any.
+fn values_of<'m, 'a>(matches: &'m ArgMatches<'a>, name: &str) -> Option<&'m [&'a str]>
+    ensures { option_map (λ typed. map (λ word. word.now) typed.now) result
+        ≡ all_of name.now (rows_of (found_of matches.now)) }
+{
+    matches.get_strs(name)
+}
+
+/// Returns whether a word begins as a negative number.
+fn begins_negative(word: &str) -> bool
+    ensures { result ≡ begins_negative word.now }
+{
+    matches!(word.as_bytes(), [b'-', b'0'..=b'9', ..])
+}
+
+/// Returns whether any of the words begins as a negative number.
+pub(crate) fn has_negative<S: AsStr>(words: &[S]) -> bool
+    ensures { result ≡ list_any begins_negative (map S.text words.now) }
+{
+    let mut rest = words;
+    while let [word, others @ ..] = rest {
+        if begins_negative(word.as_str()) {
+            return true;
+        }
+        rest = others;
+    }
+    false
+}
+
 /// Returns what the words of `run` ask for.
-fn run_order<'a>(run: &ArgMatches<'a>) -> RunOrder<'a> {
+fn run_order<'a>(run: &ArgMatches<'a>) -> RunOrder<'a>
+    ensures { IsRunOrder (rows_of (found_of run.now)) result }
+{
     RunOrder {
-        settings: run.get_str("SETTINGS").unwrap_or(""),
-        is_verbose: run.get_flag("verbose"),
-        record: run.get_str("record"),
+        settings: value_of(run, "SETTINGS").unwrap_or(""),
+        is_verbose: is_given(run, "verbose"),
+        record: value_of(run, "record"),
     }
 }
 
 /// Returns what the words of `check` ask for.
-fn check_order<'a>(check: &ArgMatches<'a>) -> CheckOrder<'a> {
+fn check_order<'a>(check: &ArgMatches<'a>) -> CheckOrder<'a>
+    ensures { IsCheckOrder (rows_of (found_of check.now)) result }
+{
     CheckOrder {
-        path: check.get_str("FILE").unwrap_or("-"),
-        is_explained: check.get_flag("explain"),
+        path: value_of(check, "FILE").unwrap_or("-"),
+        is_explained: is_given(check, "explain"),
     }
 }
 
 /// Returns what the words of `frame` ask for.
-fn frame_order<'m, 'a>(frame: &'m ArgMatches<'a>) -> FrameOrder<'m, 'a> {
+fn frame_order<'m, 'a>(frame: &'m ArgMatches<'a>) -> FrameOrder<'m, 'a>
+    ensures { IsFrameOrder (rows_of (found_of frame.now)) result }
+{
     FrameOrder {
-        words: frame.get_str("words"),
-        typed: frame.get_strs("TEXT"),
+        words: value_of(frame, "words"),
+        typed: values_of(frame, "TEXT"),
     }
 }
 
 /// Returns what the words of `show` ask for. A bad side is refused before a bad level.
-fn show_order<'m, 'a>(show: &'m ArgMatches<'a>) -> Order<'m, 'a> {
-    let Some(side) = side_of(show.get_str("side").unwrap_or("bot")) else {
+fn show_order<'m, 'a>(show: &'m ArgMatches<'a>) -> Order<'m, 'a>
+    ensures { IsShowOrder (side_named (unwrap_or (first_of (codes "side") (rows_of (found_of show.now))) (codes "bot")))
+        (level_named (unwrap_or (first_of (codes "level") (rows_of (found_of show.now))) (codes "0")))
+        (rows_of (found_of show.now)) result }
+{
+    let Some(side) = side_of(value_of(show, "side").unwrap_or("bot")) else {
         return Order::BadSide;
     };
-    let Some(level) = level_named(show.get_str("level").unwrap_or("0")) else {
+    let Some(level) = level_named(value_of(show, "level").unwrap_or("0")) else {
         return Order::BadLevel;
     };
     Order::Show(ShowOrder {
         side,
         level,
-        words: show.get_str("words"),
-        is_explained: show.get_flag("explain"),
-        typed: show.get_strs("HEX"),
+        words: value_of(show, "words"),
+        is_explained: is_given(show, "explain"),
+        typed: values_of(show, "HEX"),
     })
 }
 
+/// Returns what the words of a command of this name ask for.
+fn order_for<'m, 'a>(name: &str, given: &'m ArgMatches<'a>) -> Order<'m, 'a>
+    ensures { IsOrderFor (subcommand_named name.now) (rows_of (found_of given.now)) result }
+{
+    match name {
+        "run" => Order::Run(run_order(given)),
+        "check" => Order::Check(check_order(given)),
+        "frame" => Order::Frame(frame_order(given)),
+        _ => show_order(given),
+    }
+}
+
 /// Returns what the words ask for; without any, what `show` does with its defaults.
-pub(crate) fn order_of<'m, 'a>(matches: &'m ArgMatches<'a>) -> Order<'m, 'a> {
+pub(crate) fn order_of<'m, 'a>(matches: &'m ArgMatches<'a>) -> Order<'m, 'a>
+    ensures { IsOrderOf (subcommand_rows_of matches.now) result }
+{
     match matches.subcommand() {
-        Some(("run", run)) => Order::Run(run_order(run)),
-        Some(("check", check)) => Order::Check(check_order(check)),
-        Some(("frame", frame)) => Order::Frame(frame_order(frame)),
-        Some((_, show)) => show_order(show),
+        Some((name, given)) => order_for(name, given),
         None => Order::Show(ShowOrder {
             side: Side::Bot,
             level: Level::L0,

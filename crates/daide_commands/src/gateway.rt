@@ -4,14 +4,15 @@ ghost use Rattle.std.specs.Prelude.{◌≡◌, List, IfErr, OnOk};
 ghost use Rattle.daide_protocol.specs.System.{SystemCall, TransitsBy};
 ghost use Rattle.daide_event_loop.specs.Served.{IsWholeRun};
 ghost use Rattle.daide_event_loop.specs.Serving.{IsServeCause, IsOfSettings, GivesUp};
-ghost use Rattle.daide_commands.specs.Gateway.{IsBeforeServing, fault_by};
+ghost use Rattle.daide_commands.specs.Gateway.{IsBeforeServing, fault_by, Announces};
+ghost use Rattle.daide_log.specs.Recording.{HasFailed};
 
 use daide_event_loop::{ServeFault, serve};
 use daide_frame::Memory;
+use daide_log::Sink;
 use daide_protocol::{Ports, System};
 use daide_settings::Settings;
 use daide_sockets::bound_sockets::{BindError, BoundSockets, bind_sockets};
-use std::io::Write;
 use std::net::Net;
 use std::rt::Clock;
 use thiserror::Error;
@@ -51,14 +52,28 @@ pub fn bind<'r, R: AllocGlobal + Clock + Net>(
     bind_sockets(rt, settings).map_err(fault_of)
 }
 
+/// Says that it listens. Where nobody reads it the run goes on.
+fn announce<O: Sink>(output: &mut O)
+    ensures { Announces (HasFailed O.Fails) (O.contents output.old) (O.contents output.new) }
+{
+    match output.write_whole(b"listening\n") {
+        Ok(()) => {
+            let _ = output.flush();
+        }
+        Err(_) => {}
+    }
+}
+
 /// Says that it listens, and serves until all bots were served. By its answers the system went from what it was to what it
-/// is, and they are those of a whole run of the settings, or of one that is given up for its fault.
-pub fn serve_on<A: Memory + Copy, P: Ports, S: System<P>, O: Write>(
+/// is, and they are those of a whole run of the settings, or of one that is given up for its fault. It writes nothing else
+/// than that it listens.
+pub fn serve_on<A: Memory + Copy, P: Ports, S: System<P>, O: Sink>(
     alloc: A,
     settings: &Settings,
     system: &mut S,
     output: &mut O,
 ) -> Result<(), ServeFault>
+    ensures announced { Announces (HasFailed O.Fails) (O.contents output.old) (O.contents output.new) }
     ensures refused { IfErr result (IsServeCause A.Refuses settings.now) }
     ensures served { OnOk result ((answers : List (SystemCall P))
         × TransitsBy S.transition system.old answers system.new × IsWholeRun P.transition settings.now answers) }
@@ -67,8 +82,6 @@ pub fn serve_on<A: Memory + Copy, P: Ports, S: System<P>, O: Write>(
         × GivesUp A.Refuses P.transition settings.now fault answers) }
     ensures unasked { IfErr result (λ fault. IsOfSettings fault → system.new ≡ system.old) }
 {
-    // Where nobody reads it the run goes on.
-    let _ = writeln!(output, "listening");
-    let _ = output.flush();
+    announce(output);
     serve(alloc, settings, system)
 }

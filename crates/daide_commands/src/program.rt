@@ -1,10 +1,12 @@
 //! What the program does, over any streams.
 
-ghost use Rattle.std.specs.Prelude.{◌≡◌, ◌≢◌, ◌≤◌, IfOk};
+ghost use Rattle.std.specs.Prelude.{◌≡◌, ◌≤◌, IfOk, map};
 ghost use Rattle.clap.specs.Values.{kind_of};
-ghost use Rattle.daide_commands.specs.Endings.{OrderEnds};
+ghost use Rattle.daide_log.specs.Recording.{HasFailed};
+ghost use Rattle.daide_commands.specs.Answers.{CommandEnds};
+ghost use Rattle.daide_commands.specs.Endings.{OrderEnds, UsageEnds};
 
-use crate::arguments::{Order, command, order_of};
+use crate::arguments::{Order, order_of, parse};
 use crate::checking::run_check;
 use crate::faults::{CLEAN, FAULT, NOT_RELAYED, USAGE, tell};
 use crate::framing::run_frame;
@@ -12,6 +14,7 @@ use crate::hints::{suggest, usage_hint};
 use crate::running::run;
 use crate::showing::run_show;
 use clap::error::{Error, ErrorKind};
+use daide_log::Sink;
 use std::convert::AsStr;
 use std::io;
 use std::io::{Read, Write};
@@ -26,8 +29,7 @@ fn report_usage<S: AsStr, O: Write, E: Write>(
     errors: &mut E,
 ) -> io::Result<u8>
     ensures bounded { IfOk result (λ status. status ≤ USAGE) }
-    ensures usage { IfOk result (λ status. kind_of why ≢ ErrorKind.OutOfMemory → kind_of why ≢ ErrorKind.DisplayHelp
-        → kind_of why ≢ ErrorKind.DisplayVersion → status ≡ USAGE) }
+    ensures usage { IfOk result (UsageEnds (kind_of why) (O.contents output.old) (O.contents output.new)) }
 {
     if why.kind() == ErrorKind::OutOfMemory {
         return tell(errors, "out of memory", FAULT);
@@ -44,7 +46,7 @@ fn report_usage<S: AsStr, O: Write, E: Write>(
 }
 
 /// Carries out an order. Returns the status.
-fn carry_out<R: AllocGlobal + Files + Clock + Net, I: Read, O: Write, E: Write>(
+fn carry_out<R: AllocGlobal + Files + Clock + Net, I: Read, O: Sink, E: Write>(
     rt: &R,
     order: Order<'_, '_>,
     input: &mut I,
@@ -52,7 +54,7 @@ fn carry_out<R: AllocGlobal + Files + Clock + Net, I: Read, O: Write, E: Write>(
     errors: &mut E,
 ) -> io::Result<u8>
     ensures bounded { IfOk result (λ status. status ≤ NOT_RELAYED) }
-    ensures ended { IfOk result (OrderEnds order.entry (I.remaining input.old) (I.remaining input.new)
+    ensures ended { IfOk result (OrderEnds (HasFailed O.Fails) order.entry (I.remaining input.old) (I.remaining input.new)
         (O.contents output.old) (O.contents output.new)) }
 {
     match order {
@@ -66,21 +68,21 @@ fn carry_out<R: AllocGlobal + Files + Clock + Net, I: Read, O: Write, E: Write>(
 }
 
 /// Does what the words ask for, and returns the exit status, one of the four of `faults`. The first word is the program's
-/// name. Which order words give, and the texts of help and usage, is the option parser's. Only a fault that could not be
-/// reported is an error.
-pub fn answer<R: AllocGlobal + Files + Clock + Net, S: AsStr, I: Read, O: Write, E: Write>(
+/// name. The order that words give is the one that clap's contracts say, unless a word begins as a negative number, of
+/// which they say nothing; status and output are those of that order. The texts of help and usage are clap's. Only a
+/// fault that could not be reported is an error.
+pub fn answer<R: AllocGlobal + Files + Clock + Net, S: AsStr, I: Read, O: Sink, E: Write>(
     rt: &R,
     words: &[S],
     input: &mut I,
     output: &mut O,
     errors: &mut E,
 ) -> io::Result<u8>
-    ensures { IfOk result (λ status. status ≤ NOT_RELAYED) }
+    ensures bounded { IfOk result (λ status. status ≤ NOT_RELAYED) }
+    ensures answered { IfOk result (CommandEnds (HasFailed O.Fails) (map S.text words.now) (I.remaining input.old)
+        (I.remaining input.new) (O.contents output.old) (O.contents output.new)) }
 {
-    let Ok(command) = command(rt.alloc()) else {
-        return tell(errors, "out of memory", FAULT);
-    };
-    match command.try_get_matches_from(words) {
+    match parse(rt.alloc(), words) {
         Ok(matches) => carry_out(rt, order_of(&matches), input, output, errors),
         Err(why) => report_usage(why, words, output, errors),
     }

@@ -20,7 +20,7 @@ use std::rt::{Clock, Files};
 #[derive(Drop)]
 pub(crate) struct RecordedSockets<'w, 'f, R: AllocGlobal + Clock + Net + Files, E: Write + Drop> {
     pub sockets: Sockets<'w, R, E>,
-    pub folder: Folder<'f, R>,
+    pub folder: &'f Folder<'f, R>,
 }
 
 impl<R: AllocGlobal + Clock + Net + Files, E: Write + Drop> RecordedSockets<'_, '_, R, E> {

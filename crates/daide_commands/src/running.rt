@@ -1,16 +1,25 @@
 //! `run`: the settings of a file, and the gateway at work until all its bots were served.
 
-ghost use Rattle.std.specs.Prelude.{◌≡◌, ◌≤◌, None, [], IfOk, IfSome, IsOkAnd, string_bytes};
+ghost use Rattle.std.specs.Prelude.{◌≡◌, ◌≤◌, None, [], IfOk, IfErr, OnOk, IfSome, IsOkAnd, string_bytes};
+ghost use Rattle.daide_log.specs.Recording.{HasFailed};
+ghost use Rattle.daide_commands.specs.Running.{RunEnds, TextRuns, FileRuns, IsOfText, ending_by};
+ghost use Rattle.daide_commands.specs.Gateway.{Announces};
 ghost use Rattle.daide_words.specs.Words.{words_of};
 
 use crate::arguments::RunOrder;
 use crate::faults::{CLEAN, FAULT, tell};
-use crate::folder::Folder;
+use crate::folder::{Folder, SessionFile};
 use crate::gateway::{GatewayFault, bind, serve_on};
 use crate::recorded::RecordedSockets;
 use crate::text::{SettingsTextFault, read_text};
+use daide_buffered_io::duplex::Duplex;
+use daide_event_loop::ServeFault;
+use daide_log::{Recording, Sink};
+use daide_protocol::Ports;
 use daide_settings::{Settings, SettingsError, read_settings};
 use daide_sockets::bound_sockets::{BoundSockets, sockets_on};
+use daide_sockets::connection::Connection;
+use daide_sockets::ports::SocketPorts;
 use daide_words::Words;
 use std::alloc::Allocator;
 use std::io::{Read, Write};
@@ -77,66 +86,136 @@ pub(crate) fn words_at<R: AllocGlobal + Files>(
     }
 }
 
-/// Serves with the settings of a text, and tells of its sessions where it `is_verbose`: it binds, opens the sockets of a
-/// run, and serves on them; each of the three says what it does.
-pub fn run_text<R: AllocGlobal + Clock + Net, O: Write, E: Write>(
+/// Returns how a run ended after it served.
+fn ending_of(served: Result<(), ServeFault>) -> Result<(), RunFault>
+    ensures { result ≡ ending_by served }
+{
+    match served {
+        Ok(()) => Ok(()),
+        Err(fault) => Err(RunFault::Gateway(GatewayFault::Serve(fault))),
+    }
+}
+
+/// Serves over sockets at the addresses of settings, and waits until the last of them are closed. It tells of its sessions
+/// where it `is_verbose`.
+fn serve_sockets<R: AllocGlobal + Clock + Net, O: Sink, E: Write>(
+    rt: &R,
+    settings: &Settings,
+    is_verbose: bool,
+    output: &mut O,
+    errors: &mut E,
+) -> Result<(), RunFault>
+    ensures { RunEnds ⟦<Connection as Duplex>⟧.to_give ⟦<Connection as Duplex>⟧.taken ⟦<Connection as Duplex>⟧.calls
+        (λ ports. record { number = ports.number; bot = ports.bot.stream; server = ports.server.stream })
+        ⟦<SocketPorts<'static, &'static R> as Ports>⟧.transition settings.now (HasFailed O.Fails)
+        (O.contents output.old) (O.contents output.new) result }
+{
+    let BoundSockets {
+        listener,
+        servers,
+        poller,
+    } = bind(rt, settings).map_err(RunFault::Gateway)?;
+    let at = (listener, servers.as_slice(), &poller);
+    let Some(mut system) = sockets_on(rt, settings, at, errors) else {
+        return Err(RunFault::Memory);
+    };
+    system.set_verbose(is_verbose);
+    let served = serve_on(rt.alloc(), settings, &mut system, output);
+    system.finish();
+    ending_of(served)
+}
+
+/// Serves with the settings of a text, and tells of its sessions where it `is_verbose`. If the text has settings, it binds
+/// their addresses, opens sockets to which no bot came yet, says that it listens, and serves on them; if it returns `Ok`,
+/// the calls of these sockets are a whole run of these settings. Before it listens it writes nothing.
+pub fn run_text<R: AllocGlobal + Clock + Net, O: Sink, E: Write>(
     rt: &R,
     text: &str,
     is_verbose: bool,
     output: &mut O,
     errors: &mut E,
-) -> Result<(), RunFault> {
-    let settings = read_settings(rt.alloc(), text).map_err(RunFault::Settings)?;
-    let BoundSockets {
-        listener,
-        servers,
-        poller,
-    } = bind(rt, &settings).map_err(RunFault::Gateway)?;
-    let at = (listener, servers.as_slice(), &poller);
-    let Some(mut system) = sockets_on(rt, &settings, at, errors) else {
-        return Err(RunFault::Memory);
-    };
-    system.set_verbose(is_verbose);
-    let served = serve_on(rt.alloc(), &settings, &mut system, output);
-    system.finish();
-    served.map_err(|fault| RunFault::Gateway(GatewayFault::Serve(fault)))
+) -> Result<(), RunFault>
+    ensures runs { TextRuns ⟦<Connection as Duplex>⟧.to_give ⟦<Connection as Duplex>⟧.taken ⟦<Connection as Duplex>⟧.calls
+        (λ ports. record { number = ports.number; bot = ports.bot.stream; server = ports.server.stream })
+        ⟦<SocketPorts<'static, &'static R> as Ports>⟧.transition text.now (HasFailed O.Fails)
+        (O.contents output.old) (O.contents output.new) result }
+    ensures untouched { IfErr result (λ fault. IsOfText fault →
+        (output.new ≡ output.old) × (errors.new ≡ errors.old)) }
+{
+    match read_settings(rt.alloc(), text) {
+        Ok(settings) => serve_sockets(rt, &settings, is_verbose, output, errors),
+        Err(fault) => Err(RunFault::Settings(fault)),
+    }
 }
 
-/// Serves with the settings of a file, and keeps a record of each session in a folder.
-fn run_recorded<R: AllocGlobal + Files + Clock + Net, O: Write, E: Write>(
-    rt: &R,
-    path: &str,
-    (is_verbose, folder): (bool, &str),
+/// Serves over sockets at the addresses of settings, and keeps a record of each session in a folder.
+fn serve_recorded<'r, R: AllocGlobal + Files + Clock + Net, O: Sink, E: Write>(
+    rt: &'r R,
+    settings: &Settings,
+    kept: (bool, &'r Folder<'r, R>),
     output: &mut O,
     errors: &mut E,
-) -> Result<(), RunFault> {
-    let settings = settings_at(rt, path)?;
-    let Some(folder) = Folder::at(rt, folder, &settings) else {
-        return Err(RunFault::Record);
-    };
+) -> Result<(), RunFault>
+    ensures { RunEnds ⟦<Connection as Duplex>⟧.to_give ⟦<Connection as Duplex>⟧.taken ⟦<Connection as Duplex>⟧.calls
+        (λ ports. record {
+          number = ports.ports.number;
+          bot = ports.ports.bot.stream;
+          server = ports.ports.server.stream;
+        })
+        ⟦<Recording<SocketPorts<'static, &'static R>, SessionFile<R::File>> as Ports>⟧.transition settings.now
+        (HasFailed O.Fails) (O.contents output.old) (O.contents output.new) result }
+{
+    let (is_verbose, folder) = kept;
     let BoundSockets {
         listener,
         servers,
         poller,
-    } = bind(rt, &settings).map_err(RunFault::Gateway)?;
+    } = bind(rt, settings).map_err(RunFault::Gateway)?;
     let at = (listener, servers.as_slice(), &poller);
-    let Some(mut sockets) = sockets_on(rt, &settings, at, errors) else {
+    let Some(mut sockets) = sockets_on(rt, settings, at, &mut *errors) else {
         return Err(RunFault::Memory);
     };
     sockets.set_verbose(is_verbose);
     let mut system = RecordedSockets { sockets, folder };
-    let served = serve_on(rt.alloc(), &settings, &mut system, output);
+    let served = serve_on(rt.alloc(), settings, &mut system, output);
     system.finish();
-    served.map_err(|fault| RunFault::Gateway(GatewayFault::Serve(fault)))
+    ending_of(served)
+}
+
+/// Serves with the settings of a file, and keeps a record of each session in a folder.
+fn run_recorded<'r, R: AllocGlobal + Files + Clock + Net, O: Sink, E: Write>(
+    rt: &'r R,
+    path: &str,
+    kept: (bool, &'r str),
+    output: &mut O,
+    errors: &mut E,
+) -> Result<(), RunFault>
+    ensures { FileRuns ⟦<Connection as Duplex>⟧.to_give ⟦<Connection as Duplex>⟧.taken ⟦<Connection as Duplex>⟧.calls
+        (λ ports. record {
+          number = ports.ports.number;
+          bot = ports.ports.bot.stream;
+          server = ports.ports.server.stream;
+        })
+        ⟦<Recording<SocketPorts<'static, &'static R>, SessionFile<R::File>> as Ports>⟧.transition
+        (HasFailed O.Fails) (O.contents output.old) (O.contents output.new) result }
+{
+    let (is_verbose, folder) = kept;
+    let settings = settings_at(rt, path)?;
+    let Some(folder) = Folder::at(rt, folder, &settings) else {
+        return Err(RunFault::Record);
+    };
+    serve_recorded(rt, &settings, (is_verbose, &folder), output, errors)
 }
 
 /// Serves as it is ordered.
-fn run_ordered<R: AllocGlobal + Files + Clock + Net, O: Write, E: Write>(
+fn run_ordered<R: AllocGlobal + Files + Clock + Net, O: Sink, E: Write>(
     rt: &R,
     order: RunOrder<'_>,
     output: &mut O,
     errors: &mut E,
-) -> Result<(), RunFault> {
+) -> Result<(), RunFault>
+    ensures { OnOk result (Announces (HasFailed O.Fails) (O.contents output.old) (O.contents output.new)) }
+{
     if let Some(folder) = order.record {
         let kept = (order.is_verbose, folder);
         return run_recorded(rt, order.settings, kept, output, errors);
@@ -147,13 +226,15 @@ fn run_ordered<R: AllocGlobal + Files + Clock + Net, O: Write, E: Write>(
 
 /// Reads the settings of a file, listens, says so, and serves until all bots were served. Only a fault that could
 /// not be told is an error.
-pub(crate) fn run<R: AllocGlobal + Files + Clock + Net, O: Write, E: Write>(
+pub(crate) fn run<R: AllocGlobal + Files + Clock + Net, O: Sink, E: Write>(
     rt: &R,
     order: RunOrder<'_>,
     output: &mut O,
     errors: &mut E,
 ) -> io::Result<u8>
-    ensures { IfOk result (λ status. status ≤ FAULT) }
+    ensures bounded { IfOk result (λ status. status ≤ FAULT) }
+    ensures listened { IfOk result (λ status. status ≡ CLEAN →
+        Announces (HasFailed O.Fails) (O.contents output.old) (O.contents output.new)) }
 {
     match run_ordered(rt, order, output, errors) {
         Ok(()) => Ok(CLEAN),

@@ -34,7 +34,7 @@ pub use daide_session::{Session, SessionError};
 // What the program does with its input.
 pub use daide_event_loop::{ServeFault, Service, quota_ports, serve, serving};
 pub use daide_log::{
-    LogFault, LogReader, Record, RecordEnd, Recording, check_log, check_stream, record,
+    LogFault, LogReader, Record, RecordEnd, Recording, Sink, check_log, check_stream, record,
 };
 pub use daide_settings::{Address, Key, Settings, SettingsError, read_settings, settings};
 pub use daide_show::{

@@ -27,3 +27,4 @@ pub mod RecordHead
 pub mod RecordCounts
 pub mod RecordReported
 pub mod RecordedPorts
+pub mod LawFacts

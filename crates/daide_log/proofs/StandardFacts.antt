@@ -182,7 +182,7 @@ unfolding fm fm_drops event_of_line move_line source_text reported_text summary_
 fm_before_the_im = one_line (codes "bot 03000000") fm fm_drops refl (omega arith) refl fm_played
 
 -- nothing is told of the two lines alone, and a log that has fewer is at fault
-two_lines_alone : IsReport opening_lines ([] ++ codes "relayed 0 prn 0 huh 0 faults 0" ++ 10 ∷ [])
+pub two_lines_alone : IsReport opening_lines ([] ++ codes "relayed 0 prn 0 huh 0 faults 0" ++ 10 ∷ [])
     (Ok (record { relayed = 0; prn = 0; huh = 0; faults = 0 }))
 unfolding summary_line digits
 two_lines_alone =

@@ -10,6 +10,7 @@ pub mod config_line;
 pub mod explained;
 pub mod heading;
 pub mod judge;
+mod law_facts;
 pub mod laws;
 pub mod opening;
 pub mod page;

@@ -4,3 +4,4 @@ pub mod AddedLines
 pub mod ShownParts
 pub mod MoveLines
 pub mod OnlyAdds
+mod LawFacts

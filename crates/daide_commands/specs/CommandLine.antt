@@ -1,0 +1,184 @@
+-- The command line that is understood, as clap's contracts see one, and the order that words give. (own)
+use Rattle.std.specs.Prelude.{◌≡◌, ◌⊎◌, ◌&&◌, ◌==◌, Bool, true, false, if◌then◌else◌, codes}
+use Rattle.std.specs.Prelude.{List, [], ◌∷◌, Option, Some, None, Result, Ok, Err, option_map, unwrap_or, map}
+use Rattle.std.specs.List.{list_any}
+use Rattle.std.specs.Option.{option_map_or}
+use Rattle.std.specs.Str.{bytes_eq}
+use Rattle.clap.specs.Words.{App, Row, Rule, Text, all_of, first_of, new_rule, shape_of, fault_of, subcommand_of, subcommand_rows_of, kind_of}
+use Rattle.clap.specs.Kinds.{IsAmong}
+use Rattle.clap.specs.declared.error.Error.{Error}
+use Rattle.clap.specs.declared.error.kind.ErrorKind.{ErrorKind}
+use Rattle.clap.specs.declared.error.kind.ErrorKind.TheVariants.{OutOfMemory}
+use Rattle.clap.specs.declared.parser.matches.ArgMatches.{ArgMatches}
+use Rattle.clap.specs.Simple.{new_shape}
+use Rattle.clap.specs.declared.builder.command.Command.{Command}
+use Rattle.clap.specs.declared.builder.command.Command.TheViews.{out-Command}
+use Rattle.clap.specs.Lexer.{is_digit, usize_max}
+use Rattle.clap.specs.declared.builder.action.ArgAction.TheVariants.{Set, SetTrue, Append}
+use Rattle.daide_frame.specs.declared.side.Side.{Side}
+use Rattle.daide_frame.specs.declared.side.Side.TheVariants.{Bot, Server}
+use Rattle.daide_grammar.specs.declared.level.Level.{Level}
+use Rattle.daide_grammar.specs.declared.level.Level.TheVariants.{L0, L10, L20, L30, L40, L50, L60}
+use Rattle.daide_commands.specs.declared.arguments.Order.{Order}
+use Rattle.daide_commands.specs.declared.arguments.Order.TheVariants.{Show, Check, Frame, Run, BadSide, BadLevel}
+use Rattle.daide_commands.specs.declared.arguments.ShowOrder.{ShowOrder}
+use Rattle.daide_commands.specs.declared.arguments.CheckOrder.{CheckOrder}
+use Rattle.daide_commands.specs.declared.arguments.FrameOrder.{FrameOrder}
+use Rattle.daide_commands.specs.declared.arguments.RunOrder.{RunOrder}
+
+-- ---- the command line
+
+-- an option with a value, a flag, and all words that are no options
+abbrev pub option_rule : Text → Rule
+option_rule name = record (new_rule name) { long = Some name; action = Some Set; value_names = 1 }
+
+abbrev pub flag_rule : Text → Rule
+flag_rule name = record (new_rule name) { long = Some name; action = Some SetTrue }
+
+abbrev pub words_rule : Text → Rule
+words_rule name = record (new_rule name) {
+  action = Some Append;
+  range = Some (record { start_inclusive = 1; end_inclusive = usize_max });
+}
+
+-- one word that is no option
+abbrev pub word_rule : Text → Bool → Rule
+word_rule name required = record (new_rule name) { action = Some Set; required = required }
+
+-- a command with these arguments
+abbrev pub with_rules : Text → List Rule → App
+with_rules name rules = record { top = record (new_shape name) { rules = rules }; subs = [] }
+
+abbrev pub show_app : App
+show_app = with_rules (codes "show")
+    (option_rule (codes "side") ∷ option_rule (codes "level") ∷ option_rule (codes "words")
+    ∷ flag_rule (codes "explain") ∷ words_rule (codes "HEX") ∷ [])
+
+abbrev pub check_app : App
+check_app = with_rules (codes "check") (flag_rule (codes "explain") ∷ word_rule (codes "FILE") false ∷ [])
+
+abbrev pub frame_app : App
+frame_app = with_rules (codes "frame") (option_rule (codes "words") ∷ words_rule (codes "TEXT") ∷ [])
+
+abbrev pub run_app : App
+run_app = with_rules (codes "run")
+    (flag_rule (codes "verbose") ∷ option_rule (codes "record") ∷ word_rule (codes "SETTINGS") true ∷ [])
+
+-- the whole of it, where no word begins as a negative number
+abbrev pub gate_app : App
+gate_app = record {
+  top = record (new_shape (codes "daide-gate")) { is_leaf = false; has_version = true };
+  subs = show_app.top ∷ check_app.top ∷ frame_app.top ∷ run_app.top ∷ [];
+}
+
+-- the subcommands, in the order in which the help has them; `frame` may take negative numbers
+abbrev pub AreCommands : Bool → List Command → Type 0
+AreCommands negative commands = (list_any (λ command. (out-Command command).has_globals) commands ≡ false)
+    × (negative ≡ false → map shape_of commands ≡ gate_app.subs)
+
+-- a hyphen, and a digit next
+abbrev pub begins_negative : Text → Bool
+begins_negative (hyphen ∷ digit ∷ rest) = hyphen == 45 && is_digit digit
+begins_negative other = false
+
+-- ---- the order that a subcommand gives, by the values of its arguments
+
+-- the side that a word names, and the level
+abbrev pub side_named : Text → Option Side
+side_named word =
+    if bytes_eq word (codes "bot") then Some Bot
+    else if bytes_eq word (codes "server") then Some Server
+    else None
+
+abbrev pub level_named : Text → Option Level
+level_named word =
+    if bytes_eq word (codes "0") then Some L0
+    else if bytes_eq word (codes "10") then Some L10
+    else if bytes_eq word (codes "20") then Some L20
+    else if bytes_eq word (codes "30") then Some L30
+    else if bytes_eq word (codes "40") then Some L40
+    else if bytes_eq word (codes "50") then Some L50
+    else if bytes_eq word (codes "60") then Some L60
+    else None
+
+-- a flag was given
+abbrev pub is_set : Text → List Row → Bool
+is_set name rows = option_map_or (λ value. bytes_eq value (codes "true")) (first_of name rows) false
+
+-- what `run` asks for
+abbrev pub IsRunOrder : List Row → RunOrder → Type 0
+IsRunOrder rows order =
+    (order.settings.now ≡ unwrap_or (first_of (codes "SETTINGS") rows) [])
+    × (order.is_verbose ≡ is_set (codes "verbose") rows)
+    × (option_map (λ text. text.now) order.record ≡ first_of (codes "record") rows)
+
+-- what `check` asks for; without a file, standard input
+abbrev pub IsCheckOrder : List Row → CheckOrder → Type 0
+IsCheckOrder rows order =
+    (order.path.now ≡ unwrap_or (first_of (codes "FILE") rows) (codes "-"))
+    × (order.is_explained ≡ is_set (codes "explain") rows)
+
+-- what `frame` asks for
+abbrev pub IsFrameOrder : List Row → FrameOrder → Type 0
+IsFrameOrder rows order =
+    (option_map (λ text. text.now) order.words ≡ first_of (codes "words") rows)
+    × (option_map (λ typed. map (λ word. word.now) typed.now) order.typed ≡ all_of (codes "TEXT") rows)
+
+-- what `show` asks for, by the side and the level that are named; a bad side is refused before a bad level
+abbrev pub IsShowOrder : Option Side → Option Level → List Row → Order → Type 0
+IsShowOrder None level rows order = order ≡ BadSide
+IsShowOrder (Some side) None rows order = order ≡ BadLevel
+IsShowOrder (Some side) (Some level) rows order = (show : ShowOrder) × (order ≡ Show show)
+    × (show.side ≡ side) × (show.level ≡ level)
+    × (show.is_explained ≡ is_set (codes "explain") rows)
+    × (option_map (λ text. text.now) show.words ≡ first_of (codes "words") rows)
+    × (option_map (λ typed. map (λ word. word.now) typed.now) show.typed ≡ all_of (codes "HEX") rows)
+
+-- the commands; `show` is what is meant by any other name
+pub data Subcommand : Type 0 where
+  ForRun : Subcommand
+  ForCheck : Subcommand
+  ForFrame : Subcommand
+  ForShow : Subcommand
+
+abbrev pub subcommand_named : Text → Subcommand
+subcommand_named name =
+    if bytes_eq name (codes "run") then ForRun
+    else if bytes_eq name (codes "check") then ForCheck
+    else if bytes_eq name (codes "frame") then ForFrame
+    else ForShow
+
+-- the order of a command with these values
+abbrev pub IsOrderFor : Subcommand → List Row → Order → Type 0
+IsOrderFor ForRun rows order = (run : RunOrder) × (order ≡ Run run) × IsRunOrder rows run
+IsOrderFor ForCheck rows order = (check : CheckOrder) × (order ≡ Check check) × IsCheckOrder rows check
+IsOrderFor ForFrame rows order = (frame : FrameOrder) × (order ≡ Frame frame) × IsFrameOrder rows frame
+IsOrderFor ForShow rows order =
+    IsShowOrder (side_named (unwrap_or (first_of (codes "side") rows) (codes "bot")))
+    (level_named (unwrap_or (first_of (codes "level") rows) (codes "0"))) rows order
+
+-- the order of what words gave: the name of a subcommand, and the values of its arguments; without any it is `show`
+abbrev pub IsOrderOf : Option (Text × List Row) → Order → Type 0
+IsOrderOf None order = order ≡ Show (record {
+  side = Bot;
+  level = L0;
+  words = None;
+  is_explained = false;
+  typed = None;
+})
+IsOrderOf (Some (name, rows)) order = IsOrderFor (subcommand_named name) rows order
+
+-- ---- what words give
+
+-- Words give a subcommand with the values of its arguments, or none; or there is a reason why they give nothing. clap's
+-- contracts say which of words none of which begins as a negative number; of others they say nothing.
+abbrev pub ParsesTo : List Text → Result (Option (Text × List Row)) ErrorKind → Type 0
+ParsesTo words (Ok asked) = list_any begins_negative words ≡ false →
+    (fault_of gate_app words ≡ []) × (asked ≡ subcommand_of gate_app words)
+ParsesTo words (Err why) = list_any begins_negative words ≡ false →
+    (why ≡ OutOfMemory) ⊎ IsAmong why (fault_of gate_app words)
+
+-- the same of what clap returned
+abbrev pub parsed_by : Result ArgMatches Error → Result (Option (Text × List Row)) ErrorKind
+parsed_by (Ok matches) = Ok (subcommand_rows_of matches)
+parsed_by (Err why) = Err (kind_of why)

@@ -1,0 +1,87 @@
+-- What a run serves, from its settings on. (own)
+use Rattle.std.specs.Prelude.{◌≡◌, ◌≢◌, ◌⊎◌, ℕ, List, [], Option, Result, Ok, Err}
+use Rattle.toml.specs.Parse.{parse_document}
+use Rattle.daide_protocol.specs.Ports.{PortCall}
+use Rattle.daide_protocol.specs.System.{SystemCall, TransitsBy}
+use Rattle.daide_settings.specs.declared.settings.Settings.{Settings}
+use Rattle.daide_settings.specs.declared.settings.SettingsError.{SettingsError}
+use Rattle.daide_settings.specs.declared.settings.SettingsError.TheVariants as settings_faults
+use Rattle.daide_settings.specs.Given.{given_of}
+use Rattle.daide_settings.specs.Settings.{judged_settings}
+use Rattle.daide_event_loop.specs.declared.serving.ServeFault.{ServeFault}
+use Rattle.daide_event_loop.specs.Served.{IsWholeRun}
+use Rattle.daide_event_loop.specs.Serving.{GivesUp}
+use Rattle.daide_buffered_io.specs.Calls.{StreamCall}
+use Rattle.daide_sockets.specs.Pairing.{Paired, RunSockets, Transits}
+use Rattle.daide_commands.specs.Gateway.{Announces}
+use Rattle.daide_commands.specs.declared.gateway.GatewayFault.TheVariants as gateway_faults
+use Rattle.daide_commands.specs.declared.running.RunFault.{RunFault}
+use Rattle.daide_commands.specs.declared.running.RunFault.TheVariants.{Unreadable, Memory, Record, Gateway}
+use Rattle.daide_commands.specs.declared.running.RunFault.TheVariants as run_faults
+
+-- sockets to which no bot came, and of which none closes
+abbrev pub no_sockets : {S : Type 0} → RunSockets S
+no_sockets = record { came = 0; arrivals = []; closing = [] }
+
+-- The sockets of a run began with none and went on by calls of this kind, as sockets do.
+abbrev pub RunsBy : {P S : Type 0} → (S → Option (List ℕ)) → (S → Option (List ℕ)) →
+    (S → Option (List StreamCall)) → (P → Paired S) →
+    (List (SystemCall P) → Type 0) → Type 0
+RunsBy {P} {S} to_give taken calls pair Kind = (answers : List (SystemCall P)) × (new : RunSockets S)
+    × TransitsBy (Transits to_give taken calls pair) no_sockets answers new × Kind answers
+
+-- how a run ends after it served
+abbrev pub ending_by : Result (Unit {0}) ServeFault → Result (Unit {0}) RunFault
+ending_by (Ok done) = Ok done
+ending_by (Err fault) = Err (Gateway (gateway_faults.Serve fault))
+
+-- How a run of settings ends. If all bots were served, it said that it listens, and its calls are a whole run of these
+-- settings; if it was given up, they are the calls until then. Before that nothing is written.
+abbrev pub RunEnds : {P S : Type 0} → (S → Option (List ℕ)) → (S → Option (List ℕ)) →
+    (S → Option (List StreamCall)) → (P → Paired S) →
+    (P → PortCall → P → Type 0) → Settings → Type 0 → Option (List ℕ) → Option (List ℕ) →
+    Result (Unit {0}) RunFault → Type 0
+RunEnds to_give taken calls pair transition settings failed old new (Ok done) =
+    Announces failed old new × RunsBy to_give taken calls pair (IsWholeRun transition settings)
+RunEnds to_give taken calls pair transition settings failed old new (Err (Gateway (gateway_faults.Serve fault))) =
+    Announces failed old new × RunsBy to_give taken calls pair (GivesUp (λ n. Unit {0}) transition settings fault)
+RunEnds to_give taken calls pair transition settings failed old new (Err (Gateway gateway_faults.Listen)) = new ≡ old
+RunEnds to_give taken calls pair transition settings failed old new (Err (Gateway gateway_faults.Memory)) = new ≡ old
+RunEnds to_give taken calls pair transition settings failed old new (Err Memory) = new ≡ old
+RunEnds to_give taken calls pair transition settings failed old new (Err Unreadable) = ⊥
+RunEnds to_give taken calls pair transition settings failed old new (Err Record) = ⊥
+RunEnds to_give taken calls pair transition settings failed old new (Err (run_faults.Settings fault)) = ⊥
+
+-- a fault of a text, which is found before anything is opened
+abbrev pub IsOfText : RunFault → Type 0
+IsOfText (run_faults.Settings fault) = Unit {0}
+IsOfText Unreadable = ⊥
+IsOfText Memory = ⊥
+IsOfText Record = ⊥
+IsOfText (Gateway fault) = ⊥
+
+-- a text has settings, or a fault
+abbrev pub Reads : List ℕ → Settings → Type 0
+Reads text settings = judged_settings (parse_document text) ≡ Ok (given_of settings)
+
+abbrev pub IsRefused : List ℕ → SettingsError → Type 0
+IsRefused text fault = fault ≢ settings_faults.Memory → judged_settings (parse_document text) ≡ Err fault
+
+-- How a run of a text ends: as one of its settings, or at once if it has none.
+abbrev pub TextRuns : {P S : Type 0} → (S → Option (List ℕ)) → (S → Option (List ℕ)) →
+    (S → Option (List StreamCall)) → (P → Paired S) →
+    (P → PortCall → P → Type 0) → List ℕ → Type 0 → Option (List ℕ) → Option (List ℕ) →
+    Result (Unit {0}) RunFault → Type 0
+TextRuns to_give taken calls pair transition text failed old new result =
+    ((fault : SettingsError) × (result ≡ Err (run_faults.Settings fault)) × IsRefused text fault × (new ≡ old))
+    ⊎ ((settings : Settings) × Reads text settings
+    × RunEnds to_give taken calls pair transition settings failed old new result)
+
+-- How a run of a file ends, of which no clause says what it has: as one of some settings, or before that, with nothing
+-- written.
+abbrev pub FileRuns : {P S : Type 0} → (S → Option (List ℕ)) → (S → Option (List ℕ)) →
+    (S → Option (List StreamCall)) → (P → Paired S) →
+    (P → PortCall → P → Type 0) → Type 0 → Option (List ℕ) → Option (List ℕ) → Result (Unit {0}) RunFault → Type 0
+FileRuns to_give taken calls pair transition failed old new result =
+    ((fault : RunFault) × (result ≡ Err fault) × (new ≡ old))
+    ⊎ ((settings : Settings) × RunEnds to_give taken calls pair transition settings failed old new result)

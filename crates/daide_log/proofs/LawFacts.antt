@@ -1,0 +1,62 @@
+-- The laws of `laws` that are definitions, each used once at values that were worked out by hand. Each fact takes the law
+-- alone, so that a weaker one does not check.
+use Rattle.std.proofs.Common.{◌≡◌, ◌≢◌, ℕ, ◌+◌, ◌≤◌, List, [], ◌∷◌, ◌++◌, true, codes, Some, Ok, Err, refl, sym, ◌∙◌, arith}
+use Rattle.daide_protocol.specs.declared.summary.Summary.{Summary}
+use Rattle.daide_protocol.specs.declared.config.Config.{Config}
+use Rattle.daide_protocol.specs.Config.{limits_with}
+use Rattle.daide_protocol.specs.Machine.{initial_state}
+use Rattle.daide_protocol.specs.Ports.{PortCall, Clock, EvolvesBy}
+use Rattle.daide_protocol.specs.Summary.{nothing_counted}
+use Rattle.daide_log_lines.specs.declared.fault.LogFault.TheVariants.{BadLine}
+use Rattle.daide_log.specs.declared.record.RecordEnd.{RecordEnd}
+use Rattle.daide_log.specs.declared.record.RecordEnd.TheVariants.{Whole, Failed}
+use Rattle.daide_log.specs.declared.config_line.MatchConfig.{MatchConfig}
+use Rattle.daide_log.specs.ConfigLine.{config_of_line, match_config_of_line}
+use Rattle.daide_log.specs.Heading.{Unnamed}
+use Rattle.daide_log.specs.Laws.{IsLines, SessionsAreAlone, own_reported}
+use Rattle.daide_log.specs.Log.{IsReportBy, IsReport, Opening, ReportsBy}
+use Rattle.daide_log.specs.Progress.{HasFault}
+use Rattle.daide_log.specs.RecordLaw.{HasFront, IsReported, PortsAreRecorded, RecordsAreReported, begun_record}
+use Rattle.daide_log.specs.Recording.{Recorded, Records}
+use Rattle.daide_log.specs.Report.{ReportEntry, counted_all, lines_of, summary_line}
+use Rattle.daide_log.proofs.Played.{has_no_feed, unbroken}
+
+-- a match of which no session has a line
+alone : SessionsAreAlone → (log own second own_second : List ℕ) (limits : MatchConfig) (text : List ℕ)
+    (summary : Summary) → IsLines log (codes "daide-log 2" ∷ second ∷ []) →
+    match_config_of_line second ≡ Some limits → limits.words ≡ 0 → 1 ≤ limits.sessions →
+    IsLines own (codes "daide-log 1" ∷ own_second ∷ []) → config_of_line own_second ≡ Some limits.config →
+    IsReport log text (Ok summary) →
+    (reported : List ReportEntry) × (text ≡ lines_of reported ++ summary_line summary)
+    × IsReport own (lines_of (own_reported 1 reported) ++ summary_line (counted_all (own_reported 1 reported) nothing_counted))
+    (Ok (counted_all (own_reported 1 reported) nothing_counted))
+alone law log own second own_second limits text summary lines is none some own_lines own_is reports =
+    law log own second own_second [] limits 1 text summary lines is none (omega arith) some own_lines own_is reports
+
+-- a first line of another form is a fault, whatever follows it
+pub bad_first_line : HasFault (codes "x" ++ 10 ∷ []) (BadLine 1)
+unfolding has_no_feed
+bad_first_line more = (
+  [],
+  IsReportBy.bad [] 0 [] (Opening Unnamed) ReportsBy.none (codes "x") more (omega arith)
+      (unbroken (codes "x") refl) (omega arith) refl,
+)
+
+abbrev limits : Config
+limits = record { top_level = 60; max_body = 1024; max_depth = 16 }
+
+-- the record of a session whose ports answered nothing
+nothing_recorded : RecordsAreReported → IsReported limits [] [] [] (initial_state (limits_with limits []))
+nothing_recorded law = law limits [] [] [] (initial_state (limits_with limits [])) refl refl tt tt (omega arith) (refl, refl)
+
+whole_or_failed : (end : RecordEnd) → end ≡ Whole → end ≢ Failed
+whole_or_failed end is other = absurd (let same : Whole ≡ Failed = sym is ∙ other in cc)
+
+-- ports whose clock popped, and no other call
+one_line : {P : Type 0} (transition : P → PortCall → P → Type 0) (failed : Type 0) → PortsAreRecorded transition failed →
+    (old new : Recorded P) → old.record_of ≡ begun_record limits [] →
+    EvolvesBy (Records transition failed) old (Clock true ∷ []) new → new.record_of.ending ≡ Whole →
+    HasFront limits [] (Clock true ∷ []) new.record_of
+one_line transition failed law old new begun calls whole =
+    (law limits [] (Clock true ∷ []) old new (omega arith) begun calls).1
+    (whole_or_failed new.record_of.ending whole)
