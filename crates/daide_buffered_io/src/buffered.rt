@@ -192,9 +192,21 @@ impl<S: Duplex + Drop> Buffered<S> {
     /// Returns bytes from the read buffer, or reads from the stream if the read buffer is empty and the stream may be
     /// readable.
     ///
-    /// Returns `Got(n)` if the next `n` bytes are at the front of `buffer`. Pulls return the bytes of the stream in
-    /// order and without gaps. Returns `Ended`, at the end of the stream or after a failed read, only once all bytes
-    /// were returned.
+    /// Returns `Got(n)` if the next `n` bytes are at the front of `buffer`.
+    ///
+    /// `passes`: pulls return the bytes of the stream in order and without gaps; the rest is in the read buffer.
+    ///
+    /// `unwritten`: it writes nothing.
+    ///
+    /// `few`: each buffer has at most 4,096 bytes.
+    ///
+    /// `asked`: if the read buffer is empty, it reads the stream, into as much room or more, and returns what that read
+    /// is.
+    ///
+    /// `handed`: else it returns as many of the buffered bytes as fit.
+    ///
+    /// `all_out`: it returns `Ended`, at the end of the stream or after a failed read, only once all bytes were
+    /// returned.
     pub fn pull(&mut self, pool: &Pool, readiness: &mut Readiness, buffer: &mut [u8]) -> Pull
         ensures asked { IsBufferedPull S.calls (length buffer.old) readiness.old self.old result readiness.new self.new }
         ensures within { IsPullWithin result (length buffer.old) }
@@ -216,8 +228,11 @@ impl<S: Duplex + Drop> Buffered<S> {
         self.read_ahead(pool, readiness, buffer)
     }
 
-    /// Writes the write buffer once, and keeps what the stream did not accept. If the write fails, the next put returns
-    /// `Failed`.
+    /// Writes the write buffer once.
+    ///
+    /// `written`: it hands the stream all buffered bytes, and keeps what the stream did not accept.
+    ///
+    /// `failed`: if the write fails, the next put returns `Failed`.
     pub fn flush(&mut self, pool: &Pool, readiness: &mut Readiness)
         ensures passes { Passes S.to_give S.taken self.old [] [] self.new }
         ensures unread { ReadsNothing S.to_give self.old self.new }
@@ -348,11 +363,22 @@ impl<S: Duplex + Drop> Buffered<S> {
         put
     }
 
-    /// Puts bytes. Fewer than `MOST_HELD` are kept together: if the free space is too small for all of them, the write
-    /// buffer is written first.
+    /// Puts bytes. Fewer than `MOST_HELD`, 4,096, are kept together: if the free space is too small for all of them,
+    /// the write buffer is written first.
     ///
     /// Returns `Took(n)` if the first `n` bytes are accepted, in order: the stream or the write buffer has them.
-    /// Returns `Took(0)` for some bytes only if no more can be written now, and `Failed` after any write that failed.
+    ///
+    /// `passes`: what went to the stream is the buffered bytes and then the accepted ones, in order, and the rest is in
+    /// the write buffer.
+    ///
+    /// `unread`: it reads nothing.
+    ///
+    /// `waits`: of some bytes it accepts none only if no more can be written now. Then the system will report when, or
+    /// the last write was interrupted eight times.
+    ///
+    /// `fails`: after a write that failed, each put returns `Failed`, and nothing more is written.
+    ///
+    /// Not said: that a write that fails is reported if no further put is made.
     pub fn put(&mut self, pool: &Pool, readiness: &mut Readiness, bytes: &[u8]) -> Put
         ensures within { IsPutWithin result (length bytes.now) }
         ensures passes { Passes S.to_give S.taken self.old [] (bytes_taken result bytes.now) self.new }
@@ -371,7 +397,7 @@ impl<S: Duplex + Drop> Buffered<S> {
         self.take_behind(pool, readiness, bytes, bytes.len())
     }
 
-    /// Shuts down the writing direction. Requires an empty write buffer.
+    /// Shuts down the writing direction. Requires an empty write buffer, so no byte that waits is lost.
     pub fn end_writing(&mut self)
         requires { self.old.write_buffer ≡ [] }
         ensures passes { Passes S.to_give S.taken self.old [] [] self.new }

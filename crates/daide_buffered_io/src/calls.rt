@@ -39,8 +39,17 @@ fn read_on<S: Duplex>(stream: &mut S, buffer: &mut [u8]) -> IoResult
 /// Reads what is available into the buffer, if the stream may be readable, and updates the cached readiness. Makes no
 /// call if the buffer is empty.
 ///
-/// Returns `Got(n)` if the next `n` bytes of the stream are now at the front of the buffer, `Ended` at the end of the
-/// stream or if the read failed, and `Idle` if there is nothing to read yet. Only `Got` takes bytes from the stream.
+/// Returns `Got(n)` if the next `n` bytes of the stream are now at the front of the buffer. Returns `Ended` at the end
+/// of the stream or if the read failed, and `Idle` if there is nothing to read yet.
+///
+/// `asked`: it repeats an interrupted call, and makes eight calls at most; the eighth interruption is `Idle`. After a
+/// call that would have blocked, or that moved less than it might, no further call is made until the system reports
+/// readiness. If the system reported an end, a failure or an urgent byte, which it reports only once, a short read is
+/// not the last.
+///
+/// `given`: only `Got` takes bytes from the stream, exactly those at the front of the buffer.
+///
+/// `apart`: the bytes that the stream took are unchanged.
 pub fn pull_from<S: Duplex>(stream: &mut S, readiness: &mut Readiness, buffer: &mut [u8]) -> Pull
     ensures asked { IsPull S.calls (length buffer.old) readiness.old stream.old result readiness.new stream.new }
     ensures within { IsPullWithin result (length buffer.old) }
@@ -77,10 +86,17 @@ fn write_on<S: Duplex>(stream: &mut S, bytes: &[u8]) -> IoResult
     IoResult::of(&stream.write(bytes))
 }
 
-/// Writes the first `MOST_AT_ONCE` bytes at most, if the stream may be writable, and updates the cached readiness.
+/// Writes at most the first `MOST_AT_ONCE` bytes, 16,384, if the stream may be writable, and updates the cached
+/// readiness.
 ///
-/// Returns `Took(n)` if the stream accepted exactly the first `n` bytes, with 0 if it is not writable now, and `Failed`
-/// if the write failed, in which case the stream accepted none of them.
+/// Returns `Took(n)` if the stream accepted exactly the first `n` bytes, with 0 if it is not writable now. Returns
+/// `Failed` if the write failed.
+///
+/// `asked`: it repeats and omits calls as `pull_from` does.
+///
+/// `taken`: with `Took(n)` the stream accepted exactly the first n bytes, and with `Failed` none.
+///
+/// `apart`: the bytes that are still to be read are unchanged.
 #[tactic(auto, using(std::proofs::lemmas::List::take_min))]
 pub fn put_to<S: Duplex>(stream: &mut S, readiness: &mut Readiness, bytes: &[u8]) -> Put
     ensures asked { IsPut S.calls (take MOST_AT_ONCE bytes.now) readiness.old stream.old result readiness.new

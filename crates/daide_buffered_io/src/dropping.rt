@@ -35,8 +35,14 @@ impl Dropping {
         Dropping { left: most }
     }
 
-    /// Pulls once, discards up to `PIECE` bytes, and subtracts their number from the budget. Returns true if draining
-    /// is finished: the stream ended, a read failed, or the budget is used up.
+    /// Pulls once, discards up to `PIECE` bytes, and subtracts their number from the budget.
+    ///
+    /// `pulled`: it returns true if draining is finished: the stream ended, a read failed, or the budget is used up.
+    ///
+    /// `dropped`: it discards exactly as many bytes as the budget shrinks by: those that the stream gives next, after
+    /// all that the session read.
+    ///
+    /// `unwritten`: the stream takes nothing more.
     pub fn drop_piece<S: Duplex + Drop>(
         &mut self,
         stream: &mut Buffered<S>,

@@ -51,7 +51,8 @@ impl Free {
     }
 }
 
-/// The buffers of a run's sockets. A socket takes one with its first buffered byte, and gives it back with the last.
+/// The buffers of a run's sockets. A socket takes one with its first buffered byte, and gives it back with the last. At
+/// most 64 free buffers of 4,096 bytes are kept (the invariant of `Free`).
 #[derive(Drop)]
 pub struct Pool {
     alloc: Global,

@@ -260,7 +260,8 @@ fn subcommands<'a>(alloc: Global, takes_negative: bool) -> Result<Vec<Command<'a
     Ok(commands)
 }
 
-/// Returns the command line that is understood. Negative numbers are words of `frame` where it `takes_negative`.
+/// Returns the command line that the program understands: each command, its options and their names. Negative numbers
+/// are words of `frame` if `takes_negative`.
 pub(crate) fn command<'a>(alloc: Global, takes_negative: bool) -> Result<Command<'a>, AllocError>
     ensures { takes_negative ≡ false → IfOk result (λ command. app_of command ≡ gate_app) }
 {
@@ -300,7 +301,9 @@ fn level_named(word: &str) -> Option<Level>
     }
 }
 
-/// Returns what words give, by the command line that is understood. The first word is the program's name.
+/// Returns what the words give, by the command line that the program understands (`gate_app`). The first word is the
+/// program's name. They give what `clap`'s contracts compute: a subcommand with its values (`subcommand_of`), a reason
+/// for an error (`fault_of`), or no memory. So without negative numbers the order is a function of the words.
 pub(crate) fn parse<'a, S: AsStr>(alloc: Global, words: &'a [S]) -> Result<ArgMatches<'a>, Error>
     ensures { ParsesTo (map S.text words.now) (parsed_by result) }
 {
@@ -418,7 +421,8 @@ fn order_for<'m, 'a>(name: &str, given: &'m ArgMatches<'a>) -> Order<'m, 'a>
     }
 }
 
-/// Returns what the words ask for; without any, what `show` does with its defaults.
+/// Returns the order of a subcommand with its values: side, level, words, explanation, path and typed words
+/// (`IsOrderOf`). Without a subcommand it is `show` with its defaults.
 pub(crate) fn order_of<'m, 'a>(matches: &'m ArgMatches<'a>) -> Order<'m, 'a>
     ensures { IsOrderOf (subcommand_rows_of matches.now) result }
 {

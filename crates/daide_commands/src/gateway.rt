@@ -64,9 +64,20 @@ fn announce<O: Sink>(output: &mut O)
     }
 }
 
-/// Says that it listens, and serves until all bots were served. By its answers the system went from what it was to what it
-/// is, and they are those of a whole run of the settings, or of one that is given up for its fault. It writes nothing else
-/// than that it listens.
+/// Writes that it listens, and serves until all bots were served. The caller keeps the system, so the clauses name its
+/// old and new value. If sessions are recorded, the system is one around the sockets (`RecordedSockets`), with the same
+/// relation.
+///
+/// `announced`: it writes `listening` and a line feed to the output, and nothing else, unless a write failed.
+///
+/// `served`: if it returns `Ok`, the settings' limits were accepted. The calls that took the system from its old to its
+/// new value are those of a whole run.
+///
+/// `given_up`: else they are those of a run that was given up for its fault.
+///
+/// `refused`: it returns `Memory` as `serve` does, only after the allocator refused room.
+///
+/// `unasked`: after a fault of the settings the system is unchanged.
 pub fn serve_on<A: Memory + Copy, P: Ports, S: System<P>, O: Sink>(
     alloc: A,
     settings: &Settings,

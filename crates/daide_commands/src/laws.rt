@@ -9,22 +9,28 @@ use daide_protocol::Ports;
 use daide_sockets::ports::SocketPorts;
 use std::rt::Clock;
 
-/// A session over two streams that tell their bytes: what it heard of a side is what that side's stream gave, in order;
-/// what each stream took is a front of the machine's answers to that, and all of them where the session is closed and
-/// the wire didn't fail.
+/// Let a session have two streams that record their bytes. What it received from a side is what was read from that
+/// side's socket, in order (`passes`). What a socket took is a prefix of the machine's answers to that (`front`). It is
+/// all of them if the session is closed and the wire did not fail (`all`).
+///
+/// Let nothing be held at the beginning, as for each connection. Then a stream gave what the session received and what
+/// is in its read buffer (`heard`). It took a prefix of the machine's answers, and the write buffer has what comes next
+/// (`sent`). If the write buffer is empty and the wire did not fail, the stream of a closed session took all of them
+/// (`whole`).
+///
+/// Not said: that the write buffer is flushed at last. Tests show it.
 pub fn sessions_exchange<S: Duplex>()
     ensures { SessionsExchange S.to_give S.taken }
 {}
 
-/// Each session that a run serves, over any streams that tell their bytes: what it heard of a side is what that side's
-/// stream gave since its connect came about, in order; what each stream took is a front of the machine's answers to
-/// that, and all of them where the session is closed and the wire didn't fail.
+/// The same holds of each session of a run, with its quota of turns. The ports are those that ship, over any two
+/// streams that record their bytes.
 pub fn served_sessions_exchange<R: Clock, S: Duplex + Drop>()
     ensures { ServedSessionsExchange ⟦<SocketPorts<'static, R, S> as Ports>⟧.transition
         (λ ports. (ports.bot.stream, ports.server.stream)) S.to_give S.taken }
 {}
 
-/// The sockets of a run count each bot of which their answers say that it came.
+/// The sockets of a run count as many bots as their calls returned.
 pub fn bots_are_counted<P: Ports, S: Duplex>()
     ensures { BotsAreCounted P S.to_give S.taken S.calls }
 {}

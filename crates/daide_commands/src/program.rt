@@ -67,10 +67,20 @@ fn carry_out<R: AllocGlobal + Files + Clock + Net, I: Read, O: Sink, E: Write>(
     }
 }
 
-/// Does what the words ask for, and returns the exit status, one of the four of `faults`. The first word is the program's
-/// name. The order that words give is the one that clap's contracts say, unless a word begins as a negative number, of
-/// which they say nothing; status and output are those of that order. The texts of help and usage are clap's. Only a
-/// fault that could not be reported is an error.
+/// Does what the words ask for, and returns the exit status. The first word is the program's name. Only a fault that
+/// could not be reported is an error.
+///
+/// `bounded`: the status is one of the four of `faults`.
+///
+/// `answered`: what the program does, its status and its output are those of the order that the words give
+/// (`OrderEnds`). For `show`, `check` and `frame` the order says what they write of standard input. `run` returns 0
+/// only if it wrote that it listens. Words that are not understood return 2 and write nothing to the output. Help and
+/// version return 0 or 1, and refused memory returns 1 (`UsageEnds`).
+///
+/// Premise: no word begins with a hyphen and a digit. With such a word `frame` takes negative numbers, and `clap`'s
+/// contracts say nothing of that; then the program ends as some order does.
+///
+/// Not said: the texts of help, usage and faults; what a file has.
 pub fn answer<R: AllocGlobal + Files + Clock + Net, S: AsStr, I: Read, O: Sink, E: Write>(
     rt: &R,
     words: &[S],

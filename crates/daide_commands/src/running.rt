@@ -125,9 +125,19 @@ fn serve_sockets<R: AllocGlobal + Clock + Net, O: Sink, E: Write>(
     ending_of(served)
 }
 
-/// Serves with the settings of a text, and tells of its sessions where it `is_verbose`. If the text has settings, it binds
-/// their addresses, opens sockets to which no bot came yet, says that it listens, and serves on them; if it returns `Ok`,
-/// the calls of these sockets are a whole run of these settings. Before it listens it writes nothing.
+/// Serves with the settings of a text: binds, opens the sockets, serves on them (`serve_on`), and finishes closing. If
+/// sessions are recorded, the same is proved of some settings, since no contract says what a file has (`run_recorded`).
+///
+/// `runs`: if it returns `Ok`, sockets to which no bot had come, and of which none closed, evolved by the calls of a
+/// whole run. If it returns a fault of serving, they are the calls of a run that was given up for it. In both cases it
+/// wrote that it listens, and `sessions_come_once` and `bots_are_counted` hold. After a fault before that it wrote
+/// nothing.
+///
+/// `untouched`: if the text gives no settings, it returns their fault, and output and standard error are unchanged.
+///
+/// Not said: which sockets and calls they are, since the run opens its sockets itself. Two causes depend on the
+/// operating system: that the address can't be listened on if `Listen` is returned, and that memory was refused if
+/// `Memory` is.
 pub fn run_text<R: AllocGlobal + Clock + Net, O: Sink, E: Write>(
     rt: &R,
     text: &str,

@@ -94,7 +94,10 @@ impl<P: Ports, A: Allocator> Model for Hub<P, A> {
 }
 
 impl<P: Ports, A: Memory + Copy> Hub<P, A> {
-    /// A hub with no sessions, and room for so many. `Memory` comes only after that room was refused.
+    /// Creates a hub without sessions, with room for `max` of them, and without an operator's words.
+    ///
+    /// `refused`: it refuses a wrong limit and a wrong number of sessions. It returns `Memory` only after the allocator
+    /// refused room for `max` places (`IsHubCause`).
     pub fn new(alloc: A, config: Config, max: usize) -> Result<Hub<P, A>, HubError>
         ensures opening { IfOk result (λ hub. hub ≡ record { limits = limits_of config; max = max; places = [] }) }
         ensures accepted { IfOk result (λ hub. (config_fault config ≡ Ok tt) × IsHubSize max) }
@@ -103,8 +106,8 @@ impl<P: Ports, A: Memory + Copy> Hub<P, A> {
         Hub::with_words(alloc, config, max, Words::new())
     }
 
-    /// A hub with no sessions, and room for so many, whose messages may hold these words of the operator's. It
-    /// takes the same memory as one without, and is refused as one without.
+    /// Creates a hub whose messages may have these words of the operator's. It allocates as `new` does, and returns the
+    /// same errors.
     pub fn with_words(
         alloc: A,
         config: Config,
@@ -135,8 +138,11 @@ impl<P: Ports, A: Memory + Copy> Hub<P, A> {
         })
     }
 
-    /// Adds a session that nothing came to yet, and answers its place, which is the last. A refusal changes
-    /// nothing and hands the ports back. `Memory` comes only after room for a body was refused.
+    /// Adds a session in its opening state with these ports, and returns its place, which is the last. If it fails,
+    /// nothing changes and it returns the ports.
+    ///
+    /// `refused`: it returns `Full` if and only if there are as many sessions as places. It returns `Memory` only after
+    /// the allocator refused room for a body (`IsAddCause`).
     pub fn add(&mut self, ports: P) -> Result<usize, (AddFault, P)>
         ensures place { IfOk result (λ i. i ≡ length self.old.places) }
         ensures room { OnOk result (length self.old.places < self.old.max) }
@@ -160,7 +166,8 @@ impl<P: Ports, A: Memory + Copy> Hub<P, A> {
 impl<P: Ports, A: Allocator + Copy> Hub<P, A> {
     ghost use Rattle.daide_driver.specs.contracts.hub.Hub.{the_row};
 
-    /// One turn of the session at a place, with its ports.
+    /// Makes one turn of the session at a place with its ports, by the clauses of `turn`. Every other session and its
+    /// ports are unchanged.
     pub fn turn(&mut self, i: usize)
         requires { i < length self.old.places }
         ensures { Changes (IsTurned P.transition) self.old i self.new }
@@ -185,8 +192,10 @@ impl<P: Ports, A: Allocator + Copy> Hub<P, A> {
         &self.places[i].ports
     }
 
-    /// Lends the ports of the session at a place, as to what begins a turn with them. When the loan is over that place has
-    /// the ports as they were left, and nothing else changed: neither its session, nor another place, nor the limits.
+    /// Lends the ports of the session at a place, to begin a turn with them.
+    ///
+    /// `writes_back`: when the loan ends, the place has the ports as they were left. Its session, the other places and
+    /// the limits are unchanged.
     pub fn ports_mut(&mut self, i: usize) -> &mut P
         requires { i < length self.old.places }
         ensures* writes_back { sem 𝓛 (Lends (the_row P.row A.row P.Ports A.Allocator) P.row self.entry result
@@ -204,7 +213,11 @@ impl<P: Ports, A: Allocator + Copy> Hub<P, A> {
         self.places.len()
     }
 
-    /// What all sessions hold together.
+    /// Returns what all sessions hold together.
+    ///
+    /// `sum`: it is the sum of the sessions' weights.
+    ///
+    /// `bound`: it is at most `2 * max_body + 16 * max_depth + 96` for each session.
     pub fn weight(&self) -> usize
         ensures sum { result ≡ sum_by weight_at self.now.places }
         ensures bound { result ≤ length self.now.places * session_bound self.now.limits }
@@ -216,8 +229,10 @@ impl<P: Ports, A: Allocator + Copy> Hub<P, A> {
         total
     }
 
-    /// Takes out the session at a place where it is over and nothing waits, and hands its ports back, with what it
-    /// counted and what ended it; the later ones move down one place. Else nothing changes.
+    /// Takes out the session at a place if it is over and nothing waits; the later ones move down one place. Else
+    /// nothing changes.
+    ///
+    /// `reported`: it returns the session's ports, its counts and what ended it.
     pub fn remove_over(&mut self, i: usize) -> Option<Removed<P>>
         requires { i < length self.old.places }
         ensures moved_down { IfSome result (λ removed. Removes self.old i removed.ports self.new) }

@@ -7,28 +7,29 @@ ghost use Rattle.daide_driver.specs.Due.{DueBytesGo, FramesGo};
 
 use daide_protocol::ports::Ports;
 
-/// What ports answered in two calls, one after the other, moves a session as if it were answered in one.
+/// What ports returned in two consecutive calls moves a session as if they had returned it in one call.
 pub fn relays_join()
     ensures { RelaysJoin }
 {}
 
-/// A new session stands where a run from its opening stands.
+/// A new session is reachable: it is where the empty run from its opening leads.
 pub fn new_sessions_stand()
     ensures { NewSessionsAreReachable }
 {}
 
-/// Relaying twice is relaying once, by the answers of both: the headline of the one call and that of the next are
-/// the headline of both.
+/// The headline of one call and that of the next are the headline of both, so to relay twice is to relay once.
 pub fn headlines_join<P: Ports>()
     ensures { HeadlinesJoin P.transition }
 {}
 
-/// Whatever calls are made of a hub, in whatever order, where ports are lent to begin a turn with them: the session at
-/// each place, however it moved, went on by the calls of its own alone, which began its turns and made them, from its
-/// opening or from where it stood before. So its answers, and what its ports were asked, are those that it would have had
-/// with no other session beside it; and so are those of one that is taken out, whose ports come back. Each that was turned
-/// has the headline, and each that was added stands where a run from its opening stands, by the answers of its ports since
-/// then.
+/// Over any calls of a hub, the session at each place evolved by its own calls alone, in their order, however it moved
+/// (`kept`). So its answers, and what its ports were called for, are those that it would have had alone. The same holds
+/// of a session that was taken out, whose ports are returned (`taken_out`). Each session that was turned has the
+/// headline (`headline`). Each that was added is reachable, by all that its ports returned since (`stands`).
+///
+/// Premise: the calls are `add`, `turn`, `remove_over`, and `ports_mut` to begin a turn with the ports that it lends.
+///
+/// Not said: when a session's turn comes.
 pub fn sessions_are_apart<P: Ports>()
     ensures kept { SessionsAreApart P.transition }
     ensures taken_out { PortsComeBackApart P.transition }
@@ -36,14 +37,15 @@ pub fn sessions_are_apart<P: Ports>()
     ensures stands { OpenedSessionsAreReachable P.transition }
 {}
 
-/// While a wire takes one byte a put at least, as many bytes are gone after n turns as there were turns, or all that
-/// waited before them, whatever else the turns bring: so n waiting bytes are gone after n turns.
+/// While each put to a wire takes at least one byte (`EachTurnTakesSome`), n waiting bytes are taken within n turns,
+/// whatever else happens. The bytes that waited first are taken first (`delivered` of `turn`). In a run each session
+/// has one turn in each round.
 pub fn due_bytes_go()
     ensures { DueBytesGo }
 {}
 
-/// While a wire takes all that it is handed, a frame of which nothing is gone yet is gone after six turns at most,
-/// whatever else the turns bring.
+/// While each put to a wire takes all that it is handed (`EachTurnTakesAll`), a frame of which nothing was taken is
+/// gone within six turns. An answer has at most six parts (`AreFresh`), and an end has one.
 pub fn frames_go()
     ensures { FramesGo }
 {}

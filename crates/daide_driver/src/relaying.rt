@@ -42,8 +42,14 @@ fn make_turns<A: Allocator, P: Ports>(
     }
 }
 
-/// Makes turns while the session isn't closed, and at most so many. Beside the session it keeps one array of
-/// 512 bytes.
+/// Makes at most `turns` turns while the session is not closed. Beside the session it keeps one array of 512 bytes.
+///
+/// `relayed`: it says of all turns together what `exchange` of `turn` says of one: `in_order`, `delivered`, `work` and
+/// `headline`. The bounds hold after each turn.
+///
+/// `closed`: it returns `Closed` if and only if the session is over and nothing waits. Else it made all its turns.
+///
+/// Not said: that a relay of no turns calls no port. Tests show it.
 pub fn relay<A: Allocator, P: Ports>(
     session: &mut Session<A>,
     ports: &mut P,

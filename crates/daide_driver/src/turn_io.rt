@@ -94,8 +94,43 @@ fn pull<A: Allocator, P: Ports>(
     pull_into(session, ports, side, &mut buffer[..len]);
 }
 
-/// One turn: the clock, then one put to each wire for which something waits, then one pull from each side that
-/// there is room for, the bot first each time.
+/// Makes one turn: calls the clock once, puts once to each wire for which something waits, and pulls once from each
+/// side that has room. The bot comes first each time.
+///
+/// `exchange` (`in_order`): each call is decided by the session's state at that step. The session takes one step for
+/// each result (`Refines`, `Wrote`, `Lost`), and the ports evolve by the same results (`EvolveTogether`). The relation
+/// `transition` of the ports says what a result does to them.
+///
+/// A put hands over the whole front that the session has then. A pull has a buffer as long as the room, of at most 512
+/// bytes. An FM or EM is handed over whole. An answer is handed over in parts (`AreAnswerParts`): its header, the
+/// frame's body, and the fixed words around it, `PRN (`, `HUH (`, `ERR` and `)`. What a put took is removed from these
+/// parts (`TakesFront`). A wire that takes all that it is handed gets a relayed message in two puts. It gets a PRN in
+/// four puts and a HUH in six, at most.
+///
+/// `exchange` (`delivered`): by the events that the ports returned in the call, the state is the machine's. For each
+/// wire, what waited before and the machine's answers are the bytes that it took and what waits after. A wire that
+/// failed took a prefix of that, nothing waits for it, and the session is over.
+///
+/// `exchange` (`work`): over all that the ports returned since the session was made, a side's table gives at most two
+/// answers for each byte received, modulo 2^64. A token of two bytes takes at most four answers, and the four bytes of
+/// a message's header pay for the four at its end. Neither pieces nor the number of messages matter. Between any two
+/// calls the same holds, with what is left over for the bytes held at the beginning (`Works`). So it holds of a relay,
+/// and of each session of a hub and of a run (`sessions_are_apart`, `sessions_are_served`).
+///
+/// `exchange` (`headline`): let the session be reachable, by all that its ports returned before: a run from its opening
+/// leads to it (`IsReachable`). Then it is reachable after the call, and bounded and exact (`IsBoundedAndExact`). In
+/// each direction it holds at most one message's announced length, capped, plus eight entries for each open bracket,
+/// plus sixteen. It holds at most 64 further entries in all. It took at most four table steps a token, and two answers
+/// for each byte received. Each wire took a prefix of the machine's answers, and unless it failed, what waits is all
+/// that is left of them. Once the session is closed, a wire that did not fail took all of them.
+///
+/// `exchange` (`bounds`): the bounds on what is held and on steps hold after each turn of any session, wherever it
+/// began.
+///
+/// `asked`: the call asks each side's table at most 1,032 times, whatever the ports return. That is `4 * 257 + 4`,
+/// since a turn pulls at most 512 bytes of a side.
+///
+/// Not said: which of two adjacent words `ERR` was inserted, if the body has one at that place.
 pub fn turn<A: Allocator, P: Ports>(session: &mut Session<A>, ports: &mut P)
     ensures exchange { EvolveTogether P.transition WholeTurn (session.old, ports.old) (session.new, ports.new) }
     ensures asked { AsksAtMost turn_steps session.old session.new }

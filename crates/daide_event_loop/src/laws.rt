@@ -4,21 +4,23 @@ ghost use Rattle.daide_event_loop.specs.Served.{SessionsAreServed, MovesAreAnswe
 
 use daide_protocol::ports::Ports;
 
-/// After whatever rounds of a run: each session that it holds, and each whose ports it let go, began with ports that a
-/// connect gave, and by all that these answered since it is bounded and exact: the headline. One that was let go is
-/// closed. Of the ports that came it holds all that it didn't let go; and of the bots that came it has on their way to the
-/// server all that weren't joined to it and whose server could be reached.
+/// After any rounds of a run from its opening, each session, held or taken out, began with ports that a connect
+/// returned. By all that these ports returned since, it is bounded and exact (`IsSessionOfRun`). Each session that was
+/// taken out is closed, so each of its wires that did not fail took all of the machine's answers. As many ports were
+/// received as are held and were handed back. Each bot that came has a session, or its connect is pending or failed.
+///
+/// A session whose quota is spent goes by what `QuotaPorts` returns then.
 pub fn sessions_are_served<P: Ports>()
     ensures { SessionsAreServed P.transition }
 {}
 
-/// Whether anything moved in a turn, by which a round waits or doesn't, is told by the answers of the turn.
+/// What a turn's calls returned decides whether anything moved in it, and so whether a round waits.
 pub fn moves_are_answered<P: Ports>()
     ensures { MovesAreAnswered P.transition }
 {}
 
-/// A session's ports are spent exactly where more turns began with them than there were: no session is ended as spent
-/// before, and until then its ports are asked and answer for themselves.
+/// A session's quota is spent if and only if more turns began with its ports than the settings allow. Until then its
+/// ports are called and answer for themselves.
 pub fn turns_are_counted<P: Ports>()
     ensures { TurnsAreCounted P.transition }
 {}

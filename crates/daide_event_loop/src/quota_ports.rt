@@ -10,8 +10,8 @@ use daide_protocol::ports::{Ports, Pull, Put};
 use daide_protocol::system::System;
 use std::marker::Model;
 
-/// Ports that may be asked so many turns. From the turn on that is one too many, they are asked no more: no clock pops,
-/// both wires fail, and both sides have ended.
+/// Ports with a quota of turns. If more turns begin than the quota has, the inner ports are not called any more. From
+/// then on the clock does not expire, both wires fail, and both sides have ended.
 #[derive(Drop)]
 pub struct QuotaPorts<P: Ports> {
     ports: P,
@@ -45,8 +45,8 @@ impl<P: Ports> QuotaPorts<P> {
         }
     }
 
-    /// Begins a turn: it is one of those that are left, and nothing moved in it yet. The system begins it with the ports
-    /// themselves, unless they are spent.
+    /// Begins a turn, and counts it. Unless the quota is spent, the system begins it with the inner ports. All that is
+    /// due once a turn is done here, so `clock_popped` counts, reads and writes nothing.
     pub fn begin_turn<S: System<P>>(&mut self, system: &mut S)
         ensures begins { Meters P.transition self.old TurnBegins self.new }
         ensures asked { TransitsBy S.transition system.old (beginning self.old self.new) system.new }

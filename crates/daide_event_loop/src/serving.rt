@@ -284,11 +284,21 @@ impl<P: Ports, A: Memory + Copy> Service<P, A> {
         self.counters.is_served(self.hub.count())
     }
 
-    /// One round: the system is told that it begins; at most one bot is admitted, and at most one connect taken up;
-    /// each session has one turn, in order of place, which the system begins with its ports; those that are over and of
-    /// which nothing waits are taken out, from the last place to the first; and where nothing moved in all this, there is
-    /// one wait. Want of memory for a session is its only fault; its ports are dropped then, and the round broken off
-    /// behind the connect that gave them.
+    /// Makes one round. It calls the system to begin the round, accepts at most one bot, and takes up at most one
+    /// connect. Each session then has one turn, in order of place. Closed sessions are taken out, from the last place
+    /// to the first. If nothing moved in all this, it waits once.
+    ///
+    /// `round`: a bot is accepted only below two limits: of sessions and pending connects at once, and of bots in all.
+    /// The system begins each turn with the session's ports (`begin_turn`), and the turn is made by the clauses of
+    /// `turn` (`TakesTurn`). Exactly the sessions that are over and for which nothing waits are taken out. It waits if
+    /// and only if nothing moved.
+    ///
+    /// `refused`: its only fault is no memory for a session.
+    ///
+    /// `broken_off`: with this fault the round ends after the connect that succeeded. Its ports are dropped, and all
+    /// else is unchanged (`BreaksOff`).
+    ///
+    /// Not said: that a wait ended because something came.
     pub fn round<S: System<P>>(&mut self, system: &mut S) -> Result<(), ServeFault>
         ensures round { OnOk result ((answers : List (SystemCall P))
             × TransitsBy S.transition system.old answers system.new × Round P.transition self.old answers self.new) }
@@ -308,10 +318,30 @@ impl<P: Ports, A: Memory + Copy> Service<P, A> {
     }
 }
 
-/// Serves so many bots as the settings say, and returns when all were served. A run waits for its peers, so no
-/// bound on its time is known: the bound on its rounds, 2^64 - 1, is one that no run comes to. It gives up for
-/// nothing else than wrong settings and memory that was refused, of the places or of a session, and says what was done
-/// till then.
+/// Serves as many bots as the settings say, in rounds (`Round`), and returns when all were served and no session is
+/// held. A run waits for its peers, so no bound on its time is known. Each clause is about the calls that took the
+/// system from its old to its new value (`TransitsBy`). So a body that makes no call meets none.
+///
+/// `served` (`each`): if it returns `Ok`, the calls are those of a whole run (`IsWholeRun`). Each session that it
+/// served is bounded and exact by all that its ports returned, as `sessions_are_served` says. With a session's ports
+/// the run hands the system the session's counts and why it ended (`IsEndOf`). The cause is the event that ended it, by
+/// what its ports returned while turns were left. It is `TurnsSpent` if and only if there is no such event, since the
+/// session was open until then.
+///
+/// `served` (`none_lost`): no ports are lost. As many bots came as the settings say (`all_came`). For each one the
+/// ports were handed back or the server could not be reached (`all_served`).
+///
+/// `given_up`: else the calls are those of a run that was given up for its fault (`GivesUp`). Wrong settings and no
+/// memory for the places are returned before any call. After no memory for a session, the round is broken off. The last
+/// fault is that 2^64 - 1 rounds were made, since a loop here needs a bound.
+///
+/// `refused`: it returns `Memory` only after the allocator refused room for `max_sessions` places or for a body of
+/// `max_body` bytes.
+///
+/// `unasked`: after a fault of the settings the system is unchanged.
+///
+/// Not said: what the system does with causes and counts; that a read gave what the peer sent, and that a peer gets
+/// what a write took. Two sessions may name the same connect; only the counts say that there are as many of both.
 pub fn serve<P: Ports, A: Memory + Copy, S: System<P>>(
     alloc: A,
     settings: &Settings,

@@ -74,7 +74,8 @@ pub fn is_relayed(rules: &Rules<'_>, body: &[u8]) -> bool
     matches!(verdict_of(rules, body), Verdict::Relay)
 }
 
-/// Returns whether the end is expected after the tokens of a body.
+/// Returns whether the end is expected after the tokens of a body: whether they are a message that is relayed
+/// (`IsEndExpected`).
 pub fn is_end_expected(rules: &Rules<'_>, before: &[u8]) -> bool
     requires low { least_depth ≤ rules.now.max_depth }
     requires high { rules.now.max_depth ≤ greatest_depth }

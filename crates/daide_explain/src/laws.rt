@@ -15,14 +15,14 @@ ghost use Rattle.daide_explain.specs.Expected.{IsExpected, IsEndExpected, OnlyDe
 ghost use Rattle.daide_explain.specs.Explained.{expected_line, IsExpectedLine, IsExplained, IsPrinted};
 ghost use Rattle.daide_explain.specs.Listed.{AreExpected, IsFilteredBy, IsListed, representatives, unknown_token};
 
-/// A message and its verdict have one explanation.
+/// A message and its verdict have at most one explanation.
 pub fn explained_in_one_way()
     ensures { (words : List Word) (end : Side2) (level : Level) (max_depth : ℕ) (m : List ℕ) (verdict : Verdict)
         (one other : List ℕ) → IsExplained words end level max_depth m verdict one →
         IsExplained words end level max_depth m verdict other → one ≡ other }
 {}
 
-/// Whether a token is expected depends on its class alone, whatever words an operator added.
+/// Whether a token is expected depends on its class alone, with any accepted words.
 pub fn class_decides_what_is_expected()
     ensures { (words : List Word) (end : Side2) (level : Level) (max_depth : ℕ) (p : List ℕ) (t u : ℕ) →
         are_accepted words ≡ true →
@@ -31,7 +31,8 @@ pub fn class_decides_what_is_expected()
         IsExpected (IsMessageOver (grammar_words words) end level) max_depth p u }
 {}
 
-/// What `list_expected` returns is exact: a token is expected if and only if the list has a token of its class.
+/// A token is expected if and only if the list of `list_expected` has a token of its class. This holds for every token,
+/// also one that no table lists.
 pub fn list_is_exact()
     ensures { (words : List Word) (end : Side2) (level : Level) (max_depth : ℕ) (p kept : List ℕ) →
         are_accepted words ≡ true →
@@ -40,7 +41,7 @@ pub fn list_is_exact()
         (t : ℕ) → IsExpected (IsMessageOver (grammar_words words) end level) max_depth p t ↔ IsListed words kept t }
 {}
 
-/// If a token of an unknown category is expected, each token but the brackets is: `<any>` is the item of all of them.
+/// If a token of an unknown category is expected, each token except the brackets is: `<any>` stands for all of them.
 pub fn any_is_each_token_but_brackets()
     ensures { (words : List Word) (end : Side2) (level : Level) (max_depth : ℕ) (p : List ℕ) →
         are_accepted words ≡ true →
@@ -48,8 +49,8 @@ pub fn any_is_each_token_but_brackets()
         (t : ℕ) → t ≢ bra → t ≢ ket → IsExpected (IsMessageOver (grammar_words words) end level) max_depth p t }
 {}
 
-/// An explanation is exact: its line prints the class of a token if and only if the token is expected, and `<end>` if
-/// and only if the end is.
+/// The line of an explanation prints the class of a token if and only if the token is expected. It prints `<end>` if
+/// and only if the end is expected. It holds for each side, level, depth limit and list of accepted words.
 pub fn explanation_is_exact()
     ensures { (words : List Word) (end : Side2) (level : Level) (max_depth : ℕ) (p text : List ℕ) →
         are_accepted words ≡ true →
@@ -79,7 +80,7 @@ pub fn refused_class_is_never_listed()
         → ends ≡ false) }
 {}
 
-/// Nothing is expected at an error place only if as many brackets are open before it as may be, and only BRA continues.
+/// If nothing is expected at an error place, as many brackets are open as may be, and only BRA continues the message.
 pub fn nothing_expected_only_for_depth()
     ensures { (words : List Word) (end : Side2) (level : Level) (max_depth : ℕ) (m : List ℕ) (place : ℕ) →
         are_accepted words ≡ true →

@@ -100,7 +100,8 @@ fn append_words<A: Allocator>(
     Ok(())
 }
 
-/// Returns a token of each class that is expected after the tokens of a body, in order.
+/// Returns a token of each class that is expected after the tokens of a body, in order. A token is expected if a
+/// message begins with these tokens and then it, and they open no bracket too many (`IsExpected`).
 pub fn list_expected<A: Allocator>(
     alloc: A,
     rules: &Rules<'_>,

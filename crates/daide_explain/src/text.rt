@@ -333,9 +333,17 @@ fn write_place<A: Allocator + Copy>(
     write_elsewhere(rules, body, text)
 }
 
-/// Writes the lines that explain the verdict on the message of a body; none if it is relayed.
+/// Writes the lines that explain the verdict on the message of a body; none if it is relayed. A failed write or a
+/// refused growth of `text` is the error.
 ///
-/// A failed write or a refused growth of `text` is the error.
+/// `expected` lists what may come at an error place. `relayed from level N` names the least higher level whose grammar
+/// relays the message, and is missing if there is none. `relayed with --side SIDE` is written if and only if the other
+/// side's grammar relays the message at this level. `unpaired: ) at I` names the first KET that closes no bracket, and
+/// `unpaired: ( at I` the first BRA that no KET closes.
+///
+/// Not said: how long it takes. It reads a message up to its error place once for each class of tokens, and the whole
+/// message once for each level. No session does that: no crate of a session or of the loop of a run uses
+/// `daide_explain`.
 pub fn write_explained<A: Allocator + Copy>(
     alloc: A,
     rules: &Rules<'_>,

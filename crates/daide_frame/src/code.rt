@@ -40,7 +40,7 @@ pub enum Code {
 }
 
 impl Code {
-    /// The number that an error message tells, from 0x01 to 0x0E.
+    /// Returns the number of the code in an error message, from 0x01 to 0x0E.
     pub fn number(self) -> u8
         ensures { result ≡ code_number self }
     {

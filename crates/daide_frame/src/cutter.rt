@@ -141,8 +141,11 @@ fn alien_end(head: Head, body: &[u8], known: usize) -> Option<usize>
 }
 
 impl<A: Memory> Cutter<A> {
-    /// A cutter for frames whose bodies have at most `cap` bytes. Room for the longest is taken here, and there is no
-    /// cutter only if that was refused.
+    /// Creates a cutter for frames whose bodies have at most `cap` bytes, and allocates room for the longest.
+    ///
+    /// `refused`: it fails only after the allocator refused room for `cap` bytes.
+    ///
+    /// Not said: that it allocates no more than `cap` bytes, and that no other call allocates. Tests show both.
     pub fn new(alloc: A, cap: u16) -> Result<Cutter<A>, AllocError>
         ensures cap { IfOk result (λ cutter. cutter.cap ≡ cap) }
         ensures empty { IfOk result (λ cutter. cutter.bytes ≡ []) }
@@ -160,8 +163,8 @@ impl<A: Memory> Cutter<A> {
 }
 
 impl<A: Allocator> Cutter<A> {
-    /// How many bytes are missing of the header or, once that is whole, of the body. None are after
-    /// `Bodied` or a fault.
+    /// Returns how many bytes are missing of the header or, once that is whole, of the body. Returns 0 after `Bodied`
+    /// or a fault.
     pub fn room(&self) -> usize
         ensures { result ≡ missing self.now.cap self.now.bytes }
     {
@@ -174,14 +177,14 @@ impl<A: Allocator> Cutter<A> {
         }
     }
 
-    /// The header, from the last byte of a good one on.
+    /// Returns the header, from the last byte of a good one on.
     pub fn head(&self) -> Option<Head>
         ensures { result ≡ head_in self.now.cap self.now.bytes }
     {
         self.head
     }
 
-    /// The body's bytes so far; after a fault in it, up to the end of the wrong token.
+    /// Returns the body's bytes so far; after a fault in the body, those up to the end of the wrong token.
     pub fn body(&self) -> &[u8]
         ensures value { result.now ≡ drop 4 self.now.bytes }
         ensures within { length result.now ≤ announced self.now.cap self.now.bytes }
@@ -198,7 +201,7 @@ impl<A: Allocator> Cutter<A> {
         front
     }
 
-    /// Begins a frame, whatever came before.
+    /// Begins a frame, and forgets the bytes fed before.
     pub fn reset(&mut self)
         ensures cap { self.new.cap ≡ self.old.cap }
         ensures empty { self.new.bytes ≡ [] }
@@ -262,9 +265,11 @@ impl<A: Allocator> Cutter<A> {
         }
     }
 
-    /// Takes the next bytes, at most as many as there is room for, and says what the last of them ended.
-    /// An empty piece changes nothing. After a fault the rest of the piece is ignored, and no byte of it
-    /// enters the body.
+    /// Takes the next bytes, at most `room` of them, and returns what the last of them completed. An empty piece
+    /// changes nothing. After a fault it ignores the rest of the piece, and no byte of it enters the body.
+    ///
+    /// `items`: let the bytes fed since `new` or `reset` be one list. The events other than `More` are the items of its
+    /// first frame, whatever the pieces.
     pub fn feed(&mut self, piece: &[u8]) -> Step
         requires { length piece.now ≤ missing self.old.cap self.old.bytes }
         ensures cap { self.new.cap ≡ self.old.cap }

@@ -47,11 +47,11 @@ pub struct Head {
     pub len: u16,
 }
 
-/// Reads a header, for bodies of at most `cap` bytes. The pad byte is ignored.
+/// Reads a header, for bodies of at most `cap` bytes, and ignores the pad byte.
 ///
-/// Of several faults the first of this order is answered: a type that no frame has
-/// (`UnknownMessage`), an initial message whose length is in the other byte order (`WrongEndian`),
-/// a length that is wrong for the type (`WrongLength`), a length above the cap (`UnknownMessage`).
+/// Returns the first of these faults. A type that no frame has is `UnknownMessage`. An initial message whose length is
+/// in the other byte order is `WrongEndian`. A length that is wrong for the type is `WrongLength`, and a length above
+/// the cap `UnknownMessage`.
 #[tactic(auto, unfolding(crate::specs::Head::parse_head))]
 pub fn read_head(bytes: [u8; 4], cap: u16) -> Result<Head, Code>
     ensures { result ≡ parse_head bytes cap }
@@ -77,7 +77,7 @@ pub fn read_head(bytes: [u8; 4], cap: u16) -> Result<Head, Code>
     Ok(Head { kind, len })
 }
 
-/// The four bytes of a header, with pad 0 and the length's high byte first.
+/// Returns the four bytes of a header, with pad 0 and the length's high byte first.
 #[tactic(auto, unfolding(crate::specs::Head::head_bytes))]
 pub fn write_head(head: Head) -> [u8; 4]
     ensures { result ≡ head_bytes head }

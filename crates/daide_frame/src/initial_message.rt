@@ -16,8 +16,8 @@ const SWAPPED_MAGIC: u16 = 0x10DA;
 
 /// Checks the body of an initial message: two bytes of version, two of magic number.
 ///
-/// Of several faults the first of this order is answered: a magic number in the other byte order
-/// (`WrongEndian`), another magic number (`WrongMagic`), another version than 1 (`WrongVersion`).
+/// Returns the first of these faults. A magic number in the other byte order is `WrongEndian`, and any other wrong one
+/// `WrongMagic`. A version other than 1 is `WrongVersion`.
 #[tactic(auto, unfolding(crate::specs::InitialMessage::im_of))]
 pub fn check_im(body: [u8; 4]) -> Result<(), Code>
     ensures { result ≡ im_of body }

@@ -12,22 +12,22 @@ pub fn head_comes_back()
         → parse_head (head_bytes head) cap ≡ Ok head }
 {}
 
-/// However a frame's bytes are cut into pieces, what is told of them is the items of the frame.
+/// The items of a frame do not depend on the pieces in which its bytes are fed.
 pub fn any_pieces_agree()
     ensures { (cap : ℕ) (bytes piece : List ℕ) → length piece ≤ missing cap bytes
         → frame_events_of (first_items cap (fed cap bytes piece))
         ≡ frame_events_of (first_items cap bytes) ++ fed_items cap bytes piece }
 {}
 
-/// The cut of some bytes is the items of their first frame, and then the cut of what follows that
-/// frame, if it is whole. So each list has one cut, and no frame is left out.
+/// The cut of a list of bytes is the items of its first frame, then the cut of what follows that frame. So each list
+/// has one cut, and no frame is left out.
 pub fn frames_follow_one_another()
     ensures { (cap : ℕ) (bytes : List ℕ) → cut cap bytes ≡ first_items cap bytes
         ++ or_nothing (λ len. moved len (cut cap (drop len bytes))) (frame_end (first_items cap bytes)) }
 {}
 
-/// The items that are found byte by byte, the pending bytes emptied at each whole frame and nothing
-/// found after a fault, are those of the cut of all the bytes, place for place.
+/// A search byte by byte finds the items of the cut, place for place. It drops the pending bytes at each whole frame,
+/// and finds nothing after a fault.
 pub fn frames_are_found_byte_by_byte()
     ensures { (cap : ℕ) (bytes : List ℕ) → items_by_byte cap 0 [] bytes ≡ cut cap bytes }
 {}

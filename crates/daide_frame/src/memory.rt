@@ -4,9 +4,12 @@ ghost use Rattle.std.specs.Prelude.{◌≡◌, ℕ, ◌≤◌, [], IfOk, OnErr, 
 
 use std::alloc::{AllocError, Allocator};
 
-/// An allocator that may refuse room, as every allocator may. Code that is generic in it doesn't know what `Refuses` is.
-/// So it can show `Refuses` only for a number of elements that it requested and was refused, and a contract that ends in
-/// `Refuses` allows no other cause for an error.
+/// An allocator that may refuse room, as every allocator may. `Refuses` says of which number of elements room was
+/// refused. Code that is generic in the allocator does not know `Refuses`. It can show `Refuses` only for a number that
+/// it requested and was refused. So a contract that ends in `Refuses` allows no other cause for an error.
+///
+/// Not said: how large a refused element was; nor that ample memory is never refused, since no clause of std says when
+/// `Vec::with_capacity` fails. Tests show the latter.
 pub trait Memory: Allocator {
     /// Room for so many elements was refused.
     ghost Refuses: { ℕ → Type 0 };

@@ -20,7 +20,8 @@ use crate::symbol::{Sym, Symbol};
 use crate::table::whole;
 use daide_token::token::Token;
 
-/// Predicts by a table, and counts its answers. It knows the protocol's own grammar, at every level.
+/// Predicts by a constant table, and counts its answers. It has the protocol's own grammar at every level, and meets
+/// the laws of `Predict`.
 #[derive(Debug, Drop)]
 pub struct Dense {
     asked: u64,

@@ -24,33 +24,33 @@ ghost use Rattle.daide_grammar.specs.SideMessages.{IsMessage, IsMessageOver, sta
 ghost use Rattle.daide_grammar.specs.Table.Languages.{SymbolMatches};
 ghost use Rattle.daide_grammar.specs.Words.{Words, has_no_word};
 
-/// The symbol that a reader starts with stands for the messages of its side and level, but for the
-/// report PRN, which is the reader's own case.
+/// The start symbol stands for exactly the messages of its side and level that do not begin with PRN. The reader
+/// handles the report PRN itself.
 pub fn start_symbol_stands_for_messages()
     ensures { (side : Side2) (level : Level) (m : List ℕ) →
         SymbolMatches (start_symbol_of side level) m ↔ (IsMessage side level m × (begins_with_prn m ≡ false)) }
 {}
 
-/// The form `any` is every list whose brackets balance.
+/// The form `any` stands for exactly the lists whose brackets balance.
 pub fn any_is_balanced()
     ensures { (m : List ℕ) → Matches standard any m ↔ IsBalanced m }
 {}
 
-/// Every message is paired: a report PRN, or a list that doesn't begin with PRN and whose brackets
-/// balance. So a message is never answered with PRN.
+/// Every message is paired: it is a report PRN, or it does not begin with PRN and its brackets balance. So a message is
+/// never answered with PRN.
 pub fn messages_are_paired()
     ensures { (side : Side2) (level : Level) (m : List ℕ) → IsMessage side level m → IsPaired m }
 {}
 
-/// `PRN ( m )` is a message of either side at every level, whatever m is, and it has no depth. So a
-/// gateway may answer with it at any time, and a gateway behind it relays the answer.
+/// `PRN ( m )` is a message of either side at every level, for every list m, and its depth is 0. So the next gateway
+/// relays it.
 pub fn prn_answer_is_a_message()
     ensures message { (side : Side2) (level : Level) (m : List ℕ) → IsMessage side level (prn ∷ bra ∷ (m ++ ket ∷ [])) }
     ensures depth { (m : List ℕ) → depth_of (prn ∷ bra ∷ (m ++ ket ∷ [])) ≡ 0 }
 {}
 
-/// `HUH ( a )` is a message of either side at every level where a's brackets balance, and it is one
-/// deeper than a, unless a begins with PRN and so has no depth.
+/// `HUH ( a )` is a message of either side at every level if the brackets of a balance. It is one bracket deeper than
+/// a, if a does not begin with PRN.
 pub fn huh_answer_is_a_message()
     ensures message { (side : Side2) (level : Level) (a : List ℕ) → IsBalanced a →
         IsMessage side level (huh ∷ bra ∷ (a ++ ket ∷ [])) }
@@ -58,9 +58,8 @@ pub fn huh_answer_is_a_message()
         depth_of (huh ∷ bra ∷ (a ++ ket ∷ [])) ≡ depth_of a + 1 }
 {}
 
-/// `HUH ( m )` with ERR put in before any token of m, or after the last, is a message of either side at
-/// every level where m's brackets balance, and ERR makes it no deeper. So an answer passes the next
-/// gateway too, where it is not too deep for it.
+/// `HUH ( m )` with ERR inserted at any place of m is a message of either side at every level if the brackets of m
+/// balance. ERR makes it no deeper. So the next gateway relays each answer that is not too deep for it.
 pub fn huh_answer_with_err_is_a_message()
     ensures message { (side : Side2) (level : Level) (m : List ℕ) (place : ℕ) → IsBalanced m →
         IsMessage side level (huh ∷ bra ∷ ((take place m ++ err ∷ drop place m) ++ ket ∷ [])) }
@@ -68,15 +67,15 @@ pub fn huh_answer_with_err_is_a_message()
         depth_of (huh ∷ bra ∷ ((take place m ++ err ∷ drop place m) ++ ket ∷ [])) ≡ depth_of (huh ∷ bra ∷ (m ++ ket ∷ [])) }
 {}
 
-/// A level only adds messages: what a side may say at a level, it may say at every higher one.
+/// A message of a side at a level is a message of that side at every higher level.
 pub fn levels_only_add()
     ensures { (side : Side2) (low high : Level) (m : List ℕ) → level_number low ≤ level_number high →
         IsMessage side low m → IsMessage side high m }
 {}
 
-/// The table's moves agree with what its symbols stand for. At a Take a list goes on as a list of the
-/// rest; at a Skip the symbol may be empty and none of its lists begins with the token; at a Stop
-/// neither; and the symbols that may end are those with the empty list.
+/// Each move of the table agrees with what its symbol stands for, at every level. At a `Take` a list continues as a
+/// list of the rest. At a `Skip` the symbol is nullable, and none of its lists begins with the token. At a `Stop`
+/// neither holds. The symbols that may end are the nullable ones.
 pub fn moves_agree()
     ensures takes { (sym : Sym) (rest : List Sym) (t : ℕ) (m : List ℕ) → table_answer sym (class_of t) ≡ Take rest →
         SymbolMatches sym (t ∷ m) ↔ StackMatches SymbolMatches rest m }
@@ -97,15 +96,15 @@ pub fn alternatives_differ()
     ensures { (sym : Sym) (class : Class) → count_by (λ entry. is_of_kind entry.kind class) (entries sym) ≤ 1 }
 {}
 
-/// On a stack that can arise, no token begins both a symbol that may be empty and what follows it.
+/// On a stack that can arise, no token begins both a nullable symbol and what follows it.
 pub fn neighbours_differ()
     ensures { (sym : Sym) (below : List Sym) (open_brackets t : ℕ) (m n : List ℕ) →
         IsLawful table_answer (sym ∷ below) open_brackets → may_end_of sym ≡ true →
         SymbolMatches sym (t ∷ m) → ¬ StackMatches SymbolMatches below (t ∷ n) }
 {}
 
-/// A message's symbol alone is a lawful stack with no open bracket, and an answer of the table makes
-/// another of one: BRA opens a bracket, KET closes one that is open, anything else leaves the count.
+/// A start symbol alone is a lawful stack with no open bracket. Each answer of the table turns a lawful stack into a
+/// lawful stack. BRA opens a bracket, KET closes an open one, and every other class leaves the count.
 pub fn stacks_stay_lawful()
     ensures begins { (side : Side2) (level : Level) → IsLawful table_answer (start_symbol_of side level ∷ []) 0 }
     ensures skip { (sym : Sym) (below : List Sym) (open_brackets : ℕ) (class : Class) →
@@ -123,8 +122,7 @@ pub fn stacks_stay_lawful()
         (fewer : ℕ) × (open_brackets ≡ fewer + 1) × IsLawful table_answer (rest ++ below) fewer }
 {}
 
-/// A lawful stack has at most eight entries for each open bracket, and sixteen; a rest has at most
-/// twelve symbols.
+/// A lawful stack has at most eight entries for each open bracket, plus sixteen. A rest has at most twelve symbols.
 pub fn stack_is_bounded()
     ensures entries { (stack : List Sym) (open_brackets : ℕ) → IsLawful table_answer stack open_brackets →
         length stack ≤ 8 * open_brackets + 16 }
@@ -132,16 +130,15 @@ pub fn stack_is_bounded()
         table_answer sym class ≡ Take rest → length rest ≤ 12 }
 {}
 
-/// On a lawful stack a token meets at most two symbols that are empty before one takes or stops it;
-/// where no bracket is open, at most four answers decide whether all that is left may be empty.
+/// On a lawful stack a token skips at most two nullable symbols before one takes or stops it. With no open bracket, at
+/// most four answers decide whether all that is left is nullable.
 pub fn lookups_are_bounded()
     ensures skips { (stack : List Sym) (open_brackets : ℕ) (class : Class) → IsLawful table_answer stack open_brackets →
         skips_before table_answer class stack ≤ 2 }
     ensures ends { (stack : List Sym) → IsLawful table_answer stack 0 → ends_asked may_end_of stack ≤ 4 }
 {}
 
-/// An operator's words change no message but those that hold one: a list without them is a message exactly where
-/// it is one of the protocol's own.
+/// A list with no code of an operator's words is a message with the words if and only if it is one without them.
 pub fn other_messages_stay()
     ensures { (words : Words) (side : Side2) (level : Level) (m : List ℕ) → has_no_word words m ≡ true →
         IsMessageOver words side level m ↔ IsMessage side level m }

@@ -23,7 +23,7 @@ pub enum Level {
 }
 
 impl Level {
-    /// The level of a number, if there is one: 0, 10, 20, 30, 40, 50 or 60.
+    /// Returns the level of a number: 0, 10, 20, 30, 40, 50 or 60. Returns `None` for every other number.
     pub fn of(number: u16) -> Option<Level>
         ensures { result ≡ level_of_number number }
     {
@@ -39,7 +39,7 @@ impl Level {
         }
     }
 
-    /// The number by which messages name the level.
+    /// Returns the number by which messages name the level.
     pub fn number(self) -> u16
         ensures { result ≡ level_number self }
     {
@@ -54,8 +54,8 @@ impl Level {
         }
     }
 
-    /// The greatest level whose number is not above `n` and not above that of `top`; `L0` where `n`
-    /// is negative. So a server's `HLO` with `( LVL n )` never allows more than its operator does.
+    /// Returns the greatest level whose number is at most `n` and at most that of `top`, and `L0` if `n` is negative.
+    /// So a server's `HLO` with `( LVL n )` never allows more than the operator does.
     pub fn of_lvl(n: i16, top: Level) -> Level
         ensures { result ≡ greatest_level n top }
     {

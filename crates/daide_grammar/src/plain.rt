@@ -35,7 +35,8 @@ use crate::symbol::{Sym, Symbol};
 use daide_token::class::Class;
 use daide_token::token::Token;
 
-/// Predicts by matching, and counts its answers. It knows the protocol's own grammar, at every level.
+/// Predicts by pattern matching, and counts its answers. It has the protocol's own grammar at every level, and meets
+/// the laws of `Predict`.
 #[derive(Debug, Drop)]
 pub struct Plain {
     asked: u64,

@@ -212,9 +212,15 @@ pub(crate) fn report_whole<A: Allocator + Copy, R: LogReader, W: Write, S: Style
     hand_over_rest(answer, &mut account.output)
 }
 
-/// Reads a log, and writes its report, as `check_log` does. Each read is made in time: the lines that came whole before it
-/// are reported by then, all of them, and the next line may begin with what came of it. So no read is made behind the line
-/// feed of a line of another form, the byte that makes a line too long, or the first byte of one line too many.
+/// Reads a log, and writes its report, as `check_log` does, from a reader that records its reads.
+///
+/// `report`: each read is made in time (`IsInTime`). All whole lines before it are reported by then, and the bytes
+/// after them may begin a line (`MayBeginLine`). So each line is reported before a read that may wait: `Block::refill`
+/// requires that no line is held back. `refused` says the same of a fault.
+///
+/// Premise: a `LogReader` that records its reads and sees the writer at each.
+///
+/// Not said: that no read is made after one that gave nothing.
 pub fn check_stream<A: Allocator + Copy, R: LogReader, W: Write>(
     alloc: A,
     reader: &mut R,
@@ -242,11 +248,23 @@ pub fn check_stream<A: Allocator + Copy, R: LogReader, W: Write>(
 }
 
 /// Reads a log, and writes its report: a line for each frame that became whole, each fault and each end, and the counts
-/// last. A fault of the log is told after the report of all lines before it. Behind the line feed of a line of another
-/// form, and behind the byte that makes a line too long or one too many, less than a block was read; a log that ends with
-/// such a line, or before its head does, was read to its end. `Read` comes after the report of the lines before the one
-/// that was being read. `Memory` comes at the sessions' growths, with nothing written, and no other memory is taken. After
-/// `Write` nothing is said of how much of the report went out.
+/// last. It allocates at the sessions' growths alone.
+///
+/// `report`: what was written is the report of what was read (`IsReport`), and the counts are those of its last line.
+/// The report is stated line by line over the session machine. Each session has the lines that name it, and each answer
+/// is taken at once. This holds for logs of one session and of a match.
+///
+/// `refused`: a fault of the log is returned after the report of all lines before it. `Read` is returned after the
+/// report of the lines before the one that was being read. `Memory` is returned with nothing written, once the head was
+/// read (`IsOpened`). After a line of another form, less than a block was read. So it is after the byte that makes a
+/// line too long, or that begins one line too many. A log that ends with such a line, or within its head, was read to
+/// its end.
+///
+/// Premise: a reader and a writer that record their bytes. Such a reader does not record single reads; a test with a
+/// reader of single bytes shows how they come.
+///
+/// Not said: how much of the report was written after `Write`; what is held back then goes to no writer that failed.
+/// Tests show that `Read`, `Write` and `Memory` are returned only for their cause.
 pub fn check_log<A: Allocator + Copy, R: Read, W: Write>(
     alloc: A,
     reader: &mut R,

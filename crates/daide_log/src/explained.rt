@@ -559,8 +559,8 @@ fn explain_over<A: Allocator + Copy, R: LogReader, W: Write>(
     report_whole(alloc, &mut input, style, &mut account)
 }
 
-/// Reads a log, and writes its report with explanations, as `explain_log` does. Each read is made in time, as those of
-/// `check_stream` are.
+/// Reads a log, and writes its report with explanations, as `explain_log` does. Each read is made in time, as for
+/// `check_stream`.
 pub fn explain_stream<A: Allocator + Copy, R: LogReader, W: Write>(
     alloc: A,
     reader: &mut R,
@@ -578,8 +578,10 @@ pub fn explain_stream<A: Allocator + Copy, R: LogReader, W: Write>(
 
 /// Reads a log, and writes its report with explanations.
 ///
-/// The faults are those of `check_log`, in their order; but `Memory` may also come while the lines are judged, when a
-/// growth of a text is refused. After `Memory` and `Write` nothing is said of how much of the report was written.
+/// The faults are those of `check_log`, in their order. But `Memory` may also come while the lines are judged, when a
+/// growth of a text is refused. It judges at the log's own depth limit.
+///
+/// Not said: how much of the report was written after `Memory` and `Write`.
 pub fn explain_log<A: Allocator + Copy, R: Read, W: Write>(
     alloc: A,
     reader: &mut R,

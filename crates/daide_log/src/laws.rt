@@ -12,35 +12,51 @@ ghost use Rattle.daide_log.specs.Recording.{HasFailed};
 use crate::sink::Sink;
 use daide_protocol::ports::Ports;
 
-/// What the log of a match without words tells of a session is what the session's own log tells, but for its number.
+/// The report of a match says of each session what the session's own log reports, without the session's number. The own
+/// log is the log of version 1 with the same limits, in which `#` replaces every other session's line. Its last line
+/// has the session's own counts.
+///
+/// Premise: the match's log has no words and no fault, and no line is too long. Line ends may differ.
+///
+/// Not said: anything of a log with words, since version 1 has none.
 pub fn sessions_are_alone()
     ensures { SessionsAreAlone }
 {}
 
-/// Each log has a report and an answer, whatever its bytes, and no other: so where `check_log` answers with counts or with
-/// a fault of the log, its clauses leave it no choice. `Read`, `Write` and `Memory`, which no log has, are answers by
-/// clauses of their own.
+/// Each log has exactly one report and one result, whatever its bytes. So the clauses of `check_log` leave no choice of
+/// counts or of a fault of the log. `Read`, `Write` and `Memory` are no faults of a log, and have clauses of their own.
 pub fn log_has_one_report()
     ensures some { (log : List ℕ) → (text : List ℕ) × (answer : Result Summary LogFault) × IsReport log text answer }
     ensures one { (log text other : List ℕ) (answer another : Result Summary LogFault) →
         IsReport log text answer → IsReport log other another → (text ≡ other) × (answer ≡ another) }
 {}
 
-/// No read is in time once what came has a fault, whatever would follow it: the line feed of a line of another form, the
-/// byte that makes a line too long, or the first byte of one line too many is the last that a read may give.
+/// No read is in time once what came has a fault, whatever would follow. The last byte read is the line feed of a line
+/// of another form, or the byte that makes a line too long. Or it is the first byte of one line too many.
 pub fn no_read_behind_a_fault()
     ensures { (before written : Option (List ℕ)) (came : List ℕ) (fault : LogFault) → HasFault came fault →
         IsInTime plain before came written → ⊥ }
 {}
 
-/// The log that is written of what a session's ports answered reports that session: its moves, each once and in their
-/// order, under the number of the line that tells what made it, and then their counts.
+/// The report of the log that a record wrote is the session's moves, each once and in order. Each has the number of the
+/// line of what caused it (`TellsBy`). Then come the counts of all moves, those of `Session::summary`, modulo 2^64
+/// (`counts`). It holds for every list of results of at most 1,000,000 lines with the head, and so for each prefix.
+///
+/// A wire that failed is an end in the log. Both make the same move and leave the session over; only what ended it
+/// differs.
+///
+/// Premise: limits that a session accepts, and accepted words with names of three letters.
+///
+/// Not said: that the record of a session whose turns were spent has the session's counts. The quota is outside the
+/// ports that record, so its last results are in no record.
 pub fn records_are_reported()
     ensures { RecordsAreReported }
 {}
 
-/// Ports with a record, however they were asked: the record has a front of their answers, and all of them unless it is full;
-/// or a write of its writer failed.
+/// Ports with a new record, however they were called: its text is the head and the lines of a prefix of what they
+/// returned. It is all of them while the record is whole; or a write of its writer failed.
+///
+/// Not said: what a writer that failed has, nor that a block that was handed over reached a disk.
 pub fn ports_are_recorded<P: Ports, W: Sink>()
     ensures { PortsAreRecorded P.transition (HasFailed W.Fails) }
 {}

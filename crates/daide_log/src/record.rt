@@ -118,7 +118,8 @@ fn hand_over_rest<W: Sink>(ending: RecordEnd, held: &mut Page, writer: &mut W) -
 }
 
 impl<W: Sink + Drop> Record<W> {
-    /// A record of a session with these limits and words, over a writer. Its head is held, and nothing is written yet.
+    /// Creates a record of a session with these limits and words, over a writer. It holds the head, and has written
+    /// nothing yet.
     pub fn new(writer: W, config: Config, words: Words) -> Record<W>
         ensures { result ≡ record {
           text = append_known (W.contents writer) (head_text config (words_of words));
@@ -143,7 +144,7 @@ impl<W: Sink + Drop> Record<W> {
         self.ending
     }
 
-    /// Bytes of a side came, no more than a line has.
+    /// Records bytes of a side, at most as many as a line has.
     pub fn came(&mut self, side: Side, bytes: &[u8])
         requires { length bytes.now ≤ longest_piece }
         ensures { RecordsEvent (HasFailed W.Fails) self.old (piece_of side bytes.now) self.new }
@@ -158,7 +159,7 @@ impl<W: Sink + Drop> Record<W> {
         }
     }
 
-    /// A side ended, or the wire toward it failed.
+    /// Records that a side ended, or that the wire toward it failed.
     pub fn ended(&mut self, side: Side)
         ensures { RecordsEvent (HasFailed W.Fails) self.old (Some (EndOf side)) self.new }
     {
@@ -172,7 +173,7 @@ impl<W: Sink + Drop> Record<W> {
         }
     }
 
-    /// The time for the initial message is over.
+    /// Records that the time for the initial message is over.
     pub fn timed_out(&mut self)
         ensures { RecordsEvent (HasFailed W.Fails) self.old (Some ImTimerLine) self.new }
     {
@@ -186,7 +187,9 @@ impl<W: Sink + Drop> Record<W> {
         }
     }
 
-    /// Hands over what is held of a record that did not fail, and hands back the writer and how the record ended.
+    /// Hands over what is held of a record that did not fail, and returns the writer and how the record ended.
+    ///
+    /// `fails`: it fails only if a write of its writer returned an error.
     pub fn finish(self) -> (W, RecordEnd)
         ensures failed { self.ending ≡ RecordEnd.Failed → result.1 ≡ RecordEnd.Failed }
         ensures whole { result.1 ≢ RecordEnd.Failed → (result.1 ≡ self.ending) × Keeps self.text (W.contents result.0) }

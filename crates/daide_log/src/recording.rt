@@ -13,9 +13,14 @@ use daide_protocol::ports::{Ports, Pull, Put};
 use daide_protocol::system::System;
 use std::marker::Model;
 
-/// Ports that record what they tell a session: bytes that came, ends, a clock that popped, and a wire that failed, as the
-/// end of its side. The answers are those of the ports within, whatever becomes of the record; they are lent no more of
-/// a buffer than a line has bytes.
+/// Ports that record what they return to a session: bytes received, ends, the IM timer, and a failed wire as the end of
+/// its side. They return what the inner ports return, which get at most 1,024 bytes of a buffer (`asked_within`).
+///
+/// Each call adds to the record the line of what it returned, or nothing (`RecordsEvent`). A whole record takes it
+/// while it has fewer than 1,000,000 lines; else it hands over what it holds, and is full. A record that failed or is
+/// full does not change.
+///
+/// Premise: a writer that records its bytes.
 #[derive(Drop)]
 pub struct Recording<P: Ports, W: Sink + Drop> {
     ports: P,

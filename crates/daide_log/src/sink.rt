@@ -6,9 +6,11 @@ ghost use Rattle.std.specs.Io.KnownBytes.{Appends};
 use std::io;
 use std::io::Write;
 
-/// A writer as one whose write may fail; every writer is one. Code that is generic in it doesn't know what `Fails` is, so
-/// it can show `Fails` only of a writer whose write returned an error. A contract that asks for `Fails` allows no other
-/// reason to stop writing.
+/// A writer whose write may fail; every writer is one. Code that is generic in it does not know `Fails`, so it can show
+/// `Fails` only of a write that returned an error. A contract that needs `Fails` allows no other reason to stop
+/// writing.
+///
+/// Not said: why a write failed.
 pub trait Sink: Write {
     /// A write took the writer from its old value to its new one, and returned an error.
     ghost Fails: { Self → Self → Type 0 };

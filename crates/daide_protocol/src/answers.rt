@@ -26,7 +26,7 @@ pub const CLOSE_WORD: [u8; 2] = [0x40, 0x01];
 /// A final message.
 pub const FM: [u8; 4] = [3, 0, 0, 0];
 
-/// The bytes of the error message with a code.
+/// Returns the bytes of the error message with a code.
 pub fn em_frame(code: Code) -> &'static [u8]
     ensures { result.now ≡ em_bytes code }
 {
@@ -48,7 +48,7 @@ pub fn em_frame(code: Code) -> &'static [u8]
     }
 }
 
-/// The header of the answer to a frame with this header: the words round a message count to its length.
+/// Returns the header of the answer to a frame with this header; the words around a message count in its length.
 pub fn answer_head(head: Head, verdict: Verdict) -> Head
     requires { head.len ≤ longest_body }
     ensures { result ≡ head_of_answer head verdict }

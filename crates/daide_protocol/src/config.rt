@@ -29,7 +29,8 @@ pub enum ConfigError {
 }
 
 impl Config {
-    /// Checks the limits, `top_level` first, then `max_body`, then `max_depth`.
+    /// Checks the limits, and returns the first wrong one: `Level` for `top_level`, `Body` for `max_body`, `Depth` for
+    /// `max_depth`.
     pub fn check(&self) -> Result<(), ConfigError>
         ensures { result ≡ config_fault self.now }
     {

@@ -149,8 +149,13 @@ impl HloScan {
         }
     }
 
-    /// Looks at the tokens of a body from the token `from` on, each once; those before it came before. An odd byte
-    /// at the end waits for its other half. Most messages are no HLO, which their first token tells.
+    /// Looks at the tokens of a body from the token `from` on, each once; those before it were looked at before. An odd
+    /// byte at the end waits for its other half. The first token decides whether the message is an HLO.
+    ///
+    /// `found`: what is found is that of all tokens so far (`lvl_scan_of`); from it `level_reported` and `level_after`
+    /// compute the level.
+    ///
+    /// `looked_at`: each token that is looked at is counted, modulo 2^64.
     #[inline(always)]
     pub fn read(&mut self, body: &[u8], from: usize)
         requires came_before { 2 * from ≤ length body.now }
@@ -172,8 +177,8 @@ impl HloScan {
     }
 }
 
-/// The level after a message of the server that was relayed, in whose tokens this is found: an HLO sets it,
-/// to at most `top`.
+/// Returns the level after a relayed message of the server, by what its tokens contain: an HLO sets it, to at most
+/// `top`.
 pub fn level_reported(top: Level, found: LvlScan, level: Level) -> Level
     ensures { (tokens : List ℕ) → found ≡ lvl_scan_of tokens → result ≡ level_of_message top tokens level }
 {

@@ -18,7 +18,7 @@ use daide_frame::{Code, Kind, Side};
 use daide_grammar::{Level, Side2};
 use daide_reader::Verdict;
 
-/// The opposite side.
+/// Returns the opposite side.
 pub fn other(side: Side) -> Side
     ensures { result ≡ opposite side }
 {
@@ -28,8 +28,7 @@ pub fn other(side: Side) -> Side
     }
 }
 
-/// Whose grammar a side's messages are judged by: the gateway is the server to the bot, and the client to
-/// the server.
+/// Returns whose grammar judges a side's messages: to the bot the gateway is the server, and to the server the client.
 pub fn side2_of(side: Side) -> Side2
     ensures { result ≡ grammar_side side }
 {
@@ -39,8 +38,8 @@ pub fn side2_of(side: Side) -> Side2
     }
 }
 
-/// The code of a header that may not come now. That 02 is told of the bot's first frame before 0D, and
-/// 08 of an RM before the IM, the protocol leaves open.
+/// Returns the code of a header that may not come now. The protocol leaves two choices open. Here the bot's first frame
+/// gets 02 and not 0D, and an RM before the IM gets 08.
 pub fn untimely(phase: Phase, side: Side, kind: Kind) -> Option<Code>
     ensures { result ≡ untimely_code phase side kind }
 {
@@ -88,7 +87,7 @@ pub fn untimely(phase: Phase, side: Side, kind: Kind) -> Option<Code>
     }
 }
 
-/// Whether anything may go out toward a side: nothing reaches the server before the IM was relayed.
+/// Returns whether anything may be sent toward a side: nothing reaches the server before the IM was relayed.
 pub fn may_reach(phase: Phase, to: Side) -> bool
     ensures { result ≡ may_reach_side phase to }
 {
@@ -101,7 +100,7 @@ pub fn may_reach(phase: Phase, to: Side) -> bool
     }
 }
 
-/// Whether the answer to a frame of a kind goes out: an FM or EM of the bot before the IM does not.
+/// Returns whether the answer to a frame of a kind is sent: an FM or EM of the bot before the IM is not.
 pub fn is_sent(phase: Phase, kind: Kind, to: Side) -> bool
     ensures { result ≡ is_sent_to phase kind to }
 {
@@ -111,7 +110,7 @@ pub fn is_sent(phase: Phase, kind: Kind, to: Side) -> bool
     }
 }
 
-/// Where the answer to a side's frame goes: on to the other side, or back to its sender.
+/// Returns where the answer to a side's frame goes: to the other side, or back to its sender.
 pub fn destination(side: Side, verdict: Verdict) -> Side
     ensures { result ≡ destination_of side verdict }
 {
@@ -121,7 +120,7 @@ pub fn destination(side: Side, verdict: Verdict) -> Side
     }
 }
 
-/// What becomes of a whole frame, whose answer goes out or doesn't.
+/// Returns the move for a whole frame, by whether its answer is sent and by its verdict.
 pub fn deed_of(is_sent: bool, verdict: Verdict) -> Deed
     ensures { result ≡ deed_by is_sent verdict }
 {
@@ -133,7 +132,7 @@ pub fn deed_of(is_sent: bool, verdict: Verdict) -> Deed
     }
 }
 
-/// The phase after a frame of a kind was answered.
+/// Returns the phase after a frame of a kind was answered.
 pub fn phase_after(kind: Kind, phase: Phase) -> Phase
     ensures { result ≡ next_phase kind phase }
 {
@@ -145,7 +144,7 @@ pub fn phase_after(kind: Kind, phase: Phase) -> Phase
     }
 }
 
-/// What ended the session after a side's frame of a kind was answered: an FM or an EM does.
+/// Returns the ending after a side's frame of a kind was answered: an FM or an EM ends the session.
 pub fn ending_after(kind: Kind, side: Side, ending: Option<Ending>) -> Option<Ending>
     ensures { result ≡ next_ending kind side ending }
 {
@@ -156,8 +155,8 @@ pub fn ending_after(kind: Kind, side: Side, ending: Option<Ending>) -> Option<En
     }
 }
 
-/// The level after a side's frame of a kind, in whose message this is found, was answered: a relayed HLO of the
-/// server sets it, to at most `top`. A bot's HLO never touches it.
+/// Returns the level after a side's frame of a kind was answered, by what its message contains. A relayed HLO of the
+/// server sets the level, to at most `top`. A bot's HLO never changes it.
 pub fn level_after(
     top: Level,
     kind: Kind,

@@ -15,8 +15,10 @@ use daide_grammar::predict::Predict;
 use daide_token::token::Token;
 
 impl<T: Predict, const N: usize> Reader<T, N> {
-    /// Reads the message that a whole body holds, after `start`, and ends it: `read` and `finish`. An odd
-    /// byte at the end is no token. A body has at most 65,534 bytes.
+    /// Reads the message of a whole body, after `start`, and ends it: `read` and `finish` in one call. An odd byte at
+    /// the end is no token. A body has at most 65,534 bytes.
+    ///
+    /// `verdict`: the verdict is that of `finish` after the body's tokens.
     pub fn read_body(&mut self, body: &[u8]) -> Verdict
         requires unread { tokens_read self.old ≡ 0 }
         requires unfinished { self.old.finished ≡ false }

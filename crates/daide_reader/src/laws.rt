@@ -13,7 +13,7 @@ ghost use Rattle.daide_reader.specs.Verdict.{HasVerdict};
 use daide_grammar::plain::Plain;
 use daide_grammar::predict::Predict;
 
-/// A message has one verdict, its place with it.
+/// A message has at most one verdict, and the place in it is part of it.
 #[tactic(auto, using(crate::proofs::VerdictLemmas::verdict_is_one))]
 pub fn message_has_one_verdict<T: Predict>()
     ensures { (words : Words) (first : Sym) (max_depth : ℕ) (m : List ℕ) (v w : Verdict) →
@@ -22,20 +22,19 @@ pub fn message_has_one_verdict<T: Predict>()
         v ≡ w }
 {}
 
-/// Each list of tokens has a verdict, by the messages of any table: one that no reader need compute.
+/// By the messages of any table, each list of tokens has a verdict.
 pub fn message_has_a_verdict<T: Predict>()
     ensures { (words : Words) (side : Side2) (level : Level) (max_depth : ℕ) (m : List ℕ) →
         (v : Verdict) × HasVerdict (IsMessageOf (T.language words (T.start_symbol side level))) max_depth m v }
 {}
 
-/// So has each list of tokens by the grammar: whatever a side says at whatever level.
+/// By the grammar, each list of tokens has a verdict, for either side at every level.
 pub fn grammar_has_a_verdict()
     ensures { (side : Side2) (level : Level) (max_depth : ℕ) (m : List ℕ) →
         (v : Verdict) × HasVerdict (IsMessage side level) max_depth m v }
 {}
 
-/// The verdicts of a reader over `Plain` are those of the grammar with the table's words, which are none: its
-/// messages are the messages of the side at the level.
+/// The verdicts of a reader over `Plain` are those of the grammar.
 pub fn plain_verdicts_are_the_grammars()
     ensures { (table : Plain) (side : Side2) (level : Level) (max_depth : ℕ) (m : List ℕ) (v : Verdict) →
         let words = ⟦<Plain as Predict>⟧.words table in

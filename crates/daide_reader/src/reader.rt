@@ -32,9 +32,9 @@ use std::marker::Model;
 
 /// Reads messages as their tokens come, over a table `T` and with room for `N` symbols.
 ///
-/// A message goes from `start` over `push`, once for each token, or `read`, once for each piece of its
-/// body, to `finish`; then the next one may start. A contract sees a reader as a `Reading`, and
-/// `HasReadPrefix` is what that says of the tokens since `start`. No call takes memory, and none refuses.
+/// A message begins with `start`, continues with `push` for each token, or `read` for each piece of its body, and ends
+/// with `finish`. A contract sees a reader as a `Reading`, and `HasReadPrefix` says which tokens it has read since
+/// `start`. The laws of `Predict` are the only premise, so a reader is right over any table. No call allocates.
 #[derive(Drop)]
 pub struct Reader<T: Predict, const N: usize> {
     max_depth: u16,
@@ -69,8 +69,8 @@ impl<T: Predict, const N: usize> Model for Reader<T, N> {
 }
 
 impl<T: Predict, const N: usize> Reader<T, N> {
-    /// A reader that stands at the start of a client's message without press, as after
-    /// `start(Side2::Client, Level::L0)`. Messages deeper than `max_depth` brackets will be refused.
+    /// Creates a reader that has read nothing, as after `start(Side2::Client, Level::L0)`. It refuses messages deeper
+    /// than `max_depth` brackets.
     pub fn new(table: T, max_depth: u16) -> Reader<T, N>
         requires low { 4 ≤ max_depth }
         requires high { 8 * max_depth + 16 ≤ N }
@@ -97,8 +97,8 @@ impl<T: Predict, const N: usize> Reader<T, N> {
         }
     }
 
-    /// Begins a message of the side at the level. What was read before is forgotten; the table, its
-    /// words and its count stay.
+    /// Begins a message of the side at the level, and forgets the tokens read before. The table, its words and its
+    /// count stay.
     pub fn start(&mut self, side: Side2, level: Level)
         ensures stands_after { HasReadPrefix T.Predict (T.words self.old.table) (T.start_symbol side level)
             self.old.max_depth self.new [] }
@@ -116,7 +116,10 @@ impl<T: Predict, const N: usize> Reader<T, N> {
         self.finished = false;
     }
 
-    /// Reads a token, as a body of one token is read. A message has at most 32,767; `is_full` is the test.
+    /// Reads a token, by the same code that reads a body. A message has at most 32,767 tokens, which `is_full` tests.
+    ///
+    /// `unasked`: it does not ask the table once a place was found or the message began with PRN. Neither do `read` and
+    /// `finish` then, nor does `finish` if the message is not paired.
     pub fn push(&mut self, token: Token)
         requires room { tokens_read self.old < most_tokens }
         requires unfinished { self.old.finished ≡ false }
@@ -137,10 +140,9 @@ impl<T: Predict, const N: usize> Reader<T, N> {
         self.go_on(outline, &body);
     }
 
-    /// Reads what has come of a body so far: the tokens that were not read yet, each once and in their
-    /// order. The body begins with the bytes that were read before; a token is two bytes, high byte
-    /// first, and an odd byte at the end waits for its other half. With no whole token more nothing
-    /// changes. A body has at most 65,534 bytes.
+    /// Reads the tokens of a body that were not read yet, each once and in order. The body begins with the bytes read
+    /// before. A token is two bytes, high byte first, and an odd byte at the end waits for its other half. Without a
+    /// whole token more nothing changes. A body has at most 65,534 bytes.
     pub fn read(&mut self, body: &[u8])
         requires unfinished { self.old.finished ≡ false }
         requires read_before { 2 * tokens_read self.old ≤ length body.now }
@@ -205,8 +207,11 @@ impl<T: Predict, const N: usize> Reader<T, N> {
         self.unclosed = count_from(reached.unclosed, body, reached.tokens);
     }
 
-    /// Ends the message, and says what becomes of it. Unpaired brackets are answered first, then the
-    /// place of the first fault.
+    /// Ends the message, and returns its verdict.
+    ///
+    /// `verdict`: after the tokens m it is `Prn` if and only if m is not paired. It is `Relay` if and only if m is
+    /// paired, a message, and no deeper than `max_depth`. Else it is `Huh(i)` with the least i such that the first i +
+    /// 1 tokens are continued by no message or are too deep. If the message merely stops early, i is its length.
     pub fn finish(&mut self) -> Verdict
         requires { self.old.finished ≡ false }
         ensures verdict { (words : Words) (first : Sym) (max_depth : ℕ) (m : List ℕ) →
@@ -255,8 +260,7 @@ impl<T: Predict, const N: usize> Reader<T, N> {
         self.outline.tokens >= MOST_TOKENS
     }
 
-    /// How many brackets are open: 0 in a message that begins with PRN, and 0 once a KET came with
-    /// nothing open.
+    /// Returns how many brackets are open: 0 in a message that begins with PRN, and 0 once a KET closed no bracket.
     pub fn open(&self) -> usize
         ensures exact { result ≡ brackets_open self.now }
         ensures open { (words : Words) (first : Sym) (max_depth : ℕ) (p : List ℕ) →
@@ -265,8 +269,10 @@ impl<T: Predict, const N: usize> Reader<T, N> {
         self.unclosed.unwrap_or(0) as usize
     }
 
-    /// The place of the first token that no message continues or that opens one bracket too many, where one was
-    /// read: with none, every front of the tokens is allowed. Of a message that begins with PRN it says nothing.
+    /// Returns the place of the first token that no message continues or that opens one bracket too many, if one was
+    /// read. Without one, every prefix of the tokens is allowed.
+    ///
+    /// Not said: anything of a message that begins with PRN.
     pub fn place(&self) -> Option<u16>
         ensures exact { result ≡ self.now.place }
         ensures place { (words : Words) (first : Sym) (max_depth : ℕ) (p : List ℕ) → begins_with_prn p ≡ false →
@@ -277,7 +283,11 @@ impl<T: Predict, const N: usize> Reader<T, N> {
         self.place
     }
 
-    /// How many symbols the stack holds: none once a place was found.
+    /// Returns how many symbols the stack has.
+    ///
+    /// `entries`: at most eight for each open bracket, plus sixteen. So it is at most `8 * max_depth + 16`.
+    ///
+    /// `empty_once_placed`: it is 0 once a place was found.
     pub fn entries(&self) -> usize
         ensures exact { result ≡ length self.now.stack }
         ensures few { result ≤ 8 * brackets_open self.now + 16 }
@@ -296,16 +306,20 @@ impl<T: Predict, const N: usize> Reader<T, N> {
         &self.table
     }
 
-    /// The table's answers so far, modulo 2^64. `push`, `read` and `finish` alone raise it, by at most
-    /// four for each token and at the end.
+    /// Returns the table's own count of answers, modulo 2^64. Only `push`, `read`, `finish` and `read_body` raise it,
+    /// by at most four for each token and four at the end, whatever was read before.
     pub fn total(&self) -> u64
         ensures { result ≡ T.asked self.now.table }
     {
         self.table.asked()
     }
 
-    /// The table's answers since the last `start`: at most four for each token, and four more once
-    /// the message is finished.
+    /// Returns the table's answers since the last `start`.
+    ///
+    /// `steps`: at most four for each token, and four more after `finish`. Of the four, at most two skip a symbol, and
+    /// one takes or stops the token. One more, of `predict_word`, is for a token that the protocol's own table stopped.
+    ///
+    /// Not said: how long an answer takes.
     pub fn steps(&self) -> u64
         ensures exact { result ≡ steps_since T.asked self.now }
         ensures steps { (words : Words) (first : Sym) (max_depth : ℕ) (p : List ℕ) →

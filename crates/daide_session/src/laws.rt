@@ -7,15 +7,18 @@ ghost use Rattle.daide_words.specs.Words.{words_of};
 
 use daide_words::words::Words;
 
-/// Of two gateways in a row with the same limits and words, the next passes on each message that the one sends toward
-/// it, and the one's own answers PRN and HUH too. It answers one itself only where its level for it is lower than the
-/// one by which it was passed on, or where it is a HUH that is too deep by the bracket that an answer adds; and never
-/// with PRN, so that PRN grows no further.
+/// Of two gateways with the same limits and words, the next relays each message that the first sends toward it, with
+/// two exceptions (`IsVerdictOfNext`). The first gateway's own answers PRN and HUH are among these messages. The next
+/// answers HUH if it judges a message by a lower level than the first did. It answers HUH to the first gateway's own
+/// HUH that is too deep by the bracket that the answer adds. It never answers PRN.
+///
+/// Premise: a run of the first gateway from a session's opening, accepted words, and limits that a session accepts. The
+/// next may judge by any level; the levels of two gateways differ while an HLO is between them.
 pub fn two_gateways_in_a_row()
     ensures { TwoSessionsInARow }
 {}
 
-/// So it is with the words of who holds `Words`, which are accepted.
+/// With the words of a `Words` the same holds without a premise on words.
 pub fn two_gateways_in_a_row_over(words: &Words)
     ensures { InARowOver (words_of words.now) }
 {
@@ -23,17 +26,25 @@ pub fn two_gateways_in_a_row_over(words: &Words)
     two_gateways_in_a_row();
 }
 
-/// Of two joined gateways with the same limits and words, where the next gets what the one sends toward a side: the
-/// frames that the next hears from there are the first of those that the one sent, byte for byte and in their order.
-/// Each message among them it passes on toward that side, unless its level for it is lower than the one by which it was
-/// passed on, or it is the one's own HUH, too deep by one bracket: that it answers with HUH, and nothing with PRN.
+/// Let the next of two gateways receive a prefix of what the first sends toward a side, in any pieces (`AreJoined`).
+/// Then the whole frames that it receives from there are the first of those sent, byte for byte and in order
+/// (`in_order`). It answers each message among them once, as `two_gateways_in_a_row` says, by the level that it noted
+/// for the message (`fates`).
+///
+/// Premise: a run of each gateway from a session's opening, with the same limits and accepted words.
+///
+/// Not said: that the next receives all frames, since it may have ended before. The law is silent on faults. A HUH or
+/// PRN of the first may be longer than the longest body, which is a fault at the next and ends it. A message of the
+/// greatest depth that the next refuses for a lower level returns as a HUH that is too deep for the first. It goes to
+/// and fro, eight bytes longer each time, until it is too long. What the next does at a fault, and with an IM, RM, FM
+/// or EM, is `each_message_has_one_fate` of its own run.
 pub fn joined_gateways()
     ensures { JoinedSessions }
 {
     two_gateways_in_a_row();
 }
 
-/// So it is with the words of who holds `Words`, which are accepted.
+/// With the words of a `Words` the same holds without a premise on words.
 pub fn joined_gateways_over(words: &Words)
     ensures { JoinedSessionsOver (words_of words.now) }
 {
@@ -41,16 +52,18 @@ pub fn joined_gateways_over(words: &Words)
     joined_gateways();
 }
 
-/// Where the next of two joined gateways stands nearer the bot, no level of it is lower: it hears each HLO that the one
-/// passed on, in its place, so it judges each message by the level by which the one passed it on. Of what it hears it
-/// passes on each message, but for a HUH of the one's own, too deep by one bracket, which it answers with HUH.
+/// If the next of two joined gateways is nearer the bot, it never answers HUH for a lower level. It receives each HLO
+/// that the first relayed, in its place, and relays it too. So it relays each message received from the first, except a
+/// HUH of the first's own that is too deep by one bracket (`IsVerdictAtOneLevel`).
+///
+/// Not said: the same toward the server, where the farther gateway receives the server's HLO first.
 pub fn levels_agree_toward_the_bot()
     ensures { LevelsAgreeTowardTheBot }
 {
     joined_gateways();
 }
 
-/// So it is with the words of who holds `Words`, which are accepted.
+/// With the words of a `Words` the same holds without a premise on words.
 pub fn levels_agree_toward_the_bot_over(words: &Words)
     ensures { LevelsAgreeTowardTheBotOver (words_of words.now) }
 {

@@ -178,8 +178,17 @@ fn settings_of(alloc: Global, table: &Table) -> Result<Settings, SettingsError>
     })
 }
 
-/// Reads the settings of a text: the first fault is told, of the whole text, then of the document's
-/// keys, then of each key in the order of `Key`; want of memory at the growth that was refused.
+/// Reads the settings of a text.
+///
+/// `judged`: it returns `Ok` with exactly the settings that one judgement makes of the document that the crate `toml`
+/// reads (`judged_settings`).
+///
+/// `refused`: every fault except refused memory is returned if and only if that judgement has it. The order is: no
+/// TOML; an unknown key; then key by key, in the order of `Key`, missing, of the wrong type, out of range.
+///
+/// Not said: what a TOML document is, which `toml` defines. Nor is it said that memory was refused if `Memory` is
+/// returned, so a body that always returns it would be proved too. `tests/program` refuses each growth of such runs in
+/// turn.
 pub fn read_settings(alloc: Global, text: &str) -> Result<Settings, SettingsError>
     ensures judged { IfOk result (λ settings. judged_settings (parse_document text.now) ≡ Ok (given_of settings)) }
     ensures refused { IfErr result (λ fault. fault ≢ SettingsError.Memory →

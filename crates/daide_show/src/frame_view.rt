@@ -112,9 +112,7 @@ fn text_of_input<A: Allocator + Copy>(
     }
 }
 
-/// Writes what the frame of an input is and what becomes of it, as it was asked. Returns whether it would be relayed.
-///
-/// The input's faults come in the order of `ShowFault`; none is `Read`.
+/// Shows the frame of an input that was read, as `show_with` does. It returns no `Read`.
 pub fn show_input<A: Allocator + Copy, W: Write>(
     alloc: A,
     request: &Request<'_>,
@@ -142,10 +140,23 @@ pub fn show_input<A: Allocator + Copy, W: Write>(
     }
 }
 
-/// Reads one frame in hexadecimal digits, and writes what it is and what becomes of it, judged as the side's at the
-/// level. Returns whether it would be relayed.
+/// Reads one frame in hexadecimal digits, and writes what it is and its verdict, judged as the side's at the level.
+/// Returns whether it would be relayed.
 ///
-/// At most 200,001 bytes are read, of a reader that may have no end.
+/// `shown`: what was written is what `IsShownAs` says of the input. The result is true if and only if the frame is
+/// relayed.
+///
+/// `refused`: `TooLong`, `NotHex` and `NotOneFrame` are returned for their cause and in this order. `Write` is returned
+/// only if there is something to write.
+///
+/// `nothing_written`: every error except `Write` is returned with nothing written.
+///
+/// `read`: at most 200,001 bytes are read, from a reader that may have no end.
+///
+/// Premise: a reader and a writer that record their bytes.
+///
+/// Not said: that a read, a growth or a write was refused. Tests show that `Read`, `Memory` and `Write` are returned
+/// only for their cause.
 pub fn show<A: Allocator + Copy, R: Read, W: Write>(
     alloc: A,
     side: Side,
@@ -178,7 +189,9 @@ pub fn show<A: Allocator + Copy, R: Read, W: Write>(
     show_with(alloc, &request, reader, writer)
 }
 
-/// Shows a frame as `show` does, judged and shown as it was asked.
+/// Shows a frame as `show` does, with an operator's words and an explanation if the request has them. Messages are
+/// those with the words, and a word is printed by its name. Both calls judge at 254 brackets, the most that settings
+/// can allow.
 pub fn show_with<A: Allocator + Copy, R: Read, W: Write>(
     alloc: A,
     request: &Request<'_>,

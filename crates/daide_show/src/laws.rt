@@ -14,7 +14,7 @@ ghost use Rattle.daide_show.specs.Shown.{verdict_lines, verdict_name};
 
 use daide_explain::laws::explained_in_one_way;
 
-/// An input is shown in one way, or refused with one fault: so the clauses of `show` leave it no choice.
+/// An input is shown in one way, or refused with one fault, so the clauses of `show` leave no choice.
 pub fn input_is_shown_in_one_way()
     ensures { (asked : ShowRequest) (input : List ℕ) (one other : Result Shown ShowFault) →
         IsShownAs asked input one → IsShownAs asked input other → one ≡ other }
@@ -22,8 +22,8 @@ pub fn input_is_shown_in_one_way()
     explained_in_one_way();
 }
 
-/// An explanation only adds lines after what is shown without it, and none if the frame is relayed; the answer and
-/// each fault are the same.
+/// What is shown without an explanation is a prefix of what is shown with one, and the result or fault is the same. If
+/// the frame is relayed, nothing is added.
 pub fn explanation_only_adds()
     ensures { (words : List Word) (side : Side) (level : Level) (input : List ℕ)
         (plain explained : Result Shown ShowFault) →

@@ -142,9 +142,7 @@ fn note_of_frame<A: Allocator>(alloc: A, bytes: &[u8]) -> Result<Option<InputNot
     }
 }
 
-/// Returns why an input is not hexadecimal, or not one frame; nothing for every other input.
-///
-/// So the input of `ShowFault::NotHex` or `NotOneFrame` has a note, and of the other faults none has.
+/// Returns why an input is not hexadecimal, or not one frame, and `None` for every other input.
 pub fn input_note<A: Allocator + Copy>(
     alloc: A,
     input: &[u8],

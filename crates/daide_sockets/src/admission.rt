@@ -90,8 +90,14 @@ impl<'w> Acceptor<'w> {
         accepted.ok()
     }
 
-    /// The same at this reading of the clock. It is made where a connection may have come and no pause is under way, and where
-    /// the pause is over. After one that gave none the next is made once a bot comes, or after a pause where it failed.
+    /// Accepts at this reading of the clock.
+    ///
+    /// `not_made`: it makes no call if none may give a connection, or during a pause.
+    ///
+    /// `made`: it makes one if a connection may have come and no pause is under way, or if the pause is over.
+    ///
+    /// `failed`: one that would have blocked begins no pause, and any other failure begins one of 100 ms. After either
+    /// the listener counts as not ready.
     fn accept_at<R: Clock>(
         &mut self,
         poller: &Poller<R>,
@@ -146,8 +152,14 @@ impl<'w> Acceptor<'w> {
         };
     }
 
-    /// The next bot that came: its session's number, its socket and its address; none if none came, if the system doesn't
-    /// follow it, or if all numbers are given.
+    /// Returns the next bot that came: its session's number, its socket and its address. Returns `None` if none came,
+    /// if the system refuses to follow it, or if all numbers are given.
+    ///
+    /// `one`: exactly one bot was accepted, is followed, and is counted.
+    ///
+    /// `none`: no bot is counted.
+    ///
+    /// Not said: that the system refused to follow a connection that was accepted and closed.
     pub(crate) fn next_bot<R: Clock>(
         &mut self,
         poller: &'w Poller<R>,

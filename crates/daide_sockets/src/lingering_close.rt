@@ -97,8 +97,15 @@ impl<'w, S: Duplex + Drop> LingeringClose<'w, S> {
         self.socket.flush();
     }
 
-    /// Writes what is held. Once that is all, or once a write failed or the peer is stalled, shuts down writing, and waits for
-    /// the peer's end from this reading of the clock on.
+    /// Writes the bytes that are held. Its writing is over once all is written, once a write failed, or once the peer
+    /// is stalled. Then it shuts down writing, and waits for the peer's end from this reading of the clock on.
+    ///
+    /// `writes`: no byte that is held is dropped before its writing is over.
+    ///
+    /// `told`: writing is shut down once nothing is held.
+    ///
+    /// Not said: that no frame of the session waits for the socket then. It is read from the callers: a run retires
+    /// closed sessions alone, and nothing was written to a bot that could not be joined.
     fn end_writing(&mut self, now: Option<Instant>)
         ensures writes { WritesOut S.to_give S.taken now self.old self.new }
         ensures told { self.new.stream.write_buffer ≡ [] → (before : Option (List StreamCall))
@@ -135,7 +142,12 @@ impl<'w, S: Duplex + Drop> LingeringClose<'w, S> {
         is_time_over(now, self.released_at)
     }
 
-    /// Goes on, and returns whether it closes on. It is not to be closed before its writing is over.
+    /// Makes a step of closing a socket, and returns false if it is to be closed now.
+    ///
+    /// `lingers`: while bytes are held for it, they are written. After that it drops a piece of what the stream gives.
+    ///
+    /// `leaves`: it leaves only after its writing is over. Then it leaves at the stream's end, once 1 MiB was dropped,
+    /// or a second later by the reading of the clock. It leaves at once if the clock can't be read (`Leaves`).
     fn lingers(&mut self, now: Option<Instant>) -> bool
         ensures lingers { result ≡ true → Lingers S.to_give S.taken S.calls now self.old self.new }
         ensures leaves { result ≡ false → Leaves S.to_give S.taken S.calls now self.old }
@@ -158,7 +170,8 @@ impl<'w, S: Duplex + Drop> LingeringClose<'w, S> {
     }
 }
 
-/// The sockets that close.
+/// The sockets that close, in the order in which they began: 256 at most. A further one closes the oldest as it is
+/// (`with_room`).
 #[derive(Drop)]
 pub struct Closings<'w, S: Duplex + Drop = Connection> {
     /// In the order in which they began.
@@ -286,7 +299,8 @@ impl<'w, S: Duplex + Drop> Closings<'w, S> {
         self.next = self.look_around(poller.now().get());
     }
 
-    /// Goes on until there are none, in rounds, and waits between them.
+    /// Makes the same rounds until no socket closes, or until 2^64 - 1 rounds were made, and waits between them
+    /// (`GoOnFor`). So at the end of a run too no held byte is dropped before its writing is over.
     pub fn finish<R: Clock>(&mut self, poller: &Poller<R>)
         ensures { (rounds : ℕ) × GoOnFor S.to_give S.taken S.calls rounds self.old self.new
             × ((self.new ≡ []) ⊎ (rounds ≡ u64.MAX)) }

@@ -151,7 +151,14 @@ impl<S: Duplex + Drop> Socket<'_, S> {
             .note_written(took, waits, self.stalls_at());
     }
 
-    /// Gives up writing to a peer that took no byte for too long while bytes waited for it: from now on each put fails.
+    /// Gives up writing to a peer that took no byte for too long while bytes waited for it. It moves no byte.
+    ///
+    /// `patient`: if no time is set, it does nothing.
+    ///
+    /// `stalled`: from then on each put fails.
+    ///
+    /// Not said: that it happens after `stall_seconds`. `tests/program` shows it for a bot and a server, and that no
+    /// such peer holds a run open.
     #[tactic(auto, using(daide_buffered_io::proofs::BufferLemmas::same_passes))]
     pub(crate) fn give_up_stalled(&mut self)
         ensures passes { Passes S.to_give S.taken self.old.stream [] [] self.new.stream }
@@ -352,9 +359,16 @@ impl<R: Clock> IdleTimeout<'_, R> {
     }
 }
 
-/// Pulls from one socket of a session. If nothing comes, nothing more comes now that is for the other: what is held for
-/// that one is written, unless parts of an answer to it were put in this turn. If nothing came for too long, one more read
-/// is made, and if that finds nothing either, the side is taken as ended. So is a stalled one of which nothing comes.
+/// Pulls from one socket of a session. If it returns nothing, what is held for the other side is written. If nothing
+/// came for too long, one more read is made, and if it finds nothing, the side counts as ended. So does a stalled side
+/// of which nothing comes.
+///
+/// `gathering`: the parts of an answer to the other side that were put in this turn are not flushed.
+///
+/// `silent`: a side that counts as ended for its silence moves no byte.
+///
+/// Not said: when silence is too long. Tests show that it comes after `idle_seconds`, for a bot and a server, and not
+/// for a side that sends now and then.
 fn pull_or_flush_peer<R: Clock, S: Duplex + Drop>(
     idle: &IdleTimeout<'_, R>,
     own: &mut Socket<'_, S>,
@@ -403,8 +417,10 @@ fn pull_or_flush_peer<R: Clock, S: Duplex + Drop>(
     pull
 }
 
-/// Puts to one socket of a session. If it takes nothing, its session may have nothing more to do: what is held for the
-/// other is written, unless parts of an answer to that one were put in this turn.
+/// Puts to one socket of a session. If it takes nothing, its session may have nothing more to do, and what is held for
+/// the other side is written.
+///
+/// `gathering`: the parts of an answer to the other side that were put in this turn are not flushed.
 fn put_or_flush_peer<S: Duplex + Drop>(
     own: &mut Socket<'_, S>,
     other: &mut Socket<'_, S>,
@@ -426,7 +442,16 @@ fn put_or_flush_peer<S: Duplex + Drop>(
     put
 }
 
-/// The connections of a session. The moment that the bot's waits for is that of its initial message.
+/// The connections of a session, as its ports. Each side's socket gave exactly the bytes that a result says it gave,
+/// and took exactly those that it says it took (`transition`, `RunsWithOneEffect`). Of the other side nothing is read,
+/// and only bytes that were held for it are written. A call of the clock leaves both sides unchanged.
+///
+/// What is held for a side is flushed after 32 turns, and once a pull of the other side or a put finds nothing to do.
+/// The parts of an answer are not flushed by such a pull or put while the turn still puts some.
+///
+/// Not said: the bytes of the operating system's own connections (`Connection`), of which nothing is known but what its
+/// calls returned. Nor is it said when a call may do something, when a deadline expires, or that held bytes are flushed
+/// at last. These depend on cells that are shared with the loop, which no contract can name; tests show them.
 #[derive(Drop)]
 pub struct SocketPorts<'w, R: Clock, S: Drop = Connection> {
     /// Its number, from 1, in the order in which the bots of a run came; 0 of ports that no run has.

@@ -44,7 +44,20 @@ fn idle_time_of(seconds: u32) -> Option<Duration>
     Some(Duration::from_secs(u64::from(seconds)))
 }
 
-/// The sockets of a run beside those of its sessions, and what is told of these.
+/// The sockets of a run: its system. `Transits` says what each call does to the bots and to the sockets that close. An
+/// accept that returned true added one bot, with the next number and the connect that was begun for it. Ports that are
+/// ready have the two connections of one such bot: its own, and the one made for it. A bot whose server can't be
+/// reached begins to close. So do both connections of a session that is retired, with what is held for them. A pending
+/// connect keeps its bot, and may be begun again. Except `begin_round`, no other call changes them.
+///
+/// In `begin_round` the sockets that close make progress, by one reading of the clock: all of them, or eight if there
+/// are more (`ClosingsGoOn`). They keep their order. If a turn begins, what was held for too long is written to that
+/// session's own sockets, and neither is read.
+///
+/// Not said: that a wait ended because something came. Which eight of more sockets are looked at, and that a connect
+/// goes to the server's address, is read from the code. That held bytes are given up only after a failed write, or
+/// after `stall_seconds`, is read from `flush` and `give_up_stalled`. `SessionNotice::of_end` and `why_of` give the
+/// counts and the cause in a line of a session's end. Tests and `scripts/recorded` show that `--verbose` writes it.
 #[derive(Drop)]
 pub struct Sockets<'w, R: Clock + Net, E: Write + Drop> {
     runtime: &'w R,

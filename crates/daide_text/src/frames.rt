@@ -53,11 +53,19 @@ pub enum TextFault {
 /// Reads each line of text, and writes the frame of its message as a line of hexadecimal digits, before the next line
 /// is read.
 ///
+/// `written`: each line of the input is a message, and the line of its frame was written, in order.
+///
+/// `refused`: the frames of the lines before the first fault were written, and the fault is that of the next line.
+///
+/// Premise: a reader and a writer that record their bytes.
+///
+/// Not said: that `Read`, `Memory` and `Write` are returned only for their cause. Tests show it.
+///
 /// # Errors
 ///
-/// At the first line that has a fault: `Read`; `TooLong` for its bytes; `NotMessage`; `TooLong` for its tokens;
-/// `Write`. `Memory` comes at the growth that was refused, and `TooManyLines` once line 1,000,001 was read. The frames
-/// of the lines before are written.
+/// The first line that has a fault is reported, by the first of these: `Read`; `TooLong` for its bytes; `NotMessage`;
+/// `TooLong` for its tokens; `Write`. `Memory` is returned for the growth that was refused, and `TooManyLines` once
+/// line 1,000,001 was read.
 pub fn write_frames<A: Allocator + Copy, R: Read, W: Write>(
     alloc: A,
     words: &Words,

@@ -11,8 +11,10 @@ ghost use Rattle.daide_text.specs.Line.{IsReadAs, IsText};
 
 use daide_token::laws::names_come_back;
 
-/// The text that is printed for some tokens is read as these tokens, with the words of an operator that are accepted
-/// one after the other. Each word has a name of three letters, as in `Words`.
+/// The text that `show` prints for some tokens is read as these tokens, so `frame` undoes what `show` prints. This
+/// holds with an operator's words as without.
+///
+/// Premise: tokens below 2^16, and accepted words with names of three letters, as `Words` has them.
 pub fn printed_text_is_read_back()
     ensures { (words : List Word) (ts : List ℕ) → are_accepted words ≡ true →
         All (λ word. length word.name ≡ 3) words → All (λ t. t < 2 ^ 16) ts →
@@ -21,18 +23,22 @@ pub fn printed_text_is_read_back()
     names_come_back();
 }
 
-/// A line is read in one way: as one list of tokens, or with its first fault at one column.
+/// A line has at most one reading: as a list of tokens, or with its first fault at one column. It is cut into pieces,
+/// and each piece is a blank, an item or a fault (`IsReadAs`).
 pub fn lines_are_read_in_one_way()
     ensures { (added : List Named) (line : List ℕ) (one other : Result (List ℕ) ℕ) →
         IsReadAs added line one → IsReadAs added line other → one ≡ other }
 {}
 
-/// Each line is read: as tokens, or with its first fault at a column.
+/// Every line has a reading: as tokens, or with its first fault at a column.
 pub fn each_line_is_read()
     ensures { (added : List Named) (line : List ℕ) → (outcome : Result (List ℕ) ℕ) × IsReadAs added line outcome }
 {}
 
-/// What is printed for the tokens of a text is a text of the same tokens: of all their texts it is the canonical one.
+/// The text that `show` prints for the tokens of a text is a text of the same tokens. Others may exist, since blanks
+/// are free and leading zeros count nothing.
+///
+/// Premise: accepted words with names of three letters.
 pub fn canonical_text_is_read_alike()
     ensures { (words : List Word) (line ts : List ℕ) → are_accepted words ≡ true →
         All (λ word. length word.name ≡ 3) words → IsText (names_of words) line ts →

@@ -10,7 +10,8 @@ ghost use Rattle.daide_token.specs.Text.{text_of};
 ghost use Rattle.daide_token.specs.Token.{token_bytes, bytes_of_tokens, number_of};
 ghost use Rattle.daide_token.specs.Token.{token_of_bytes, token_of_number, tokens_of};
 
-/// The bytes of a token, and of a list of tokens, give it back, and so do two bytes' token its bytes.
+/// Tokens and bytes are inverse: a token's bytes give the token back, and two bytes' token gives the bytes back. The
+/// same holds of lists of tokens.
 #[tactic(auto, using(crate::proofs::TokenLemmas::tokens_of_bytes_of_tokens))]
 pub fn bytes_come_back()
     ensures token { (t : ℕ) → token_of_bytes (token_bytes t) ≡ t }
@@ -18,34 +19,39 @@ pub fn bytes_come_back()
     ensures tokens { (ts : List ℕ) → tokens_of (bytes_of_tokens ts) ≡ ts }
 {}
 
-/// A token that is a number is the token of this number, and the token of a number stands for it.
+/// Tokens and numbers are inverse: a token has a number if and only if it is the token of that number. In the
+/// definitions a token is a natural number. One above 0xFFFF has neither a number nor a name, and is alien.
 pub fn numbers_come_back()
     ensures token { (t : ℕ) (n : ℤ) → number_of t ≡ Some n → token_of_number n ≡ Some t }
     ensures number { (n : ℤ) (t : ℕ) → token_of_number n ≡ Some t → number_of t ≡ Some n }
 {}
 
-/// A token that has a name is the token of this name, and no other token has it.
+/// Tokens and names are inverse: a token has a name if and only if it is the token of that name. So no two tokens share
+/// a name.
 pub fn names_come_back()
     ensures token { (t : ℕ) (name : List ℕ) → name_of t ≡ Some name → token_named name ≡ Some t }
     ensures name { (name : List ℕ) (t : ℕ) → token_named name ≡ Some t → name_of t ≡ Some name }
 {}
 
-/// A class that is one token's alone is no other token's. No token has an operator's word for its class, and
-/// each other class is some token's.
+/// A class with a token of its own contains no other token. No token has an operator's word as its class, and every
+/// other class contains a token.
 pub fn single_tokens_stand_alone()
     ensures alone { (t : ℕ) → has_one_token (class_of t) ≡ true → t ≡ token_of (class_of t) }
     ensures standard { (t : ℕ) → is_standard (class_of t) ≡ true }
     ensures own { (class : Class) → is_standard class ≡ true → class_of (token_of class) ≡ class }
 {}
 
-/// Two classes have one number exactly where they are one class. Forms and table compare classes by
-/// their numbers, so a place of a form takes the tokens of its own class and no others.
+/// Two classes have the same number if and only if they are equal. Forms and the table compare classes by number, so a
+/// place of a form takes tokens of its own class alone.
 pub fn numbers_tell_classes_apart()
     ensures { (c d : Class) → (same_class c d ≡ true) ↔ (c ≡ d) }
 {}
 
-/// Two lists of tokens with the same printed text are the same list: the text gives its tokens back, and there are no
-/// two that it can't tell apart.
+/// Two lists of tokens with the same printed text are equal. So nothing that docs/FORMATS.md prints makes two messages
+/// look alike.
+///
+/// Premise: tokens below 2^16, and text without an operator's names. With these names the law
+/// `printed_text_is_read_back` of `daide_text` says it.
 pub fn text_comes_back()
     ensures { (ts us : List ℕ) → All (λ t. t < 2 ^ 16) ts → All (λ t. t < 2 ^ 16) us →
         text_of ts ≡ text_of us → ts ≡ us }

@@ -55,10 +55,14 @@ struct Run {
     count: usize,
 }
 
-/// Writes tokens, two bytes each with the high byte first, as text without a line end. `GOF ( 'a' #4a12 -1 )`
-/// has one of each: a name, brackets, a run of characters, a token that has no name, and a number.
+/// Writes tokens, two bytes each with the high byte first, as text without a line end. `GOF ( 'a' #4a12 -1 )` has one
+/// of each: a name, brackets, a run of characters, a token without a name, and a number. A failed write is the error.
 ///
-/// A writer's fault is handed on, and then it isn't said how much was written.
+/// `text`: what was written is the text form of the tokens, to the byte.
+///
+/// Premise: a writer that records its bytes.
+///
+/// Not said: how much was written before a failed write.
 pub fn write_text<W: Write>(tokens: &[u8], writer: &mut W) -> Result<(), io::Error>
     requires { length tokens.now % 2 ≡ 0 }
     ensures text { OnOk result
@@ -67,8 +71,8 @@ pub fn write_text<W: Write>(tokens: &[u8], writer: &mut W) -> Result<(), io::Err
     write_text_with(&[], tokens, writer)
 }
 
-/// Writes tokens as `write_text` does, but a token that it would write as its digits by its name among `added`: each
-/// entry is a token and its three letters, and of several entries of one token the first counts.
+/// Writes tokens as `write_text` does, but writes a token by its name in `added` if it would write the token's digits.
+/// An entry of `added` is a token and its three letters; of several entries for one token the first counts.
 pub fn write_text_with<W: Write>(
     added: &[(Token, [u8; 3])],
     tokens: &[u8],

@@ -38,7 +38,7 @@ impl Token {
         self.bits
     }
 
-    /// The token of two bytes, high byte first.
+    /// Returns the token of two bytes, high byte first.
     pub const fn from_be(bytes: [u8; 2]) -> Token
         ensures { result ≡ token_of_bytes bytes }
     {
@@ -47,15 +47,15 @@ impl Token {
         }
     }
 
-    /// The token's two bytes, high byte first.
+    /// Returns the token's two bytes, high byte first.
     pub const fn to_be(self) -> [u8; 2]
         ensures { result ≡ token_bytes self }
     {
         self.code().to_be_bytes()
     }
 
-    /// The number that the token stands for: two's complement in fourteen bits, -8192 to 8191. None for every
-    /// token from 4000 on.
+    /// Returns the token's number, from -8192 to 8191: two's complement in fourteen bits. Returns `None` for every
+    /// token from 0x4000 on.
     pub fn number(self) -> Option<i16>
         ensures { result ≡ number_of self }
     {
@@ -67,7 +67,7 @@ impl Token {
         }
     }
 
-    /// The token of a number. None outside -8192 to 8191.
+    /// Returns the token of a number, or `None` outside -8192 to 8191.
     pub fn of_number(number: i16) -> Option<Token>
         ensures { result ≡ token_of_number number }
     {
@@ -78,7 +78,7 @@ impl Token {
         }
     }
 
-    /// The token's class, by its category and, where the category has classes of one token, by its code.
+    /// Returns the token's class: by its category, and by its code in a category whose classes have one token.
     #[tactic(auto, unfolding(crate::specs::Class::class_of))]
     pub fn class(self) -> Class
         ensures { result ≡ class_of self }
@@ -94,7 +94,7 @@ impl Token {
         }
     }
 
-    /// Whether the token is a number or of one of the categories 40 to 4B and 50 to 57.
+    /// Returns whether the token is a number, or of a category from 0x40 to 0x4B or from 0x50 to 0x57.
     pub fn has_known_category(self) -> bool
         ensures { result ≡ has_known_category self }
     {
@@ -102,14 +102,15 @@ impl Token {
         matches!(category, 0x00..=0x4B | 0x50..=0x57)
     }
 
-    /// The token's name: three capital letters. None for numbers, characters and tokens that no table lists.
+    /// Returns the token's name: three capital letters. Returns `None` for numbers, characters and tokens that no table
+    /// lists.
     pub fn name(self) -> Option<&'static str>
         ensures { option_map (λ name. name.now) result ≡ name_of self }
     {
         names::name_of(self.code())
     }
 
-    /// The token of a name, which is written in capital letters. None where no token has it.
+    /// Returns the token of a name in capital letters, or `None` if no token has this name.
     pub fn by_name(name: &str) -> Option<Token>
         ensures { result ≡ token_named name.now }
     {

@@ -29,30 +29,30 @@ ghost use Rattle.daide_words.specs.Words.{word_at, words_of};
 
 use crate::words::Words;
 
-/// Words that are accepted one after the other keep every law of prediction, whatever their list: the answers over
-/// them agree with the messages over them, and the stacks that can arise stay as small.
+/// Every list of accepted words keeps the laws of prediction: the answers agree with the messages over these words, and
+/// stacks stay as small.
 pub fn added_words_keep_the_laws()
     ensures { (words : List Word) → are_accepted words ≡ true →
         IsCorrectPrediction (dialect_of (grammar_words words)).class_of (SymbolMatchesIn (dialect_of (grammar_words words)))
         (answer_over (grammar_words words)) may_end_of (IsLawful (answer_over (grammar_words words))) }
 {}
 
-/// The symbol that a reader starts with stands for the messages over accepted words of its side and level, but for the
-/// report PRN, which is the reader's own case.
+/// With accepted words too, the start symbol stands for exactly the messages of its side and level that do not begin
+/// with PRN.
 pub fn start_symbol_stands_for_messages()
     ensures { (words : List Word) (side : Side2) (level : Level) (m : List ℕ) → are_accepted words ≡ true →
         SymbolMatchesIn (dialect_of (grammar_words words)) (start_symbol_of side level) m
         ↔ (IsMessageOver (grammar_words words) side level m × (begins_with_prn m ≡ false)) }
 {}
 
-/// A table speaks all words that are accepted one after the other.
+/// The table uses every accepted word, and passes over none.
 pub fn accepted_words_are_spoken()
     ensures { (words : List Word) → are_accepted words ≡ true → spoken (grammar_words words) ≡ grammar_words words }
 {}
 
-/// The code of an accepted word has a class of its own, and the code alone: without the words it has the class of a
-/// token without a meaning, `Other`. If the word may stand for a symbol, its class is followed by its operand in
-/// brackets there; for every other symbol it moves as `Other` does.
+/// The code of an accepted word has a class of its own. Without the words it has the class `Other`, of a token without
+/// a meaning. At each symbol that the word may stand for, its operand in brackets follows. At every other symbol its
+/// class moves as `Other`.
 pub fn added_words_move_as_other()
     ensures class { (words : List Word) (place : ℕ) (word : Word) → are_accepted words ≡ true →
         word_at place words ≡ Some word →
@@ -67,8 +67,7 @@ pub fn added_words_move_as_other()
         answer_over (grammar_words words) sym (WordClass place) ≡ table_answer sym Other }
 {}
 
-/// Accepted words have names that differ, and codes that differ: two places of the list with one name, or with one
-/// code, are one place.
+/// Accepted words have distinct names and distinct codes.
 pub fn accepted_words_differ()
     ensures names { (words : List Word) (i j : ℕ) (one other : Word) → are_accepted words ≡ true →
         word_at i words ≡ Some one → word_at j words ≡ Some other → one.name ≡ other.name → i ≡ j }
@@ -76,42 +75,41 @@ pub fn accepted_words_differ()
         word_at i words ≡ Some one → word_at j words ≡ Some other → one.code ≡ other.code → i ≡ j }
 {}
 
-/// A name is read as an operand if and only if it is that operand's one name, letter for letter; and as a slot likewise.
+/// A text is read as an operand if and only if it is the operand's one name of six, letter for letter. The same holds
+/// of slots.
 pub fn operands_have_one_name()
     ensures operand { (name : List ℕ) (operand : Operand) →
         (operand_named name ≡ Some operand) ↔ (name ≡ operand_name operand) }
     ensures slot { (name : List ℕ) (slot : Slot) → (slot_named name ≡ Some slot) ↔ (name ≡ slot_name slot) }
 {}
 
-/// With an operator's words too a level only adds messages, whatever the list of words: what a side may say at a level,
-/// it may say at every higher one.
+/// With any words, a message of a side at a level is a message of that side at every higher level.
 pub fn levels_only_add()
     ensures { (words : List Word) (side : Side2) (low high : Level) (m : List ℕ) →
         level_number low ≤ level_number high →
         IsMessageOver (grammar_words words) side low m → IsMessageOver (grammar_words words) side high m }
 {}
 
-/// With an operator's words too every message is paired: a report PRN, or a list that doesn't begin with PRN and whose
-/// brackets balance. So a message is never answered with PRN.
+/// With accepted words too, every message is paired, so no message is answered with PRN.
 pub fn messages_are_paired()
     ensures { (words : List Word) (side : Side2) (level : Level) (m : List ℕ) → are_accepted words ≡ true →
         IsMessageOver (grammar_words words) side level m → IsPaired m }
 {}
 
-/// `PRN ( m )` is a message of either side at every level, whatever the words and whatever m.
+/// With any words, `PRN ( m )` is a message of either side at every level, for every list m.
 pub fn prn_answer_is_a_message()
     ensures { (words : List Word) (side : Side2) (level : Level) (m : List ℕ) →
         IsMessageOver (grammar_words words) side level (prn ∷ bra ∷ (m ++ ket ∷ [])) }
 {}
 
-/// `HUH ( a )` is a message of either side at every level where a's brackets balance, with words as without.
+/// With accepted words, `HUH ( a )` is a message of either side at every level if the brackets of a balance.
 pub fn huh_answer_is_a_message()
     ensures { (words : List Word) (side : Side2) (level : Level) (a : List ℕ) → are_accepted words ≡ true →
         IsBalanced a → IsMessageOver (grammar_words words) side level (huh ∷ bra ∷ (a ++ ket ∷ [])) }
 {}
 
-/// So is `HUH ( m )` with ERR put in before any token of m, or after the last. So an answer passes the next gateway
-/// with words of its own too, where it is not too deep for it.
+/// With accepted words, so is `HUH ( m )` with ERR inserted at any place of m, if the brackets of m balance. So a
+/// gateway with words relays each answer that is not too deep for it.
 pub fn huh_answer_with_err_is_a_message()
     ensures { (words : List Word) (side : Side2) (level : Level) (m : List ℕ) (place : ℕ) →
         are_accepted words ≡ true → IsBalanced m →
@@ -119,7 +117,7 @@ pub fn huh_answer_with_err_is_a_message()
         (huh ∷ bra ∷ ((take place m ++ err ∷ drop place m) ++ ket ∷ [])) }
 {}
 
-/// Who holds `Words` has all of these laws, and owes nothing for them.
+/// The laws of this crate on accepted words hold for the words of a `Words`, without a premise.
 pub fn laws_hold_over(words: &Words)
     ensures laws { let added = grammar_words (words_of words.now) in
         IsCorrectPrediction (dialect_of added).class_of (SymbolMatchesIn (dialect_of added)) (answer_over added) may_end_of

@@ -48,8 +48,8 @@ impl Words {
         }
     }
 
-    /// One word more, after the others. It is refused where sixteen are there, then for its name, its code, its level
-    /// and its operand, and then nothing changes.
+    /// Adds a word after the others, or returns its first fault. The faults are, in order, that sixteen words are
+    /// there, and a wrong name, code, level or operand (`word_fault`). After a fault nothing changes.
     pub fn add(&mut self, word: Word) -> Result<(), WordError>
         ensures fault { result ≡ word_fault (names_of (words_of self.old)) word }
         ensures added { OnOk result (words_of self.new ≡ words_of self.old ++ word ∷ []) }
@@ -88,7 +88,7 @@ impl Words {
         })
     }
 
-    /// Each was accepted after the ones before it: what the laws of `laws` ask of a list of words. It does nothing.
+    /// Proof hook: establishes for callers that each word was accepted after the ones before it. No effect at run time.
     pub fn are_accepted(&self)
         ensures { are_accepted (words_of self.now) ≡ true }
     {}

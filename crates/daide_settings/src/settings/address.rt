@@ -27,7 +27,7 @@ impl Address {
         })
     }
 
-    /// The text of the address.
+    /// Returns the text of the address.
     pub fn as_str(&self) -> &str
         ensures { result.now ≡ self.now }
     {
